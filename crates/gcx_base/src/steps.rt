@@ -1,0 +1,107 @@
+ghost use Rattle.std.specs.Prelude.{◌≡◌, ◌++◌, ◌∷◌, [], IfOk, OnOk, OnErr};
+
+use crate::{Memory, Name};
+use std::alloc::Global;
+use std::marker::Model;
+
+/// The axis of a step.
+#[derive(Clone, Copy, Debug, PartialEq, Eq)]
+pub enum Axis {
+    Child,
+    Descendant,
+}
+
+/// What a step asks of a node: a name, any element, any text, or any of both.
+#[derive(Drop, Debug)]
+pub enum Test {
+    Named(Name),
+    AnyElement,
+    AnyText,
+    AnyNode,
+}
+
+impl Test {
+    /// The same test once more.
+    pub fn copy(&self, alloc: Global) -> Result<Test, Memory>
+        ensures { IfOk result (λ test. test ≡ self.now) }
+    {
+        Ok(match self {
+            Test::Named(name) => Test::Named(name.copy(alloc)?),
+            Test::AnyElement => Test::AnyElement,
+            Test::AnyText => Test::AnyText,
+            Test::AnyNode => Test::AnyNode,
+        })
+    }
+}
+
+/// A step from a node to others below it (XQuery 1.0, section 3.2.1).
+#[derive(Drop, Debug)]
+pub struct Step {
+    pub axis: Axis,
+    pub test: Test,
+}
+
+impl Step {
+    /// The same step once more.
+    pub fn copy(&self, alloc: Global) -> Result<Step, Memory>
+        ensures { IfOk result (λ step. step ≡ self.now) }
+    {
+        Ok(Step {
+            axis: self.axis,
+            test: self.test.copy(alloc)?,
+        })
+    }
+}
+
+/// A list of steps.
+#[derive(Drop, Debug)]
+pub struct Steps {
+    steps: Vec<Step>,
+}
+
+impl Model for Steps {
+    ghost use Rattle.std.specs.Prelude.{List};
+    ghost use Rattle.gcx_base.specs.declared.steps.Step.{Step};
+
+    ghost Value = { List Step };
+
+    ghost view = { λ s. s.steps.items };
+}
+
+impl Steps {
+    /// The empty list.
+    pub fn new(alloc: Global) -> Steps
+        ensures { result ≡ [] }
+    {
+        Steps {
+            steps: Vec::new(alloc),
+        }
+    }
+
+    /// Adds a step at the end. After `Memory` the list is unchanged.
+    pub fn push(&mut self, step: Step) -> Result<(), Memory>
+        ensures ok { OnOk result (self.new ≡ self.old ++ step ∷ []) }
+        ensures err { OnErr result (self.new ≡ self.old) }
+    {
+        self.steps.push(step)?;
+        Ok(())
+    }
+
+    /// The steps in order.
+    pub fn items(&self) -> &[Step]
+        ensures { result.now ≡ self.now }
+    {
+        &self.steps
+    }
+
+    /// The same list once more.
+    pub fn copy(&self, alloc: Global) -> Result<Steps, Memory>
+        ensures { IfOk result (λ steps. steps ≡ self.now) }
+    {
+        let mut copied = Steps::new(alloc);
+        for step in &self.steps {
+            copied.push(step.copy(alloc)?)?;
+        }
+        Ok(copied)
+    }
+}
