@@ -1,0 +1,91 @@
+-- Queries as plain trees, and how the types of the code are seen as such (XQuery 1.0, section 3; the fragment is this project's).
+use Rattle.std.specs.Prelude.{ℕ, List, [], ◌∷◌, map, Option, Some, None, box_value}
+use Rattle.gcx_base.specs.declared.rel.Rel.{Rel}
+use Rattle.gcx_model.specs.declared.query.PathExpr.{PathExpr}
+use Rattle.gcx_model.specs.declared.query.Clause.{Clause}
+use Rattle.gcx_model.specs.declared.query.QOperand.{QOperand}
+use Rattle.gcx_model.specs.declared.query.QCond.{QCond, QCond-F, fold-QCond}
+use Rattle.gcx_model.specs.declared.query.QCond.TheOpen as qcond
+use Rattle.gcx_model.specs.declared.query.QConds.{QConds, QConds-F}
+use Rattle.gcx_model.specs.declared.query.Expr.{Expr, Expr-F, fold-Expr}
+use Rattle.gcx_model.specs.declared.query.Expr.TheOpen as expr
+use Rattle.gcx_model.specs.declared.query.Exprs.{Exprs, Exprs-F}
+use Rattle.gcx_model.specs.declared.query.Query.{Query}
+
+mutual
+  pub data CondTree : Type 0 where
+    Always : CondTree
+    Exists : (path : PathExpr) → CondTree
+    Compare : (left : QOperand) (rel : Rel) (right : QOperand) → CondTree
+    Not : (condition : CondTree) → CondTree
+    All : (members : CondTrees) → CondTree
+    Any : (members : CondTrees) → CondTree
+
+  pub data CondTrees : Type 0 where
+    no_cond : CondTrees
+    more_conds : (first : CondTree) (rest : CondTrees) → CondTrees
+
+mutual
+  pub data ExprTree : Type 0 where
+    Empty : ExprTree
+    Seq : (parts : ExprTrees) → ExprTree
+    Elem : (name : List ℕ) (body : ExprTrees) → ExprTree
+    Path : (path : PathExpr) → ExprTree
+    For : (clauses : List Clause) (filter : Option CondTree) (body : ExprTree) → ExprTree
+    If : (condition : CondTree) (this other : ExprTree) → ExprTree
+
+  pub data ExprTrees : Type 0 where
+    no_expr : ExprTrees
+    more_exprs : (first : ExprTree) (rest : ExprTrees) → ExprTrees
+
+abbrev pub conds_of : List CondTree → CondTrees
+conds_of [] = no_cond
+conds_of (c ∷ cs) = more_conds c (conds_of cs)
+
+abbrev pub exprs_of : List ExprTree → ExprTrees
+exprs_of [] = no_expr
+exprs_of (e ∷ es) = more_exprs e (exprs_of es)
+
+abbrev pub on_some : {A B : Type 0} → (A → B) → Option A → Option B
+on_some f None = None
+on_some f (Some a) = Some (f a)
+
+abbrev pub cond_layer : QCond-F CondTree CondTrees → CondTree
+cond_layer qcond.True = Always
+cond_layer (qcond.Exists p) = Exists p
+cond_layer (qcond.Compare l r o) = Compare l r o
+cond_layer (qcond.Not c) = Not (box_value c)
+cond_layer (qcond.All cs) = All cs
+cond_layer (qcond.Any cs) = Any cs
+
+abbrev pub conds_layer : QConds-F CondTree CondTrees → CondTrees
+conds_layer cs = conds_of cs.members.items
+
+-- the condition as a plain tree
+abbrev pub cond_tree : QCond → CondTree
+cond_tree c = fold-QCond CondTree CondTrees cond_layer conds_layer c
+
+abbrev pub cond_trees : QConds → List CondTree
+cond_trees cs = map cond_tree cs.members.items
+
+abbrev pub expr_layer : Expr-F ExprTree ExprTrees → ExprTree
+expr_layer expr.Empty = Empty
+expr_layer (expr.Seq es) = Seq es
+expr_layer (expr.Elem n es) = Elem n es
+expr_layer (expr.Path p) = Path p
+expr_layer (expr.For cs f b) = For cs (on_some cond_tree f) (box_value b)
+expr_layer (expr.If c a b) = If (cond_tree c) (box_value a) (box_value b)
+
+abbrev pub exprs_layer : Exprs-F ExprTree ExprTrees → ExprTrees
+exprs_layer es = exprs_of es.members.items
+
+-- the expression as a plain tree
+abbrev pub expr_tree : Expr → ExprTree
+expr_tree e = fold-Expr ExprTree ExprTrees expr_layer exprs_layer e
+
+abbrev pub expr_trees : Exprs → List ExprTree
+expr_trees es = map expr_tree es.members.items
+
+-- the parts of the query as plain trees
+abbrev pub query_trees : Query → List ExprTree
+query_trees q = expr_trees q.parts
