@@ -1,0 +1,4 @@
+pub mod Numbering
+pub mod Below
+pub mod Copying
+pub mod Selecting

@@ -1,0 +1,13 @@
+-- The exit status of the program (this project's).
+use Rattle.std.specs.Prelude.{ℕ}
+use Rattle.gcx_cmd.specs.declared.status.Status.{Status}
+use Rattle.gcx_cmd.specs.declared.status.Status.TheVariants.{Ok, Usage, QueryRefused, DocumentRefused, ReadFault, WriteFault, Memory}
+
+abbrev pub code_of : Status → ℕ
+code_of Ok = 0
+code_of Usage = 2
+code_of (QueryRefused f) = 3
+code_of (DocumentRefused f) = 4
+code_of ReadFault = 5
+code_of WriteFault = 6
+code_of Memory = 7

@@ -1,0 +1,6 @@
+//! The command line of `gcx`.
+#![tactic(auto)]
+
+mod status;
+
+pub use status::Status;
