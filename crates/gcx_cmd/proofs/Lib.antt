@@ -2,3 +2,4 @@ pub mod Numbering
 pub mod Below
 pub mod Copying
 pub mod Selecting
+pub mod Paths
