@@ -56,7 +56,12 @@ impl FileShelf {
 }
 
 impl Shelf for FileShelf {
-    ghost use Rattle.std.specs.Prelude.{None};
+    ghost use Rattle.std.specs.Prelude.{◌≡◌, ◌≤◌, ◌<◌, ◌+◌, ◌⊎◌, None, length, IfOk, OnOk, OnErr, IsErrOf, MatchResult};
+    ghost use Rattle.std.specs.Io.{ReadsAtMost};
+    ghost use Rattle.std.specs.Io.KnownBytes.{ReadConsumes};
+    ghost use Rattle.gcx_io.specs.Causes.{Rose, HasCause};
+    ghost use Rattle.gcx_io.specs.Calls.{one_more};
+    ghost use Rattle.gcx_io.specs.Shelf.{IsMissing, Adds, LeavesOthers};
 
     ghost names = { λ _. None };
 
@@ -66,7 +71,15 @@ impl Shelf for FileShelf {
 
     ghost faults = { λ s. s.faults };
 
-    fn attach(&mut self, name: &Text) -> Result<Handle, AttachFault> {
+    fn attach(&mut self, name: &Text) -> Result<Handle, AttachFault>
+        ensures given { IfOk result (λ handle. Adds self.old.handles self.new.handles (λ _. None) (λ _. None) None handle.0) }
+        ensures refused { OnErr result (self.new.handles ≡ self.old.handles) }
+        ensures later { self.old.faults ≤ self.new.faults }
+        ensures cause { IsErrOf result AttachFault.Failed → Rose self.old.faults self.new.faults ⊎ ⊥ }
+        ensures fault { IsErrOf result AttachFault.Failed → self.new.faults ≡ one_more self.old.faults }
+        ensures memory { IsErrOf result AttachFault.Memory → self.new.faults ≡ self.old.faults }
+        ensures ok { OnOk result (self.new.faults ≡ self.old.faults) }
+    {
         let stream = if name.as_bytes() == b"-".as_slice() {
             Stream::Standard(self.rt.stdin())
         } else {
@@ -85,7 +98,15 @@ impl Shelf for FileShelf {
         }
     }
 
-    fn read(&mut self, handle: Handle, buf: &mut [u8]) -> Result<usize, Failed> {
+    fn read(&mut self, handle: Handle, buf: &mut [u8]) -> Result<usize, Failed>
+        requires given { handle.0 < self.old.handles }
+        requires room { 0 < length buf.old }
+        ensures bound { ReadsAtMost result buf.new }
+        ensures bytes { ReadConsumes None None result buf.new }
+        ensures handles { self.new.handles ≡ self.old.handles }
+        ensures cause { HasCause self.old.faults self.new.faults result }
+        ensures faults { MatchResult result (λ _. self.new.faults ≡ self.old.faults) (λ _. self.new.faults ≡ one_more self.old.faults) }
+    {
         match self.streams[handle.0].read(buf) {
             Ok(count) => Ok(count),
             Err(_) => {

@@ -32,13 +32,22 @@ impl StdErr {
 }
 
 impl Sink for StdErr {
-    ghost use Rattle.std.specs.Prelude.{None};
+    ghost use Rattle.std.specs.Prelude.{◌≡◌, ◌<◌, None, length, MatchResult};
+    ghost use Rattle.gcx_io.specs.Causes.{HasCause};
+    ghost use Rattle.gcx_io.specs.Bytes.{WriteGrows, Moves};
+    ghost use Rattle.gcx_io.specs.Calls.{one_more};
 
     ghost taken = { λ _. None };
 
     ghost faults = { λ s. s };
 
-    fn write(&mut self, piece: &[u8]) -> Result<usize, Failed> {
+    fn write(&mut self, piece: &[u8]) -> Result<usize, Failed>
+        requires { 0 < length piece.now }
+        ensures bound { Moves result piece.now }
+        ensures bytes { WriteGrows None None result piece.now }
+        ensures cause { HasCause self.old self.new result }
+        ensures faults { MatchResult result (λ _. self.new ≡ self.old) (λ _. self.new ≡ one_more self.old) }
+    {
         match self.stream.write(piece) {
             Ok(count) if 0 < count => Ok(count),
             _ => {

@@ -61,7 +61,7 @@ impl SureShelf {
 }
 
 impl Shelf for SureShelf {
-    ghost use Rattle.std.specs.Prelude.{◌≡◌, ◌⊎◌, ◌≤◌, ◌<◌, ◌++◌, ◌∷◌, [], Some, IfOk, OnOk, OnErr, IsErrOf, length, take, drop, min, slice_set};
+    ghost use Rattle.std.specs.Prelude.{◌≡◌, ◌⊎◌, ◌≤◌, ◌<◌, ◌++◌, ◌∷◌, [], Ok, Some, IfOk, OnOk, OnErr, IsErrOf, length, take, drop, min, slice_set};
     ghost use Rattle.std.specs.Io.{ReadsAtMost};
     ghost use Rattle.std.specs.Io.KnownBytes.{ReadConsumes};
     ghost use Rattle.gcx_io.specs.Causes.{Rose, HasCause};
@@ -99,7 +99,7 @@ impl Shelf for SureShelf {
         ensures names { sure_names self.new ≡ sure_names self.old }
         ensures handles { sure_handles self.new ≡ sure_handles self.old }
         ensures cause { HasCause 0 0 result }
-        ensures count { IfOk result (λ n. n ≡ min (length (rest_at self.old.rests handle.0)) (length buf.old)) }
+        ensures count { result ≡ Ok (min (length (rest_at self.old.rests handle.0)) (length buf.old)) }
         ensures moved { IfOk result (λ n. buf.new ≡ take n (rest_at self.old.rests handle.0) ++ drop n buf.old) }
         ensures ok { IfOk result (λ n. self.new ≡ record self.old { rests = slice_set self.old.rests handle.0 (drop n (rest_at self.old.rests handle.0)) }) }
     {

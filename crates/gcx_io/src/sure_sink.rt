@@ -48,7 +48,7 @@ impl SureSink {
 }
 
 impl Sink for SureSink {
-    ghost use Rattle.std.specs.Prelude.{◌≡◌, ◌≤◌, ◌<◌, ◌+◌, IsSome, IfOk, length};
+    ghost use Rattle.std.specs.Prelude.{◌≡◌, ◌≤◌, ◌<◌, ◌+◌, Ok, IsSome, length};
     ghost use Rattle.gcx_io.specs.Causes.{HasCause};
     ghost use Rattle.gcx_io.specs.Bytes.{WriteGrows, Moves};
     ghost use Rattle.gcx_io.specs.Taken.{told_taken};
@@ -62,7 +62,7 @@ impl Sink for SureSink {
         ensures bound { Moves result piece.now }
         ensures bytes { WriteGrows (told_taken self.old) (told_taken self.new) result piece.now }
         ensures cause { HasCause 0 0 result }
-        ensures count { IfOk result (λ n. n ≡ length piece.now) }
+        ensures ok { result ≡ Ok (length piece.now) }
         ensures whole { length piece.now ≤ self.old.room → IsSome self.old.taken → IsSome self.new.taken }
         ensures room { self.old.room ≤ self.new.room + length piece.now }
     {

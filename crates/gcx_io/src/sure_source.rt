@@ -51,7 +51,7 @@ impl Source for SureSource {
         ensures bound { ReadsAtMost result buf.new }
         ensures bytes { ReadConsumes (Some self.old) (Some self.new) result buf.new }
         ensures cause { HasCause 0 0 result }
-        ensures count { IfOk result (λ n. n ≡ min (length self.old) (length buf.old)) }
+        ensures ok { result ≡ Ok (min (length self.old) (length buf.old)) }
         ensures moved { IfOk result (λ n. buf.new ≡ take n self.old ++ drop n buf.old) }
     {
         let count = move_front(&self.bytes[self.at..], buf, usize::MAX);
