@@ -1,0 +1,13 @@
+pub mod Causes
+pub mod Bytes
+pub mod Shelf
+pub mod Opened
+pub mod Calls
+pub mod Taken
+pub mod Held
+pub mod Files
+pub mod MemSource
+pub mod MemSink
+pub mod MemShelf
+pub mod SureShelf
+pub mod FileShelf

@@ -1,0 +1,82 @@
+ghost use Rattle.std.specs.Prelude.{◌≡◌, ◌<◌};
+ghost use Rattle.gcx_io.specs.Calls.{no_calls};
+
+use crate::calls::Calls;
+use crate::moving::move_front;
+use crate::{Failed, Source};
+use std::marker::Model;
+
+/// Bytes that are read in small pieces, with calls that fail.
+#[derive(Drop)]
+pub struct MemSource {
+    bytes: Vec<u8>,
+    at: usize,
+    most: usize,
+    calls: Calls,
+}
+
+impl Model for MemSource {
+    ghost use Rattle.std.specs.Prelude.{drop, length, ◌≤◌, ◌<◌};
+    ghost use Rattle.gcx_io.specs.MemSource.{SourceState};
+
+    ghost Value = { SourceState };
+
+    ghost view = { λ s. record { left = drop s.at s.bytes.items; most = s.most; calls = s.calls } };
+
+    ghost invariant = { λ s. (s.at ≤ length s.bytes.items) × (0 < s.most) };
+}
+
+impl MemSource {
+    /// All of the bytes are left. One call moves at most `most` of them, and the calls whose numbers, from 1,
+    /// are in `fails` fail.
+    pub fn new(bytes: Vec<u8>, most: usize, fails: Vec<u64>) -> MemSource
+        requires { 0 < most }
+        ensures { result ≡ record { left = bytes.items; most = most; calls = no_calls fails.items } }
+    {
+        MemSource {
+            bytes,
+            at: 0,
+            most,
+            calls: Calls::new(fails),
+        }
+    }
+}
+
+impl Source for MemSource {
+    ghost use Rattle.std.specs.Prelude.{◌≡◌, ◌↔◌, ◌<◌, ◌++◌, Some, IsErr, IfOk, OnErr, MatchResult, length, take, drop, min};
+    ghost use Rattle.std.specs.Io.{ReadsAtMost};
+    ghost use Rattle.std.specs.Io.KnownBytes.{ReadConsumes};
+    ghost use Rattle.gcx_io.specs.Causes.{HasCause};
+    ghost use Rattle.gcx_io.specs.Calls.{IsToFail, passed, failed};
+    ghost use Rattle.gcx_io.specs.MemSource.{told_left, source_faults};
+
+    ghost left = { told_left };
+
+    ghost faults = { source_faults };
+
+    ghost keeps = { λ _ _. Unit {0} };
+
+    ghost keeps_same = { λ _. tt };
+
+    ghost keeps_on = { λ _ _ _ _ _. tt };
+
+    fn read(&mut self, buf: &mut [u8]) -> Result<usize, Failed>
+        requires { 0 < length buf.old }
+        ensures bound { ReadsAtMost result buf.new }
+        ensures bytes { ReadConsumes (told_left self.old) (told_left self.new) result buf.new }
+        ensures cause { HasCause (source_faults self.old) (source_faults self.new) result }
+        ensures count { IfOk result (λ n. n ≡ min (min (length self.old.left) (length buf.old)) self.old.most) }
+        ensures moved { IfOk result (λ n. buf.new ≡ take n self.old.left ++ drop n buf.old) }
+        ensures unmoved { OnErr result (buf.new ≡ buf.old) }
+        ensures failed { IsErr result ↔ IsToFail self.old.calls }
+        ensures calls { MatchResult result (λ _. self.new.calls ≡ passed self.old.calls) (λ _. self.new.calls ≡ failed self.old.calls) }
+        ensures most { self.new.most ≡ self.old.most }
+    {
+        if self.calls.is_failing() {
+            return Err(Failed);
+        }
+        let count = move_front(&self.bytes[self.at..], buf, self.most);
+        self.at += count;
+        Ok(count)
+    }
+}
