@@ -3,3 +3,4 @@ pub mod Below
 pub mod Copying
 pub mod Selecting
 pub mod Paths
+pub mod Selections

@@ -1,3 +1,5 @@
 pub mod Status
 pub mod Selected
 pub mod PlainQuery
+pub mod Selector
+pub mod Selecting

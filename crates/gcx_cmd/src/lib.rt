@@ -2,6 +2,7 @@
 #![tactic(auto)]
 
 mod path_query;
+mod selector;
 mod status;
 
 pub use status::Status;
