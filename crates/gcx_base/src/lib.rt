@@ -18,3 +18,103 @@ pub use name::Name;
 pub use rel::Rel;
 pub use steps::{Axis, Step, Steps, Test};
 pub use text::Text;
+
+#[cfg(test)]
+mod tests {
+    use super::*;
+    use std::alloc::Global;
+    use std::test::Fail;
+
+    #[test]
+    fn names_are_plain(rt: HostRuntime) -> Result<(), Fail> {
+        let alloc = rt.alloc();
+        let long = vec![in alloc; b'a'; 1024]?;
+        let longer = vec![in alloc; b'a'; 1025]?;
+        let table: [(&[u8], bool); 12] = [
+            (b"a", true),
+            (b"_", true),
+            (b"Z9-._", true),
+            (&long, true),
+            (&longer, false),
+            (b"", false),
+            (b"9a", false),
+            (b"-a", false),
+            (b"a b", false),
+            (b"a:b", false),
+            (b"a/", false),
+            (b"\xC3\xA9", false),
+        ];
+        for (bytes, plain) in table {
+            match Name::from_bytes(alloc, bytes)? {
+                Some(name) => {
+                    assert!(rt; plain, "{bytes:?}");
+                    assert_eq!(rt; name.as_bytes(), bytes);
+                    assert_eq!(rt; name.copy(alloc)?.as_bytes(), bytes);
+                }
+                None => assert!(rt; !plain, "{bytes:?}"),
+            }
+        }
+        Ok(())
+    }
+
+    #[test]
+    fn texts_are_utf8(rt: HostRuntime) -> Result<(), Fail> {
+        let alloc = rt.alloc();
+        let table: [(&[u8], bool); 8] = [
+            (b"", true),
+            (b"1 > 0", true),
+            (b"\xC3\xA9", true),
+            (b"\xF0\x9F\x98\x80", true),
+            (b"\xFF", false),
+            (b"\xC3", false),
+            (b"\xC0\x80", false),
+            (b"\xED\xA0\x80", false),
+        ];
+        for (bytes, utf8) in table {
+            match Text::from_bytes(alloc, bytes)? {
+                Some(text) => {
+                    assert!(rt; utf8, "{bytes:?}");
+                    assert_eq!(rt; text.copy(alloc)?.as_bytes(), bytes);
+                    assert_eq!(rt; text.as_str().as_bytes(), bytes);
+                }
+                None => assert!(rt; !utf8, "{bytes:?}"),
+            }
+        }
+        Ok(())
+    }
+
+    fn name(alloc: Global, bytes: &[u8]) -> Result<Name, Fail> {
+        Ok(Name::from_bytes(alloc, bytes)?.ok_or("not a name")?)
+    }
+
+    #[test]
+    fn steps_keep_their_order(rt: HostRuntime) -> Result<(), Fail> {
+        let alloc = rt.alloc();
+        let mut steps = Steps::new(alloc);
+        let tests = [
+            Test::Named(name(alloc, b"a")?),
+            Test::AnyElement,
+            Test::AnyText,
+            Test::AnyNode,
+        ];
+        for test in tests {
+            steps.push(Step {
+                axis: Axis::Child,
+                test,
+            })?;
+        }
+        let copied = steps.copy(alloc)?;
+        let printed = format!(in alloc; "{:?}", copied.items())?;
+        assert_eq!(rt; printed, format!(in alloc; "{:?}", steps.items())?);
+        assert_eq!(rt; copied.items().len(), 4);
+        assert!(rt;
+            matches!(
+                Kind::Element(name(alloc, b"b")?).copy(alloc)?,
+                Kind::Element(_)
+            )
+        );
+        assert!(rt; matches!(Kind::Document.copy(alloc)?, Kind::Document));
+        assert_eq!(rt; Limits::full().depth, 1000);
+        Ok(())
+    }
+}
