@@ -1,0 +1,6 @@
+pub mod Machine
+pub mod Judging
+pub mod Front
+pub mod Reading
+pub mod Standing
+pub mod Inside

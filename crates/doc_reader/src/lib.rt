@@ -1,0 +1,13 @@
+//! The reader of documents: bytes in pieces of any size in, tokens out.
+#![tactic(auto)]
+
+mod judge;
+mod machine;
+mod read;
+mod reader;
+mod run;
+mod tags;
+mod token;
+
+pub use reader::Reader;
+pub use token::Token;
