@@ -4,3 +4,4 @@ pub mod Copying
 pub mod Selecting
 pub mod Paths
 pub mod Selections
+pub mod Lists

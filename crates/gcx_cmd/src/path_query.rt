@@ -5,6 +5,9 @@ ghost use Rattle.gcx_cmd.specs.PlainQuery.{IsPath, BeginsPath, is_slashless};
 use gcx_base::{Memory, Name};
 use std::alloc::Global;
 
+/// The most bytes of a query.
+pub(crate) const LIMIT: usize = 1_048_576;
+
 /// Where the first `/` stands, or the end.
 fn name_end(bytes: &[u8]) -> usize
     ensures within { result ≤ length bytes.now }

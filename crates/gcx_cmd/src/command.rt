@@ -1,0 +1,94 @@
+//! The commands.
+ghost use Rattle.std.specs.Prelude.{◌≡◌, ◌≢◌, ◌⊎◌, ◌≤◌, ◌↔◌, ℕ, List, Some};
+ghost use Rattle.gcx_base.specs.Limits.{full_limits};
+ghost use Rattle.gcx_io.specs.Causes.{Rose};
+ghost use Rattle.gcx_io.specs.Shelf.{content_of, IsMissing};
+ghost use Rattle.gcx_model.specs.Answer.{answer};
+ghost use Rattle.gcx_model.specs.Document.{Nodes};
+ghost use Rattle.gcx_model.specs.Query.{ExprTree};
+ghost use Rattle.gcx_model.specs.Spelling.{SpellsWithin};
+ghost use Rattle.gcx_cmd.specs.PlainQuery.{SpellsQuery};
+ghost use Rattle.gcx_cmd.specs.Main.{IsRun, IsQuery, IsDocument, SaysOfQuery, SaysOfDocument, Writes, Refuses, LacksFile};
+
+use crate::Status;
+use crate::answering::answer_waiting;
+use crate::files::{read_document, read_query};
+use crate::words::command_of;
+use gcx_base::Text;
+use gcx_io::{Failed, Shelf, Sink, write_all};
+use std::alloc::Global;
+
+/// Runs `run QUERY DOC`.
+fn run<F: Shelf, O: Sink>(
+    alloc: Global,
+    query: &Text,
+    document: &Text,
+    files: &mut F,
+    out: &mut O,
+) -> Status
+    ensures query { (bytes : List ℕ) → content_of (F.names files.old) query.now ≡ Some bytes → SaysOfQuery result bytes }
+    ensures document { (bytes : List ℕ) → content_of (F.names files.old) document.now ≡ Some bytes → SaysOfDocument result bytes }
+    ensures written { (query_bytes document_bytes : List ℕ) (q : List ExprTree) (d : Nodes) →
+        content_of (F.names files.old) query.now ≡ Some query_bytes → content_of (F.names files.old) document.now ≡ Some document_bytes →
+        SpellsQuery query_bytes q → SpellsWithin full_limits document_bytes d → Writes result (O.taken out.old) (O.taken out.new) (answer q d) }
+    ensures quiet { result ≢ Status.Ok → result ≢ Status.WriteFault → out.new ≡ out.old }
+    ensures refusals { Refuses result (F.handles files.old) (F.handles files.new) }
+    ensures usage { result ≡ Status.Usage → ⊥ }
+    ensures read { result ≡ Status.ReadFault → Rose (F.faults files.old) (F.faults files.new)
+        ⊎ (IsMissing (F.names files.old) query.now ⊎ IsMissing (F.names files.old) document.now) }
+    ensures write { result ≡ Status.WriteFault → Rose (O.faults out.old) (O.faults out.new) }
+    ensures names { F.names files.new ≡ F.names files.old }
+    ensures read_count { F.faults files.old ≤ F.faults files.new }
+    ensures write_count { O.faults out.old ≤ O.faults out.new }
+{
+    let path = match read_query(alloc, files, query) {
+        Ok(path) => path,
+        Err(status) => return status,
+    };
+    let mut reader = match read_document(alloc, files, document) {
+        Ok(reader) => reader,
+        Err(status) => return status,
+    };
+    let Ok(answer) = answer_waiting(alloc, &path, &mut reader) else {
+        return Status::Memory;
+    };
+    match write_all(out, &answer) {
+        Ok(()) => Status::Ok,
+        Err(Failed) => Status::WriteFault,
+    }
+}
+
+/// Runs one command line: `run QUERY DOC` writes on `out` the answer of the query in the file QUERY
+/// over the document in the file DOC. `err` takes nothing.
+pub fn gcx_main<F: Shelf, O: Sink, E: Sink>(
+    alloc: Global,
+    words: &[Text],
+    files: &mut F,
+    out: &mut O,
+    err: &mut E,
+) -> Status
+    ensures usage { result ≡ Status.Usage ↔ ((q d : List ℕ) → IsRun words.now q d → ⊥) }
+    ensures query { (q d bytes : List ℕ) → IsRun words.now q d → content_of (F.names files.old) q ≡ Some bytes → SaysOfQuery result bytes }
+    ensures document { (q d bytes : List ℕ) → IsRun words.now q d → content_of (F.names files.old) d ≡ Some bytes → SaysOfDocument result bytes }
+    ensures written { (query document query_bytes document_bytes : List ℕ) (q : List ExprTree) (d : Nodes) → IsRun words.now query document →
+        content_of (F.names files.old) query ≡ Some query_bytes → content_of (F.names files.old) document ≡ Some document_bytes →
+        SpellsQuery query_bytes q → SpellsWithin full_limits document_bytes d → Writes result (O.taken out.old) (O.taken out.new) (answer q d) }
+    ensures quiet { result ≢ Status.Ok → result ≢ Status.WriteFault → out.new ≡ out.old }
+    ensures refusals { Refuses result (F.handles files.old) (F.handles files.new) }
+    ensures read { result ≡ Status.ReadFault → Rose (F.faults files.old) (F.faults files.new) ⊎ LacksFile words.now (F.names files.old) }
+    ensures write { result ≡ Status.WriteFault → Rose (O.faults out.old) (O.faults out.new) }
+    ensures complete { (query document query_bytes document_bytes : List ℕ) → IsRun words.now query document →
+        content_of (F.names files.old) query ≡ Some query_bytes → content_of (F.names files.old) document ≡ Some document_bytes →
+        IsQuery query_bytes → IsDocument document_bytes →
+        (Rose (F.faults files.old) (F.faults files.new) → ⊥) → (Rose (O.faults out.old) (O.faults out.new) → ⊥) →
+        result ≡ Status.Ok ⊎ result ≡ Status.Memory }
+    ensures names { F.names files.new ≡ F.names files.old }
+    ensures read_count { F.faults files.old ≤ F.faults files.new }
+    ensures write_count { O.faults out.old ≤ O.faults out.new }
+    ensures err { err.new ≡ err.old }
+{
+    match command_of(words) {
+        Some(command) => run(alloc, command.query, command.document, files, out),
+        None => Status::Usage,
+    }
+}
