@@ -5,3 +5,5 @@ pub mod Selecting
 pub mod Paths
 pub mod Selections
 pub mod Lists
+pub mod Judged
+pub mod Complete

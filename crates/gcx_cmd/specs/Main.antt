@@ -9,8 +9,12 @@ use Rattle.gcx_io.specs.Bytes.{Grows, GrowsWithin}
 use Rattle.gcx_model.specs.Document.{Nodes}
 use Rattle.gcx_model.specs.Spelling.{SpellsWithin}
 use Rattle.gcx_model.specs.Query.{ExprTree}
+use Rattle.gcx_model.specs.declared.fault.DocFault.{DocFault}
 use Rattle.gcx_model.specs.declared.fault.DocFault.TheVariants as doc_fault
 use Rattle.gcx_model.specs.declared.fault.QueryFault.TheVariants as query_fault
+use Rattle.gcx_base.specs.declared.limits.Limits.{Limits}
+use Rattle.doc_reader.specs.Standing.{Accepted}
+use Rattle.doc_reader.specs.declared.token.Token.{Token}
 use Rattle.gcx_cmd.specs.PlainQuery.{IsPath, SpellsQuery}
 use Rattle.gcx_cmd.specs.declared.status.Status.{Status}
 use Rattle.gcx_cmd.specs.declared.status.Status.TheVariants.{Ok, Usage, QueryRefused, DocumentRefused, ReadFault, WriteFault, Memory}
@@ -100,3 +104,15 @@ pub record LacksFile (words : List (List ℕ)) (names : Names) : Type 0 where
   pub document_name : List ℕ
   pub run : IsRun words query_name document_name
   pub missing : IsMissing names query_name ⊎ IsMissing names document_name
+
+-- what the end of a document's bytes shows
+abbrev pub Judges : {T : Type 0} → Result T Status → Limits → List ℕ → List Token → Type 0
+Judges (result.Ok x) lim bytes ts = Accepted lim bytes ts
+Judges (result.Err (DocumentRefused f)) lim bytes ts = (f ≡ doc_fault.Syntax 0) × ((d : Nodes) → SpellsWithin lim bytes d → ⊥)
+Judges (result.Err Memory) lim bytes ts = ⊤
+Judges (result.Err status) lim bytes ts = ⊥
+
+-- the status of a document that isn't read
+abbrev pub refusal_of : DocFault → Status
+refusal_of doc_fault.Memory = Memory
+refusal_of f = DocumentRefused f

@@ -3,9 +3,10 @@ ghost use Rattle.std.specs.Prelude.{◌≡◌, ◌⊎◌, ◌≤◌, ◌<◌, �
 ghost use Rattle.gcx_base.specs.Limits.{full_limits};
 ghost use Rattle.gcx_io.specs.Causes.{Rose};
 ghost use Rattle.gcx_io.specs.Shelf.{content_of, IsMissing};
-ghost use Rattle.doc_reader.specs.Standing.{Accepted, IsOpen, waiting};
+ghost use Rattle.doc_reader.specs.Standing.{Accepted, IsOpen, Stands, waiting};
+ghost use Rattle.gcx_base.specs.declared.limits.Limits.{Limits};
 ghost use Rattle.gcx_cmd.specs.Reading.{IsReadUpTo, FedUpTo};
-ghost use Rattle.gcx_cmd.specs.Main.{IsQueryOf, SaysOfQuery, SaysOfDocument, StopsQuery, StopsDocument, AttachesQuery, AttachesDocument};
+ghost use Rattle.gcx_cmd.specs.Main.{IsQueryOf, SaysOfQuery, SaysOfDocument, StopsQuery, StopsDocument, AttachesQuery, AttachesDocument, Judges, refusal_of};
 
 use crate::Status;
 use crate::path_query::{LIMIT, read_path};
@@ -66,6 +67,27 @@ fn feed_file<F: Shelf>(files: &mut F, handle: Handle, reader: &mut Reader, limit
     feed_up_to(&mut source, reader, limit)
 }
 
+/// The status of a document that isn't read.
+fn refusal(fault: DocFault) -> Status
+    ensures { result ≡ refusal_of fault }
+{
+    match fault {
+        DocFault::Memory => Status::Memory,
+        fault => Status::DocumentRefused(fault),
+    }
+}
+
+/// Ends the input of a reader, or the status to end with.
+fn finish(reader: &mut Reader) -> Result<(), Status>
+    ensures judged { (lim : Limits) (bytes : List ℕ) → Stands reader.old lim bytes → Judges result lim bytes (waiting reader.new) }
+    ensures stop { IfErr result StopsDocument }
+{
+    match reader.finish() {
+        Ok(()) => Ok(()),
+        Err(fault) => Err(refusal(fault)),
+    }
+}
+
 /// Reads a document, or the status to end with.
 pub(crate) fn read_document<F: Shelf>(alloc: Global, files: &mut F, name: &Text) -> Result<Reader, Status>
     ensures told { (document : List ℕ) → content_of (F.names files.old) name.now ≡ Some document →
@@ -80,9 +102,8 @@ pub(crate) fn read_document<F: Shelf>(alloc: Global, files: &mut F, name: &Text)
     let limits = Limits::full();
     let mut reader = Reader::new(alloc, limits);
     feed_file(files, handle, &mut reader, limits.bytes)?;
-    match reader.finish() {
+    match finish(&mut reader) {
         Ok(()) => Ok(reader),
-        Err(DocFault::Memory) => Err(Status::Memory),
-        Err(fault) => Err(Status::DocumentRefused(fault)),
+        Err(status) => Err(status),
     }
 }
