@@ -1,0 +1,217 @@
+ghost use Rattle.std.specs.Prelude.{IfOk, IsTrue};
+
+use crate::{
+    AttachFault, Failed, FileShelf, MemShelf, MemSink, MemSource, Opened, Shelf, Source, StdErr,
+    StdOut, SureShelf, SureSink, SureSource, write_all,
+};
+use gcx_base::Text;
+use std::process::Abort;
+use std::test::Fail;
+use std::{env, fs};
+
+fn text(rt: &impl AllocGlobal, bytes: &[u8]) -> Result<Text, Fail> {
+    Ok(Text::from_bytes(rt.alloc(), bytes)?.ok_or("not UTF-8")?)
+}
+
+/// Reads four bytes at a time, and compares each answer with a row: how many bytes came, None for a fault, and which.
+fn assert_reads<S: Source>(rt: &impl Abort, source: &mut S, rows: &[(Option<usize>, &[u8])]) {
+    for (count, bytes) in rows {
+        let mut buf = [0; 4];
+        let moved = source.read(&mut buf).ok();
+        assert_eq!(rt; moved, *count);
+        if let Some(count) = moved {
+            assert!(rt; count <= 4);
+            assert_eq!(rt; &buf[..count], *bytes);
+        }
+    }
+}
+
+fn sources(rt: &(impl Abort + AllocGlobal)) -> Result<(), Fail> {
+    let bytes = vec![in rt.alloc(); 7u8, 8]?;
+    let mut source = MemSource::new(bytes, 1, vec![in rt.alloc(); 2u64]?);
+    assert_reads(
+        rt,
+        &mut source,
+        &[
+            (Some(1), &[7]),
+            (None, &[]),
+            (Some(1), &[8]),
+            (Some(0), &[]),
+        ],
+    );
+    let mut source = SureSource::new(vec![in rt.alloc(); 1u8, 2, 3, 4, 5]?);
+    assert_reads(
+        rt,
+        &mut source,
+        &[(Some(4), &[1, 2, 3, 4]), (Some(1), &[5]), (Some(0), &[])],
+    );
+    Ok(())
+}
+
+fn sinks(rt: &(impl Abort + AllocGlobal)) -> Result<(), Fail> {
+    let mut sink = MemSink::new(rt.alloc(), 2, 1, vec![in rt.alloc(); 4u64]?)?;
+    assert_eq!(rt; write_all(&mut sink, b"ab"), Ok(()));
+    assert_eq!(rt; write_all(&mut sink, b"cd"), Err(Failed));
+    assert_eq!(rt; write_all(&mut sink, b"ef"), Ok(()));
+    assert!(rt; sink.is_whole());
+    assert_eq!(rt; sink.bytes(), b"abcef".as_slice());
+    let mut sink = SureSink::new(rt.alloc(), 0)?;
+    assert_eq!(rt; write_all(&mut sink, b"abc"), Ok(()));
+    assert!(rt; sink.is_whole());
+    assert_eq!(rt; sink.bytes(), b"abc".as_slice());
+    Ok(())
+}
+
+/// Attaches the file, and compares what is read of it.
+fn assert_file<F: Shelf>(
+    rt: &(impl Abort + AllocGlobal),
+    files: &mut F,
+    name: &[u8],
+    rows: &[(Option<usize>, &[u8])],
+) -> Result<(), Fail> {
+    let name = text(rt, name)?;
+    let handle = files.attach(&name)?;
+    assert_reads(rt, &mut Opened::new(files, handle), rows);
+    Ok(())
+}
+
+fn assert_refused<F: Shelf>(
+    rt: &(impl Abort + AllocGlobal),
+    files: &mut F,
+    name: &[u8],
+) -> Result<(), Fail> {
+    let name = text(rt, name)?;
+    let refusal = files.attach(&name).err();
+    assert_eq!(rt; refusal, Some(AttachFault::Failed));
+    Ok(())
+}
+
+fn assert_same(rt: &impl Abort, held: Option<&[u8]>, want: Option<&[u8]>) {
+    assert_eq!(rt; held, want);
+}
+
+/// A shelf on which a name was put twice, and whose calls 2 and 5 fail.
+fn failing_shelf(rt: &impl AllocGlobal) -> Result<MemShelf, Fail>
+    ensures { IfOk result (λ shelf. IsTrue shelf.whole) }
+{
+    let mut shelf = MemShelf::new(rt.alloc(), 0, 1, vec![in rt.alloc(); 2u64, 5]?);
+    shelf.put(text(rt, b"a")?, vec![in rt.alloc(); 1u8]?)?;
+    shelf.put(text(rt, b"b")?, vec![in rt.alloc(); 9u8]?)?;
+    shelf.put(text(rt, b"a")?, vec![in rt.alloc(); 7u8, 8]?)?;
+    Ok(shelf)
+}
+
+fn sure_shelf(rt: &impl AllocGlobal) -> Result<SureShelf, Fail>
+    ensures { IfOk result (λ shelf. IsTrue shelf.whole) }
+{
+    let mut shelf = SureShelf::new(rt.alloc(), 0);
+    shelf.put(text(rt, b"a")?, vec![in rt.alloc(); 7u8, 8]?)?;
+    Ok(shelf)
+}
+
+fn assert_held(
+    rt: &(impl Abort + AllocGlobal),
+    shelf: &MemShelf,
+    name: &[u8],
+    want: Option<&[u8]>,
+) -> Result<(), Fail>
+    requires { IsTrue shelf.now.whole }
+{
+    let name = text(rt, name)?;
+    assert_same(rt, shelf.bytes(&name), want);
+    Ok(())
+}
+
+fn assert_surely_held(
+    rt: &(impl Abort + AllocGlobal),
+    shelf: &SureShelf,
+    name: &[u8],
+    want: Option<&[u8]>,
+) -> Result<(), Fail>
+    requires { IsTrue shelf.now.whole }
+{
+    let name = text(rt, name)?;
+    assert_same(rt, shelf.bytes(&name), want);
+    Ok(())
+}
+
+fn held_by_name(rt: &(impl Abort + AllocGlobal)) -> Result<(), Fail> {
+    let shelf = failing_shelf(rt)?;
+    assert!(rt; shelf.is_whole());
+    assert_held(rt, &shelf, b"a", Some(&[7, 8]))?;
+    assert_held(rt, &shelf, b"b", Some(&[9]))?;
+    assert_held(rt, &shelf, b"c", None)
+}
+
+fn with_failing_calls(rt: &(impl Abort + AllocGlobal)) -> Result<(), Fail> {
+    let mut shelf = failing_shelf(rt)?;
+    assert_refused(rt, &mut shelf, b"c")?;
+    assert_refused(rt, &mut shelf, b"a")?;
+    assert_file(
+        rt,
+        &mut shelf,
+        b"a",
+        &[
+            (Some(1), &[7]),
+            (None, &[]),
+            (Some(1), &[8]),
+            (Some(0), &[]),
+        ],
+    )?;
+    assert_file(rt, &mut shelf, b"b", &[(Some(1), &[9])])
+}
+
+fn without_failing_calls(rt: &(impl Abort + AllocGlobal)) -> Result<(), Fail> {
+    let mut shelf = sure_shelf(rt)?;
+    assert!(rt; shelf.is_whole());
+    assert_surely_held(rt, &shelf, b"a", Some(&[7, 8]))?;
+    assert_surely_held(rt, &shelf, b"c", None)?;
+    assert_file(rt, &mut shelf, b"c", &[(Some(0), &[])])?;
+    assert_file(rt, &mut shelf, b"a", &[(Some(2), &[7, 8]), (Some(0), &[])])
+}
+
+#[test]
+fn objects_in_memory_move_their_bytes(rt: HostRuntime) -> Result<(), Fail> {
+    sources(&rt)?;
+    sinks(&rt)?;
+    held_by_name(&rt)?;
+    with_failing_calls(&rt)?;
+    without_failing_calls(&rt)
+}
+
+fn read_by_name(
+    rt: &(impl Abort + AllocGlobal),
+    shelf: &mut FileShelf,
+    folder: &str,
+    path: &str,
+) -> Result<(), Fail> {
+    assert_file(
+        rt,
+        shelf,
+        path.as_bytes(),
+        &[(Some(4), b"abcd"), (Some(1), b"e"), (Some(0), b"")],
+    )?;
+    assert_file(rt, shelf, folder.as_bytes(), &[(None, b"")])
+}
+
+#[test]
+fn files_are_read_by_their_names(rt: HostRuntime) -> Result<(), Fail> {
+    let path = "gcx_io_read_by_name";
+    fs::write(&rt, path, b"abcde".as_slice())?;
+    let mut shelf = FileShelf::new(rt);
+    read_by_name(&rt, &mut shelf, ".", path)?;
+    fs::remove_file(&rt, path)?;
+    assert_refused(&rt, &mut shelf, path.as_bytes())
+}
+
+#[test]
+fn standard_streams_take_what_is_written(rt: HostRuntime) {
+    assert_eq!(rt;
+        write_all(&mut StdOut::new(rt), b"to standard output\n"),
+        Ok(())
+    );
+    assert_eq!(rt;
+        write_all(&mut StdErr::new(rt), b"to standard error\n"),
+        Ok(())
+    );
+}
