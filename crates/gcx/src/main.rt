@@ -1,0 +1,38 @@
+//! The program: it makes the real shelf and the standard streams, takes its words and ends with the exit status.
+#![tactic(auto)]
+
+use gcx_base::Text;
+use gcx_cmd::{Status, gcx_main};
+use gcx_io::{FileShelf, StdErr, StdOut};
+use std::env;
+use std::io::ErrorKind;
+use std::process::ExitCode;
+
+/// The words after the program's name, or the code to end with.
+fn words(rt: HostRuntime) -> Result<Vec<Text>, u8> {
+    let all = match env::args(&rt) {
+        Ok(all) => all,
+        Err(error) if error.kind() == ErrorKind::OutOfMemory => return Err(Status::Memory.code()),
+        Err(_) => return Err(Status::Usage.code()),
+    };
+    let mut words = Vec::new(rt.alloc());
+    for word in all.skip(1) {
+        if words.push(Text::from_string(word)).is_err() {
+            return Err(Status::Memory.code());
+        }
+    }
+    Ok(words)
+}
+
+fn main(rt: HostRuntime) -> ExitCode {
+    match words(rt) {
+        Ok(words) => {
+            let mut files = FileShelf::new(rt);
+            let mut out = StdOut::new(rt);
+            let mut err = StdErr::new(rt);
+            let status = gcx_main(rt.alloc(), &words, &mut files, &mut out, &mut err);
+            ExitCode::from(status.code())
+        }
+        Err(code) => ExitCode::from(code),
+    }
+}

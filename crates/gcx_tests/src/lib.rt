@@ -1,0 +1,5 @@
+//! Runs of the top call over objects in memory.
+#![tactic(auto)]
+
+#[cfg(test)]
+mod runs;
