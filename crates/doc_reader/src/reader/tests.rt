@@ -89,9 +89,19 @@ fn named(alloc: Global, most: usize) -> Result<Vec<u8>, Fail> {
 }
 
 /// Asserts what is told of a document, in two pieces cut at each place, and byte by byte.
-fn assert_told(rt: &impl Abort, alloc: Global, small: bool, document: &[u8], want: &[u8]) -> Result<(), Fail> {
+fn assert_told(
+    rt: &impl Abort,
+    alloc: Global,
+    small: bool,
+    document: &[u8],
+    want: &[u8],
+) -> Result<(), Fail> {
     for place in 0..document.len() + 1 {
-        assert_eq!(rt; cut(alloc, small, document, place)?.as_slice(), want, "cut at {place}");
+        assert_eq!(rt;
+            cut(alloc, small, document, place)?.as_slice(),
+            want,
+            "cut at {place}"
+        );
     }
     assert_eq!(rt; in_bytes(alloc, small, document)?.as_slice(), want);
     Ok(())
@@ -176,7 +186,10 @@ fn keeps_its_limits(rt: HostRuntime) -> Result<(), Fail> {
         (b"<a>12345</a>", b"refused"),
         (b"<a>    </a>", b"<a></>$"),
         (b"<a>     </a>", b"refused"),
-        (b"<a>1234<b>12</b>1234</a>", b"<a>[1234]<b>[12]</>[1234]</>$"),
+        (
+            b"<a>1234<b>12</b>1234</a>",
+            b"<a>[1234]<b>[12]</>[1234]</>$",
+        ),
         (b"<a>1234<b>123</b>1234</a>", b"refused"),
         (b"<a></a>                  ", b"refused"),
     ];
@@ -186,7 +199,11 @@ fn keeps_its_limits(rt: HostRuntime) -> Result<(), Fail> {
     for (most, refused) in [(1, false), (1_024, false), (1_025, true)] {
         let document = named(rt.alloc(), most)?;
         let answer = in_bytes(rt.alloc(), false, &document)?;
-        assert_eq!(rt; answer.as_slice() == b"refused".as_slice(), refused, "a name of {most} bytes");
+        assert_eq!(rt;
+            answer.as_slice() == b"refused".as_slice(),
+            refused,
+            "a name of {most} bytes"
+        );
     }
     Ok(())
 }
