@@ -1,16 +1,16 @@
 -- Cells and the rows that they hold: that the cells tell the rows, and what each call makes of both.
-use Rattle.std.proofs.Common.{◌≡◌, ◌≢◌, ◌==◌, ◌+◌, ◌<◌, ◌≤◌, ℕ, zero, suc, Bool, true, false, not, List, [], ◌∷◌, ◌++◌, length, Option, Some, None, cond, refl, sym, ap, subst, ◌∙◌, inl, inr, arith, rules, get_or, count_by, is_some, ltb}
-use Rattle.std.specs.Prelude.{option_map, option_and_then, IsSome, ◌⊎◌, filter}
+use Rattle.std.proofs.Common.{◌≡◌, ◌≢◌, ◌==◌, ◌+◌, ◌<◌, ◌≤◌, ℕ, zero, suc, true, false, not, List, [], ◌∷◌, ◌++◌, length, Option, Some, None, cond, refl, sym, ap, subst, ◌∙◌, inl, inr, arith, rules, count_by, is_some}
+use Rattle.std.specs.Prelude.{option_map, IsSome, ◌⊎◌, filter}
 use Rattle.std.specs.Ordering.{nat_cmp}
 use Rattle.std.specs.FinMap.{empty, get, insert, remove, len, len-empty, get-empty}
 use Rattle.std.proofs.lemmas.Bool.{cases_eq, eq-eqb, ne_eqb}
 use Rattle.std.proofs.lemmas.List.{append-nil, append_assoc, get_or_past}
 use Rattle.std.proofs.lemmas.List.Folds.{list_any-append}
 use Rattle.std.proofs.lemmas.List.Sums.{sum_by-cons}
-use Rattle.node_store.specs.Rows.{Entry, Rows, leaf, with_child, without_child, with_payload, changed_at, planted, appended, unlinked, left_by, head_of, last_of, before, after, children_in, children_of, parent_of, is_child, is_listed, Distinct, IsTree}
+use Rattle.node_store.specs.Rows.{Entry, Rows, leaf, with_child, without_child, with_payload, changed_at, planted, appended, unlinked, left_by, head_of, last_of, before, after, children_in, children_of, parent_of, is_listed, Distinct, IsTree}
 use Rattle.node_store.specs.Links.{Linked, Cells, cell_at, next_in, siblings, entry_in, rows_from, rows_of, linked_at, Holds, altered, put, fresh_cell, with_last, with_paid, joined, IsSound}
-use Rattle.node_store.proofs.Siblings.{head_listed, or_right, last_listed, left_fresh, right_fresh, after_self, after_around, before_at, before_same, head_same, last_same, last_right, split_at, without_parts, distinct_push, distinct_without, short}
-use Rattle.node_store.proofs.Maps.{get_same, get_other, gone_same, gone_other, same_rows, len_new, changed_some, some_row, is_there, nowhere, parent_at, child_at, no_row, used_child}
+use Rattle.node_store.proofs.Siblings.{head_listed, or_right, left_fresh, right_fresh, after_self, after_around, before_at, before_same, head_same, last_same, last_right, split_at, without_parts, distinct_push, distinct_without, short}
+use Rattle.node_store.proofs.Maps.{get_same, get_other, gone_other, same_rows, len_new, some_row, parent_at, child_at, no_row, used_child}
 use Rattle.node_store.proofs.Trees as trees
 use Rattle.node_store.proofs.Seams.{same_cell, Near, Stands, stands, meets, joined_at, joined_dead}
 
@@ -179,7 +179,8 @@ module _ {T : Type 0} where
     near_new : (p : ℕ) → p ≡ k → Stands (NearAt p (leaf (Some q) x)) (torn p)
     near_new p pk = stands (fresh_cell (Some q) prev x) (torn_at p _ (λ pq. apart (sym pq ∙ pk)) (put_same k p _ cells pk))
         (record {
-          parent = refl; payload = refl;
+          parent = refl;
+          payload = refl;
           next = λ n. sym (ap (λ r. after r (children_of new (Some q))) pk ∙ ap (after k) (ap children_in upper) ∙ after_self k e.children [] unlisted);
           prev = λ n. absurd (n (ap Some (sym pk)));
           first = λ n. refl;
@@ -189,7 +190,8 @@ module _ {T : Type 0} where
     near_upper : (p : ℕ) → p ≡ q → Stands (NearAt p (with_child k e)) (torn p)
     near_upper p pq = stands (with_last (Some k) (linked_at rows p e)) (ap torn pq ∙ torn_upper ∙ ap (λ r. Some (with_last (Some k) (linked_at rows r e))) (sym pq))
         (record {
-          parent = refl; payload = refl;
+          parent = refl;
+          payload = refl;
           next = λ n. next_kept p e.parent (λ pk. apart (sym pq ∙ pk)) n;
           prev = λ n. prev_kept p e.parent (λ pk. apart (sym pq ∙ pk));
           first = λ n. ap head_of (sym (append-nil e.children)) ∙ head_same e.children [] (k ∷ []) (λ none. n (pq, none));
@@ -199,7 +201,8 @@ module _ {T : Type 0} where
     near_other : (p : ℕ) (y : Entry T) → p ≢ q → p ≢ k → get rows p ≡ Some y → Stands (NearAt p y) (torn p)
     near_other p y nq nk is = stands (linked_at rows p y) (torn_at p _ nq (put_other k p _ cells nk ∙ holds p ∙ ap (option_map (linked_at rows p)) is))
         (record {
-          parent = refl; payload = refl;
+          parent = refl;
+          payload = refl;
           next = λ n. next_kept p y.parent nk n;
           prev = λ n. prev_kept p y.parent nk;
           first = λ n. refl;
@@ -322,7 +325,8 @@ module _ {T : Type 0} where
           let nk : p ≢ k = λ pk. away (sym pq ∙ pk) in
           stands (linked_at rows p d) (was_at p d nk (ap (get rows) pq ∙ above))
           (record {
-            parent = refl; payload = refl;
+            parent = refl;
+            payload = refl;
             next = λ n. next_left p d.parent nk n;
             prev = λ n. prev_left p d.parent nk n;
             first = λ n. ap head_of parts ∙ head_same pre (k ∷ post) post (λ none. n (pq, none)) ∙ sym (ap head_of kept);
@@ -332,7 +336,8 @@ module _ {T : Type 0} where
       left_other : (p : ℕ) (y : Entry T) → p ≢ k → get rows p ≡ Some y → Stands (LeftAt p y) (gone p)
       left_other p y nk is = stands (linked_at rows p y) (was_at p y nk is)
           (record {
-            parent = refl; payload = refl;
+            parent = refl;
+            payload = refl;
             next = λ n. next_left p y.parent nk n;
             prev = λ n. prev_left p y.parent nk n;
             first = λ n. refl;

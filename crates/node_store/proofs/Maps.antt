@@ -1,10 +1,10 @@
 -- Rows under places: what a map of rows answers after one change.
-use Rattle.std.proofs.Common.{◌≡◌, ◌≢◌, ℕ, ◌+◌, Bool, true, false, List, [], Option, Some, None, cond, refl, sym, ap, subst, ◌∙◌, inl, inr, arith, rules, is_some}
-use Rattle.std.specs.Prelude.{IsSome, option_map, option_and_then}
+use Rattle.std.proofs.Common.{◌≡◌, ◌≢◌, ℕ, ◌+◌, true, false, Option, Some, None, cond, refl, sym, ap, subst, ◌∙◌, rules, is_some}
+use Rattle.std.specs.Prelude.{IsSome, option_and_then}
 use Rattle.std.specs.Ordering.{nat_cmp, eq_by_cmp}
 use Rattle.std.specs.Cmp.{nat_cmp_total, unsigned_tied}
-use Rattle.std.specs.FinMap.{empty, get, insert, remove, len, len-empty, len-insert, len-remove, get-empty, get-insert, get-remove, same_map, nat_cmp-IsAntisymmetric}
-use Rattle.std.proofs.lemmas.Bool.{cases_eq, eq-eqb, ne_eqb}
+use Rattle.std.specs.FinMap.{get, insert, remove, len, len-insert, get-insert, get-remove, same_map, nat_cmp-IsAntisymmetric}
+use Rattle.std.proofs.lemmas.Bool.{eq-eqb, ne_eqb}
 use Rattle.node_store.specs.Rows.{Entry, Rows, changed, changed_at, parent_of, children_in, is_child, is_listed}
 
 same_key : (q k : ℕ) → q ≡ k → eq_by_cmp nat_cmp q k ≡ true

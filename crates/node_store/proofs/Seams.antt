@@ -1,12 +1,12 @@
 -- Cells whose links are right but for one seam of a list of children, and what joining the two sides makes of them.
-use Rattle.std.proofs.Common.{◌≡◌, ◌≢◌, ◌==◌, ℕ, Bool, List, [], ◌∷◌, ◌++◌, Option, Some, None, cond, refl, sym, ap, subst, ◌∙◌, inl, inr, arith}
+use Rattle.std.proofs.Common.{◌≡◌, ◌≢◌, ◌==◌, ℕ, Bool, List, [], ◌∷◌, ◌++◌, Option, Some, None, cond, refl, sym, ap, subst, ◌∙◌, inl, inr}
 use Rattle.std.specs.Prelude.{option_map, ◌||◌, true, false}
 use Rattle.std.proofs.lemmas.List.{append-nil}
 use Rattle.std.proofs.lemmas.List.Folds.{list_any-append}
 use Rattle.std.specs.FinMap.{get}
 use Rattle.std.proofs.lemmas.Bool.{cases_eq, eq-eqb, ne_eqb}
-use Rattle.node_store.specs.Rows.{Entry, Rows, head_of, last_of, before, after, children_in, children_of, parent_of, is_child, is_listed, Distinct, LinksDown}
-use Rattle.node_store.specs.Links.{Linked, linked_at, Holds, altered, put, with_first, with_last, with_prev, with_next, right_set, left_set, joined}
+use Rattle.node_store.specs.Rows.{Entry, Rows, head_of, last_of, before, after, children_in, children_of, parent_of, is_listed, Distinct, LinksDown}
+use Rattle.node_store.specs.Links.{Linked, linked_at, altered, with_first, with_last, with_prev, with_next, right_set, left_set, joined}
 use Rattle.node_store.proofs.Siblings.{after_end, before_at, left_fresh, right_fresh, distinct_left, last_listed, head_listed, no_last, no_head, or_right}
 use Rattle.node_store.proofs.Maps.{parent_at, child_at}
 
@@ -55,7 +55,8 @@ module _ {T : Type 0} where
   left_step q p (Some l) right cells n meets (stands m is near) = elim (cases_eq p l) [
     | inl e ↦ stands (with_next right m) (at_it (with_next right) l p cells m e is)
         (record {
-          parent = near.parent; payload = near.payload;
+          parent = near.parent;
+          payload = near.payload;
           next = sym (meets.next (ap Some (sym e)));
           prev = near.prev;
           first = near.first (λ h. absurd (cc));
@@ -63,7 +64,8 @@ module _ {T : Type 0} where
         })
     | inr d ↦ stands m (off_it (with_next right) l p cells d ∙ is)
         (record {
-          parent = near.parent; payload = near.payload;
+          parent = near.parent;
+          payload = near.payload;
           next = near.next (λ h. d (search (sym h)));
           prev = near.prev;
           first = near.first (λ h. absurd (cc));
@@ -73,7 +75,8 @@ module _ {T : Type 0} where
   left_step q p None right cells n meets (stands m is near) = elim (cases_eq p q) [
     | inl e ↦ stands (with_first right m) (at_it (with_first right) q p cells m e is)
         (record {
-          parent = near.parent; payload = near.payload;
+          parent = near.parent;
+          payload = near.payload;
           next = near.next (λ h. absurd (cc));
           prev = near.prev;
           first = sym (meets.first e refl);
@@ -81,7 +84,8 @@ module _ {T : Type 0} where
         })
     | inr d ↦ stands m (off_it (with_first right) q p cells d ∙ is)
         (record {
-          parent = near.parent; payload = near.payload;
+          parent = near.parent;
+          payload = near.payload;
           next = near.next (λ h. absurd (cc));
           prev = near.prev;
           first = near.first (λ h. d h.0);

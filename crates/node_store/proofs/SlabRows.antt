@@ -10,7 +10,7 @@ use Rattle.slab.proofs.SlabLemmas.{Updates-with_value}
 use Rattle.std.proofs.lemmas.Bool.{cases_eq, eq-eqb, ne_eqb}
 use Rattle.node_store.specs.declared.slab_nodes.Cell.{Cell}
 use Rattle.node_store.specs.Rows.{Entry, Rows, with_payload, changed_at, planted, appended, unlinked, last_of, after, children_of, parent_of, IsTree}
-use Rattle.node_store.specs.Links.{Linked, Cells, cell_at, rows_of, linked_at, Holds, altered, put, fresh_cell, with_last, with_paid, joined, IsSound}
+use Rattle.node_store.specs.Links.{Linked, cell_at, rows_of, linked_at, Holds, altered, put, fresh_cell, with_last, with_paid, joined, IsSound}
 use Rattle.node_store.specs.declared.store.Place.{Place}
 use Rattle.node_store.specs.Slots.{index_of, linked_of, cells_of, links}
 use Rattle.node_store.proofs.Maps.{some_row, is_there, parent_at, child_at, used_parent, used_child}

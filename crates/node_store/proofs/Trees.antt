@@ -1,5 +1,5 @@
 -- What planting, appending, unlinking and a written payload leave of a tree.
-use Rattle.std.proofs.Common.{◌≡◌, ◌≢◌, ◌==◌, ◌||◌, ◌&&◌, ◌+◌, ◌-◌, ℕ, zero, suc, Bool, true, false, not, List, [], ◌∷◌, ◌++◌, Option, Some, None, cond, refl, sym, ap, subst, ◌∙◌, inl, inr, arith, is_some}
+use Rattle.std.proofs.Common.{◌≡◌, ◌≢◌, ◌==◌, ◌||◌, ◌&&◌, ◌+◌, ◌-◌, ℕ, zero, suc, Bool, true, false, not, [], ◌∷◌, Option, Some, None, cond, refl, sym, ap, subst, ◌∙◌, inl, inr, arith, is_some}
 use Rattle.std.specs.Prelude.{IsSome, option_and_then}
 use Rattle.std.specs.Ordering.{nat_cmp}
 use Rattle.std.specs.Cmp.{nat_cmp_total}
@@ -7,8 +7,8 @@ use Rattle.std.specs.FinMap.{empty, get, insert, remove, len, len-remove, empty_
 use Rattle.std.proofs.lemmas.Bool.{cases_eq, eq-eqb, eqb-true, ne_eqb, or_cases}
 use Rattle.std.proofs.lemmas.List.Folds.{list_any-append}
 use Rattle.node_store.specs.Rows.{Entry, Rows, leaf, with_child, without_child, with_payload, changed_at, planted, appended, unlinked, left_by, parent_of, children_in, is_child, is_listed, Distinct, LinksUp, LinksDown, Rises, IsTree}
-use Rattle.node_store.proofs.Siblings.{or_false, both_true, false_of, not_both, distinct_push, distinct_without, listed_without}
-use Rattle.node_store.proofs.Maps.{get_same, get_other, gone_same, gone_other, same_rows, changed_some, len_new, len_old, some_row, is_there, nowhere, parent_at, child_at, no_row, no_parent, used_child}
+use Rattle.node_store.proofs.Siblings.{or_false, both_true, false_of, distinct_push, distinct_without, listed_without}
+use Rattle.node_store.proofs.Maps.{get_same, get_other, gone_same, gone_other, same_rows, changed_some, len_new, len_old, is_there, nowhere, parent_at, child_at, no_row, no_parent, used_child}
 
 module _ {T : Type 0} where
   -- ---- no row
@@ -446,3 +446,18 @@ module _ {T : Type 0} where
 
     pub len_paid : len (changed_at (with_payload x) p rows) ≡ len rows
     len_paid = ap len paid_is ∙ len_old rows p (with_payload x e) e has
+
+  -- ---- without a root there is no row
+
+  rootless : (rows : Rows T) (n p : ℕ) → Rises rows None n p → {X : Type 0} → X
+  rootless rows zero p is = absurd (cc)
+  rootless rows (suc n) p is = rootless rows n is.0 is.2
+
+  pub no_rows : (rows : Rows T) (root : Option ℕ) → IsTree rows root → root ≡ None → rows ≡ empty
+  no_rows rows root t none = same_rows rows empty (λ p. go p (get rows p) refl ∙ sym (get-empty nat_cmp p))
+    where
+      go : (p : ℕ) (o : Option (Entry T)) → get rows p ≡ o → get rows p ≡ None
+      go p None is = is
+      go p (Some e) is =
+          let up = t.rises p (is_there rows p e is) in
+          rootless rows up.0 p (subst (λ r. Rises rows r up.0 p) none up.1)

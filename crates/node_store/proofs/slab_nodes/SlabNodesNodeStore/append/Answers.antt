@@ -1,6 +1,6 @@
-use Rattle.std.proofs.Common.{◌≡◌, ◌≤◌, ◌+◌, ℕ, Some, IsSome, sym, ap, subst, ◌∙◌, arith, max}
+use Rattle.std.proofs.Common.{◌≡◌, Some, IsSome, sym, ap, subst, ◌∙◌, arith, max}
 use Rattle.std.specs.FinMap.{get, len}
-use Rattle.node_store.specs.Rows.{Entry, appended, last_of}
+use Rattle.node_store.specs.Rows.{appended, last_of}
 use Rattle.node_store.specs.Links.{rows_of, altered, joined, with_last}
 use Rattle.node_store.specs.Slots.{index_of, cells_of}
 use Rattle.node_store.proofs.SlabRows.{Tells, told_appended, cell_is, len_slots}

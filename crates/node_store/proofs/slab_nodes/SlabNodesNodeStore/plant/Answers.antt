@@ -1,5 +1,5 @@
-use Rattle.std.proofs.Common.{◌≡◌, ◌≤◌, ◌+◌, ℕ, sym, ap, ◌∙◌, arith, max}
-use Rattle.std.specs.FinMap.{empty, len, len-empty}
+use Rattle.std.proofs.Common.{◌≡◌, sym, ap, ◌∙◌, arith, max}
+use Rattle.std.specs.FinMap.{len, len-empty}
 use Rattle.slab.specs.Slab.{slab_len}
 use Rattle.node_store.specs.Rows.{planted}
 use Rattle.node_store.specs.Slots.{index_of}

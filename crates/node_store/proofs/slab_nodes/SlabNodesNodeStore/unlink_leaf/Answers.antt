@@ -1,4 +1,4 @@
-use Rattle.std.proofs.Common.{◌≡◌, Option, Some, None, [], Bool, false, not, cond, is_some, sym, ap, subst, ◌∙◌, ℕ}
+use Rattle.std.proofs.Common.{◌≡◌, Some, None, [], false, not, cond, is_some, sym, ap, subst, ◌∙◌}
 use Rattle.std.specs.FinMap.{get}
 use Rattle.node_store.specs.Rows.{Entry, unlinked}
 use Rattle.node_store.specs.Links.{IsSound}
