@@ -1,15 +1,13 @@
 -- The numbers that digits write.
-use Rattle.std.proofs.Common.{◌≡◌, ◌<◌, ◌≤◌, ◌+◌, ◌-◌, ◌*◌, ◌^◌, ◌⊎◌, ℕ, zero, suc, Bool, true, false, ◌&&◌, ◌==◌, List, [], ◌∷◌, ◌++◌, refl, sym, ap, ◌∙◌, subst, cond, arith, length, length-append, append_assoc, take, drop, drop-cons, length-drop, min, get_or, Option, Some, None, MatchOption, inl, inr, nat_le}
+use Rattle.std.proofs.Common.{◌≡◌, ◌<◌, ◌≤◌, ◌+◌, ◌-◌, ◌*◌, ◌^◌, ◌⊎◌, ℕ, zero, suc, Bool, true, false, ◌&&◌, ◌==◌, List, [], ◌∷◌, ◌++◌, refl, sym, ap, ◌∙◌, subst, arith, length, length-append, append_assoc, take, drop, drop-cons, length-drop, min, get_or, Option, Some, None, MatchOption, inl, inr, nat_le}
 use Rattle.std.specs.List.{list_all}
-use Rattle.std.specs.declared.cmp.Ordering.{Ordering}
-use Rattle.std.specs.declared.cmp.Ordering.TheVariants.{Less, Equal, Greater}
 use Rattle.std.specs.Ordering.{nat_cmp, ordering_then}
 use Rattle.std.specs.Option.{SomeIff}
-use Rattle.std.specs.Cmp.{nat_cmp_is}
 use Rattle.std.proofs.Math.Nat.{pow-suc, mul_assoc, mul-le-mul_left}
 use Rattle.std.proofs.lemmas.Nat.{pow-add}
 use Rattle.std.proofs.lemmas.List.{length-take-le, take-append-drop}
 use Rattle.std.proofs.lemmas.List.Folds.{list_all-append}
+use Rattle.std.proofs.lemmas.Bool.{and_parts}
 use Rattle.std.proofs.lemmas.Bool.Decides.{nat_tests}
 use Rattle.xq_values.specs.Values.{digits_from, is_digit}
 use Rattle.xq_values.proofs.Orders.{cmp-scaled, cmp-whole, then-equal}
@@ -34,15 +32,10 @@ pub digits_from-start : (n : ℕ) (ds : List ℕ) → digits_from n ds ≡ n * 1
 digits_from-start n [] = omega arith
 digits_from-start n (d ∷ ds) =
     start_step n (d - 48) (10 ^ length ds) (digits_from (n * 10 + (d - 48)) ds) (digits_from (0 * 10 + (d - 48)) ds) (digits_from 0 ds)
-        (digits_from-start (n * 10 + (d - 48)) ds) (digits_from-start (0 * 10 + (d - 48)) ds)
+    (digits_from-start (n * 10 + (d - 48)) ds) (digits_from-start (0 * 10 + (d - 48)) ds)
     ∙ ap (λ q. n * q + digits_from (0 * 10 + (d - 48)) ds) (sym (pow-suc 10 (length ds)))
 
-both : (a b : Bool) → (a && b) ≡ true → (a ≡ true) × (b ≡ true)
-both true true e = (refl, refl)
-both true false e = cc
-both false b e = cc
-
-is_digit-≤ : (d : ℕ) → is_digit d ≡ true → (48 ≤ d) × (d ≤ 57)
+pub is_digit-≤ : (d : ℕ) → is_digit d ≡ true → (48 ≤ d) × (d ≤ 57)
 is_digit-≤ d e = (grind (arith, nat_tests), grind (arith, nat_tests))
 
 under_step : (n e q : ℕ) → e ≤ 9 → (n * 10 + e + 1) * q ≤ (n + 1) * (q * 10)
@@ -51,7 +44,7 @@ under_step n e q small = let most : q * (n * 10 + e + 1) ≤ q * (n * 10 + 10) =
 digits_from-< : (n : ℕ) (ds : List ℕ) → list_all is_digit ds ≡ true → digits_from n ds < (n + 1) * 10 ^ length ds
 digits_from-< n [] all = omega arith
 digits_from-< n (d ∷ ds) all =
-    let parts : (is_digit d ≡ true) × (list_all is_digit ds ≡ true) = both (is_digit d) (list_all is_digit ds) all in
+    let parts : (is_digit d ≡ true) × (list_all is_digit ds ≡ true) = and_parts (is_digit d) (list_all is_digit ds) all in
     let digit : d ≤ 57 = (is_digit-≤ d parts.0).1 in
     let behind : digits_from (n * 10 + (d - 48)) ds < (n * 10 + (d - 48) + 1) * 10 ^ length ds = digits_from-< (n * 10 + (d - 48)) ds parts.1 in
     let step : (n * 10 + (d - 48) + 1) * 10 ^ length ds ≤ (n + 1) * (10 ^ length ds * 10) = under_step n (d - 48) (10 ^ length ds) (omega arith) in
@@ -67,14 +60,14 @@ fraction-< ds all = omega (arith, digits_from-< 0 ds all)
 pub zeros : (ds : List ℕ) → list_all (λ d. d == 48) ds ≡ true → digits_from 0 ds ≡ 0
 zeros [] all = refl
 zeros (d ∷ ds) all =
-    let parts : ((d == 48) ≡ true) × (list_all (λ d. d == 48) ds ≡ true) = both (d == 48) (list_all (λ d. d == 48) ds) all in
+    let parts : ((d == 48) ≡ true) × (list_all (λ d. d == 48) ds ≡ true) = and_parts (d == 48) (list_all (λ d. d == 48) ds) all in
     let zero_digit : 0 * 10 + (d - 48) ≡ 0 = grind (arith, nat_tests) in
     ap (λ n. digits_from n ds) zero_digit ∙ zeros ds parts.1
 
 pub nonzero : (ds : List ℕ) → list_all is_digit ds ≡ true → list_all (λ d. d == 48) ds ≡ false → 0 < digits_from 0 ds
 nonzero [] all none = cc
 nonzero (d ∷ ds) all none =
-    let parts : (is_digit d ≡ true) × (list_all is_digit ds ≡ true) = both (is_digit d) (list_all is_digit ds) all in
+    let parts : (is_digit d ≡ true) × (list_all is_digit ds ≡ true) = and_parts (is_digit d) (list_all is_digit ds) all in
     go (d == 48) refl (is_digit-≤ d parts.0).0 (nonzero ds parts.1)
   where
     go : (b : Bool) → (d == 48) ≡ b → 48 ≤ d → (list_all (λ d. d == 48) ds ≡ false → 0 < digits_from 0 ds) → 0 < digits_from (0 * 10 + (d - 48)) ds
@@ -149,7 +142,7 @@ counted_and_rest whole counted rest m few digits all =
     ∙ (λ i. nat_cmp (sym (digits_split whole counted rest) i * 10 ^ 18) (m * 10 ^ (sym (length-append counted rest) i)))
 
 behind : (p : ℕ → Bool) (xs ys : List ℕ) → list_all p (xs ++ ys) ≡ true → list_all p ys ≡ true
-behind p xs ys all = (both (list_all p xs) (list_all p ys) (sym (list_all-append p xs ys) ∙ all)).1
+behind p xs ys all = (and_parts (list_all p xs) (list_all p ys) (sym (list_all-append p xs ys) ∙ all)).1
 
 -- the same for the first i digits of the fraction, which are the first 18 or all
 pub at_18_places : (whole fraction : List ℕ) (i m : ℕ) → i ≡ min (length fraction) 18 → list_all is_digit (whole ++ fraction) ≡ true

@@ -1,6 +1,6 @@
 -- Values: which bytes count as a number, as which number, and how a pair of values compares
 -- (general comparisons of untyped values: XQuery 1.0, section 3.5.2; the number rule is this project's).
-use Rattle.std.specs.Prelude.{ℕ, ◌+◌, ◌-◌, ◌*◌, ◌^◌, ℤ, pos, neg_ℤ, ◌*ℤ◌, Bool, true, false, ◌&&◌, ◌||◌, ◌==◌, nat_lt, nat_le, if◌then◌else◌, List, [], ◌∷◌, ◌++◌, length, reverse, Option, Some, None, option_map}
+use Rattle.std.specs.Prelude.{◌≡◌, ℕ, ◌+◌, ◌-◌, ◌*◌, ◌^◌, ℤ, pos, neg_ℤ, ◌*ℤ◌, Bool, true, false, ◌&&◌, ◌||◌, ◌==◌, nat_lt, nat_le, if◌then◌else◌, List, [], ◌∷◌, ◌++◌, length, reverse, Option, Some, None, option_map}
 use Rattle.std.specs.List.{list_all, before_first, after_first}
 use Rattle.std.specs.Ordering.{int_cmp, nat_cmp, ordering_reverse, is_some_and, is_eq, is_ne, is_lt, is_le, is_gt, is_ge}
 use Rattle.std.specs.declared.cmp.Ordering.{Ordering}
@@ -73,8 +73,54 @@ decimal minus whole fraction = record { units = with_sign minus (digits_from 0 (
 abbrev pub decimal_of : Bool → List ℕ → List ℕ → Option Decimal
 decimal_of minus whole fraction = if is_numeral (whole ++ fraction) then Some (decimal minus whole fraction) else None
 
-abbrev pub number : List ℕ → Option Decimal
+unfoldable pub number : List ℕ → Option Decimal
 number v = let t = trimmed v in decimal_of (is_negative t) (whole_of (without_sign t)) (fraction_of (without_sign t))
+
+-- ---- The same rule as a grammar: white space, a sign, a numeral, white space.
+
+pub data Sign : Type 0 where
+  Bare : Sign
+  Plus : Sign
+  Minus : Sign
+
+abbrev pub sign_bytes : Sign → List ℕ
+sign_bytes Bare = []
+sign_bytes Plus = 43 ∷ []
+sign_bytes Minus = 45 ∷ []
+
+abbrev pub is_minus : Sign → Bool
+is_minus Bare = false
+is_minus Plus = false
+is_minus Minus = true
+
+-- digits alone, or a point with digits before and behind it
+pub data Numeral : Type 0 where
+  Whole : (digits : List ℕ) → Numeral
+  Pointed : (before behind : List ℕ) → Numeral
+
+abbrev pub numeral_bytes : Numeral → List ℕ
+numeral_bytes (Whole digits) = digits
+numeral_bytes (Pointed before behind) = before ++ 46 ∷ behind
+
+abbrev pub before_point : Numeral → List ℕ
+before_point (Whole digits) = digits
+before_point (Pointed before behind) = before
+
+abbrev pub behind_point : Numeral → List ℕ
+behind_point (Whole digits) = []
+behind_point (Pointed before behind) = behind
+
+-- v is spelled in this way, and d is its number
+pub record CountsAs (v : List ℕ) (d : Decimal) : Type 0 where
+  pub front : List ℕ
+  pub sign : Sign
+  pub numeral : Numeral
+  pub back : List ℕ
+  pub bytes : v ≡ front ++ ((sign_bytes sign ++ numeral_bytes numeral) ++ back)
+  pub white_front : list_all is_white front ≡ true
+  pub white_back : list_all is_white back ≡ true
+  pub digits : is_numeral (before_point numeral ++ behind_point numeral) ≡ true
+  pub value : d ≡ decimal (is_minus sign) (before_point numeral) (behind_point numeral)
 
 -- ---- Pairs of values.
 

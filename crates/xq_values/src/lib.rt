@@ -6,3 +6,6 @@ mod rel;
 
 pub use number::NumText;
 pub use rel::{compare_text, holds};
+
+#[cfg(test)]
+mod tests;

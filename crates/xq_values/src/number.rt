@@ -1,7 +1,7 @@
-ghost use Rattle.std.specs.Prelude.{◌≡◌, ◌≤◌, ◌<◌, ◌-◌, ◌*◌, ◌^◌, ◌++◌, [], ◌∷◌, ◌==◌, length, MatchOption, position, true};
+ghost use Rattle.std.specs.Prelude.{◌≡◌, ◌≤◌, ◌<◌, ◌-◌, ◌*◌, ◌^◌, ◌++◌, [], ◌∷◌, ◌==◌, ◌↔◌, length, MatchOption, position, true};
 ghost use Rattle.std.specs.List.{list_all};
 ghost use Rattle.std.specs.Ordering.{nat_cmp};
-ghost use Rattle.xq_values.specs.Values.{against, decimal_of, digits_from, fraction_of, is_digit, is_negative, is_point, is_white, number, trimmed, whole_of, without_front, without_sign};
+ghost use Rattle.xq_values.specs.Values.{against, CountsAs, Decimal, decimal_of, digits_from, fraction_of, is_digit, is_negative, is_point, is_white, number, trimmed, whole_of, without_front, without_sign};
 
 use std::cmp::Ordering;
 use std::marker::Model;
@@ -9,8 +9,9 @@ use std::marker::Model;
 /// How many places behind the point a literal has.
 const PLACES: usize = 18;
 
-/// A value that counts as a number, seen as that number: its sign, and its digits before and behind the point.
-#[derive(Drop)]
+/// A value that counts as a number, seen as that number. It borrows the digits, of which there may
+/// be any number.
+#[derive(Drop, Debug)]
 pub struct NumText<'a> {
     negative: bool,
     whole: &'a [u8],
@@ -119,7 +120,8 @@ fn are_zeros(digits: &[u8]) -> bool
 /// One more digit behind those of a number. None where it is 2^128 or more.
 fn with_digit(number: u128, digit: u8) -> Option<u128>
     requires { is_digit digit ≡ true }
-    ensures { MatchOption result (2 ^ 128 ≤ digits_from number (digit ∷ [])) (λ n. n ≡ digits_from number (digit ∷ [])) }
+    ensures { let longer = digits_from number (digit ∷ []) in
+        MatchOption result (2 ^ 128 ≤ longer) (λ n. n ≡ longer) }
 {
     number
         .checked_mul(10)?
@@ -129,7 +131,8 @@ fn with_digit(number: u128, digit: u8) -> Option<u128>
 /// The number that the digits write behind those of `start`. None where it is 2^128 or more.
 fn digits_from(start: u128, digits: &[u8]) -> Option<u128>
     requires { list_all is_digit digits.now ≡ true }
-    ensures { MatchOption result (2 ^ 128 ≤ digits_from start digits.now) (λ n. n ≡ digits_from start digits.now) }
+    ensures { let whole = digits_from start digits.now in
+        MatchOption result (2 ^ 128 ≤ whole) (λ n. n ≡ whole) }
 {
     let mut number = start;
     for digit in digits {
@@ -142,17 +145,15 @@ fn digits_from(start: u128, digits: &[u8]) -> Option<u128>
 fn in_units(whole: &[u8], fraction: &[u8]) -> Option<u128>
     requires digits { list_all is_digit (whole.now ++ fraction.now) ≡ true }
     requires few { length fraction.now ≤ 18 }
-    ensures {
-        let size = digits_from 0 (whole.now ++ fraction.now) * 10 ^ (18 - length fraction.now) in
-        MatchOption result (2 ^ 128 ≤ size) (λ n. n ≡ size)
-    }
+    ensures { let size = digits_from 0 (whole.now ++ fraction.now) * 10 ^ (18 - length fraction.now) in
+        MatchOption result (2 ^ 128 ≤ size) (λ n. n ≡ size) }
 {
     let number = digits_from(digits_from(0, whole)?, fraction)?;
     let missing = (PLACES - fraction.len()) as u32;
     number.checked_mul(10u128.pow(missing))
 }
 
-/// Whether the digits write 0 or more.
+/// Whether the digits write 0 (Equal) or a number above it (Greater).
 fn compare_to_zero(digits: &[u8]) -> Ordering
     requires { list_all is_digit digits.now ≡ true }
     ensures { result ≡ nat_cmp (digits_from 0 digits.now) 0 }
@@ -167,9 +168,8 @@ fn compare_to_zero(digits: &[u8]) -> Ordering
 /// Compares a number without its sign with a literal's size in units of 10^-18.
 fn compare_sizes(whole: &[u8], fraction: &[u8], units: u128) -> Ordering
     requires { list_all is_digit (whole.now ++ fraction.now) ≡ true }
-    ensures {
-        result ≡ nat_cmp (digits_from 0 (whole.now ++ fraction.now) * 10 ^ 18) (units * 10 ^ length fraction.now)
-    }
+    ensures { let size = digits_from 0 (whole.now ++ fraction.now) in
+        result ≡ nat_cmp (size * 10 ^ 18) (units * 10 ^ length fraction.now) }
 {
     let (counted, rest) = fraction.split_at(fraction.len().min(PLACES));
     match in_units(whole, counted) {
@@ -194,18 +194,20 @@ impl<'a> NumText<'a> {
         })
     }
 
-    /// The number as which the value counts: optional white space, an optional `+` or `-`, digits of any number, of
-    /// which at least one is there, with at most one `.` before, among or behind them, optional white space.
-    /// None exactly where the value isn't of this form. Takes no memory.
+    /// The number as which the value counts: optional white space, an optional `+` or `-`, at least
+    /// one digit, with at most one `.` before, among or behind the digits, optional white space
+    /// (this project's rule). None exactly where the value isn't of this form. Takes no memory.
     pub fn read(value: &'a [u8]) -> Option<NumText<'a>>
-        ensures { result ≡ number value.now }
+        ensures number { result ≡ number value.now }
+        ensures counts { (d : Decimal) → (result ≡ Some d) ↔ CountsAs value.now d }
     {
         let (negative, unsigned) = split_sign(trimmed(value));
         let (whole, fraction) = split_point(unsigned);
         NumText::of_digits(negative, whole, fraction)
     }
 
-    /// Compares the number with a literal in units of 10^-18, exactly. Takes no memory.
+    /// Compares the number with a literal in units of 10^-18, exactly, whatever its length. Takes no
+    /// memory.
     pub fn compare(&self, units: i128) -> Ordering
         ensures { result ≡ against self.now units }
     {

@@ -1,4 +1,4 @@
-use Rattle.std.proofs.Common.{rules, ◌≡◌, ◌≤◌, ◌<◌, ◌-◌, ◌*◌, ◌^◌, ◌++◌, ℕ, length, sym, ap, ◌∙◌, subst, MatchOption}
+use Rattle.std.proofs.Common.{◌≡◌, ◌-◌, ◌*◌, ◌^◌, ◌++◌, length, sym, ap, ◌∙◌}
 use Rattle.xq_values.specs.Values.{digits_from}
 use Rattle.xq_values.proofs.Digits.{digits_from-append, whole_big, both_big, match_of_iff}
 use Rattle.xq_values.proofs.number.in_units.Goals as goal
@@ -14,7 +14,7 @@ returns-in_err-number c =
 pub returns : goal.returns
 returns c =
     let number : c.in_ok-number.number ≡ digits_from 0 (c.args.whole.now ++ c.args.fraction.now) =
-        c.in_ok-number.ensures ∙ ap (λ n. digits_from n c.args.fraction.now) (c.in_ok-digits_from.ensures) ∙ sym (digits_from-append 0 c.args.whole.now c.args.fraction.now) in
+    c.in_ok-number.ensures ∙ ap (λ n. digits_from n c.args.fraction.now) (c.in_ok-digits_from.ensures) ∙ sym (digits_from-append 0 c.args.whole.now c.args.fraction.now) in
     let size : c.in_ok-number.number * c.pow.result ≡ digits_from 0 (c.args.whole.now ++ c.args.fraction.now) * 10 ^ (18 - length c.args.fraction.now) =
-        λ i. number i * c.pow.ensures i in
+    λ i. number i * c.pow.ensures i in
     match_of_iff (2 ^ 128) _ _ c.checked_mul.result size c.checked_mul.ensures

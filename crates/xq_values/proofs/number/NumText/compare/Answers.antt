@@ -1,6 +1,5 @@
-use Rattle.std.proofs.Common.{rules, ◌≡◌, ◌<◌, ◌∙◌, ap, sym, ◌++◌, ◌^◌, length, true, false, arith}
+use Rattle.std.proofs.Common.{rules, ◌∙◌, ap, sym, ◌++◌, ◌^◌, length}
 use Rattle.std.specs.Prelude.{pos, ◌<ℤ◌}
-use Rattle.std.proofs.lemmas.Int.{ints}
 use Rattle.xq_values.specs.Values.{against, digits_from, decimal}
 use Rattle.xq_values.proofs.Digits.{ten_pos}
 use Rattle.xq_values.proofs.Orders.{plus_minus, minus_plus}
