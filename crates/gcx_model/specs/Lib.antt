@@ -6,3 +6,12 @@ pub mod Values
 pub mod Written
 pub mod Query
 pub mod Answer
+pub mod Members
+pub mod Core
+pub mod Truth
+pub mod Run
+pub mod Variables
+pub mod Roles
+pub mod Cores
+pub mod Placed
+pub mod Held
