@@ -27,3 +27,4 @@ pub mod Evaluator
 pub mod Writes
 pub mod Placed
 pub mod Copies
+pub mod Rows

@@ -15,3 +15,9 @@ pub mod Roles
 pub mod Cores
 pub mod Placed
 pub mod Held
+pub mod Growth
+pub mod Points
+pub mod Needs
+pub mod Sound
+pub mod Normal
+pub mod Demand
