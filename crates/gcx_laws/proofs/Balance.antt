@@ -1,6 +1,7 @@
 -- A run that is done has signed each node that the way to b reaches; so where all is closed, all that is given is taken.
 use Rattle.std.proofs.Common.{◌≡◌, ℕ, Bool, true, false, cond, not, ◌&&◌, ◌||◌, List, [], ◌∷◌, refl, sym, ◌∙◌, ap, subst, inl, inr, None, eqb}
 use Rattle.std.proofs.lemmas.Bool.{or_left, or_right, and_from, false≢true, eq-eqb}
+pub use Rattle.gcx_model.specs.Placed.{of_role}
 use Rattle.gcx_model.specs.Tree.{Node, Root, serial_of, Tree, is_closed}
 use Rattle.gcx_model.specs.Paths.{any, matches}
 use Rattle.gcx_base.specs.declared.steps.Step.{Step}
@@ -61,9 +62,6 @@ module _ (P : Tree) (w : Grown P) (p : OffTree → Bool) (b : ℕ) where
       (λ d. way_signs x e path' wy (bind env x r.0) d n (subst (λ (z : Node). In n (chain_at P z path')) (sym (bound_at P w p b env x r.0)) r.2)))
 
 -- p picks the statement of one role
-abbrev pub of_role : ℕ → OffTree → Bool
-of_role r o = eqb o.role r
-
 pub sig_any : (r m : ℕ) (xs : List Action) → In m (sig (of_role r) xs) → any (is_off r m) xs ≡ true
 sig_any r m [] h = absurd h
 sig_any r m (Wrote s ∷ xs) h = sig_any r m xs h

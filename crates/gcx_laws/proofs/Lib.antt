@@ -28,3 +28,4 @@ pub mod Writes
 pub mod Placed
 pub mod Copies
 pub mod Rows
+pub mod Bridge

@@ -3,6 +3,7 @@ use Rattle.std.proofs.Common.{◌≡◌, ℕ, suc, Bool, true, false, cond, not,
 use Rattle.std.specs.List.{filter}
 use Rattle.std.proofs.lemmas.List.{append-nil}
 use Rattle.std.proofs.lemmas.Bool.{or_cases, or_left, or_right, and_parts, and_from, true≢false, false≢true, eqb-true, eq-eqb, not-true, false_from_ne_true}
+pub use Rattle.gcx_model.specs.Needs.{Operand_needs, Cond_needs, Conds_need, Item_needs, Body_needs, Frame_needs, Needs}
 use Rattle.gcx_model.specs.Tree.{Node, Root, serial_of, above, within, Tree}
 use Rattle.gcx_model.specs.Paths.{any, all, hits, matches, first}
 use Rattle.gcx_base.specs.declared.steps.Step.{Step}
@@ -28,49 +29,6 @@ use Rattle.gcx_laws.proofs.Stands.{Frame, Rest, Round, Part, Stands, later, to_c
 use Rattle.gcx_laws.proofs.Plans.{At_row, row_has, row_is, in_end, good_based, roles_known, way_of, good_zero}
 use Rattle.gcx_laws.proofs.Waits.{Waits, Waits-left, waits_unsigned, later_unsigned, loop_unsigned}
 use Rattle.gcx_laws.proofs.Frames.{Bound_in, gives_behind, Last, Ready, ready_over, ready_under, ready_far, hit_on, Loop, Turn, Fact_rest, Facts, facts, last_waits}
-
--- a compared operand needs each of its matches with the whole subtree
-abbrev pub Operand_needs : Tree → Env → OperandTree → Node → Type 0
-Operand_needs P env (Path x tail) m = (j : Node) × In j (matches P (serial_of (env x)) tail) × (within (serial_of j) m ≡ true)
-Operand_needs P env (Str b) m = ⊥
-Operand_needs P env (Num l) m = ⊥
-
--- a condition needs the first match of each tail of an exists, and what its operands need
-abbrev mutual
-  pub Cond_needs : Tree → Env → CondTree → Node → Type 0
-  Cond_needs P env Always m = ⊥
-  Cond_needs P env (Exists x tail) m = first P (serial_of (env x)) tail ≡ Some m
-  Cond_needs P env (Compare l r s) m = Operand_needs P env l m ⊎ Operand_needs P env s m
-  Cond_needs P env (Not c) m = Cond_needs P env c m
-  Cond_needs P env (All cs) m = Conds_need P env cs m
-  Cond_needs P env (Any cs) m = Conds_need P env cs m
-
-  pub Conds_need : Tree → Env → CondTrees → Node → Type 0
-  Conds_need P env no_cond m = ⊥
-  Conds_need P env (more_conds c cs) m = Cond_needs P env c m ⊎ Conds_need P env cs m
-
--- the item with which a body goes on needs the nodes of its variables; a loop its matches too, a condition what it needs, a copy the whole subtree
-abbrev pub Item_needs : Tree → Env → ItemTree → Node → Type 0
-Item_needs P env (Write s) m = ⊥
-Item_needs P env (Copy x) m = within (serial_of (env x)) m ≡ true
-Item_needs P env (For x y s d) m = (env y ≡ m) ⊎ In m (matches P (serial_of (env y)) (s ∷ []))
-Item_needs P env (If c a b) m = Cond_needs P env c m ⊎ ((r : RoleRowTree) × In r (cond_rows c) × (env r.var ≡ m))
-Item_needs P env (Off o) m = env o.base ≡ m
-
-abbrev pub Body_needs : Tree → Env → BodyTree → Node → Type 0
-Body_needs P env Nil m = ⊥
-Body_needs P env (Then i d) m = Item_needs P env i m
-
--- what a frame needs, under those above it: of a body what the item with which it goes on needs; of a round the present match, unless its body is over and its last action is taken, the later ones, and the parent's node; of a copy the whole subtree
-abbrev pub Frame_needs : Tree → List Frame → Frame → Node → Type 0
-Frame_needs P top (Rest d env) m = Body_needs P env d m
-Frame_needs P top (Round x y s e env n) m = (((to_come P top ≡ idle true → ⊥) × (n ≡ m)) ⊎ In m (later n (matches P (serial_of (env y)) (s ∷ [])))) ⊎ (env y ≡ m)
-Frame_needs P top (Part x env k) m = within (serial_of (env x)) m ≡ true
-
--- what a point needs: that of each frame, and the document node, to which variable 0 is bound, until all is over
-abbrev pub Needs : Tree → List Frame → List Frame → Node → Type 0
-Needs P top [] m = (to_come P top ≡ idle true → ⊥) × (Root ≡ m)
-Needs P top (f ∷ fs) m = Frame_needs P top f m ⊎ Needs P (top ++ f ∷ []) fs m
 
 -- the last of a list that isn't empty
 last_of : {X : Type 0} (x : X) (xs : List X) → In x xs → (l : X) × Last l xs × In l xs

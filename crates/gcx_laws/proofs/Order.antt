@@ -4,6 +4,7 @@ use Rattle.std.specs.List.{flat_map}
 use Rattle.std.proofs.lemmas.Bool.{and_parts}
 use Rattle.gcx_base.specs.declared.kind.Kind.{Kind}
 use Rattle.gcx_base.specs.declared.kind.Kind.TheVariants.{Element, Text}
+pub use Rattle.gcx_model.specs.Sound.{only_last}
 use Rattle.gcx_model.specs.Tree.{Node, Root, Under, serial_of, above, Tree, Token, Start, Chars, End, grow, grow_at}
 use Rattle.gcx_base.specs.declared.steps.Step.{Step}
 use Rattle.gcx_model.specs.Paths.{hits, matches}
@@ -88,12 +89,6 @@ Rising-flat_map : (f : Node → List Node) (xs : List Node) → Rising xs → ((
 Rising-flat_map f [] r o h = tt
 Rising-flat_map f (x ∷ xs) r o h = Rising-append (f x) (flat_map f xs) (o x (inl refl)) (Rising-flat_map f xs r.1 (λ y i. o y (inr i)) (λ a b c d i j. h a b c d (inr i) (inr j)))
     (λ a b i j. let q = In-flat_map f b xs j in h x q.0 a b (inl refl) (inr q.1) (r.0 q.0 q.1) i q.2)
-
--- each step but the last is a child step
-abbrev pub only_last : List Step → Bool
-only_last [] = true
-only_last (s ∷ []) = true
-only_last (s ∷ (u ∷ rest)) = is_child s.axis && only_last (u ∷ rest)
 
 module _ (P : Tree) (w : Grown P) (o : Ordered P) where
   single : (xs : List Node) → flat_map (λ j. j ∷ []) xs ≡ xs

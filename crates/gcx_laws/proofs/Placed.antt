@@ -5,7 +5,7 @@ use Rattle.std.proofs.lemmas.List.Elements.{filter-append}
 use Rattle.std.proofs.lemmas.Bool.{and_parts, eqb-true, not-true}
 use Rattle.gcx_base.specs.declared.steps.Step.{Step}
 use Rattle.gcx_model.specs.Core.{ItemTree, Write, Copy, For, If, Off, BodyTree, Nil, Then, OffTree}
-use Rattle.gcx_model.specs.Placed.{add_offs, offs_body, place, at_end, offs_of}
+use Rattle.gcx_model.specs.Placed.{without, item_offs, offs_in, add_offs, offs_body, place, at_end, offs_of}
 use Rattle.gcx_laws.proofs.Reading.{reading}
 use Rattle.gcx_model.specs.Roles.{roles_of}
 use Rattle.gcx_model.specs.Variables.{var_tree}
@@ -17,14 +17,6 @@ use Rattle.gcx_laws.proofs.Plans.{same_role}
 use Rattle.gcx_laws.proofs.Laws.{Only, Only_item, plan_only, plan_way}
 
 -- Without its statements the plan is the core.
-
-abbrev pub without : BodyTree → BodyTree
-without Nil = Nil
-without (Then (Write s) d) = Then (Write s) (without d)
-without (Then (Copy x) d) = Then (Copy x) (without d)
-without (Then (For x y s e) d) = Then (For x y s (without e)) (without d)
-without (Then (If c a b) d) = Then (If c (without a) (without b)) (without d)
-without (Then (Off o) d) = without d
 
 without_offs : (os : List OffTree) → without (offs_body os) ≡ Nil
 without_offs [] = refl
@@ -48,20 +40,6 @@ without_placed ends (Then (Off o) d) os b L q = absurd q.0
 
 pub without_is : (core : BodyTree) → Good core → without (reading core).body ≡ core
 without_is core good = without_placed (at_end (offs_of core)) core (at_end (offs_of core) 0) true (0 ∷ []) good.inside
-
--- The statements of a body, as it is read.
-
-abbrev mutual
-  pub item_offs : ItemTree → List OffTree
-  item_offs (Write s) = []
-  item_offs (Copy x) = []
-  item_offs (For x y s d) = offs_in d
-  item_offs (If c a b) = offs_in a ++ offs_in b
-  item_offs (Off o) = o ∷ []
-
-  pub offs_in : BodyTree → List OffTree
-  offs_in Nil = []
-  offs_in (Then i d) = item_offs i ++ offs_in d
 
 module _ (Q : OffTree → Type 0) where
   mutual

@@ -155,7 +155,7 @@ mutual
   away_item (If c a b) u F z h = away_body b u (tree_body a u F) z (λ i. h (In-right z (vars a) (vars b) i)) ∙ away_body a u F z (λ i. h (In-left z (vars a) (vars b) i))
   away_item (Off o) u F z h = refl
 
-  away_body : (d : BodyTree) (u : ℕ) (F : ℕ → Var) (z : ℕ) → (In z (vars d) → ⊥) → tree_body d u F z ≡ F z
+  pub away_body : (d : BodyTree) (u : ℕ) (F : ℕ → Var) (z : ℕ) → (In z (vars d) → ⊥) → tree_body d u F z ≡ F z
   away_body Nil u F z h = refl
   away_body (Then i d) u F z h = away_body d u (tree_item i u F) z (λ j. h (In-right z (item_vars i) (vars d) j)) ∙ away_item i u F z (λ j. h (In-left z (item_vars i) (vars d) j))
 
@@ -231,7 +231,7 @@ module _ (F : ℕ → Var) (K : List ℕ) where
         self = λ q. absurd (true≢false (sym q ∙ ap (λ (v : Var). v.straight) e));
       }
 
-  no_vars : (L : List ℕ) (d : BodyTree) → BodyIn false L d → (z : ℕ) → In z (vars d) → ⊥
+  pub no_vars : (L : List ℕ) (d : BodyTree) → BodyIn false L d → (z : ℕ) → In z (vars d) → ⊥
   no_vars L Nil q z i = i
   no_vars L (Then (Write s) d) q z i = no_vars L d q.1 z i
   no_vars L (Then (Copy x) d) q z i = no_vars L d q.1 z i

@@ -4,6 +4,7 @@ use Rattle.std.specs.List.{filter}
 use Rattle.std.specs.Prelude.{drop}
 use Rattle.std.proofs.lemmas.List.{append-nil}
 use Rattle.std.proofs.lemmas.Bool.{true≢false, lt-ltb, le-ltb}
+pub use Rattle.gcx_model.specs.Points.{Frame, Rest, Round, Part, later, body_at, behind, to_come, Stands, Begins, Past, InLoop, InYes, InNo, InCopy}
 use Rattle.gcx_model.specs.Tree.{Node, serial_of, Tree, Token, grow, is_closed}
 use Rattle.gcx_base.specs.declared.steps.Step.{Step}
 use Rattle.gcx_model.specs.Paths.{hits, matches}
@@ -13,39 +14,6 @@ use Rattle.gcx_model.specs.Truth.{Verdict, True, False, Unknown, Env, bind, trut
 use Rattle.gcx_laws.proofs.Lists.{In, In-left, In-right}
 use Rattle.gcx_laws.proofs.Matches.{Grown, Rising, Rising-filter, added, Matches-grow, Matches-in}
 use Rattle.gcx_laws.proofs.Prefix.{Before, Same, More, Bound, Bound-bind, loop_mono, item_grows, run_grows, truth_firmer, Firmer, Kept, Learnt}
-
--- what is left of a body; a round of a loop, with the present match; a copy of which so many actions are taken
-pub data Frame : Type 0 where
-  Rest : (d : BodyTree) (env : Env) → Frame
-  Round : (x y : ℕ) (s : Step) (e : BodyTree) (env : Env) (present : Node) → Frame
-  Part : (x : ℕ) (env : Env) (made : ℕ) → Frame
-
--- the matches behind the present one
-abbrev pub later : Node → List Node → List Node
-later n ms = filter (λ m. ltb (serial_of n) (serial_of m)) ms
-
-abbrev pub body_at : BodyTree → ℕ → Env → Tree → Node → Out
-body_at e x env P n = run e (bind env x n) P
-
--- an output without its first k actions
-abbrev pub behind : ℕ → Out → Out
-behind k o = record { acts = drop k o.acts; done = o.done }
-
--- what is still to come
-abbrev pub to_come : Tree → List Frame → Out
-to_come P [] = idle true
-to_come P (Rest d env ∷ fs) = seq (run d env P) (to_come P fs)
-to_come P (Round x y s e env n ∷ fs) = seq (loop (body_at e x env P) (later n (matches P (serial_of (env y)) (s ∷ []))) (is_closed P (env y))) (to_come P fs)
-to_come P (Part x env k ∷ fs) = seq (behind k (copy (length P.nodes) P (env x))) (to_come P fs)
-
--- the point behind the actions `before` of the run of a body
-pub data Stands (P : Tree) : BodyTree → Env → List Action → List Frame → Type 0 where
-  Begins : {d : BodyTree} {env : Env} → Stands P d env [] (Rest d env ∷ [])
-  Past : {i : ItemTree} {d : BodyTree} {env : Env} {before : List Action} {fs : List Frame} → (run_item i env P).done ≡ true → Stands P d env before fs → Stands P (Then i d) env ((run_item i env P).acts ++ before) fs
-  InLoop : {x y : ℕ} {s : Step} {e d : BodyTree} {env : Env} {before : List Action} {fs : List Frame} → (pre : List Node) (n : Node) (post : List Node) → matches P (serial_of (env y)) (s ∷ []) ≡ pre ++ n ∷ post → (loop (body_at e x env P) pre true).done ≡ true → Stands P e (bind env x n) before fs → Stands P (Then (For x y s e) d) env ((loop (body_at e x env P) pre true).acts ++ before) (fs ++ Round x y s e env n ∷ Rest d env ∷ [])
-  InYes : {c : CondTree} {a b d : BodyTree} {env : Env} {before : List Action} {fs : List Frame} → truth c env P ≡ True → Stands P a env before fs → Stands P (Then (If c a b) d) env before (fs ++ Rest d env ∷ [])
-  InNo : {c : CondTree} {a b d : BodyTree} {env : Env} {before : List Action} {fs : List Frame} → truth c env P ≡ False → Stands P b env before fs → Stands P (Then (If c a b) d) env before (fs ++ Rest d env ∷ [])
-  InCopy : {x : ℕ} {d : BodyTree} {env : Env} (before rest : List Action) → (copy (length P.nodes) P (env x)).acts ≡ before ++ rest → Stands P (Then (Copy x) d) env before (Part x env (length before) ∷ Rest d env ∷ [])
 
 abbrev pub after : List Action → Out → Out
 after before o = record { acts = before ++ o.acts; done = o.done }
