@@ -2,6 +2,7 @@
 use Rattle.std.proofs.Common.{◌≡◌, ℕ, suc, ◌+◌, ◌≤◌, Bool, true, false, cond, ◌&&◌, List, [], ◌∷◌, ◌++◌, length, refl, sym, ◌∙◌, ap, subst, inl, inr, arith, eqb}
 use Rattle.std.specs.List.{flat_map}
 use Rattle.std.proofs.lemmas.Bool.{or_cases, and_parts, and_from, false≢true, eqb-true, eq-eqb}
+pub use Rattle.gcx_model.specs.Nodes.{chain, chain_at}
 pub use Rattle.gcx_model.specs.Members.{Once}
 pub use Rattle.gcx_model.specs.Variables.{is_child, all_child, one_desc}
 use Rattle.gcx_model.specs.Tree.{Node, Root, Under, serial_of, kind_of, above, within, Tree}
@@ -12,14 +13,6 @@ use Rattle.gcx_model.specs.Paths.{reach, lies, passes, hits, matches}
 use Rattle.gcx_laws.proofs.Lists.{In, In-left, In-right, In-append, any_in, any_from}
 use Rattle.gcx_laws.proofs.Freeze.{hits_within}
 use Rattle.gcx_laws.proofs.Matches.{Grown, Numbered-same, Rising, Rising-filter, Matches-in, Matches-from}
-
--- what nested loops over the steps bind innermost, in their order
-abbrev pub chain : Tree → ℕ → List Step → List Node → List Node
-chain P n [] here = here
-chain P n (s ∷ rest) here = flat_map (λ j. chain P (serial_of j) rest (j ∷ [])) (matches P n (s ∷ []))
-
-abbrev pub chain_at : Tree → Node → List Step → List Node
-chain_at P n path = chain P (serial_of n) path (n ∷ [])
 
 pub In-flat_map : {X Y : Type 0} (f : X → List Y) (y : Y) (xs : List X) → In y (flat_map f xs) → (x : X) × In x xs × In y (f x)
 In-flat_map f y [] h = absurd h

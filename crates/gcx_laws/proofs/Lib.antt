@@ -29,3 +29,4 @@ pub mod Placed
 pub mod Copies
 pub mod Rows
 pub mod Bridge
+pub mod Growing

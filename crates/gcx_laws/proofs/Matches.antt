@@ -2,22 +2,13 @@ use Rattle.std.proofs.Common.{◌≡◌, ℕ, suc, ◌+◌, ◌<◌, ◌≤◌, 
 use Rattle.std.specs.List.{filter}
 use Rattle.std.proofs.lemmas.List.{append-nil}
 use Rattle.std.proofs.lemmas.List.Elements.{filter-append}
+pub use Rattle.gcx_model.specs.Nodes.{Numbered, Rising, Grown}
 use Rattle.gcx_base.specs.declared.kind.Kind.{Kind}
 use Rattle.gcx_base.specs.declared.kind.Kind.TheVariants.{Element, Text}
 use Rattle.gcx_model.specs.Tree.{Node, Root, Under, serial_of, Tree, Token, Start, Chars, End, opening, grow, grow_at, grow_all}
 use Rattle.gcx_base.specs.declared.steps.Step.{Step}
 use Rattle.gcx_model.specs.Paths.{hits, matches}
 use Rattle.gcx_laws.proofs.Lists.{In, In-left, In-right, In-append, In-filter, In-kept}
-
--- the nodes have the numbers from k on
-abbrev pub Numbered : ℕ → List Node → Type 0
-Numbered k [] = Unit {0}
-Numbered k (x ∷ xs) = (serial_of x ≡ k) × Numbered (suc k) xs
-
--- each number is below the later ones
-abbrev pub Rising : List Node → Type 0
-Rising [] = Unit {0}
-Rising (x ∷ xs) = ((y : Node) → In y xs → serial_of x < serial_of y) × Rising xs
 
 pub Numbered-push : (k : ℕ) (xs : List Node) (y : Node) → Numbered k xs → serial_of y ≡ k + length xs → Numbered k (xs ++ y ∷ [])
 Numbered-push k [] y h e = (omega arith, tt)
@@ -48,14 +39,6 @@ Numbered-same k (x ∷ xs) h a b (inl f) (inl g) e = sym f ∙ g
 Numbered-same k (x ∷ xs) h a b (inl f) (inr j) e = let l = Numbered-low (suc k) xs h.1 b j in let m = ap serial_of f in absurd (omega arith)
 Numbered-same k (x ∷ xs) h a b (inr i) (inl g) e = let l = Numbered-low (suc k) xs h.1 a i in let m = ap serial_of g in absurd (omega arith)
 Numbered-same k (x ∷ xs) h a b (inr i) (inr j) e = Numbered-same (suc k) xs h.1 a b i j e
-
--- what holds of each tree that tokens make
-pub record Grown (P : Tree) : Type 0 where
-  pub numbered : Numbered 0 P.nodes
-  pub upward : (p : Node) (s : ℕ) (k : Kind) → In (Under p s k) P.nodes → In p P.nodes
-  pub at_in : (p : Node) → P.at ≡ Some p → In p P.nodes
-  -- a parent's number is the smaller
-  pub below : (p : Node) (s : ℕ) (k : Kind) → In (Under p s k) P.nodes → serial_of p < s
 
 -- (a)
 pub Matches-rising : (P : Tree) → Grown P → (n : ℕ) (path : List Step) → Rising (matches P n path)

@@ -2,6 +2,7 @@
 use Rattle.std.proofs.Common.{◌≡◌, ◌<◌, ◌≤◌, Bool, true, ◌&&◌, List, [], ◌∷◌, ◌++◌, length, refl, sym, ◌∙◌, ap, subst, inl, inr, ◌⊎◌, arith, Some, None, Option}
 use Rattle.std.specs.List.{flat_map}
 use Rattle.std.proofs.lemmas.Bool.{and_parts}
+pub use Rattle.gcx_model.specs.Nodes.{Ordered}
 use Rattle.gcx_base.specs.declared.kind.Kind.{Kind}
 use Rattle.gcx_base.specs.declared.kind.Kind.TheVariants.{Element, Text}
 pub use Rattle.gcx_model.specs.Sound.{only_last}
@@ -11,12 +12,6 @@ use Rattle.gcx_model.specs.Paths.{hits, matches}
 use Rattle.gcx_laws.proofs.Lists.{In, In-append}
 use Rattle.gcx_laws.proofs.Matches.{Grown, Numbered-high, Rising, Rising-filter, Matches-in, Matches-from}
 use Rattle.gcx_laws.proofs.Chains.{chain_at, In-flat_map, chain_hits, chain_from, hits_above, above_self, above_same, is_child, reach_depth, hits_one}
-
-pub record Ordered (P : Tree) : Type 0 where
-  -- behind an open node all is in it
-  pub behind : (p a b : Node) → P.at ≡ Some p → In a (above p) → In b P.nodes → serial_of a < serial_of b → In a (above b)
-  -- a subtree stands before what comes behind it
-  pub split : (a b m : Node) → In a P.nodes → In b P.nodes → In m P.nodes → serial_of a < serial_of b → (In a (above b) → ⊥) → In a (above m) → serial_of m < serial_of b
 
 some_same : {X : Type 0} (x y : X) → Some x ≡ Some y → x ≡ y
 some_same x y e = cc

@@ -79,7 +79,7 @@ token_of (Text b) = Chars b ∷ []
 abbrev pub tokens_behind : (last : Node) → List Node → Option Node → List Token
 tokens_behind last [] None = ends (level (open_at last))
 tokens_behind last [] (Some p) = ends (level (open_at last) - level p)
-tokens_behind last (Root ∷ ns) at = []
+tokens_behind last (Root ∷ ns) at = tokens_behind Root ns at
 tokens_behind last (Under p s k ∷ ns) at = ends (level (open_at last) - level p) ++ (token_of k ++ tokens_behind (Under p s k) ns at)
 
 abbrev pub tokens_from : List Node → Option Node → List Token

@@ -106,3 +106,7 @@ roles_taken plan P A n = filter (taken plan P A n) (count 0 (length plan.roles))
 
 abbrev pub sum_taken : PlanTree → Tree → List Action → ℕ
 sum_taken plan P A = sum (map (λ n. length (roles_taken plan P A n)) P.nodes)
+
+-- the tree of the held nodes
+abbrev pub held_tree : PlanTree → Tree → List Action → Tree
+held_tree plan P A = record { nodes = held plan P A; at = P.at }

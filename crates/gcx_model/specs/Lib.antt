@@ -21,3 +21,4 @@ pub mod Needs
 pub mod Sound
 pub mod Normal
 pub mod Demand
+pub mod Nodes

@@ -1,5 +1,5 @@
 -- The point behind some actions of a run, as a stack of frames, and what is still to come from there (this project's).
-use Rattle.std.specs.Prelude.{◌≡◌, ℕ, ◌+◌, ◌<◌, Bool, true, List, [], ◌∷◌, ◌++◌, length, filter, take, drop, nat_lt}
+use Rattle.std.specs.Prelude.{◌≡◌, ℕ, suc, ◌<◌, Bool, true, List, [], ◌∷◌, ◌++◌, length, filter, take, drop, nat_lt}
 use Rattle.gcx_base.specs.declared.steps.Step.{Step}
 use Rattle.gcx_model.specs.Tree.{Node, serial_of, Tree, opening, is_closed}
 use Rattle.gcx_model.specs.Paths.{matches}
@@ -16,11 +16,15 @@ actions plan P = (run plan.body env0 P).acts
 abbrev pub so_far : PlanTree → Tree → ℕ → List Action
 so_far plan P k = take k (actions plan P)
 
--- Core states: the opening state, and what Feeds and Acts reach from there
-pub data Reached (plan : PlanTree) : Tree → ℕ → Type 0 where
-  opened : Reached plan opening 0
-  fed : {P Q : Tree} {k : ℕ} → Reached plan P k → Grow P Q → Reached plan Q k
-  acted : {P : Tree} {k : ℕ} → Reached plan P k → k < length (actions plan P) → Reached plan P (k + 1)
+-- what Feeds and Acts reach from the state (P0, k0)
+pub data ReachedFrom (plan : PlanTree) (P0 : Tree) (k0 : ℕ) : Tree → ℕ → Type 0 where
+  here : ReachedFrom plan P0 k0 P0 k0
+  fed : {P Q : Tree} {k : ℕ} → ReachedFrom plan P0 k0 P k → Grow P Q → ReachedFrom plan P0 k0 Q k
+  acted : {P : Tree} {k : ℕ} → ReachedFrom plan P0 k0 P k → k < length (actions plan P) → ReachedFrom plan P0 k0 P (suc k)
+
+-- (P, k) is a core state: Feeds and Acts reach it from the opening state
+abbrev pub Reached : PlanTree → Tree → ℕ → Type 0
+Reached plan P k = ReachedFrom plan opening 0 P k
 
 -- what is left of a body; a round of a loop, with the present match; a copy of which so many actions are taken
 pub data Frame : Type 0 where
@@ -56,6 +60,6 @@ pub data Stands (P : Tree) : BodyTree → Env → (before : List Action) → Lis
   InNo : {c : CondTree} {a b d : BodyTree} {env : Env} {before : List Action} {fs : List Frame} → truth c env P ≡ False → Stands P b env before fs → Stands P (Then (If c a b) d) env before (fs ++ Rest d env ∷ [])
   InCopy : {x : ℕ} {d : BodyTree} {env : Env} (before rest : List Action) → (copy (length P.nodes) P (env x)).acts ≡ before ++ rest → Stands P (Then (Copy x) d) env before (Part x env (length before) ∷ Rest d env ∷ [])
 
--- a point behind the first k actions of a plan's run
+-- Behind the first k actions of a plan's run: what follows on them is what is still to come.
 abbrev pub PointAt : PlanTree → Tree → ℕ → List Frame → Type 0
 PointAt plan P k fs = Stands P plan.body env0 (so_far plan P k) fs
