@@ -30,3 +30,4 @@ pub mod Copies
 pub mod Rows
 pub mod Bridge
 pub mod Growing
+pub mod Unique
