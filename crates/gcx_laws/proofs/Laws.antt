@@ -294,7 +294,7 @@ within_root Root = refl
 within_root (Under p s k) = or_right (eqb s 0) (within 0 p) (within_root p)
 
 -- where the document node is closed, no node is open
-closed_all : (P : Tree) → is_closed P Root ≡ true → P.at ≡ None
+pub closed_all : (P : Tree) → is_closed P Root ≡ true → P.at ≡ None
 closed_all P h = go P.at refl (not-true (is_open_at P.at 0) h)
   where
     go : (at : Option Node) → P.at ≡ at → is_open_at at 0 ≡ false → P.at ≡ None

@@ -31,3 +31,4 @@ pub mod Rows
 pub mod Bridge
 pub mod Growing
 pub mod Unique
+pub mod Public

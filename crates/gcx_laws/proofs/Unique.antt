@@ -647,7 +647,7 @@ module _ (core : BodyTree) (good : Good core) where
     of_core o i = statement_in core good o (pl.statements o i)
 
     -- and each of the core's stands in the plan
-    in_plan : (o : OffTree) → In o all_offs → In o (offs_in plan.body)
+    pub in_plan : (o : OffTree) → In o all_offs → In o (offs_in plan.body)
     in_plan o i =
         let s = is_statement core good o i in
         let h = pl.one o.role (row_low (roles_of core) o.role s.row s.at) in
