@@ -19,7 +19,7 @@ use Rattle.gcx_laws.proofs.Frames.{waits_bound, Here, Bound_in, Turn, Fact, Fact
 use Rattle.gcx_laws.proofs.Need.{Frame_needs, Needs, needs_held}
 use Rattle.gcx_laws.proofs.Local.{later_held}
 use Rattle.gcx_laws.proofs.Pruned.{pruned, matches_kept, truth_kept, copy_kept}
-use Rattle.gcx_laws.proofs.Laws.{tree, so_far, grown, root_in, plan_way, offed_sig}
+use Rattle.gcx_laws.proofs.CoreStates.{tree, so_far, grown, root_in, plan_way, offed_sig}
 
 -- what a frame needs the point needs
 frame_needs : (P : Tree) (pre top : List Frame) (f : Frame) (below : List Frame) (m : Node) → Frame_needs P (pre ++ top) f m → Needs P pre (top ++ f ∷ below) m

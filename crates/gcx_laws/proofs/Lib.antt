@@ -20,7 +20,7 @@ pub mod Plans
 pub mod Waits
 pub mod Frames
 pub mod Need
-pub mod Laws
+pub mod CoreStates
 pub mod Pruned
 pub mod Turns
 pub mod Evaluator

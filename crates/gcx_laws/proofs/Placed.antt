@@ -14,7 +14,7 @@ use Rattle.gcx_laws.proofs.Lists.{In, In-append, In-filter}
 use Rattle.gcx_laws.proofs.Needed.{quiet, quiet_item, Own, Before, Itself, Way, Top, Skip, Here}
 use Rattle.gcx_laws.proofs.Balance.{of_role}
 use Rattle.gcx_laws.proofs.Plans.{same_role}
-use Rattle.gcx_laws.proofs.Laws.{Only, Only_item, plan_only, plan_way}
+use Rattle.gcx_laws.proofs.CoreStates.{Only, Only_item, plan_only, plan_way}
 
 -- Without its statements the plan is the core.
 

@@ -33,7 +33,7 @@ use Rattle.gcx_laws.proofs.Whole.{prefix, run_is_done}
 use Rattle.gcx_laws.proofs.Stands.{resume}
 use Rattle.gcx_laws.proofs.Points.{point}
 use Rattle.gcx_laws.proofs.Writes.{written}
-use Rattle.gcx_laws.proofs.Laws.{tree, grown, root_in, closed_all, need, once, once_at, taken_stays, balanced, empty_at_end}
+use Rattle.gcx_laws.proofs.CoreStates.{tree, grown, root_in, closed_all, need, once, once_at, taken_stays, balanced, empty_at_end}
 use Rattle.gcx_laws.proofs.Evaluator as over
 use Rattle.gcx_laws.proofs.Growing.{grow_is, leads_is, fed_all, tokens_found, Leads-trans}
 use Rattle.gcx_laws.proofs.Bridge.{path_is, given_is, taken_is, held_is, row_places}
