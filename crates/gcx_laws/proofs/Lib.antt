@@ -32,3 +32,4 @@ pub mod Bridge
 pub mod Growing
 pub mod Unique
 pub mod Public
+pub mod Moved
