@@ -33,3 +33,4 @@ pub mod Growing
 pub mod Unique
 pub mod Public
 pub mod Moved
+pub mod Meaning

@@ -60,7 +60,7 @@ round_member {X} x (y ∷ ys) o (inr i) =
       not_right = r.not_right;
     }
 
-In-count : (k n z : ℕ) → In z (count k n) → k ≤ z
+pub In-count : (k n z : ℕ) → In z (count k n) → k ≤ z
 In-count k zero z i = absurd i
 In-count k (suc n) z (inl e) = omega arith
 In-count k (suc n) z (inr i) = let h = In-count (suc k) n z i in omega arith

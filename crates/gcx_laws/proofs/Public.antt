@@ -60,7 +60,7 @@ grown_from P l = from_tokens (λ z. Grown z) grown P l
 some_same : {X : Type 0} (x y : X) → Some x ≡ Some y → x ≡ y
 some_same x y e = cc
 
-ordered_opening : Ordered opening
+pub ordered_opening : Ordered opening
 ordered_opening = record {
   behind = λ p a b e i j l. absurd (same a b (only a (subst (λ (z : Node). In a (above z)) (sym (some_same _ _ e)) i)) j l);
   split = λ a b m i j h l n q. absurd (same a b (only a i) j l);
@@ -74,7 +74,7 @@ ordered_opening = record {
     same a b e (inl f) l = let g = ap serial_of e in let h = ap serial_of f in absurd (omega arith)
     same a b e (inr k) l = k
 
-ordered_all : (ts : List Token) (P : Tree) → Grown P → Ordered P → Grown (grow_all ts P) × Ordered (grow_all ts P)
+pub ordered_all : (ts : List Token) (P : Tree) → Grown P → Ordered P → Grown (grow_all ts P) × Ordered (grow_all ts P)
 ordered_all [] P w o = (w, o)
 ordered_all (t ∷ ts) P w o = ordered_all ts (grow t P) (Grown-grow t P w) (Ordered-grow t P w o)
 

@@ -100,7 +100,7 @@ module _ (P : Tree) (w : Grown P) (over : P.at ≡ None) where
   copy_with_done (Element name) a h = seq_is_done a (wrote (end_tag name)) h refl
   copy_with_done (Text b) a h = refl
 
-  child_above : (n : ℕ) (m : Node) → In m P.nodes → (hits n (child_step ∷ []) m) ≡ true → n < serial_of m
+  pub child_above : (n : ℕ) (m : Node) → In m P.nodes → (hits n (child_step ∷ []) m) ≡ true → n < serial_of m
   child_above n m i h = go (above m) (any_in (λ (j : Node). reach n child_step j && hits (serial_of j) [] m) (above m) h)
     where
       at : (j : Node) → passes child_step.test (kind_of j) ≡ true → lies child_step.axis n j ≡ true → serial_of m ≡ serial_of j → In j P.nodes → n < serial_of m
@@ -119,7 +119,7 @@ module _ (P : Tree) (w : Grown P) (over : P.at ≡ None) where
           let b = and_parts (passes child_step.test (kind_of r.0)) (lies child_step.axis n r.0) a.0 in
           at r.0 b.0 b.1 (eqb-true _ _ a.1) (up m r.0 r.1 i)
 
-  copy_is_done : (most : ℕ) (n : Node) → In n P.nodes → length P.nodes ≤ most + serial_of n → (copy most P n).done ≡ true
+  pub copy_is_done : (most : ℕ) (n : Node) → In n P.nodes → length P.nodes ≤ most + serial_of n → (copy most P n).done ≡ true
   copy_is_done zero n i h = let r = Numbered-high 0 P.nodes w.numbered n i in absurd (omega arith)
   copy_is_done (suc most) n i h = copy_with_done (kind_of n) _ (loop_closed (copy most P) (children P n) n
       (λ m j. let q = Matches-in P (serial_of n) (child_step ∷ []) m j in
