@@ -1,19 +1,18 @@
 -- The definitions on a core's plan are those on its reading.
-use Rattle.std.proofs.Common.{◌≡◌, ℕ, zero, suc, ◌+◌, ◌<◌, ◌≤◌, Bool, true, false, not, ◌&&◌, ◌||◌, List, [], ◌∷◌, ◌++◌, length, map, refl, sym, ◌∙◌, ap, subst, inl, inr, ◌⊎◌, arith, add-zero, append_assoc, Some, None, Option}
-use Rattle.std.specs.List.{filter}
-use Rattle.std.proofs.lemmas.List.{append-nil, map-append, length-append}
+use Rattle.std.proofs.Common.{◌≡◌, ℕ, zero, suc, ◌+◌, ◌<◌, ◌≤◌, Bool, true, false, not, ◌&&◌, ◌||◌, List, [], ◌∷◌, ◌++◌, length, map, refl, sym, ◌∙◌, ap, subst, inl, inr, arith, add-zero, Some}
+use Rattle.std.proofs.lemmas.List.{map-append, length-append}
 use Rattle.std.proofs.lemmas.Bool.{false≢true}
 use Rattle.gcx_base.specs.declared.steps.Step.{Step}
 use Rattle.gcx_model.specs.Tree.{Node, serial_of, within, Tree, is_open_at}
 use Rattle.gcx_model.specs.Paths.{any, all, matches, head}
-use Rattle.gcx_model.specs.Core.{ItemTree, Write, Copy, For, If, Off, BodyTree, Nil, Then, OffTree, VarRowTree, RoleRowTree, PlanTree}
+use Rattle.gcx_model.specs.Core.{Write, Copy, For, If, Off, BodyTree, Nil, Then, OffTree, VarRowTree, RoleRowTree, PlanTree}
 use Rattle.gcx_model.specs.Run.{Action}
-use Rattle.gcx_model.specs.Variables.{Var, var0, var_of, var_tree, vars, var_rows}
+use Rattle.gcx_model.specs.Variables.{Var, var0, var_tree, vars, var_rows}
 use Rattle.gcx_model.specs.Roles.{roles_of}
 use Rattle.gcx_model.specs.Cores.{BodyIn, Good}
-use Rattle.gcx_model.specs.Placed.{row_at, offs_in, of_role, statement, statements, offs_of, plan_of}
+use Rattle.gcx_model.specs.Placed.{row_at, statement, statements, offs_of, plan_of}
 use Rattle.gcx_model.specs.Members.{In, count}
-use Rattle.gcx_model.specs.Held.{path_at, paths_from, path_of, statement_of, gives, given_row, given, all_signed, on_off, taken, live, is_live, is_held, held, reaches, signed}
+use Rattle.gcx_model.specs.Held.{path_at, paths_from, path_of, statement_of, gives, given, all_signed, on_off, taken, live, is_live, is_held, held, reaches, signed}
 use Rattle.gcx_laws.proofs.Reading as old
 use Rattle.gcx_laws.proofs.Reading.{reading}
 use Rattle.gcx_laws.proofs.Lists.{filter_same}

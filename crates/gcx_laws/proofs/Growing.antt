@@ -1,13 +1,12 @@
 -- The relation Grow and the function grow; the tokens of an open tree; core states.
-use Rattle.std.proofs.Common.{◌≡◌, ℕ, zero, suc, ◌+◌, ◌-◌, ◌<◌, ◌≤◌, Bool, true, false, not, ◌&&◌, List, [], ◌∷◌, ◌++◌, length, refl, sym, ◌∙◌, ap, subst, inl, inr, ◌⊎◌, arith, append_assoc, Some, None, Option, replicate}
-use Rattle.std.proofs.lemmas.List.{append-nil, length-append}
+use Rattle.std.proofs.Common.{◌≡◌, ℕ, zero, suc, ◌-◌, ◌≤◌, true, false, not, List, [], ◌∷◌, ◌++◌, length, refl, sym, ◌∙◌, ap, subst, inl, inr, arith, append_assoc, Some, None, Option}
+use Rattle.std.proofs.lemmas.List.{append-nil}
 use Rattle.std.proofs.lemmas.Bool.{and_parts, and_from, false≢true, not-true}
 use Rattle.gcx_base.specs.declared.kind.Kind.{Kind}
-use Rattle.gcx_base.specs.declared.kind.Kind.TheVariants.{Document, Element, Text}
-use Rattle.gcx_model.specs.Document.{is_blank, Nodes, none, element, text, AreNodes, IsDocument, ends_with_text, tokens, tree_of}
-use Rattle.gcx_model.specs.Tree.{Node, Root, Under, serial_of, above, Tree, Token, Start, Chars, End, opening, grow, grow_at, grow_all}
+use Rattle.gcx_base.specs.declared.kind.Kind.TheVariants.{Element, Text}
+use Rattle.gcx_model.specs.Tree.{Node, Root, Under, above, Tree, Token, Start, Chars, End, opening, grow, grow_at, grow_all}
 use Rattle.gcx_model.specs.Members.{In}
-use Rattle.gcx_model.specs.Growth.{has_root, ends_in_text, Grow, opened, added, closed, ended, Leads, stays, more, may_come_at, may_come, may_all, level, ends, open_at, token_of, tokens_behind, tokens_from, tokens_of}
+use Rattle.gcx_model.specs.Growth.{has_root, Grow, opened, added, closed, ended, Leads, stays, more, may_come_at, may_come, may_all, level, ends, open_at, token_of, tokens_behind, tokens_from, tokens_of}
 
 -- trees are known by their parts
 pub tree_same : (P Q : Tree) → P.nodes ≡ Q.nodes → P.at ≡ Q.at → P ≡ Q

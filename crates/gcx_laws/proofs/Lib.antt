@@ -34,3 +34,4 @@ pub mod Unique
 pub mod Public
 pub mod Moved
 pub mod Meaning
+pub mod Documents

@@ -1,13 +1,12 @@
 -- The normal law: over a whole document the core of a sound query writes the query's answer.
-use Rattle.std.proofs.Common.{◌≡◌, ℕ, zero, suc, ◌+◌, ◌<◌, ◌≤◌, Bool, true, false, cond, not, ◌&&◌, ◌||◌, List, [], ◌∷◌, ◌++◌, length, map, refl, sym, ◌∙◌, ap, subst, inl, inr, ◌⊎◌, arith, add-zero, add_assoc, append_assoc, Some, None, Option, eqb}
+use Rattle.std.proofs.Common.{◌≡◌, ℕ, zero, suc, ◌+◌, ◌<◌, ◌≤◌, Bool, true, false, cond, not, ◌&&◌, ◌||◌, List, [], ◌∷◌, ◌++◌, length, map, refl, sym, ◌∙◌, ap, subst, inl, inr, arith, add-zero, add_assoc, append_assoc, Some, None, Option, eqb}
 use Rattle.std.specs.List.{filter, flat_map}
 use Rattle.std.specs.Prelude.{bytes_eq}
 use Rattle.std.proofs.lemmas.List.{append-nil}
-use Rattle.std.proofs.lemmas.Bool.{and_parts, eq-eqb, ne_eqb, true≢false}
+use Rattle.std.proofs.lemmas.Bool.{and_parts, eq-eqb, ne_eqb}
 use Rattle.gcx_base.specs.declared.kind.Kind.{Kind}
 use Rattle.gcx_base.specs.declared.kind.Kind.TheVariants.{Document, Element, Text}
 use Rattle.gcx_base.specs.declared.steps.Step.{Step}
-use Rattle.gcx_model.specs.declared.query.PathExpr.{PathExpr}
 use Rattle.gcx_model.specs.declared.query.Clause.{Clause}
 use Rattle.gcx_model.specs.declared.query.QOperand.{QOperand}
 use Rattle.gcx_model.specs.declared.query.QOperand.TheVariants as operand
@@ -15,23 +14,23 @@ use Rattle.gcx_model.specs.Query as query
 use Rattle.gcx_model.specs.Query.{ExprTree, ExprTrees, exprs_of}
 use Rattle.gcx_model.specs.Document.{Nodes, none, element, text, tokens, tree_of}
 use Rattle.gcx_model.specs.Tree.{Node, Root, Under, serial_of, kind_of, Tree, Token, Start, Chars, End, opening, grow, grow_at, grow_all, is_closed}
-use Rattle.gcx_model.specs.Paths.{matches, value}
-use Rattle.gcx_model.specs.Values.{Value, Bytes, compare}
+use Rattle.gcx_model.specs.Paths.{matches}
+use Rattle.gcx_model.specs.Values.{compare}
 use Rattle.gcx_model.specs.Written.{start_tag, end_tag, escaped}
 use Rattle.gcx_model.specs.Answer as meaning
 use Rattle.gcx_model.specs.Answer.{child_step, children, copied_with, copied, copy_of, Scope, start_of, found, some_pair, is_any, holds, holds_all, holds_any, turns, answer_expr, answer_exprs, no_scope, answer}
 use Rattle.gcx_model.specs.Core.{OperandTree, Path, Str, Num, CondTree, CondTrees, Always, Exists, Compare, Not, All, Any, no_cond, more_conds, ItemTree, Write, Copy, For, If, Off, BodyTree, Nil, Then}
-use Rattle.gcx_model.specs.Truth.{Verdict, True, False, Unknown, Env, bind, node_value, values, is_over, settle, negate, both, either, truth, truth_all, truth_any}
-use Rattle.gcx_model.specs.Run.{Out, wrote, idle, seq, loop, copy_with, copy, choose, run_item, run, env0, bytes_of, bytes_written}
+use Rattle.gcx_model.specs.Truth.{Verdict, True, False, Env, bind, node_value, values, is_over, settle, negate, both, either, truth, truth_all, truth_any}
+use Rattle.gcx_model.specs.Run.{Out, wrote, seq, loop, copy_with, copy, choose, run_item, run, env0, bytes_of}
 use Rattle.gcx_model.specs.Members.{In, count}
 use Rattle.gcx_model.specs.Nodes.{Grown, Ordered, chain_at}
 use Rattle.gcx_model.specs.Variables.{vars}
 use Rattle.gcx_model.specs.Cores.{operand_in, cond_in, conds_in}
-use Rattle.gcx_model.specs.Sound.{only_last, is_path, is_ordered_path, are_clauses, scope_of, has_step, has_clause, is_filter, is_cond, is_expr, are_exprs, two_exprs, has_expr, is_sound}
-use Rattle.gcx_model.specs.Normal.{join, one, Names, named, start_var, normal_exists, normal_operand, normal_cond, normal_conds, has_loop, half, flush, spread, branch, nest, normal_clauses, filtered, clause_loops, loops, all_loops, normal_expr, normal_exprs, no_names, normal, known}
+use Rattle.gcx_model.specs.Sound.{only_last, is_path, is_ordered_path, are_clauses, scope_of, has_step, has_clause, is_filter, is_cond, is_expr, are_exprs, two_exprs, has_expr}
+use Rattle.gcx_model.specs.Normal.{join, one, Names, named, start_var, normal_exists, normal_operand, normal_cond, normal_conds, has_loop, half, flush, spread, branch, nest, normal_clauses, filtered, clause_loops, loops, normal_expr, normal_exprs, no_names}
 use Rattle.gcx_laws.specs.Laws.{NormalLaw}
 use Rattle.gcx_laws.proofs.Lists.{In-left, In-right}
-use Rattle.gcx_laws.proofs.Matches.{Matches-in, Matches-from, Numbered-high, Grown-all, Grown-opening}
+use Rattle.gcx_laws.proofs.Matches.{Matches-in, Matches-from, Numbered-high, Grown-opening}
 use Rattle.gcx_laws.proofs.Order.{chain_is}
 use Rattle.gcx_laws.proofs.Whole.{run_is_done, item_is_done, copy_is_done, child_above}
 use Rattle.gcx_laws.proofs.Plans.{In-count}

@@ -1,8 +1,8 @@
 -- The core of a query is one for which the laws hold: its variables are numbered as they are read, used only inside their loops, and no branch has a loop.
-use Rattle.std.proofs.Common.{◌≡◌, ℕ, zero, suc, ◌+◌, ◌<◌, ◌≤◌, Bool, true, false, cond, ◌||◌, List, [], ◌∷◌, ◌++◌, length, refl, sym, ◌∙◌, ap, subst, inl, inr, ◌⊎◌, arith, add-zero, add_assoc, append_assoc, Some, None, Option}
+use Rattle.std.proofs.Common.{◌≡◌, ℕ, suc, ◌+◌, Bool, true, false, cond, ◌||◌, List, [], ◌∷◌, ◌++◌, length, refl, sym, ◌∙◌, ap, inl, inr, add-zero, add_assoc, append_assoc, Some, None, Option}
 use Rattle.std.specs.Prelude.{bytes_eq}
 use Rattle.std.proofs.lemmas.List.{append-nil}
-use Rattle.std.proofs.lemmas.Bool.{true≢false, false≢true}
+use Rattle.std.proofs.lemmas.Bool.{true≢false}
 use Rattle.gcx_base.specs.declared.steps.Step.{Step}
 use Rattle.gcx_model.specs.declared.query.Clause.{Clause}
 use Rattle.gcx_model.specs.declared.query.QOperand.{QOperand}
@@ -12,7 +12,7 @@ use Rattle.gcx_model.specs.Query.{ExprTree, ExprTrees, exprs_of}
 use Rattle.gcx_model.specs.Core.{OperandTree, Path, Str, Num, CondTree, CondTrees, Always, Exists, Compare, Not, All, Any, no_cond, more_conds, ItemTree, Write, Copy, For, If, Off, BodyTree, Nil, Then}
 use Rattle.gcx_model.specs.Members.{In, count}
 use Rattle.gcx_model.specs.Variables.{vars, item_vars}
-use Rattle.gcx_model.specs.Cores.{operand_in, cond_in, conds_in, ItemIn, BodyIn, Good}
+use Rattle.gcx_model.specs.Cores.{operand_in, cond_in, conds_in, ItemIn, BodyIn}
 use Rattle.gcx_model.specs.Normal.{join, one, Names, named, start_var, normal_exists, normal_operand, normal_cond, normal_conds, has_loop, half, flush, spread, branch, nest, normal_clauses, filtered, clause_loops, loops, all_loops, normal_expr, normal_exprs, no_names, normal}
 use Rattle.gcx_laws.specs.Laws.{NormalIsGood}
 use Rattle.gcx_laws.proofs.Bridge.{count-append, length-count}

@@ -7,7 +7,7 @@ pub use Rattle.gcx_model.specs.Needs.{Operand_needs, Cond_needs, Conds_need, Ite
 use Rattle.gcx_model.specs.Tree.{Node, Root, serial_of, above, within, Tree}
 use Rattle.gcx_model.specs.Paths.{any, all, hits, matches, first}
 use Rattle.gcx_base.specs.declared.steps.Step.{Step}
-use Rattle.gcx_model.specs.Core.{CondTree, Always, Exists, Compare, Not, All, Any, CondTrees, no_cond, more_conds, OperandTree, Path, Str, Num, ItemTree, Write, Copy, For, If, Off, BodyTree, Nil, Then, OffTree, RoleKind, Own, First, Whole, RoleRowTree}
+use Rattle.gcx_model.specs.Core.{CondTree, Always, Exists, Compare, Not, All, Any, CondTrees, no_cond, more_conds, OperandTree, Path, Str, Num, Write, Copy, For, If, Off, BodyTree, Nil, Then, OffTree, RoleKind, Own, First, Whole, RoleRowTree}
 use Rattle.gcx_model.specs.Truth.{Env, bind}
 use Rattle.gcx_model.specs.Run.{env0, Action, Wrote, Offed, idle}
 use Rattle.gcx_laws.proofs.Reading.{Reading, given, signed, taken, live_some, is_live, is_held, reading}

@@ -1,31 +1,29 @@
 -- The laws as they are stated.
-use Rattle.std.proofs.Common.{◌≡◌, ℕ, zero, suc, ◌+◌, ◌<◌, ◌≤◌, Bool, true, false, cond, not, ◌&&◌, ◌||◌, List, [], ◌∷◌, ◌++◌, length, refl, sym, ◌∙◌, ap, subst, inl, inr, ◌⊎◌, arith, append_assoc, Some, None, Option}
-use Rattle.std.specs.Prelude.{take, drop, ◌↔◌}
+use Rattle.std.proofs.Common.{◌≡◌, ℕ, ◌<◌, ◌≤◌, true, false, ◌&&◌, List, [], ◌∷◌, ◌++◌, refl, sym, ◌∙◌, ap, subst, inl, inr, ◌⊎◌, arith, Some, None, Option}
+use Rattle.std.specs.Prelude.{drop}
 use Rattle.std.specs.List.{filter}
 use Rattle.std.proofs.lemmas.List.{append-nil, take-append-drop}
 use Rattle.std.proofs.lemmas.Bool.{and_parts, and_from, false≢true, true≢false}
 use Rattle.gcx_base.specs.declared.steps.Step.{Step}
-use Rattle.gcx_model.specs.Tree.{Node, Root, Under, serial_of, above, Tree, Token, opening, grow, grow_all, is_closed}
-use Rattle.gcx_model.specs.Paths.{any, head, reach, hits, matches, first}
+use Rattle.gcx_model.specs.Tree.{Node, Root, serial_of, above, Tree, Token, opening, grow, grow_all}
+use Rattle.gcx_model.specs.Paths.{head, reach, hits, matches, first}
 use Rattle.gcx_model.specs.Members.{In, Once}
-use Rattle.gcx_model.specs.Nodes.{Rising, Grown, Ordered, chain_at}
-use Rattle.gcx_model.specs.Core.{CondTree, BodyTree, Then, If, For, OffTree, RoleRowTree, PlanTree}
-use Rattle.gcx_model.specs.Truth.{Env, truth}
-use Rattle.gcx_model.specs.Run.{Action, Wrote, Offed, Out, copy, run, env0}
+use Rattle.gcx_model.specs.Nodes.{Grown, Ordered}
+use Rattle.gcx_model.specs.Core.{BodyTree, Then, If, For, OffTree, RoleRowTree, PlanTree}
+use Rattle.gcx_model.specs.Truth.{truth}
+use Rattle.gcx_model.specs.Run.{Action, Offed, Out, copy, run, env0}
 use Rattle.gcx_model.specs.Variables.{var_tree}
 use Rattle.gcx_model.specs.Roles.{roles_of}
 use Rattle.gcx_model.specs.Cores.{Good}
-use Rattle.gcx_model.specs.Placed.{row_at, offs_in, Placed, statement, placed_body, plan_of}
+use Rattle.gcx_model.specs.Placed.{row_at, offs_in, Placed, statement, plan_of}
 use Rattle.gcx_model.specs.Held.{path_of, on_row, given_row, given, taken, held, held_tree}
-use Rattle.gcx_model.specs.Growth.{Grow, Leads, stays, more}
-use Rattle.gcx_model.specs.Points.{actions, so_far, ReachedFrom, here, fed, acted, Reached, Frame, Rest, Round, Part, later, to_come, PointAt}
+use Rattle.gcx_model.specs.Growth.{Leads, stays, more}
+use Rattle.gcx_model.specs.Points.{actions, so_far, ReachedFrom, here, fed, acted, Reached, Frame, Rest, Round, Part, later, PointAt}
 use Rattle.gcx_model.specs.Needs.{Needs}
 use Rattle.gcx_laws.specs.Bridges.{GrowIsFeeding, LeadsIsFeeding, TokensAreFound, NodesAreNumbered, HitsBySteps, MatchesAreHits, FirstIsLeast, LoopsBindHits, OneChain, LoopsInOrder}
 use Rattle.gcx_laws.specs.Laws.{GoesOn, PrefixLaw, AllClosed, ClosedLaw, PlacedOnce, BalanceLaw, EmptyAtEnd, is_taking, OnceLaw, OffsAtMatches, TakenStays, PointLaw, ResumeLaw, NeedLaw, TruthHeld, TurnsHeld, LoopHeld, CopyHeld, is_write, PlanWrites}
-use Rattle.gcx_laws.proofs.Reading as old
-use Rattle.gcx_laws.proofs.Reading.{reading}
 use Rattle.gcx_laws.proofs.Lists.{any_in, any_from}
-use Rattle.gcx_laws.proofs.Matches.{Grown-grow, Grown-opening, Grown-all, Matches-in, Matches-from, Matches-rising}
+use Rattle.gcx_laws.proofs.Matches.{Grown-grow, Grown-opening, Matches-in, Matches-from, Matches-rising}
 use Rattle.gcx_laws.proofs.Order.{Ordered-grow, chain_is}
 use Rattle.gcx_laws.proofs.Chains.{above_in, hits_above, chain_hits, chain_from, chain_once}
 use Rattle.gcx_laws.proofs.Prefix.{Before, Same, More}
@@ -35,7 +33,7 @@ use Rattle.gcx_laws.proofs.Points.{point}
 use Rattle.gcx_laws.proofs.Writes.{written}
 use Rattle.gcx_laws.proofs.CoreStates.{tree, grown, root_in, closed_all, need, once, once_at, taken_stays, balanced, empty_at_end}
 use Rattle.gcx_laws.proofs.Evaluator as over
-use Rattle.gcx_laws.proofs.Growing.{grow_is, leads_is, fed_all, tokens_found, Leads-trans}
+use Rattle.gcx_laws.proofs.Growing.{grow_is, leads_is, fed_all, tokens_found}
 use Rattle.gcx_laws.proofs.Bridge.{path_is, given_is, taken_is, held_is, row_places}
 use Rattle.gcx_laws.proofs.Unique.{placed, unique, in_plan}
 

@@ -1,5 +1,5 @@
 -- A plan as the proofs read it: the path of each variable, the role rows, and the statement of each role.
-use Rattle.std.proofs.Common.{ℕ, Bool, true, false, not, ◌&&◌, ◌||◌, List, [], ◌∷◌, eqb}
+use Rattle.std.proofs.Common.{ℕ, Bool, false, not, ◌&&◌, ◌||◌, List, [], ◌∷◌, eqb}
 use Rattle.std.specs.List.{filter}
 use Rattle.gcx_base.specs.declared.steps.Step.{Step}
 use Rattle.gcx_model.specs.Tree.{Node, Root, Under, serial_of, within, Tree, is_open_at}

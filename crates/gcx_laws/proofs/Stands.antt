@@ -1,16 +1,15 @@
 -- The point behind some actions, as a stack of frames, and what is still to come from there.
-use Rattle.std.proofs.Common.{◌≡◌, ℕ, ◌<◌, Bool, true, false, List, [], ◌∷◌, ◌++◌, length, refl, sym, ◌∙◌, ap, subst, inl, inr, arith, append_assoc, ltb}
+use Rattle.std.proofs.Common.{◌≡◌, ◌<◌, Bool, true, false, List, [], ◌∷◌, ◌++◌, length, refl, sym, ◌∙◌, ap, subst, inl, inr, arith, append_assoc}
 use Rattle.std.specs.List.{filter}
 use Rattle.std.specs.Prelude.{drop}
 use Rattle.std.proofs.lemmas.List.{append-nil}
 use Rattle.std.proofs.lemmas.Bool.{true≢false, lt-ltb, le-ltb}
 pub use Rattle.gcx_model.specs.Points.{Frame, Rest, Round, Part, later, body_at, behind, to_come, Stands, Begins, Past, InLoop, InYes, InNo, InCopy}
 use Rattle.gcx_model.specs.Tree.{Node, serial_of, Tree, Token, grow, is_closed}
-use Rattle.gcx_base.specs.declared.steps.Step.{Step}
 use Rattle.gcx_model.specs.Paths.{hits, matches}
-use Rattle.gcx_model.specs.Core.{CondTree, ItemTree, Copy, For, If, BodyTree, Then}
+use Rattle.gcx_model.specs.Core.{Copy, For, BodyTree, Then}
 use Rattle.gcx_model.specs.Run.{copy, Action, Out, idle, seq, seq_if, loop, choose, run_item, run}
-use Rattle.gcx_model.specs.Truth.{Verdict, True, False, Unknown, Env, bind, truth}
+use Rattle.gcx_model.specs.Truth.{Verdict, True, False, Unknown, Env, bind}
 use Rattle.gcx_laws.proofs.Lists.{In, In-left, In-right}
 use Rattle.gcx_laws.proofs.Matches.{Grown, Rising, Rising-filter, added, Matches-grow, Matches-in}
 use Rattle.gcx_laws.proofs.Prefix.{Before, Same, More, Bound, Bound-bind, loop_mono, item_grows, run_grows, truth_firmer, Firmer, Kept, Learnt}

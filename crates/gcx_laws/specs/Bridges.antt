@@ -1,7 +1,8 @@
 -- That the definitions say what the words say, where their form is another one.
-use Rattle.std.specs.Prelude.{◌≡◌, ℕ, true, List, [], ◌∷◌, ◌↔◌, ◌++◌, ◌⊎◌, Option, Some, None}
+use Rattle.std.specs.Prelude.{◌≡◌, ℕ, true, List, [], ◌∷◌, ◌↔◌, ◌⊎◌, Some, None}
 use Rattle.gcx_base.specs.declared.steps.Step.{Step}
-use Rattle.gcx_model.specs.Tree.{Node, Root, serial_of, Tree, Token, opening, grow, grow_all}
+use Rattle.gcx_model.specs.Document.{Nodes, IsDocument, tree_of}
+use Rattle.gcx_model.specs.Tree.{Node, serial_of, Tree, Token, opening, grow, grow_all, is_closed}
 use Rattle.gcx_model.specs.Paths.{reach, hits, matches, first}
 use Rattle.gcx_model.specs.Members.{In, Once}
 use Rattle.gcx_model.specs.Nodes.{Rising, Grown, Ordered, chain_at}
@@ -50,3 +51,7 @@ OneChain = (P : Tree) → Grown P → (n : Node) (path : List Step) → In n P.n
 -- With a descendant step only as the last one, nested loops bind the matches, each once and in document order.
 abbrev pub LoopsInOrder : Type 0
 LoopsInOrder = (P : Tree) → Grown P → Ordered P → (n : Node) (path : List Step) → In n P.nodes → only_last path ≡ true → chain_at P n path ≡ matches P (serial_of n) path
+
+-- The tree of a whole document comes from the opening one by tokens each of which may come, and all its nodes are closed.
+abbrev pub DocumentsGrow : Type 0
+DocumentsGrow = (d : Nodes) → IsDocument d → Leads opening (tree_of d) × ((m : Node) → In m (tree_of d).nodes → is_closed (tree_of d) m ≡ true)

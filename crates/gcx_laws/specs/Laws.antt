@@ -1,14 +1,14 @@
 -- The laws on the definitions.
-use Rattle.std.specs.Prelude.{◌≡◌, ℕ, Bool, true, false, List, [], ◌∷◌, ◌++◌, ◌≤◌, ◌↔◌, ◌⊎◌, filter, length, Option, Some, None}
+use Rattle.std.specs.Prelude.{◌≡◌, ℕ, Bool, true, false, List, [], ◌∷◌, ◌++◌, filter}
 use Rattle.gcx_base.specs.declared.steps.Step.{Step}
 use Rattle.gcx_model.specs.Document.{Nodes, tree_of}
-use Rattle.gcx_model.specs.Tree.{Node, Root, serial_of, Tree, opening, is_closed}
+use Rattle.gcx_model.specs.Tree.{Node, serial_of, Tree, opening, is_closed}
 use Rattle.gcx_model.specs.Paths.{matches}
 use Rattle.gcx_model.specs.Members.{In, Once}
 use Rattle.gcx_model.specs.Query.{ExprTree}
 use Rattle.gcx_model.specs.Answer.{answer}
-use Rattle.gcx_model.specs.Core.{CondTree, BodyTree, Then, Copy, For, If, Off, OffTree, PlanTree}
-use Rattle.gcx_model.specs.Truth.{Env, bind, truth}
+use Rattle.gcx_model.specs.Core.{CondTree, BodyTree, Then, For, If, OffTree, PlanTree}
+use Rattle.gcx_model.specs.Truth.{Env, truth}
 use Rattle.gcx_model.specs.Run.{Action, Wrote, Offed, Out, copy, run, env0}
 use Rattle.gcx_model.specs.Cores.{Good}
 use Rattle.gcx_model.specs.Placed.{offs_in, Placed, plan_of}

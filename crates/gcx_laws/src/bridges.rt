@@ -1,4 +1,4 @@
-ghost use Rattle.gcx_laws.specs.Bridges.{GrowIsFeeding, LeadsIsFeeding, TokensAreFound, NodesAreNumbered, HitsBySteps, MatchesAreHits, FirstIsLeast, LoopsBindHits, OneChain, LoopsInOrder};
+ghost use Rattle.gcx_laws.specs.Bridges.{GrowIsFeeding, LeadsIsFeeding, TokensAreFound, NodesAreNumbered, DocumentsGrow, HitsBySteps, MatchesAreHits, FirstIsLeast, LoopsBindHits, OneChain, LoopsInOrder};
 
 /// The relation between an open tree and one with a token more, in words, is a token that may come.
 pub fn grow_is_feeding()
@@ -21,6 +21,12 @@ pub fn tokens_are_found()
 /// The nodes of an open tree are numbered from 0 in document order, each behind its parent.
 pub fn nodes_are_numbered()
     ensures { NodesAreNumbered }
+{
+}
+
+/// The tree of a whole document comes from the opening one, and its nodes are closed.
+pub fn documents_grow()
+    ensures { DocumentsGrow }
 {
 }
 

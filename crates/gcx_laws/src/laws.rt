@@ -1,4 +1,4 @@
-ghost use Rattle.gcx_laws.specs.Laws.{PrefixLaw, ClosedLaw, PlacedOnce, PlanWrites, BalanceLaw, EmptyAtEnd, OnceLaw, OffsAtMatches, TakenStays, PointLaw, ResumeLaw, NeedLaw, TruthHeld, TurnsHeld, LoopHeld, CopyHeld};
+ghost use Rattle.gcx_laws.specs.Laws.{PrefixLaw, ClosedLaw, NormalLaw, NormalIsGood, PlacedOnce, PlanWrites, BalanceLaw, EmptyAtEnd, OnceLaw, OffsAtMatches, TakenStays, PointLaw, ResumeLaw, NeedLaw, TruthHeld, TurnsHeld, LoopHeld, CopyHeld};
 
 /// Where an open tree grows, the actions only go on; where they are done, they stay the same.
 pub fn prefix_law()
@@ -9,6 +9,18 @@ pub fn prefix_law()
 /// Where every node is closed, a run is done.
 pub fn closed_law()
     ensures { ClosedLaw }
+{
+}
+
+/// Over a whole document the core of a sound query writes the query's answer.
+pub fn normal_law()
+    ensures { NormalLaw }
+{
+}
+
+/// The core of a query is one for which the laws hold.
+pub fn normal_is_good()
+    ensures { NormalIsGood }
 {
 }
 

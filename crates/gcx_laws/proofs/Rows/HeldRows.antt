@@ -1,6 +1,6 @@
 -- The held nodes behind each event of demand runs, and in states of other runs, computed.
 use Rattle.std.specs.Prelude.{◌≡◌, ℕ, List, [], ◌∷◌, ◌++◌, refl, codes, flat_map, map, length, take, drop}
-use Rattle.gcx_model.specs.Tree.{Token, Tree, serial_of, opening, grow, grow_all}
+use Rattle.gcx_model.specs.Tree.{Token, Tree, serial_of, opening, grow}
 use Rattle.gcx_model.specs.Core.{PlanTree}
 use Rattle.gcx_model.specs.Run.{Action, bytes_of}
 use Rattle.gcx_model.specs.Placed.{plan_of}

@@ -1,14 +1,13 @@
 -- What is settled over open trees, computed.
-use Rattle.std.specs.Prelude.{◌≡◌, ℕ, List, [], ◌∷◌, ◌++◌, Option, Some, None, refl, codes, pos, neg_ℤ, ◌*◌, ◌^◌, replicate}
-use Rattle.gcx_base.specs.declared.rel.Rel.TheVariants.{Eq, Gt, Ge}
+use Rattle.std.specs.Prelude.{◌≡◌, List, [], ◌∷◌, ◌++◌, refl, codes, pos, ◌*◌, ◌^◌, replicate}
+use Rattle.gcx_base.specs.declared.rel.Rel.TheVariants.{Gt, Ge}
 use Rattle.gcx_base.specs.declared.steps.Axis.TheVariants.{Child, Descendant}
 use Rattle.gcx_base.specs.declared.steps.Test.TheVariants.{AnyText, AnyNode}
-use Rattle.gcx_model.specs.declared.query.QOperand.{QOperand}
 use Rattle.gcx_model.specs.declared.query.QOperand.TheVariants as operand
 use Rattle.gcx_model.specs.Tree.{Token, Start, Chars, End, opening}
-use Rattle.gcx_model.specs.Query.{ExprTree, CondTree, Exists, Compare, Any, no_cond, more_conds, Empty, Elem, Path, For, If}
+use Rattle.gcx_model.specs.Query.{ExprTree, Exists, Compare, Any, no_cond, more_conds, Empty, Elem, Path}
 use Rattle.gcx_model.specs.Normal.{known}
-use Rattle.gcx_laws.proofs.Rows.Words.{child, desc, from_root, from, for_in, empty, one_expr, tree, element, leaf, document, query1, tokens1, query3, each_p, query5, query9, tokens9, query13, tokens13}
+use Rattle.gcx_laws.proofs.Rows.Words.{child, from_root, from, one_expr, tree, element, leaf, document, query1, tokens1, query3, each_p, query5, query9, tokens9, query13, tokens13}
 
 row1 : known query1 (tree tokens1) ≡ codes "<r><b>1</b><b>2</b></r>"
 row1 = refl

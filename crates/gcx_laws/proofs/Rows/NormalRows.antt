@@ -1,7 +1,5 @@
 -- The cores of some queries, computed.
-use Rattle.std.specs.Prelude.{◌≡◌, ℕ, List, [], ◌∷◌, Some, refl, codes, true, false}
-use Rattle.gcx_base.specs.declared.steps.Axis.TheVariants.{Child, Descendant}
-use Rattle.gcx_base.specs.declared.steps.Test.TheVariants.{AnyText}
+use Rattle.std.specs.Prelude.{◌≡◌, List, [], ◌∷◌, Some, refl, codes, true, false}
 use Rattle.gcx_model.specs.Query as query
 use Rattle.gcx_model.specs.Core.{BodyTree, Nil, Write, Copy, For, If, Always, Exists}
 use Rattle.gcx_model.specs.Sound.{is_sound}

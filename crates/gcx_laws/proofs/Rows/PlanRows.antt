@@ -1,8 +1,8 @@
 -- The plans of some queries, computed: the variables, the roles, and where the statements stand.
-use Rattle.std.specs.Prelude.{◌≡◌, ℕ, List, [], ◌∷◌, refl, codes, true, false}
+use Rattle.std.specs.Prelude.{◌≡◌, [], ◌∷◌, refl, codes, true, false}
 use Rattle.gcx_base.specs.declared.rel.Rel.TheVariants.{Eq}
 use Rattle.gcx_base.specs.declared.steps.Step.{Step}
-use Rattle.gcx_model.specs.Core.{BodyTree, Nil, Write, Copy, For, If, Exists, Compare, Path, Own, First, Whole, PlanTree}
+use Rattle.gcx_model.specs.Core.{Nil, Write, Copy, For, If, Exists, Compare, Path, Own, First, Whole}
 use Rattle.gcx_model.specs.Placed.{plan_of}
 use Rattle.gcx_model.specs.Normal.{normal}
 use Rattle.gcx_laws.proofs.Rows.Words.{child, body, off, var_row, role, query1, query13, query_moved}

@@ -1,8 +1,7 @@
 -- Traces and peaks, computed.
 use Rattle.std.specs.Prelude.{◌≡◌, ℕ, List, [], ◌∷◌, ◌++◌, refl, codes, flat_map, length}
 use Rattle.std.specs.Fmt.{digits}
-use Rattle.gcx_base.specs.declared.kind.Kind.TheVariants.{Document, Element, Text}
-use Rattle.gcx_model.specs.Tree.{Token, opening}
+use Rattle.gcx_model.specs.Tree.{Token}
 use Rattle.gcx_model.specs.Core.{PlanTree}
 use Rattle.gcx_model.specs.Placed.{plan_of}
 use Rattle.gcx_model.specs.Held.{sum_given, sum_taken}
@@ -10,7 +9,7 @@ use Rattle.gcx_model.specs.Growth.{tokens_of}
 use Rattle.gcx_model.specs.Points.{actions}
 use Rattle.gcx_model.specs.Normal.{normal}
 use Rattle.gcx_model.specs.Demand.{trace_text, peak}
-use Rattle.gcx_laws.proofs.Rows.Words.{child, element, document, tree, query1, tokens1, query5, query13, tokens13, query_moved, tokens_moved, query_compared, tokens_compared}
+use Rattle.gcx_laws.proofs.Rows.Words.{element, document, tree, query1, tokens1, query5, query13, tokens13, query_moved, tokens_moved, query_compared, tokens_compared}
 
 -- each line with its end
 abbrev lines : List (List ℕ) → List ℕ

@@ -1,7 +1,7 @@
 -- Short words for queries, cores and documents.
-use Rattle.std.specs.Prelude.{ℕ, List, [], ◌∷◌, ◌++◌, Option, Some, None, codes}
+use Rattle.std.specs.Prelude.{ℕ, List, [], ◌∷◌, ◌++◌, Some, None, codes}
 use Rattle.gcx_base.specs.declared.steps.Axis.TheVariants.{Child, Descendant}
-use Rattle.gcx_base.specs.declared.steps.Test.TheVariants.{Named, AnyText, AnyNode}
+use Rattle.gcx_base.specs.declared.steps.Test.TheVariants.{Named}
 use Rattle.gcx_base.specs.declared.steps.Step.{Step}
 use Rattle.gcx_model.specs.declared.query.PathExpr.{PathExpr}
 use Rattle.gcx_model.specs.declared.query.Clause.{Clause}
