@@ -74,6 +74,15 @@ abbrev pub TakenStays : Type 0
 TakenStays = (core : BodyTree) → Good core → (plan : PlanTree) → Placed core plan → (P : Tree) (k : ℕ) → Reached plan P k → (Q : Tree) (j : ℕ) → ReachedFrom plan P k Q j
     → (n : Node) (r : ℕ) → In n P.nodes → taken plan P (so_far plan P k) n r ≡ true → taken plan Q (so_far plan Q j) n r ≡ true
 
+-- What a node was given stays as it is while tokens come,
+abbrev pub GivenStays : Type 0
+GivenStays = (plan : PlanTree) (P Q : Tree) → Leads opening P → Leads P Q → (n : Node) (r : ℕ) → In n P.nodes → given plan Q n r ≡ given plan P n r
+
+-- and a node that isn't held in a core state is held in none that Feeds and Acts reach from there.
+abbrev pub GoneStays : Type 0
+GoneStays = (core : BodyTree) → Good core → (plan : PlanTree) → Placed core plan → (P : Tree) (k : ℕ) → Reached plan P k → (Q : Tree) (j : ℕ) → ReachedFrom plan P k Q j
+    → (n : Node) → In n P.nodes → In n (held plan Q (so_far plan Q j)) → In n (held plan P (so_far plan P k))
+
 -- Behind the first k actions there is a point. From each of them on, all that is to come follows on these actions.
 abbrev pub PointLaw : Type 0
 PointLaw = (plan : PlanTree) (P : Tree) (k : ℕ) → (fs : List Frame) × PointAt plan P k fs

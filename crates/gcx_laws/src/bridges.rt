@@ -1,4 +1,4 @@
-ghost use Rattle.gcx_laws.specs.Bridges.{GrowIsFeeding, LeadsIsFeeding, TokensAreFound, NodesAreNumbered, DocumentsGrow, HitsBySteps, MatchesAreHits, FirstIsLeast, LoopsBindHits, OneChain, LoopsInOrder};
+ghost use Rattle.gcx_laws.specs.Bridges.{GrowIsFeeding, LeadsIsFeeding, TokensAreFound, NodesAreNumbered, DocumentsGrow, HitsBySteps, MatchesAreHits, FirstIsLeast, LoopsBindHits, GivesByKind, PathsByRows, OneStatement, SignedIsOff, DemandIsReached, OneChain, LoopsInOrder};
 
 /// The relation between an open tree and one with a token more, in words, is a token that may come.
 pub fn grow_is_feeding()
@@ -51,6 +51,36 @@ pub fn first_is_least()
 /// Nested loops over the steps of a path bind innermost the nodes that it hits.
 pub fn loops_bind_hits()
     ensures { LoopsBindHits }
+{
+}
+
+/// What it means that a role of each kind reaches a node.
+pub fn gives_by_kind()
+    ensures { GivesByKind }
+{
+}
+
+/// The path of a variable is the same by a plan's rows and by the variable tree.
+pub fn paths_by_rows()
+    ensures { PathsByRows }
+{
+}
+
+/// A role's statement is the one of the plan that tells it.
+pub fn one_statement()
+    ensures { OneStatement }
+{
+}
+
+/// A node is signed for a statement where the actions so far carry it out there.
+pub fn signed_is_off()
+    ensures { SignedIsOff }
+{
+}
+
+/// The demand run goes through core states.
+pub fn demand_is_reached()
+    ensures { DemandIsReached }
 {
 }
 

@@ -1,4 +1,4 @@
-ghost use Rattle.gcx_laws.specs.Laws.{PrefixLaw, ClosedLaw, NormalLaw, NormalIsGood, PlacedOnce, PlanWrites, BalanceLaw, EmptyAtEnd, OnceLaw, OffsAtMatches, TakenStays, PointLaw, ResumeLaw, NeedLaw, TruthHeld, TurnsHeld, LoopHeld, CopyHeld};
+ghost use Rattle.gcx_laws.specs.Laws.{PrefixLaw, ClosedLaw, NormalLaw, NormalIsGood, PlacedOnce, PlanWrites, BalanceLaw, EmptyAtEnd, OnceLaw, OffsAtMatches, TakenStays, GivenStays, GoneStays, PointLaw, ResumeLaw, NeedLaw, TruthHeld, TurnsHeld, LoopHeld, CopyHeld};
 
 /// Where an open tree grows, the actions only go on; where they are done, they stay the same.
 pub fn prefix_law()
@@ -63,6 +63,18 @@ pub fn offs_at_matches()
 /// What is taken stays taken.
 pub fn taken_stays()
     ensures { TakenStays }
+{
+}
+
+/// What a node was given stays as it is while tokens come.
+pub fn given_stays()
+    ensures { GivenStays }
+{
+}
+
+/// A node that isn't held is never held again.
+pub fn gone_stays()
+    ensures { GoneStays }
 {
 }
 

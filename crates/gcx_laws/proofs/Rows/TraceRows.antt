@@ -9,7 +9,7 @@ use Rattle.gcx_model.specs.Growth.{tokens_of}
 use Rattle.gcx_model.specs.Points.{actions}
 use Rattle.gcx_model.specs.Normal.{normal}
 use Rattle.gcx_model.specs.Demand.{trace_text, peak}
-use Rattle.gcx_laws.proofs.Rows.Words.{element, document, tree, query1, tokens1, query5, query13, tokens13, query_moved, tokens_moved, query_compared, tokens_compared}
+use Rattle.gcx_laws.proofs.Rows.Words.{element, document, tree, query1, tokens1, query3, query5, query13, tokens13, query_moved, tokens_moved, query_compared, tokens_compared}
 
 -- each line with its end
 abbrev lines : List (List ℕ) → List ℕ
@@ -43,6 +43,16 @@ trace_compared : trace_text query_compared (tree tokens_compared) ≡ lines (
     ∷ codes "- 2" ∷ codes "x 2" ∷ codes "- 1" ∷ codes "o 1 1" ∷ codes "x 1" ∷ codes "- 0" ∷ codes "o 0 0" ∷ codes "x 0" ∷ [])
 unfolding digits
 trace_compared = refl
+
+-- a node that two bases reach keeps its role until both are signed, and so do the nodes above it
+abbrev tokens3 : List Token
+tokens3 = document (element (codes "a") (element (codes "a") (element (codes "b") [])))
+
+trace3 : trace_text query3 (tree tokens3) ≡ lines (
+    codes "+ 0 / 0" ∷ codes "+ 1 a 1" ∷ codes "+ 2 a 1" ∷ codes "+ 3 b 2" ∷ codes "w 3" ∷ codes "w 4" ∷ codes "- 3" ∷ codes "- 2" ∷ codes "- 1" ∷ codes "o 1 2" ∷ codes "o 1 1"
+    ∷ codes "w 3" ∷ codes "w 4" ∷ codes "o 2 2" ∷ codes "x 3" ∷ codes "o 2 1" ∷ codes "x 2" ∷ codes "x 1" ∷ codes "- 0" ∷ codes "o 0 0" ∷ codes "x 0" ∷ [])
+unfolding digits
+trace3 = refl
 
 peak1 : peak query1 (tree tokens1) ≡ 4
 peak1 = refl
