@@ -1,29 +1,29 @@
 -- Facts beside the laws: what a role's kind means, what is signed, what stays, and that the demand run goes through core states.
-use Rattle.std.proofs.Common.{◌≡◌, ℕ, zero, suc, ◌+◌, ◌<◌, ◌≤◌, Bool, true, false, cond, not, ◌&&◌, ◌||◌, List, [], ◌∷◌, ◌++◌, length, refl, sym, ◌∙◌, ap, subst, inl, inr, ◌⊎◌, arith, add-zero, Some, None, Option, eqb}
+use Rattle.std.proofs.Common.{◌≡◌, ℕ, zero, suc, ◌+◌, ◌≤◌, Bool, true, false, not, ◌&&◌, List, [], ◌∷◌, ◌++◌, length, refl, sym, ◌∙◌, ap, subst, inl, inr, arith, add-zero, Some, None, Option, eqb}
 use Rattle.std.specs.Prelude.{take}
 use Rattle.std.specs.List.{filter}
 use Rattle.std.proofs.lemmas.List.{length-append}
 use Rattle.std.proofs.lemmas.Bool.{and_parts, and_from, or_cases, or_left, or_right, false≢true, true≢false, eqb-true, eq-eqb, not-true, false_from_ne_true}
 use Rattle.gcx_base.specs.declared.steps.Step.{Step}
-use Rattle.gcx_model.specs.Tree.{Node, Root, serial_of, above, within, Tree, Token, opening, grow, grow_all, is_open_at}
+use Rattle.gcx_model.specs.Tree.{Node, serial_of, above, within, Tree, Token, opening, grow, grow_all, is_open_at}
 use Rattle.gcx_model.specs.Paths.{any, head, hits, matches, first}
 use Rattle.gcx_model.specs.Members.{In}
 use Rattle.gcx_model.specs.Nodes.{Grown}
-use Rattle.gcx_model.specs.Core.{BodyTree, OffTree, RoleRowTree, RoleKind, PlanTree}
+use Rattle.gcx_model.specs.Core.{BodyTree, OffTree, RoleRowTree, PlanTree}
 use Rattle.gcx_model.specs.Run.{Action, Wrote, Offed, Out, run, env0}
 use Rattle.gcx_model.specs.Variables.{var_tree, path_in}
 use Rattle.gcx_model.specs.Roles.{roles_of}
 use Rattle.gcx_model.specs.Cores.{Good}
-use Rattle.gcx_model.specs.Placed.{row_at, offs_in, of_role, Placed, statement, statements, offs_of, plan_of}
-use Rattle.gcx_model.specs.Held.{is_node, path_of, statement_of, gives, on_row, given_row, given, is_off, signed, held}
-use Rattle.gcx_model.specs.Growth.{Grow, Leads, stays, more, may_come, may_all}
+use Rattle.gcx_model.specs.Placed.{row_at, offs_in, of_role, offs_of, plan_of}
+use Rattle.gcx_model.specs.Held.{is_node, path_of, statement_of, on_row, given_row, given, is_off, signed, held}
+use Rattle.gcx_model.specs.Growth.{may_come, may_all}
 use Rattle.gcx_model.specs.Points.{actions, so_far, ReachedFrom, here, fed, acted, Reached}
 use Rattle.gcx_laws.specs.Bridges.{GivesByKind, SignedIsOff, OneStatement, PathsByRows, DemandIsReached}
 use Rattle.gcx_laws.specs.Laws.{GivenStays, GoneStays}
 use Rattle.gcx_laws.proofs.Reading as old
 use Rattle.gcx_laws.proofs.Reading.{Reading, reading}
 use Rattle.gcx_laws.proofs.Lists.{In-filter, In-kept, any_in, any_from}
-use Rattle.gcx_laws.proofs.Matches.{Grown-grow, Grown-opening, Grown-all, Numbered-same, Matches-in, Matches-from}
+use Rattle.gcx_laws.proofs.Matches.{Grown-grow, Numbered-same, Matches-in, Matches-from}
 use Rattle.gcx_laws.proofs.Chains.{above_in}
 use Rattle.gcx_laws.proofs.Stays.{gives_same, held_back}
 use Rattle.gcx_laws.proofs.Prefix.{Before, Same, More}
@@ -32,9 +32,8 @@ use Rattle.gcx_laws.proofs.Plans.{same_role}
 use Rattle.gcx_laws.proofs.Placed.{one_statement, statements_only}
 use Rattle.gcx_laws.proofs.Waits.{nodes_stay}
 use Rattle.gcx_laws.proofs.CoreStates.{tree, grown, so_far_stays, taken_acted}
-use Rattle.gcx_laws.proofs.Growing.{grows, fed_all, may_all-append, grow_all-append}
+use Rattle.gcx_laws.proofs.Growing.{grows, fed_all, grow_all-append}
 use Rattle.gcx_laws.proofs.Bridge.{path_is, held_is}
-use Rattle.gcx_laws.proofs.Unique.{placed, in_plan}
 use Rattle.gcx_laws.proofs.Public.{from_tokens, from_plan, from_state, reached_leads, offs_at_matches}
 
 -- the kinds of roles

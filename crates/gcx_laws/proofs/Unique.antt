@@ -1,17 +1,15 @@
 -- Of the plans that are placed for a core there is one.
-use Rattle.std.proofs.Common.{◌≡◌, ℕ, zero, suc, ◌+◌, ◌<◌, ◌≤◌, Bool, true, false, cond, not, ◌&&◌, List, [], ◌∷◌, ◌++◌, length, map, refl, sym, ◌∙◌, ap, subst, inl, inr, ◌⊎◌, arith, add-zero, Some, eqb}
-use Rattle.std.specs.List.{filter}
+use Rattle.std.proofs.Common.{◌≡◌, ℕ, zero, suc, ◌<◌, Bool, true, false, List, [], ◌∷◌, ◌++◌, length, map, refl, sym, ◌∙◌, ap, subst, inl, inr, ◌⊎◌, arith, Some}
 use Rattle.std.proofs.lemmas.List.{map-append}
-use Rattle.std.proofs.lemmas.Bool.{and_parts, and_from, false≢true, true≢false, eqb-true, eq-eqb, not-true}
-use Rattle.gcx_base.specs.declared.steps.Step.{Step}
-use Rattle.gcx_model.specs.Core.{OperandTree, Path, Str, Num, CondTree, CondTrees, Always, Exists, Compare, Not, All, Any, no_cond, more_conds, RoleKind, Own, First, Whole, ItemTree, Write, Copy, For, If, Off, BodyTree, Nil, Then, OffTree, RoleRowTree, PlanTree}
-use Rattle.gcx_model.specs.Variables.{Var, is_straight, child_var, var_tree, vars, item_vars}
-use Rattle.gcx_model.specs.Roles.{own_row, whole_row, operand_rows, cond_rows, conds_rows, item_rows, rows, roles_of}
+use Rattle.std.proofs.lemmas.Bool.{eqb-true}
+use Rattle.gcx_model.specs.Core.{ItemTree, Write, Copy, For, If, Off, BodyTree, Nil, Then, OffTree, RoleRowTree, PlanTree}
+use Rattle.gcx_model.specs.Variables.{var_tree, vars, item_vars}
+use Rattle.gcx_model.specs.Roles.{roles_of}
 use Rattle.gcx_model.specs.Cores.{BodyIn, Good}
-use Rattle.gcx_model.specs.Placed.{without, offs_in, of_role, row_at, IsStatement, InOrder, OnlyOffs, own_offs, Stand, Placed, is_own_kind, own_number, statement, statements, offs_of, is_empty, is_own, at_end, offs_body, add_offs, place, placed_body, plan_of}
+use Rattle.gcx_model.specs.Placed.{without, offs_in, of_role, row_at, InOrder, OnlyOffs, own_offs, Stand, Placed, statement, offs_of, at_end, offs_body, add_offs, place, placed_body, plan_of}
 use Rattle.gcx_model.specs.Members.{In, Once}
 use Rattle.gcx_laws.proofs.Lists.{In-left, In-right, In-append, In-filter}
-use Rattle.gcx_laws.proofs.Plans.{Fits, good_fits, good_once, good_not_zero, good_based, good_zero, Based, same_role, end_in, in_end, roles_known, no_vars}
+use Rattle.gcx_laws.proofs.Plans.{good_once, good_not_zero, same_role, end_in, in_end}
 use Rattle.gcx_laws.proofs.Placed.{without_is, one_statement, statements_only}
 use Rattle.gcx_laws.proofs.Bridge.{row_places}
 use Rattle.gcx_laws.proofs.Ends.{is_statement, statement_in, ends_order, order_same}

@@ -1,5 +1,5 @@
 -- What a point needs (this project's).
-use Rattle.std.specs.Prelude.{◌≡◌, ℕ, true, List, [], ◌∷◌, ◌++◌, ◌⊎◌, Some}
+use Rattle.std.specs.Prelude.{◌≡◌, true, List, [], ◌∷◌, ◌++◌, ◌⊎◌, Some}
 use Rattle.gcx_model.specs.Tree.{Node, Root, serial_of, within, Tree}
 use Rattle.gcx_model.specs.Paths.{matches, first}
 use Rattle.gcx_model.specs.Members.{In}
