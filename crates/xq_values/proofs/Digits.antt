@@ -9,7 +9,7 @@ use Rattle.std.proofs.lemmas.List.{length-take-le, take-append-drop}
 use Rattle.std.proofs.lemmas.List.Folds.{list_all-append}
 use Rattle.std.proofs.lemmas.Bool.{and_parts}
 use Rattle.std.proofs.lemmas.Bool.Decides.{nat_tests}
-use Rattle.xq_values.specs.Values.{digits_from, is_digit}
+use Rattle.gcx_model.specs.Values.{digits_from, is_digit}
 use Rattle.xq_values.proofs.Orders.{cmp-scaled, cmp-whole, then-equal}
 
 pub ten_pos : (k : ℕ) → 0 < 10 ^ k

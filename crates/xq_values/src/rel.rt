@@ -1,7 +1,7 @@
 ghost use Rattle.std.specs.Prelude.{◌≡◌};
 ghost use Rattle.std.specs.Ordering.{nat_cmp};
 ghost use Rattle.std.specs.Cmp.Lexicographic.{slice_cmp};
-ghost use Rattle.xq_values.specs.Values.{holds};
+ghost use Rattle.gcx_model.specs.Values.{holds};
 
 use gcx_base::Rel;
 use std::cmp::Ordering;

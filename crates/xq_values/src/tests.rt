@@ -1,5 +1,5 @@
 ghost use Rattle.std.specs.Prelude.{◌≡◌};
-ghost use Rattle.xq_values.specs.Values.{compare, Bytes, Units};
+ghost use Rattle.gcx_model.specs.Values.{compare, Bytes, Units};
 
 use crate::{NumText, compare_text, holds};
 use gcx_base::Rel;

@@ -1,6 +1,7 @@
 -- The meaning of queries over whole documents, computed.
 use Rattle.std.specs.Prelude.{◌≡◌, ℕ, true, List, [], ◌∷◌, Some, refl, codes, pos, ◌*◌, ◌^◌}
 use Rattle.gcx_base.specs.declared.rel.Rel.TheVariants.{Lt}
+use Rattle.gcx_model.specs.Values.{number}
 use Rattle.gcx_model.specs.declared.query.QOperand.TheVariants as operand
 use Rattle.gcx_model.specs.Document.{Nodes, none, element, text}
 use Rattle.gcx_model.specs.Query.{ExprTree, Exists, Compare, Not, All, no_cond, more_conds, Elem, Path, For}
@@ -21,6 +22,7 @@ abbrev document9 : Nodes
 document9 = element none (codes "r") (leaf (leaf (leaf none (codes "p") (codes "007")) (codes "p") (codes "7x")) (codes "p") (codes " 7 "))
 
 row9_number : answer (query9 (operand.Num (pos (7 * 10 ^ 18)))) document9 ≡ codes "<y></y><n></n><y></y>"
+unfolding number
 row9_number = refl
 
 row9_text : answer (query9 (operand.Str (codes "7"))) document9 ≡ codes "<n></n><n></n><n></n>"
@@ -42,10 +44,12 @@ abbrev book : Nodes → List ℕ → List ℕ → Nodes
 book before title price = element before (codes "book") (leaf (leaf none (codes "title") title) (codes "price") price)
 
 row37 : answer query37 (element none (codes "bib") (book (book none (codes "Data on the Web") (codes "39")) (codes "TCP/IP & more") (codes "65"))) ≡ codes "<out><cheap><title>Data on the Web</title></cheap></out>"
+unfolding number
 row37 = refl
 
 -- and with the prices exchanged, an escaped text
 row37_escaped : answer query37 (element none (codes "bib") (book (book none (codes "Data on the Web") (codes "65")) (codes "TCP/IP & more") (codes "39"))) ≡ codes "<out><cheap><title>TCP/IP &amp; more</title></cheap></out>"
+unfolding number
 row37_escaped = refl
 
 -- these queries are sound

@@ -3,6 +3,7 @@ use Rattle.std.specs.Prelude.{◌≡◌, List, [], ◌∷◌, ◌++◌, refl, co
 use Rattle.gcx_base.specs.declared.rel.Rel.TheVariants.{Gt, Ge}
 use Rattle.gcx_base.specs.declared.steps.Axis.TheVariants.{Child, Descendant}
 use Rattle.gcx_base.specs.declared.steps.Test.TheVariants.{AnyText, AnyNode}
+use Rattle.gcx_model.specs.Values.{number}
 use Rattle.gcx_model.specs.declared.query.QOperand.TheVariants as operand
 use Rattle.gcx_model.specs.Tree.{Token, Start, Chars, End, opening}
 use Rattle.gcx_model.specs.Query.{ExprTree, Exists, Compare, Any, no_cond, more_conds, Empty, Elem, Path}
@@ -39,6 +40,7 @@ row8 : known query5 (tree (document (element (codes "r") (element (codes "p") []
 row8 = refl
 
 row9_number : known (query9 (operand.Num (pos (7 * 10 ^ 18)))) (tree tokens9) ≡ codes "<y></y><n></n><y></y>"
+unfolding number
 row9_number = refl
 
 row9_text : known (query9 (operand.Str (codes "7"))) (tree tokens9) ≡ codes "<n></n><n></n><n></n>"
@@ -76,6 +78,7 @@ abbrev tokens32 : List Token
 tokens32 = document (element (codes "r") (leaf (codes "p") (49 ∷ replicate 42 48) ++ (leaf (codes "p") (codes "-0") ++ element (codes "p") [])))
 
 row32 : known (each_p (Compare (operand.Path (from (codes "x") [])) Gt (operand.Num (pos (9 * 10 ^ 18))))) (tree tokens32) ≡ codes "<y></y><n></n><n></n>"
+unfolding number
 row32 = refl
 
 -- >= 2.50
@@ -83,4 +86,5 @@ abbrev tokens_decimal : List Token
 tokens_decimal = document (element (codes "r") (leaf (codes "p") (codes "2.5") ++ (leaf (codes "p") (codes "2.49999999999999999999") ++ (leaf (codes "p") (codes "+3.") ++ (leaf (codes "p") (codes ".5") ++ leaf (codes "p") (codes "2,6"))))))
 
 row_decimal : known (each_p (Compare (operand.Path (from (codes "x") [])) Ge (operand.Num (pos (25 * 10 ^ 17))))) (tree tokens_decimal) ≡ codes "<y></y><n></n><y></y><n></n><n></n>"
+unfolding number
 row_decimal = refl

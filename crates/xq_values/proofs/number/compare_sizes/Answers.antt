@@ -2,7 +2,7 @@ use Rattle.std.proofs.Common.{rules, ◌≡◌, ◌≤◌, ◌-◌, ◌*◌, ◌
 use Rattle.std.specs.Ordering.{nat_cmp, ordering_then}
 use Rattle.std.specs.Cmp.{nat_cmp_is}
 use Rattle.std.specs.declared.cmp.Ordering.TheVariants.{Greater}
-use Rattle.xq_values.specs.Values.{digits_from}
+use Rattle.gcx_model.specs.Values.{digits_from}
 use Rattle.xq_values.proofs.Digits.{at_18_places}
 use Rattle.xq_values.proofs.number.compare_sizes.Goals as goal
 

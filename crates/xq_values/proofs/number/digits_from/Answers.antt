@@ -1,5 +1,5 @@
 use Rattle.std.proofs.Common.{rules, ◌≤◌, ◌^◌, [], ◌∷◌, get_or}
-use Rattle.xq_values.specs.Values.{digits_from}
+use Rattle.gcx_model.specs.Values.{digits_from}
 use Rattle.xq_values.proofs.Digits.{next_big}
 use Rattle.xq_values.proofs.number.digits_from.Goals as goal
 

@@ -1,6 +1,6 @@
 use Rattle.std.proofs.Common.{◌≡◌, drop, true}
 use Rattle.std.specs.List.{list_all}
-use Rattle.xq_values.specs.Values.{digits_from, is_digit}
+use Rattle.gcx_model.specs.Values.{digits_from, is_digit}
 use Rattle.xq_values.proofs.number.digits_from.Given as goal
 
 abbrev pub invariant-loop-digit : goal.invariant-loop-digit

@@ -1,5 +1,5 @@
 use Rattle.std.proofs.Common.{◌≡◌, ◌-◌, ◌*◌, ◌^◌, ◌++◌, length, sym, ap, ◌∙◌}
-use Rattle.xq_values.specs.Values.{digits_from}
+use Rattle.gcx_model.specs.Values.{digits_from}
 use Rattle.xq_values.proofs.Digits.{digits_from-append, whole_big, both_big, match_of_iff}
 use Rattle.xq_values.proofs.number.in_units.Goals as goal
 

@@ -1,5 +1,5 @@
 use Rattle.std.proofs.Common.{◌≡◌, length}
-use Rattle.xq_values.specs.Values.{without_back}
+use Rattle.gcx_model.specs.Values.{without_back}
 use Rattle.xq_values.proofs.number.trimmed.Given as goal
 
 abbrev pub invariant-loop-last : goal.invariant-loop-last

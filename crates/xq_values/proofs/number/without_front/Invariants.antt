@@ -1,5 +1,5 @@
 use Rattle.std.proofs.Common.{◌≡◌, length}
-use Rattle.xq_values.specs.Values.{without_front}
+use Rattle.gcx_model.specs.Values.{without_front}
 use Rattle.xq_values.proofs.number.without_front.Given as goal
 
 abbrev pub invariant-loop-rest : goal.invariant-loop-rest

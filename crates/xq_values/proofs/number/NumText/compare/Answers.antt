@@ -1,6 +1,6 @@
 use Rattle.std.proofs.Common.{rules, ◌∙◌, ap, sym, ◌++◌, ◌^◌, length}
 use Rattle.std.specs.Prelude.{pos, ◌<ℤ◌}
-use Rattle.xq_values.specs.Values.{against, digits_from, decimal}
+use Rattle.gcx_model.specs.Values.{against, digits_from, decimal}
 use Rattle.xq_values.proofs.Digits.{ten_pos}
 use Rattle.xq_values.proofs.Orders.{plus_minus, minus_plus}
 use Rattle.xq_values.proofs.number.NumText.compare.Goals as goal

@@ -1,5 +1,5 @@
 use Rattle.std.proofs.Common.{rules, ◌≡◌, sym, ◌∙◌}
-use Rattle.xq_values.specs.Values.{number}
+use Rattle.gcx_model.specs.Values.{number}
 use Rattle.xq_values.proofs.Grammar.{counts_as, number-spelled}
 use Rattle.xq_values.proofs.number.NumText.read.Goals as goal
 
