@@ -1,7 +1,7 @@
 -- Documents as trees (XML 1.0, sections 2.1 and 3; that a text of white space alone is no node is this project's).
 use Rattle.std.specs.Prelude.{ℕ, ◌==◌, ◌||◌, ◌≡◌, Bool, true, false, List, [], ◌∷◌, ◌++◌}
 use Rattle.std.specs.List.{list_all}
-use Rattle.gcx_base.specs.Name.{is_plain_name}
+use Rattle.gcx_model.specs.Attributes.{IsNameBytes}
 use Rattle.gcx_model.specs.Tree.{Token, Start, Chars, End, Tree, opening, grow_all}
 
 -- A list of nodes, built at its end: none; or nodes and behind them an element with its children, or a text.
@@ -24,10 +24,10 @@ ends_with_text none = false
 ends_with_text (element before name children) = false
 ends_with_text (text before bytes) = true
 
--- a text is neither empty nor only white space, two texts are never neighbours, and each element has a name
+-- a text is neither empty nor only white space, two texts are never neighbours, and the name of each element is one (XML 1.0, section 2.3)
 abbrev pub AreNodes : Nodes → Type 0
 AreNodes none = Unit {0}
-AreNodes (element before name children) = AreNodes before × (is_plain_name name ≡ true) × AreNodes children
+AreNodes (element before name children) = AreNodes before × IsNameBytes name × AreNodes children
 AreNodes (text before bytes) = AreNodes before × (ends_with_text before ≡ false) × (is_blank bytes ≡ false)
 
 -- a document node has one root element, and no other child

@@ -22,3 +22,10 @@ pub mod Sound
 pub mod Normal
 pub mod Demand
 pub mod Nodes
+pub mod References
+pub mod Attributes
+pub mod Markup
+pub mod Grammar
+pub mod Fronts
+pub mod Faults
+pub mod Seen
