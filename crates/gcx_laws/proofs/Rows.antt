@@ -1,0 +1,7 @@
+pub mod Words
+mod KnownRows
+mod AnswerRows
+mod NormalRows
+mod PlanRows
+mod TraceRows
+mod HeldRows

@@ -1,0 +1,82 @@
+-- Traces and peaks, computed.
+use Rattle.std.specs.Prelude.{◌≡◌, ℕ, List, [], ◌∷◌, ◌++◌, refl, codes, flat_map, length}
+use Rattle.std.specs.Fmt.{digits}
+use Rattle.gcx_model.specs.Tree.{Token}
+use Rattle.gcx_model.specs.Core.{PlanTree}
+use Rattle.gcx_model.specs.Placed.{plan_of}
+use Rattle.gcx_model.specs.Held.{sum_given, sum_taken}
+use Rattle.gcx_model.specs.Growth.{tokens_of}
+use Rattle.gcx_model.specs.Points.{actions}
+use Rattle.gcx_model.specs.Normal.{normal}
+use Rattle.gcx_model.specs.Demand.{trace_text, peak}
+use Rattle.gcx_laws.proofs.Rows.Words.{element, document, tree, query1, tokens1, query5, query13, tokens13, query_moved, tokens_moved, query_compared, tokens_compared}
+
+-- each line with its end
+abbrev lines : List (List ℕ) → List ℕ
+lines ls = flat_map (λ l. l ++ 10 ∷ []) ls
+
+-- the tokens of a tree are found again
+tokens_found : tokens_of (tree tokens13) ≡ tokens13
+tokens_found = refl
+
+trace1 : trace_text query1 (tree tokens1) ≡ lines (
+    codes "+ 0 / 0" ∷ codes "w 3" ∷ codes "+ 1 a 1" ∷ codes "+ 2 b 2 3" ∷ codes "w 3" ∷ codes "+ 3 # 3" ∷ codes "w 1" ∷ codes "- 2" ∷ codes "w 4" ∷ codes "o 2 3" ∷ codes "x 3" ∷ codes "o 2 2" ∷ codes "x 2"
+    ∷ codes "+ 4 c" ∷ codes "- 4" ∷ codes "x 4" ∷ codes "+ 5 b 2 3" ∷ codes "w 3" ∷ codes "+ 6 # 3" ∷ codes "w 1" ∷ codes "- 5" ∷ codes "w 4" ∷ codes "o 5 3" ∷ codes "x 6" ∷ codes "o 5 2" ∷ codes "x 5"
+    ∷ codes "- 1" ∷ codes "o 1 1" ∷ codes "x 1" ∷ codes "- 0" ∷ codes "w 4" ∷ codes "o 0 0" ∷ codes "x 0" ∷ [])
+unfolding digits
+trace1 = refl
+
+-- a statement counts at once, at an open node too
+abbrev pub tokens_ahead : List Token
+tokens_ahead = document (element (codes "r") (element (codes "p") (element (codes "k") [])))
+
+trace_ahead : trace_text query5 (tree tokens_ahead) ≡ lines (
+    codes "+ 0 / 0" ∷ codes "+ 1 r 1" ∷ codes "+ 2 p 2" ∷ codes "+ 3 k 3" ∷ codes "w 3" ∷ codes "w 4" ∷ codes "o 2 3" ∷ codes "o 2 2" ∷ codes "- 3" ∷ codes "x 3" ∷ codes "- 2" ∷ codes "x 2"
+    ∷ codes "- 1" ∷ codes "o 1 1" ∷ codes "x 1" ∷ codes "- 0" ∷ codes "o 0 0" ∷ codes "x 0" ∷ [])
+unfolding digits
+trace_ahead = refl
+
+-- a text that is given a role, which is taken at once
+trace_compared : trace_text query_compared (tree tokens_compared) ≡ lines (
+    codes "+ 0 / 0" ∷ codes "+ 1 r 1" ∷ codes "+ 2 p 2" ∷ codes "+ 3 k 3" ∷ codes "+ 4 # 3" ∷ codes "- 3" ∷ codes "w 3" ∷ codes "w 4" ∷ codes "o 2 3" ∷ codes "x 4" ∷ codes "x 3" ∷ codes "o 2 2"
+    ∷ codes "+ 5 k 3" ∷ codes "+ 6 # 3" ∷ codes "x 6" ∷ codes "- 5" ∷ codes "x 5" ∷ codes "+ 7 k 3" ∷ codes "+ 8 # 3" ∷ codes "x 8" ∷ codes "- 7" ∷ codes "x 7"
+    ∷ codes "- 2" ∷ codes "x 2" ∷ codes "- 1" ∷ codes "o 1 1" ∷ codes "x 1" ∷ codes "- 0" ∷ codes "o 0 0" ∷ codes "x 0" ∷ [])
+unfolding digits
+trace_compared = refl
+
+peak1 : peak query1 (tree tokens1) ≡ 4
+peak1 = refl
+
+peak13 : peak query13 (tree tokens13) ≡ 11
+peak13 = refl
+
+peak_ahead : peak query5 (tree tokens_ahead) ≡ 4
+peak_ahead = refl
+
+peak_compared : peak query_compared (tree tokens_compared) ≡ 5
+peak_compared = refl
+
+peak_moved : peak query_moved (tree tokens_moved) ≡ 6
+peak_moved = refl
+
+-- nodes, and roles given and taken, at the end
+abbrev plan1 : PlanTree
+plan1 = plan_of (normal query1)
+
+given1 : sum_given plan1 (tree tokens1) ≡ 8
+given1 = refl
+
+taken1 : sum_taken plan1 (tree tokens1) (actions plan1 (tree tokens1)) ≡ 8
+taken1 = refl
+
+nodes1 : length (tree tokens1).nodes ≡ 7
+nodes1 = refl
+
+abbrev plan_moved : PlanTree
+plan_moved = plan_of (normal query_moved)
+
+given_moved : sum_given plan_moved (tree tokens_moved) ≡ 10
+given_moved = refl
+
+taken_moved : sum_taken plan_moved (tree tokens_moved) (actions plan_moved (tree tokens_moved)) ≡ 10
+taken_moved = refl

@@ -1,0 +1,57 @@
+-- That the definitions say what the words say, where their form is another one.
+use Rattle.std.specs.Prelude.{◌≡◌, ℕ, true, List, [], ◌∷◌, ◌↔◌, ◌⊎◌, Some, None}
+use Rattle.gcx_base.specs.declared.steps.Step.{Step}
+use Rattle.gcx_model.specs.Document.{Nodes, IsDocument, tree_of}
+use Rattle.gcx_model.specs.Tree.{Node, serial_of, Tree, Token, opening, grow, grow_all, is_closed}
+use Rattle.gcx_model.specs.Paths.{reach, hits, matches, first}
+use Rattle.gcx_model.specs.Members.{In, Once}
+use Rattle.gcx_model.specs.Nodes.{Rising, Grown, Ordered, chain_at}
+use Rattle.gcx_model.specs.Variables.{one_desc}
+use Rattle.gcx_model.specs.Sound.{only_last}
+use Rattle.gcx_model.specs.Growth.{Grow, Leads, may_come, may_all, tokens_of}
+
+-- Grow is one token that may come, and P <= Q are some tokens each of which may come.
+abbrev pub GrowIsFeeding : Type 0
+GrowIsFeeding = (P Q : Tree) → Grow P Q ↔ ((t : Token) × (may_come t P ≡ true) × (Q ≡ grow t P))
+
+abbrev pub LeadsIsFeeding : Type 0
+LeadsIsFeeding = (P Q : Tree) → Leads P Q ↔ ((ts : List Token) × (may_all ts P ≡ true) × (Q ≡ grow_all ts P))
+
+-- An open tree determines its tokens and their order.
+abbrev pub TokensAreFound : Type 0
+TokensAreFound = (ts : List Token) → may_all ts opening ≡ true → tokens_of (grow_all ts opening) ≡ ts
+
+-- The nodes are numbered from 0 in document order, each behind its parent.
+abbrev pub NodesAreNumbered : Type 0
+NodesAreNumbered = (P : Tree) → Leads opening P → Grown P × Ordered P
+
+-- A path hits m where its first step reaches some node from which the rest hits m.
+abbrev pub HitsBySteps : Type 0
+HitsBySteps = (P : Tree) → Grown P → (n : ℕ) (s : Step) (rest : List Step) (m : Node) → In m P.nodes
+    → (hits n (s ∷ rest) m ≡ true) ↔ ((j : Node) × In j P.nodes × (reach n s j ≡ true) × (hits (serial_of j) rest m ≡ true))
+
+-- Matches are the nodes hit, each once, by rising serial.
+abbrev pub MatchesAreHits : Type 0
+MatchesAreHits = (P : Tree) → Grown P → (n : ℕ) (path : List Step)
+    → ((m : Node) → In m (matches P n path) ↔ (In m P.nodes × (hits n path m ≡ true))) × Rising (matches P n path)
+
+-- First is a match, and no match has a smaller serial.
+abbrev pub FirstIsLeast : Type 0
+FirstIsLeast = (P : Tree) → Grown P → (n : ℕ) (path : List Step)
+    → ((matches P n path ≡ []) × (first P n path ≡ None)) ⊎ ((m : Node) × (rest : List Node) × (matches P n path ≡ m ∷ rest) × (first P n path ≡ Some m))
+
+-- Nested loops over the steps of a path bind innermost the nodes that it hits.
+abbrev pub LoopsBindHits : Type 0
+LoopsBindHits = (P : Tree) → Grown P → (n : Node) (path : List Step) (m : Node) → In n P.nodes → In m (chain_at P n path) ↔ In m (matches P (serial_of n) path)
+
+-- With at most one descendant step there is at most one chain of the steps to each node: nested loops bind each node once.
+abbrev pub OneChain : Type 0
+OneChain = (P : Tree) → Grown P → (n : Node) (path : List Step) → In n P.nodes → one_desc path ≡ true → Once (chain_at P n path)
+
+-- With a descendant step only as the last one, nested loops bind the matches, each once and in document order.
+abbrev pub LoopsInOrder : Type 0
+LoopsInOrder = (P : Tree) → Grown P → Ordered P → (n : Node) (path : List Step) → In n P.nodes → only_last path ≡ true → chain_at P n path ≡ matches P (serial_of n) path
+
+-- The tree of a whole document comes from the opening one by tokens each of which may come, and all its nodes are closed.
+abbrev pub DocumentsGrow : Type 0
+DocumentsGrow = (d : Nodes) → IsDocument d → Leads opening (tree_of d) × ((m : Node) → In m (tree_of d).nodes → is_closed (tree_of d) m ≡ true)

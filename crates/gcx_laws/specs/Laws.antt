@@ -1,0 +1,117 @@
+-- The laws on the definitions.
+use Rattle.std.specs.Prelude.{◌≡◌, ℕ, Bool, true, false, List, [], ◌∷◌, ◌++◌, filter}
+use Rattle.gcx_base.specs.declared.steps.Step.{Step}
+use Rattle.gcx_model.specs.Document.{Nodes, tree_of}
+use Rattle.gcx_model.specs.Tree.{Node, serial_of, Tree, opening, is_closed}
+use Rattle.gcx_model.specs.Paths.{matches}
+use Rattle.gcx_model.specs.Members.{In, Once}
+use Rattle.gcx_model.specs.Query.{ExprTree}
+use Rattle.gcx_model.specs.Answer.{answer}
+use Rattle.gcx_model.specs.Core.{CondTree, BodyTree, Then, For, If, OffTree, PlanTree}
+use Rattle.gcx_model.specs.Truth.{Env, truth}
+use Rattle.gcx_model.specs.Run.{Action, Wrote, Offed, Out, copy, run, env0}
+use Rattle.gcx_model.specs.Cores.{Good}
+use Rattle.gcx_model.specs.Placed.{offs_in, Placed, plan_of}
+use Rattle.gcx_model.specs.Held.{path_of, given, taken, held, held_tree}
+use Rattle.gcx_model.specs.Growth.{Leads}
+use Rattle.gcx_model.specs.Points.{actions, so_far, ReachedFrom, Reached, Frame, Rest, Round, Part, later, to_come, PointAt}
+use Rattle.gcx_model.specs.Needs.{Needs}
+use Rattle.gcx_model.specs.Sound.{is_sound}
+use Rattle.gcx_model.specs.Normal.{normal, known}
+
+-- the actions of a are a front of those of b, and all of them where a is done
+abbrev pub GoesOn : Out → Out → Type 0
+GoesOn a b = ((rest : List Action) × (b.acts ≡ a.acts ++ rest)) × (a.done ≡ true → b ≡ a)
+
+-- Prefix law
+abbrev pub PrefixLaw : Type 0
+PrefixLaw = (P Q : Tree) → Leads opening P → Leads P Q → (d : BodyTree) → GoesOn (run d env0 P) (run d env0 Q)
+
+abbrev pub AllClosed : Tree → Type 0
+AllClosed P = (m : Node) → In m P.nodes → is_closed P m ≡ true
+
+-- Closed law
+abbrev pub ClosedLaw : Type 0
+ClosedLaw = (P : Tree) → Leads opening P → AllClosed P → (d : BodyTree) → (run d env0 P).done ≡ true
+
+-- Normal law
+abbrev pub NormalLaw : Type 0
+NormalLaw = (q : List ExprTree) → is_sound q ≡ true → (d : Nodes) → known q (tree_of d) ≡ answer q d
+
+-- Normal(q) is a core for which the laws below hold.
+abbrev pub NormalIsGood : Type 0
+NormalIsGood = (q : List ExprTree) → Good (normal q)
+
+-- Of the plans that are placed for a core there is one.
+abbrev pub PlacedOnce : Type 0
+PlacedOnce = (core : BodyTree) → Good core → Placed core (plan_of core) × ((plan : PlanTree) → Placed core plan → plan ≡ plan_of core)
+
+-- Balance law
+abbrev pub BalanceLaw : Type 0
+BalanceLaw = (core : BodyTree) → Good core → (plan : PlanTree) → Placed core plan → (P : Tree) → Leads opening P → AllClosed P
+    → (n : Node) (r : ℕ) → taken plan P (actions plan P) n r ≡ given plan P n r
+
+-- So nothing is held at the end.
+abbrev pub EmptyAtEnd : Type 0
+EmptyAtEnd = (core : BodyTree) → Good core → (plan : PlanTree) → Placed core plan → (P : Tree) → Leads opening P → AllClosed P → held plan P (actions plan P) ≡ []
+
+-- carries out a statement
+abbrev pub is_taking : Action → Bool
+is_taking (Wrote b) = false
+is_taking (Offed o n) = true
+
+-- Once law: no two of the actions of a core state are the same Off
+abbrev pub OnceLaw : Type 0
+OnceLaw = (core : BodyTree) → Good core → (plan : PlanTree) → Placed core plan → (P : Tree) (k : ℕ) → Reached plan P k → Once (filter is_taking (so_far plan P k))
+
+-- each of them is a statement of the plan, at a match of its base's path
+abbrev pub OffsAtMatches : Type 0
+OffsAtMatches = (core : BodyTree) → Good core → (plan : PlanTree) → Placed core plan → (P : Tree) (k : ℕ) → Reached plan P k
+    → (s : OffTree) (m : ℕ) → In (Offed s m) (so_far plan P k) → In s (offs_in plan.body) × ((n : Node) × In n (matches P 0 (path_of plan s.base)) × (serial_of n ≡ m))
+
+-- and what is taken in a core state is taken in each that Feeds and Acts reach from there.
+abbrev pub TakenStays : Type 0
+TakenStays = (core : BodyTree) → Good core → (plan : PlanTree) → Placed core plan → (P : Tree) (k : ℕ) → Reached plan P k → (Q : Tree) (j : ℕ) → ReachedFrom plan P k Q j
+    → (n : Node) (r : ℕ) → In n P.nodes → taken plan P (so_far plan P k) n r ≡ true → taken plan Q (so_far plan Q j) n r ≡ true
+
+-- Behind the first k actions there is a point. From each of them on, all that is to come follows on these actions.
+abbrev pub PointLaw : Type 0
+PointLaw = (plan : PlanTree) (P : Tree) (k : ℕ) → (fs : List Frame) × PointAt plan P k fs
+
+abbrev pub ResumeLaw : Type 0
+ResumeLaw = (plan : PlanTree) (P : Tree) → Leads opening P → (k : ℕ) (fs : List Frame) → PointAt plan P k fs
+    → (actions plan P ≡ so_far plan P k ++ (to_come P fs).acts) × ((run plan.body env0 P).done ≡ (to_come P fs).done)
+
+-- Need law: in every core state what its points need is held
+abbrev pub NeedLaw : Type 0
+NeedLaw = (core : BodyTree) → Good core → (plan : PlanTree) → Placed core plan → (P : Tree) (k : ℕ) → Reached plan P k → (fs : List Frame) → PointAt plan P k fs
+    → (m : Node) → In m P.nodes → Needs P [] fs m → In m (held plan P (so_far plan P k))
+
+-- So over the held nodes the evaluator finds what it would find over the whole tree, wherever a frame stands among the others: the truth of a condition with which a body goes on,
+abbrev pub TruthHeld : Type 0
+TruthHeld = (core : BodyTree) → Good core → (plan : PlanTree) → Placed core plan → (P : Tree) (k : ℕ) → Reached plan P k → (top below : List Frame) (c : CondTree) (a b d : BodyTree) (env : Env)
+    → PointAt plan P k (top ++ Rest (Then (If c a b) d) env ∷ below) → truth c env (held_tree plan P (so_far plan P k)) ≡ truth c env P
+
+-- the later matches of a loop,
+abbrev pub TurnsHeld : Type 0
+TurnsHeld = (core : BodyTree) → Good core → (plan : PlanTree) → Placed core plan → (P : Tree) (k : ℕ) → Reached plan P k → (top below : List Frame) (x y : ℕ) (s : Step) (e : BodyTree) (env : Env) (n : Node)
+    → PointAt plan P k (top ++ Round x y s e env n ∷ below) → later n (matches (held_tree plan P (so_far plan P k)) (serial_of (env y)) (s ∷ [])) ≡ later n (matches P (serial_of (env y)) (s ∷ []))
+
+-- all matches of a loop that comes next,
+abbrev pub LoopHeld : Type 0
+LoopHeld = (core : BodyTree) → Good core → (plan : PlanTree) → Placed core plan → (P : Tree) (k : ℕ) → Reached plan P k → (top below : List Frame) (x y : ℕ) (s : Step) (e d : BodyTree) (env : Env)
+    → PointAt plan P k (top ++ Rest (Then (For x y s e) d) env ∷ below) → matches (held_tree plan P (so_far plan P k)) (serial_of (env y)) (s ∷ []) ≡ matches P (serial_of (env y)) (s ∷ [])
+
+-- and a copy.
+abbrev pub CopyHeld : Type 0
+CopyHeld = (core : BodyTree) → Good core → (plan : PlanTree) → Placed core plan → (P : Tree) (k : ℕ) → Reached plan P k → (top below : List Frame) (x : ℕ) (env : Env) (made most : ℕ)
+    → PointAt plan P k (top ++ Part x env made ∷ below) → copy most (held_tree plan P (so_far plan P k)) (env x) ≡ copy most P (env x)
+
+abbrev pub is_write : Action → Bool
+is_write (Wrote b) = true
+is_write (Offed o n) = false
+
+-- A plan writes what its core writes: the same Write actions in order, and the one is done exactly where the other is.
+abbrev pub PlanWrites : Type 0
+PlanWrites = (core : BodyTree) → Good core → (plan : PlanTree) → Placed core plan → (P : Tree)
+    → (filter is_write (actions plan P) ≡ filter is_write (run core env0 P).acts) × ((run plan.body env0 P).done ≡ (run core env0 P).done)

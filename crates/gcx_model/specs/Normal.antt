@@ -1,0 +1,152 @@
+-- The core of a query (this project's, after the normal forms of ICDE 2007).
+use Rattle.std.specs.Prelude.{ℕ, suc, ◌+◌, Bool, true, false, cond, ◌||◌, List, [], ◌∷◌, length, bytes_eq, Option, Some, None}
+use Rattle.gcx_base.specs.declared.steps.Step.{Step}
+use Rattle.gcx_model.specs.declared.query.PathExpr.{PathExpr}
+use Rattle.gcx_model.specs.declared.query.Clause.{Clause}
+use Rattle.gcx_model.specs.declared.query.QOperand.{QOperand}
+use Rattle.gcx_model.specs.declared.query.QOperand.TheVariants as operand
+use Rattle.gcx_model.specs.Tree.{Tree}
+use Rattle.gcx_model.specs.Written.{start_tag, end_tag}
+use Rattle.gcx_model.specs.Query as query
+use Rattle.gcx_model.specs.Query.{ExprTree, ExprTrees, exprs_of}
+use Rattle.gcx_model.specs.Core.{OperandTree, Path, Str, Num, CondTree, CondTrees, Always, Exists, Compare, Not, All, Any, no_cond, more_conds, ItemTree, Write, Copy, For, If, Off, BodyTree, Nil, Then}
+use Rattle.gcx_model.specs.Run.{bytes_written}
+
+-- one body behind another
+abbrev pub join : BodyTree → BodyTree → BodyTree
+join Nil b = b
+join (Then i a) b = Then i (join a b)
+
+abbrev pub one : ItemTree → BodyTree
+one i = Then i Nil
+
+-- Conditions
+
+-- the variable of each name
+abbrev pub Names : Type 0
+Names = List ℕ → ℕ
+
+abbrev pub named : Names → List ℕ → ℕ → Names
+named names x v = λ y. cond (bytes_eq x y) v (names y)
+
+-- an absolute path begins at variable 0
+abbrev pub start_var : Names → Option (List ℕ) → ℕ
+start_var names None = 0
+start_var names (Some x) = names x
+
+-- exists of a variable alone is true
+abbrev pub normal_exists : ℕ → List Step → CondTree
+normal_exists x [] = Always
+normal_exists x (s ∷ rest) = Exists x (s ∷ rest)
+
+abbrev pub normal_operand : QOperand → Names → OperandTree
+normal_operand (operand.Path path) names = Path (start_var names path.start) path.steps
+normal_operand (operand.Str bytes) names = Str bytes
+normal_operand (operand.Num units) names = Num units
+
+abbrev mutual
+  pub normal_cond : query.CondTree → Names → CondTree
+  normal_cond query.Always names = Always
+  normal_cond (query.Exists path) names = normal_exists (start_var names path.start) path.steps
+  normal_cond (query.Compare left rel right) names = Compare (normal_operand left names) rel (normal_operand right names)
+  normal_cond (query.Not c) names = Not (normal_cond c names)
+  normal_cond (query.All cs) names = All (normal_conds cs names)
+  normal_cond (query.Any cs) names = Any (normal_conds cs names)
+
+  pub normal_conds : query.CondTrees → Names → CondTrees
+  normal_conds query.no_cond names = no_cond
+  normal_conds (query.more_conds c cs) names = more_conds (normal_cond c names) (normal_conds cs names)
+
+-- An If, moved inside the loops of its branches
+
+-- a loop is an item of it; of an If that stays no branch has a loop
+abbrev pub has_loop : BodyTree → Bool
+has_loop Nil = false
+has_loop (Then (Write s) d) = has_loop d
+has_loop (Then (Copy x) d) = has_loop d
+has_loop (Then (For x y s e) d) = true
+has_loop (Then (If c a b) d) = has_loop d
+has_loop (Then (Off o) d) = has_loop d
+
+-- an If of which one branch is empty: `first` tells whether the body is the first one
+abbrev pub half : CondTree → (first : Bool) → BodyTree → ItemTree
+half c true d = If c d Nil
+half c false d = If c Nil d
+
+-- no If for an empty run
+abbrev pub flush : CondTree → (first : Bool) → (run : BodyTree) → BodyTree → BodyTree
+flush c first Nil d = d
+flush c first (Then i r) d = Then (half c first (Then i r)) d
+
+-- The items of one branch: each longest run of items that aren't loops becomes an If with c, each loop stays, and its body becomes the replacement of an If with c and that body.
+-- `run` are the items of the run so far.
+abbrev pub spread : CondTree → (first : Bool) → (run : BodyTree) → BodyTree → BodyTree
+spread c first run Nil = flush c first run Nil
+spread c first run (Then (Write s) d) = spread c first (join run (one (Write s))) d
+spread c first run (Then (Copy x) d) = spread c first (join run (one (Copy x))) d
+spread c first run (Then (For x y s e) d) = flush c first run (Then (For x y s (cond (has_loop e) (spread c first Nil e) (one (half c first e)))) (spread c first Nil d))
+spread c first run (Then (If k a b) d) = spread c first (join run (one (If k a b))) d
+spread c first run (Then (Off o) d) = spread c first (join run (one (Off o))) d
+
+-- what stands for an If: itself where its branches have no loop, else the items of the first branch and then those of the other
+abbrev pub branch : CondTree → (this other : BodyTree) → BodyTree
+branch c a b = cond (has_loop a || has_loop b) (join (spread c true Nil a) (spread c false Nil b)) (one (If c a b))
+
+-- Expressions. Variables are numbered in the order in which their loops begin; k is the next number.
+
+-- nested loops over the steps, from y on; the last variable is handed to what stands inside
+abbrev pub nest : (y : ℕ) → List Step → (k : ℕ) → (inner : ℕ → BodyTree) → BodyTree
+nest y [] k inner = inner y
+nest y (s ∷ ss) k inner = one (For k y s (nest k ss (suc k) inner))
+
+-- the loops of the clauses, one inside the other; the names and the next number are handed to what stands inside
+abbrev pub normal_clauses : List Clause → Names → (k : ℕ) → (inner : Names → ℕ → BodyTree) → BodyTree
+normal_clauses [] names k inner = inner names k
+normal_clauses (c ∷ cs) names k inner = nest (start_var names c.path.start) c.path.steps k (λ y. normal_clauses cs (named names c.var y) (k + length c.path.steps) inner)
+
+-- `where` is an If with an empty other branch
+abbrev pub filtered : Option query.CondTree → Names → BodyTree → BodyTree
+filtered None names d = d
+filtered (Some c) names d = branch (normal_cond c names) d Nil
+
+-- how many loops the core of it has
+abbrev pub clause_loops : List Clause → ℕ
+clause_loops [] = 0
+clause_loops (c ∷ cs) = length c.path.steps + clause_loops cs
+
+abbrev mutual
+  pub loops : ExprTree → ℕ
+  loops query.Empty = 0
+  loops (query.Seq es) = all_loops es
+  loops (query.Elem name es) = all_loops es
+  loops (query.Path path) = length path.steps
+  loops (query.For cs filter e) = clause_loops cs + loops e
+  loops (query.If c a b) = loops a + loops b
+
+  pub all_loops : ExprTrees → ℕ
+  all_loops query.no_expr = 0
+  all_loops (query.more_exprs e es) = loops e + all_loops es
+
+abbrev mutual
+  pub normal_expr : ExprTree → Names → (k : ℕ) → BodyTree
+  normal_expr query.Empty names k = Nil
+  normal_expr (query.Seq es) names k = normal_exprs es names k
+  normal_expr (query.Elem name es) names k = Then (Write (start_tag name)) (join (normal_exprs es names k) (one (Write (end_tag name))))
+  normal_expr (query.Path path) names k = nest (start_var names path.start) path.steps k (λ y. one (Copy y))
+  normal_expr (query.For cs filter e) names k = normal_clauses cs names k (λ inner j. filtered filter inner (normal_expr e inner j))
+  normal_expr (query.If c a b) names k = branch (normal_cond c names) (normal_expr a names k) (normal_expr b names (k + loops a))
+
+  pub normal_exprs : ExprTrees → Names → (k : ℕ) → BodyTree
+  normal_exprs query.no_expr names k = Nil
+  normal_exprs (query.more_exprs e es) names k = join (normal_expr e names k) (normal_exprs es names (k + loops e))
+
+abbrev pub no_names : Names
+no_names = λ x. 0
+
+-- Normal(q)
+abbrev pub normal : List ExprTree → BodyTree
+normal q = normal_exprs (exprs_of q) no_names 1
+
+-- Known(q, P): the bytes settled over the open tree
+abbrev pub known : List ExprTree → Tree → List ℕ
+known q P = bytes_written (normal q) P
