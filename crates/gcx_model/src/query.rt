@@ -9,7 +9,7 @@ use std::alloc::Global;
 use std::marker::Model;
 
 /// A path from a variable, or from the document node where `start` is None.
-#[derive(Drop)]
+#[derive(Drop, Debug)]
 pub struct PathExpr {
     pub start: Option<Name>,
     pub steps: Steps,
@@ -36,7 +36,7 @@ fn copy_name(name: &Option<Name>, alloc: Global) -> Result<Option<Name>, Memory>
 }
 
 /// One variable of a loop, and the path over which it runs.
-#[derive(Drop)]
+#[derive(Drop, Debug)]
 pub struct Clause {
     pub var: Name,
     pub path: PathExpr,
@@ -54,7 +54,7 @@ impl Clause {
 }
 
 /// The clauses of one `for`, seen as a list.
-#[derive(Drop)]
+#[derive(Drop, Debug)]
 pub struct Clauses {
     clauses: Vec<Clause>,
 }
@@ -107,7 +107,7 @@ impl Clauses {
 }
 
 /// One side of a comparison.
-#[derive(Drop)]
+#[derive(Drop, Debug)]
 pub enum QOperand {
     Path(PathExpr),
     Str(Text),
@@ -129,7 +129,7 @@ impl QOperand {
 }
 
 /// A condition of a query.
-#[derive(Drop)]
+#[derive(Drop, Debug)]
 #[cycle(conditions)]
 pub enum QCond {
     True,
@@ -173,7 +173,7 @@ impl QCond {
 }
 
 /// A list of conditions.
-#[derive(Drop)]
+#[derive(Drop, Debug)]
 #[cycle(conditions)]
 pub struct QConds {
     pub members: Vec<QCond>,
@@ -219,7 +219,7 @@ impl QConds {
 }
 
 /// An expression of a query.
-#[derive(Drop)]
+#[derive(Drop, Debug)]
 #[cycle(expressions)]
 pub enum Expr {
     /// `()`
@@ -293,7 +293,7 @@ fn copy_filter(filter: &Option<QCond>, alloc: Global) -> Result<Option<QCond>, M
 }
 
 /// A list of expressions.
-#[derive(Drop)]
+#[derive(Drop, Debug)]
 #[cycle(expressions)]
 pub struct Exprs {
     pub members: Vec<Expr>,
@@ -339,7 +339,7 @@ impl Exprs {
 }
 
 /// A query: at least one part.
-#[derive(Drop)]
+#[derive(Drop, Debug)]
 pub struct Query {
     pub parts: Exprs,
 }
