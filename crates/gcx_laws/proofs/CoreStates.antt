@@ -259,7 +259,7 @@ In-take_more (suc k) zero (z ∷ xs) ys x l h = absurd (omega arith)
 In-take_more (suc k) (suc j) (z ∷ xs) ys x l (inl e) = inl e
 In-take_more (suc k) (suc j) (z ∷ xs) ys x l (inr i) = inr (In-take_more k j xs ys x (omega arith) i)
 
-so_far_stays : (core : BodyTree) (ts us : List Token) (k j : ℕ) → k ≤ j → (a : Action) → In a (so_far core (tree ts) k) → In a (so_far core (grow_all us (tree ts)) j)
+pub so_far_stays : (core : BodyTree) (ts us : List Token) (k j : ℕ) → k ≤ j → (a : Action) → In a (so_far core (tree ts) k) → In a (so_far core (grow_all us (tree ts)) j)
 so_far_stays core ts us k j l a i = go (run_grows_all us (tree ts) (grown ts) (reading core).body env0 (root_bound (tree ts) (grown ts) (root_in ts)))
   where
     go : Before (run (reading core).body env0 (tree ts)) (run (reading core).body env0 (grow_all us (tree ts))) → In a (so_far core (grow_all us (tree ts)) j)
@@ -269,7 +269,7 @@ so_far_stays core ts us k j l a i = go (run_grows_all us (tree ts) (grown ts) (r
 signed_more : (P : Tree) (A B : List Action) (o : OffTree) (m : Node) → ((a : Action) → In a A → In a B) → signed P A o m ≡ true → signed P B o m ≡ true
 signed_more P A B o m h e = let r = any_in (is_off o.role (serial_of m)) A e in any_from (is_off o.role (serial_of m)) r.0 B (h r.0 r.1) r.2
 
-taken_acted : (p : Reading) (P : Tree) (A B : List Action) (n : Node) (r : RoleRowTree) (o : OffTree) → ((a : Action) → In a A → In a B) → taken p P A n r o ≡ true → taken p P B n r o ≡ true
+pub taken_acted : (p : Reading) (P : Tree) (A B : List Action) (n : Node) (r : RoleRowTree) (o : OffTree) → ((a : Action) → In a A → In a B) → taken p P A n r o ≡ true → taken p P B n r o ≡ true
 taken_acted p P A B n r o h e =
     let x = and_parts (given p P n r) (all (λ m. not (gives P (serial_of m) o.rel o.tail o.kind n) || signed P A o m) (matches P 0 (p.paths o.base))) e in
     and_from _ _ x.0 (all_from (λ (m : Node). not (gives P (serial_of m) o.rel o.tail o.kind n) || signed P B o m) (matches P 0 (p.paths o.base)) (λ m i.

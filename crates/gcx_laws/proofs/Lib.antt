@@ -30,8 +30,10 @@ pub mod Copies
 pub mod Rows
 pub mod Bridge
 pub mod Growing
+pub mod Ends
 pub mod Unique
 pub mod Public
 pub mod Moved
 pub mod Meaning
 pub mod Documents
+pub mod More

@@ -49,7 +49,7 @@ pub tokens_are_found : TokensAreFound
 tokens_are_found ts h = tokens_found ts h
 
 -- what holds of the trees of all lists of tokens holds of each tree to which the opening one leads
-from_tokens : (Q : Tree → Type 0) → ((ts : List Token) → Q (tree ts)) → (P : Tree) → Leads opening P → Q P
+pub from_tokens : (Q : Tree → Type 0) → ((ts : List Token) → Q (tree ts)) → (P : Tree) → Leads opening P → Q P
 from_tokens Q h P l = let r = fed_all opening P l in subst Q (sym r.2) (h r.0)
 
 pub grown_from : (P : Tree) → Leads opening P → Grown P
@@ -132,7 +132,7 @@ pub placed_once : PlacedOnce
 placed_once core good = (placed core good, λ plan pl. unique core good plan pl)
 
 -- what holds of plan_of core holds of each plan that is placed
-from_plan : (core : BodyTree) → Good core → (Q : PlanTree → Type 0) → Q (plan_of core) → (plan : PlanTree) → Placed core plan → Q plan
+pub from_plan : (core : BodyTree) → Good core → (Q : PlanTree → Type 0) → Q (plan_of core) → (plan : PlanTree) → Placed core plan → Q plan
 from_plan core good Q h plan pl = subst Q (sym (unique core good plan pl)) h
 
 -- The balance law
@@ -168,7 +168,7 @@ reached_leads plan P0 k0 P k (fed h g) = let r = reached_leads plan P0 k0 _ k h 
 reached_leads plan P0 k0 P k (acted h l) = let r = reached_leads plan P0 k0 P _ h in (r.0, omega (arith, r.1))
 
 -- what holds at each tree of tokens and each number of actions, of plan_of core, holds in each core state, of each plan that is placed
-from_state : (core : BodyTree) → Good core → (Q : PlanTree → Tree → ℕ → Type 0) → ((ts : List Token) (k : ℕ) → Q (plan_of core) (tree ts) k) → (plan : PlanTree) → Placed core plan → (P : Tree) (k : ℕ) → Reached plan P k → Q plan P k
+pub from_state : (core : BodyTree) → Good core → (Q : PlanTree → Tree → ℕ → Type 0) → ((ts : List Token) (k : ℕ) → Q (plan_of core) (tree ts) k) → (plan : PlanTree) → Placed core plan → (P : Tree) (k : ℕ) → Reached plan P k → Q plan P k
 from_state core good Q h plan pl P k r = from_plan core good (λ plan. Q plan P k) (from_tokens (λ P. Q (plan_of core) P k) (λ ts. h ts k) P (reached_leads plan opening 0 P k r).0) plan pl
 
 pub once_law : OnceLaw

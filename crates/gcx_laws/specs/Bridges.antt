@@ -1,12 +1,18 @@
 -- That the definitions say what the words say, where their form is another one.
-use Rattle.std.specs.Prelude.{◌≡◌, ℕ, true, List, [], ◌∷◌, ◌↔◌, ◌⊎◌, Some, None}
+use Rattle.std.specs.Prelude.{◌≡◌, ℕ, true, List, [], ◌∷◌, ◌++◌, length, ◌↔◌, ◌⊎◌, Some, None}
 use Rattle.gcx_base.specs.declared.steps.Step.{Step}
 use Rattle.gcx_model.specs.Document.{Nodes, IsDocument, tree_of}
-use Rattle.gcx_model.specs.Tree.{Node, serial_of, Tree, Token, opening, grow, grow_all, is_closed}
+use Rattle.gcx_model.specs.Tree.{Node, serial_of, above, Tree, Token, opening, grow, grow_all, is_closed}
 use Rattle.gcx_model.specs.Paths.{reach, hits, matches, first}
 use Rattle.gcx_model.specs.Members.{In, Once}
 use Rattle.gcx_model.specs.Nodes.{Rising, Grown, Ordered, chain_at}
-use Rattle.gcx_model.specs.Variables.{one_desc}
+use Rattle.gcx_model.specs.Core.{Own, First, Whole, BodyTree, OffTree, PlanTree}
+use Rattle.gcx_model.specs.Run.{Offed}
+use Rattle.gcx_model.specs.Variables.{one_desc, path_in}
+use Rattle.gcx_model.specs.Cores.{Good}
+use Rattle.gcx_model.specs.Placed.{offs_in, Placed}
+use Rattle.gcx_model.specs.Held.{path_of, statement_of, gives, signed}
+use Rattle.gcx_model.specs.Points.{actions, so_far, Reached}
 use Rattle.gcx_model.specs.Sound.{only_last}
 use Rattle.gcx_model.specs.Growth.{Grow, Leads, may_come, may_all, tokens_of}
 
@@ -55,3 +61,30 @@ LoopsInOrder = (P : Tree) → Grown P → Ordered P → (n : Node) (path : List 
 -- The tree of a whole document comes from the opening one by tokens each of which may come, and all its nodes are closed.
 abbrev pub DocumentsGrow : Type 0
 DocumentsGrow = (d : Nodes) → IsDocument d → Leads opening (tree_of d) × ((m : Node) → In m (tree_of d).nodes → is_closed (tree_of d) m ≡ true)
+
+-- A role reaches n from m by the words: where n is a match of the steps; the first match of the tail at one of their matches; or in the subtree of a match of steps and tail.
+abbrev pub GivesByKind : Type 0
+GivesByKind = (P : Tree) → Grown P → (m : ℕ) (rel tail : List Step) (n : Node) → In n P.nodes
+    → ((gives P m rel tail Own n ≡ true) ↔ In n (matches P m rel))
+    × ((gives P m rel tail First n ≡ true) ↔ ((j : Node) × In j (matches P m rel) × (first P (serial_of j) tail ≡ Some n)))
+    × ((gives P m rel tail Whole n ≡ true) ↔ ((a : Node) × In a (above n) × In a (matches P m (rel ++ tail))))
+
+-- In a core state a node is signed for a statement of the plan where the actions so far have the Off of both.
+abbrev pub SignedIsOff : Type 0
+SignedIsOff = (core : BodyTree) → Good core → (plan : PlanTree) → Placed core plan → (P : Tree) (k : ℕ) → Reached plan P k → (s : OffTree) (m : Node) → In s (offs_in plan.body)
+    → (signed (so_far plan P k) s m ≡ true) ↔ In (Offed s (serial_of m)) (so_far plan P k)
+
+-- The plan has one statement for each role, and the statement of a role is the one that it tells.
+abbrev pub OneStatement : Type 0
+OneStatement = (core : BodyTree) → Good core → (plan : PlanTree) → Placed core plan → (r : ℕ) (o : OffTree) → (statement_of plan r ≡ Some o) ↔ (In o (offs_in plan.body) × (o.role ≡ r))
+
+-- The path of a variable, read from the rows of a plan, is that of the variable tree.
+abbrev pub PathsByRows : Type 0
+PathsByRows = (core : BodyTree) → Good core → (plan : PlanTree) → Placed core plan → (x : ℕ) → path_of plan x ≡ path_in core x
+
+-- The demand run goes through core states: those in which every action is taken, and those just behind a token.
+abbrev pub DemandIsReached : Type 0
+DemandIsReached = (plan : PlanTree) (ts : List Token) → may_all ts opening ≡ true
+    → Reached plan (grow_all ts opening) (length (actions plan (grow_all ts opening)))
+    × ((t : Token) → may_come t (grow_all ts opening) ≡ true → Reached plan (grow t (grow_all ts opening)) (length (actions plan (grow_all ts opening)))
+    × (so_far plan (grow t (grow_all ts opening)) (length (actions plan (grow_all ts opening))) ≡ actions plan (grow_all ts opening)))

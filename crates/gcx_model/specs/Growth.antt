@@ -3,7 +3,7 @@ use Rattle.std.specs.Prelude.{◌≡◌, ℕ, Bool, true, false, not, ◌&&◌, 
 use Rattle.gcx_base.specs.declared.kind.Kind.{Kind}
 use Rattle.gcx_base.specs.declared.kind.Kind.TheVariants.{Document, Element, Text}
 use Rattle.gcx_model.specs.Document.{is_blank}
-use Rattle.gcx_model.specs.Tree.{Node, Root, Under, serial_of, above, Tree, Token, Start, Chars, End, opening, grow}
+use Rattle.gcx_model.specs.Tree.{Node, Root, Under, serial_of, above, Tree, Token, Start, Chars, End, grow}
 
 -- behind the document node there is a root element
 abbrev pub has_root : List Node → Bool

@@ -1,5 +1,5 @@
 -- Which nodes have which roles, which roles are taken back, and which nodes are held (ICDE 2007; that open nodes are held, and roles without counts, are this project's).
-use Rattle.std.specs.Prelude.{ℕ, zero, suc, Bool, true, false, not, ◌&&◌, ◌||◌, List, [], ◌∷◌, ◌++◌, length, ◌==◌, filter, Option, Some, None, sum, map}
+use Rattle.std.specs.Prelude.{ℕ, zero, suc, Bool, false, not, ◌&&◌, ◌||◌, List, [], ◌∷◌, ◌++◌, length, ◌==◌, filter, Option, Some, None, sum, map}
 use Rattle.gcx_base.specs.declared.steps.Step.{Step}
 use Rattle.gcx_model.specs.Tree.{Node, serial_of, above, within, Tree, is_open_at}
 use Rattle.gcx_model.specs.Paths.{any, all, head, hits, matches, first}

@@ -1,6 +1,6 @@
 -- The roles of a core (this project's profile of ICDE 2007).
 use Rattle.std.specs.Prelude.{ℕ, List, [], ◌∷◌, ◌++◌}
-use Rattle.gcx_model.specs.Core.{OperandTree, Path, Str, Num, CondTree, CondTrees, Always, Exists, Compare, Not, All, Any, no_cond, more_conds, RoleKind, Own, First, Whole, ItemTree, Write, Copy, For, If, Off, BodyTree, Nil, Then, RoleRowTree}
+use Rattle.gcx_model.specs.Core.{OperandTree, Path, Str, Num, CondTree, CondTrees, Always, Exists, Compare, Not, All, Any, no_cond, more_conds, Own, First, Whole, ItemTree, Write, Copy, For, If, Off, BodyTree, Nil, Then, RoleRowTree}
 
 abbrev pub own_row : ℕ → RoleRowTree
 own_row x = record { var = x; tail = []; kind = Own }

@@ -1,5 +1,5 @@
 -- What is known of a condition over an open tree (this project's: a comparison waits for closed nodes, and a connective settles from the left).
-use Rattle.std.specs.Prelude.{ℕ, Bool, true, false, cond, not, ◌&&◌, List, [], ◌∷◌, map, ◌==◌, filter}
+use Rattle.std.specs.Prelude.{ℕ, Bool, true, false, cond, ◌&&◌, List, [], ◌∷◌, map, ◌==◌, filter}
 use Rattle.gcx_model.specs.Tree.{Node, serial_of, Tree, is_closed}
 use Rattle.gcx_model.specs.Paths.{matches, value}
 use Rattle.gcx_model.specs.Values.{Value, Bytes, Units, compare}
