@@ -22,3 +22,7 @@ pub mod Sound
 pub mod Normal
 pub mod Demand
 pub mod Nodes
+pub mod CondView
+pub mod ItemView
+pub mod Given
+pub mod PlanView
