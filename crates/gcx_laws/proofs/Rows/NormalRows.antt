@@ -1,5 +1,7 @@
 -- The cores of some queries, computed.
 use Rattle.std.specs.Prelude.{◌≡◌, List, [], ◌∷◌, Some, refl, codes, true, false}
+use Rattle.gcx_base.specs.declared.rel.Rel.TheVariants.{Eq}
+use Rattle.gcx_model.specs.declared.query.QOperand.TheVariants as operand
 use Rattle.gcx_model.specs.Query as query
 use Rattle.gcx_model.specs.Core.{BodyTree, Nil, Write, Copy, For, If, Always, Exists}
 use Rattle.gcx_model.specs.Sound.{is_sound}
@@ -75,3 +77,20 @@ unsound_all = refl
 
 unsound_none : is_sound [] ≡ false
 unsound_none = refl
+
+-- an absolute path and a loop's path have a step
+unsound_no_step : is_sound (query.Path (from_root []) ∷ []) ≡ false
+unsound_no_step = refl
+
+unsound_loop : is_sound (for_in (codes "x") (from_root (child (codes "a") ∷ [])) (for_in (codes "y") (from (codes "x") []) query.Empty) ∷ []) ≡ false
+unsound_loop = refl
+
+-- a clause's variable is in scope in the later clauses, in the condition and in the body, and not behind the loop
+sound_clauses : is_sound (query.For (clause (codes "x") (from_root (child (codes "a") ∷ [])) ∷ clause (codes "y") (from (codes "x") (child (codes "b") ∷ [])) ∷ []) (Some (query.Exists (from (codes "y") []))) (query.Path (from (codes "x") [])) ∷ []) ≡ true
+sound_clauses = refl
+
+unsound_behind : is_sound (for_in (codes "x") (from_root (child (codes "a") ∷ [])) query.Empty ∷ query.Path (from (codes "x") []) ∷ []) ≡ false
+unsound_behind = refl
+
+unsound_literals : is_sound (query.If (query.Compare (operand.Str (codes "a")) Eq (operand.Str (codes "a"))) query.Empty query.Empty ∷ []) ≡ false
+unsound_literals = refl

@@ -1,11 +1,13 @@
 -- The plans of some queries, computed: the variables, the roles, and where the statements stand.
-use Rattle.std.specs.Prelude.{◌≡◌, [], ◌∷◌, refl, codes, true, false}
+use Rattle.std.specs.Prelude.{◌≡◌, List, [], ◌∷◌, refl, codes, true, false}
 use Rattle.gcx_base.specs.declared.rel.Rel.TheVariants.{Eq}
 use Rattle.gcx_base.specs.declared.steps.Step.{Step}
+use Rattle.gcx_model.specs.Query as query
+use Rattle.gcx_model.specs.Query.{ExprTree}
 use Rattle.gcx_model.specs.Core.{Nil, Write, Copy, For, If, Exists, Compare, Path, Own, First, Whole}
 use Rattle.gcx_model.specs.Placed.{plan_of}
 use Rattle.gcx_model.specs.Normal.{normal}
-use Rattle.gcx_laws.proofs.Rows.Words.{child, body, off, var_row, role, query1, query13, query_moved}
+use Rattle.gcx_laws.proofs.Rows.Words.{child, from_root, from, for_in, body, off, var_row, role, query1, query13, query_moved}
 
 abbrev a : Step
 a = child (codes "a")
@@ -79,3 +81,10 @@ row_moved : plan_of (normal query_moved) ≡ record {
   roles = role 0 [] Own ∷ role 1 [] Own ∷ role 2 [] Own ∷ role 3 [] Own ∷ role 2 (k ∷ []) First ∷ role 3 [] Whole ∷ [];
 }
 row_moved = refl
+
+-- for $x in /r return for $y in $x/p return if (exists($y/k)) then $x else $y: the condition's roles, then those of the first branch, then those of the other
+abbrev query_branches : List ExprTree
+query_branches = for_in (codes "x") (from_root (r ∷ [])) (for_in (codes "y") (from (codes "x") (child (codes "p") ∷ [])) (query.If (query.Exists (from (codes "y") (k ∷ []))) (query.Path (from (codes "x") [])) (query.Path (from (codes "y") [])))) ∷ []
+
+row_branches : (plan_of (normal query_branches)).roles ≡ role 0 [] Own ∷ role 1 [] Own ∷ role 2 [] Own ∷ role 2 (k ∷ []) First ∷ role 1 [] Whole ∷ role 2 [] Whole ∷ []
+row_branches = refl

@@ -1,7 +1,10 @@
 -- Traces and peaks, computed.
 use Rattle.std.specs.Prelude.{◌≡◌, ℕ, List, [], ◌∷◌, ◌++◌, refl, codes, flat_map, length}
 use Rattle.std.specs.Fmt.{digits}
-use Rattle.gcx_model.specs.Tree.{Token}
+use Rattle.gcx_base.specs.declared.steps.Axis.TheVariants.{Descendant}
+use Rattle.gcx_base.specs.declared.steps.Test.TheVariants.{AnyText}
+use Rattle.gcx_model.specs.Tree.{Token, opening}
+use Rattle.gcx_model.specs.Query.{ExprTree, Empty}
 use Rattle.gcx_model.specs.Core.{PlanTree}
 use Rattle.gcx_model.specs.Placed.{plan_of}
 use Rattle.gcx_model.specs.Held.{sum_given, sum_taken}
@@ -9,7 +12,7 @@ use Rattle.gcx_model.specs.Growth.{tokens_of}
 use Rattle.gcx_model.specs.Points.{actions}
 use Rattle.gcx_model.specs.Normal.{normal}
 use Rattle.gcx_model.specs.Demand.{trace_text, peak}
-use Rattle.gcx_laws.proofs.Rows.Words.{element, document, tree, query1, tokens1, query3, query5, query13, tokens13, query_moved, tokens_moved, query_compared, tokens_compared}
+use Rattle.gcx_laws.proofs.Rows.Words.{from_root, for_in, leaf, element, document, tree, query1, tokens1, query3, query5, query13, tokens13, query_moved, tokens_moved, query_compared, tokens_compared}
 
 -- each line with its end
 abbrev lines : List (List ℕ) → List ℕ
@@ -90,3 +93,22 @@ given_moved = refl
 
 taken_moved : sum_taken plan_moved (tree tokens_moved) (actions plan_moved (tree tokens_moved)) ≡ 10
 taken_moved = refl
+
+-- for $x in //text() return () on <a>t</a>: the text is held just behind its token, and leaves by the action behind that
+abbrev query_text : List ExprTree
+query_text = for_in (codes "x") (from_root (record { axis = Descendant; test = AnyText } ∷ [])) Empty ∷ []
+
+abbrev tokens_text : List Token
+tokens_text = document (leaf (codes "a") (codes "t"))
+
+trace_text_role : trace_text query_text (tree tokens_text) ≡ lines (
+    codes "+ 0 / 0" ∷ codes "+ 1 a" ∷ codes "+ 2 # 1" ∷ codes "o 2 1" ∷ codes "x 2" ∷ codes "- 1" ∷ codes "x 1" ∷ codes "- 0" ∷ codes "o 0 0" ∷ codes "x 0" ∷ [])
+unfolding digits
+trace_text_role = refl
+
+peak_text : peak query_text (tree tokens_text) ≡ 3
+peak_text = refl
+
+-- before the first token
+peak_opening : peak query_text opening ≡ 1
+peak_opening = refl
