@@ -5,11 +5,13 @@ use Rattle.std.specs.List.{filter}
 use Rattle.std.proofs.lemmas.List.{length-append}
 use Rattle.std.proofs.lemmas.Bool.{and_parts, and_from, or_cases, or_left, or_right, false≢true, true≢false, eqb-true, eq-eqb, not-true, false_from_ne_true}
 use Rattle.gcx_base.specs.declared.steps.Step.{Step}
+use Rattle.gcx_model.specs.Needs.{Uses}
+use Rattle.gcx_model.specs.Truth.{Env}
 use Rattle.gcx_model.specs.Tree.{Node, serial_of, above, within, Tree, Token, opening, grow, grow_all, is_open_at}
 use Rattle.gcx_model.specs.Paths.{any, head, hits, matches, first}
 use Rattle.gcx_model.specs.Members.{In}
 use Rattle.gcx_model.specs.Nodes.{Grown}
-use Rattle.gcx_model.specs.Core.{BodyTree, OffTree, RoleRowTree, PlanTree}
+use Rattle.gcx_model.specs.Core.{BodyTree, OffTree, RoleRowTree, PlanTree, ItemTree, Off, Then}
 use Rattle.gcx_model.specs.Run.{Action, Wrote, Offed, Out, run, env0}
 use Rattle.gcx_model.specs.Variables.{var_tree, path_in}
 use Rattle.gcx_model.specs.Roles.{roles_of}
@@ -17,9 +19,9 @@ use Rattle.gcx_model.specs.Cores.{Good}
 use Rattle.gcx_model.specs.Placed.{row_at, offs_in, of_role, offs_of, plan_of}
 use Rattle.gcx_model.specs.Held.{is_node, path_of, statement_of, on_row, given_row, given, is_off, signed, held}
 use Rattle.gcx_model.specs.Growth.{may_come, may_all}
-use Rattle.gcx_model.specs.Points.{actions, so_far, ReachedFrom, here, fed, acted, Reached}
+use Rattle.gcx_model.specs.Points.{actions, so_far, ReachedFrom, here, fed, acted, Reached, Frame, Rest, Round, PointAt, Bound_in}
 use Rattle.gcx_laws.specs.Bridges.{GivesByKind, SignedIsOff, OneStatement, PathsByRows, DemandIsReached}
-use Rattle.gcx_laws.specs.Laws.{GivenStays, GoneStays}
+use Rattle.gcx_laws.specs.Laws.{GivenStays, GoneStays, BoundLaw, TurnLaw, UnsignedLaw}
 use Rattle.gcx_laws.proofs.Reading as old
 use Rattle.gcx_laws.proofs.Reading.{Reading, reading}
 use Rattle.gcx_laws.proofs.Lists.{In-filter, In-kept, any_in, any_from}
@@ -32,6 +34,7 @@ use Rattle.gcx_laws.proofs.Plans.{same_role}
 use Rattle.gcx_laws.proofs.Placed.{one_statement, statements_only}
 use Rattle.gcx_laws.proofs.Waits.{nodes_stay}
 use Rattle.gcx_laws.proofs.CoreStates.{tree, grown, so_far_stays, taken_acted}
+use Rattle.gcx_laws.proofs.Evaluator as over
 use Rattle.gcx_laws.proofs.Growing.{grows, fed_all, grow_all-append}
 use Rattle.gcx_laws.proofs.Bridge.{path_is, held_is}
 use Rattle.gcx_laws.proofs.Public.{from_tokens, from_plan, from_state, reached_leads, offs_at_matches}
@@ -231,3 +234,23 @@ demand_is_reached plan ts m =
     let start : Reached plan opening (long plan opening) = let e : 0 + long plan opening ≡ long plan opening = omega arith in subst (λ (z : ℕ). Reached plan opening z) e (act_on plan opening 0 (long plan opening) (omega arith) here) in
     let all : Reached plan (tree ts) (long plan (tree ts)) = reached_from plan [] ts m start in
     (all, λ t h. (fed all (grows t (tree ts) h), (let q = longer plan ts t in ap (take (long plan (tree ts))) q.1 ∙ take_front (actions plan (tree ts)) q.0)))
+
+-- what is bound
+
+pub bound_law : BoundLaw
+bound_law core good plan pl P k r top below i d env = from_state core good (λ plan P k. PointAt plan P k (top ++ Rest (Then i d) env ∷ below) → (x : ℕ) → Uses i x → Bound_in x (env x) below × In (env x) (matches P 0 (path_of plan x)))
+    (λ ts k st x u.
+    let b = over.item_bound core good ts k top below i d env st x u in
+    let h = over.below_hit core good ts k top below (Rest (Then i d) env) st x (env x) b in
+    (b, subst (λ (z : List Step). In (env x) (matches (tree ts) 0 z)) (sym (path_is core good x)) (Matches-from (tree ts) 0 (path_in core x) (env x) h.0 h.1))) plan pl P k r
+
+pub turn_law : TurnLaw
+turn_law core good plan pl P k r top below x y s e env n = from_state core good (λ plan P k. PointAt plan P k (top ++ Round x y s e env n ∷ below) → Bound_in y (env y) below × In n (matches P (serial_of (env y)) (s ∷ [])) × In n (matches P 0 (path_of plan x)))
+    (λ ts k st.
+    let b = over.parent_bound core good ts k top below x y s e env n st in
+    let h = over.turn_bound core good ts k top below x y s e env n st in
+    (b, h.0, subst (λ (z : List Step). In n (matches (tree ts) 0 z)) (sym (path_is core good x)) (Matches-from (tree ts) 0 (path_in core x) n (Matches-in (tree ts) (serial_of (env y)) (s ∷ []) n h.0).0 h.2))) plan pl P k r
+
+pub unsigned_law : UnsignedLaw
+unsigned_law core good plan pl P k r top below o d env = from_state core good (λ plan P k. PointAt plan P k (top ++ Rest (Then (Off o) d) env ∷ below) → In (Offed o (serial_of (env o.base))) (so_far plan P k) → ⊥)
+    (λ ts k st i. over.off_unsigned core good ts k top below o d env st i) plan pl P k r

@@ -7,15 +7,15 @@ use Rattle.gcx_model.specs.Paths.{matches}
 use Rattle.gcx_model.specs.Members.{In, Once}
 use Rattle.gcx_model.specs.Query.{ExprTree}
 use Rattle.gcx_model.specs.Answer.{answer}
-use Rattle.gcx_model.specs.Core.{CondTree, BodyTree, Then, For, If, OffTree, PlanTree}
+use Rattle.gcx_model.specs.Core.{CondTree, BodyTree, Then, For, If, OffTree, PlanTree, ItemTree, Off}
 use Rattle.gcx_model.specs.Truth.{Env, truth}
 use Rattle.gcx_model.specs.Run.{Action, Wrote, Offed, Out, copy, run, env0}
 use Rattle.gcx_model.specs.Cores.{Good}
 use Rattle.gcx_model.specs.Placed.{offs_in, Placed, plan_of}
 use Rattle.gcx_model.specs.Held.{path_of, given, taken, held, held_tree}
 use Rattle.gcx_model.specs.Growth.{Leads}
-use Rattle.gcx_model.specs.Points.{actions, so_far, ReachedFrom, Reached, Frame, Rest, Round, Part, later, to_come, PointAt}
-use Rattle.gcx_model.specs.Needs.{Needs}
+use Rattle.gcx_model.specs.Points.{actions, so_far, ReachedFrom, Reached, Frame, Rest, Round, Part, later, to_come, PointAt, Bound_in}
+use Rattle.gcx_model.specs.Needs.{Needs, Uses}
 use Rattle.gcx_model.specs.Sound.{is_sound}
 use Rattle.gcx_model.specs.Normal.{normal, known}
 
@@ -95,6 +95,21 @@ ResumeLaw = (plan : PlanTree) (P : Tree) → Leads opening P → (k : ℕ) (fs :
 abbrev pub NeedLaw : Type 0
 NeedLaw = (core : BodyTree) → Good core → (plan : PlanTree) → Placed core plan → (P : Tree) (k : ℕ) → Reached plan P k → (fs : List Frame) → PointAt plan P k fs
     → (m : Node) → In m P.nodes → Needs P [] fs m → In m (held plan P (so_far plan P k))
+
+-- At a point each variable that the item uses with which a body goes on is bound below, to a match of its path,
+abbrev pub BoundLaw : Type 0
+BoundLaw = (core : BodyTree) → Good core → (plan : PlanTree) → Placed core plan → (P : Tree) (k : ℕ) → Reached plan P k → (top below : List Frame) (i : ItemTree) (d : BodyTree) (env : Env)
+    → PointAt plan P k (top ++ Rest (Then i d) env ∷ below) → (x : ℕ) → Uses i x → Bound_in x (env x) below × In (env x) (matches P 0 (path_of plan x))
+
+-- the present match of a loop is one of its parent's node, which is bound below, and of the variable's path,
+abbrev pub TurnLaw : Type 0
+TurnLaw = (core : BodyTree) → Good core → (plan : PlanTree) → Placed core plan → (P : Tree) (k : ℕ) → Reached plan P k → (top below : List Frame) (x y : ℕ) (s : Step) (e : BodyTree) (env : Env) (n : Node)
+    → PointAt plan P k (top ++ Round x y s e env n ∷ below) → Bound_in y (env y) below × In n (matches P (serial_of (env y)) (s ∷ [])) × In n (matches P 0 (path_of plan x))
+
+-- and a statement with which a body goes on isn't carried out yet at its base's node.
+abbrev pub UnsignedLaw : Type 0
+UnsignedLaw = (core : BodyTree) → Good core → (plan : PlanTree) → Placed core plan → (P : Tree) (k : ℕ) → Reached plan P k → (top below : List Frame) (o : OffTree) (d : BodyTree) (env : Env)
+    → PointAt plan P k (top ++ Rest (Then (Off o) d) env ∷ below) → In (Offed o (serial_of (env o.base))) (so_far plan P k) → ⊥
 
 -- So over the held nodes the evaluator finds what it would find over the whole tree, wherever a frame stands among the others: the truth of a condition with which a body goes on,
 abbrev pub TruthHeld : Type 0

@@ -1,4 +1,4 @@
-ghost use Rattle.gcx_laws.specs.Laws.{PrefixLaw, ClosedLaw, NormalLaw, NormalIsGood, PlacedOnce, PlanWrites, BalanceLaw, EmptyAtEnd, OnceLaw, OffsAtMatches, TakenStays, GivenStays, GoneStays, PointLaw, ResumeLaw, NeedLaw, TruthHeld, TurnsHeld, LoopHeld, CopyHeld};
+ghost use Rattle.gcx_laws.specs.Laws.{PrefixLaw, ClosedLaw, NormalLaw, NormalIsGood, PlacedOnce, PlanWrites, BalanceLaw, EmptyAtEnd, OnceLaw, OffsAtMatches, TakenStays, GivenStays, GoneStays, PointLaw, ResumeLaw, NeedLaw, BoundLaw, TurnLaw, UnsignedLaw, TruthHeld, TurnsHeld, LoopHeld, CopyHeld};
 
 /// Where an open tree grows, the actions only go on; where they are done, they stay the same.
 pub fn prefix_law()
@@ -93,6 +93,24 @@ pub fn resume_law()
 /// What a point needs is held.
 pub fn need_law()
     ensures { NeedLaw }
+{
+}
+
+/// At a point the variables that come next are bound to matches of their paths.
+pub fn bound_law()
+    ensures { BoundLaw }
+{
+}
+
+/// The present match of a loop is one of its parent's node, and of the variable's path.
+pub fn turn_law()
+    ensures { TurnLaw }
+{
+}
+
+/// A statement that comes next isn't carried out yet at its base's node.
+pub fn unsigned_law()
+    ensures { UnsignedLaw }
 {
 }
 
