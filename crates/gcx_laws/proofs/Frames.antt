@@ -66,7 +66,6 @@ Last-in l [] h = absurd h
 Last-in l (x ∷ []) h = inl h
 Last-in l (x ∷ y ∷ ys) h = inr (Last-in l (y ∷ ys) h)
 
-
 bound_over : (x : ℕ) (n : Node) (f : Frame) (fs : List Frame) → Bound_in x n fs → Bound_in x n (f ∷ fs)
 bound_over x n (Rest d env) fs h = h
 bound_over x n (Round z y s e env m) fs h = inr h
