@@ -6,12 +6,11 @@ use Rattle.std.proofs.lemmas.List.{length-append}
 use Rattle.std.proofs.lemmas.Bool.{and_parts, and_from, or_cases, or_left, or_right, false≢true, true≢false, eqb-true, eq-eqb, not-true, false_from_ne_true}
 use Rattle.gcx_base.specs.declared.steps.Step.{Step}
 use Rattle.gcx_model.specs.Needs.{Uses}
-use Rattle.gcx_model.specs.Truth.{Env}
 use Rattle.gcx_model.specs.Tree.{Node, serial_of, above, within, Tree, Token, opening, grow, grow_all, is_open_at}
 use Rattle.gcx_model.specs.Paths.{any, head, hits, matches, first}
 use Rattle.gcx_model.specs.Members.{In}
 use Rattle.gcx_model.specs.Nodes.{Grown}
-use Rattle.gcx_model.specs.Core.{BodyTree, OffTree, RoleRowTree, PlanTree, ItemTree, Off, Then}
+use Rattle.gcx_model.specs.Core.{BodyTree, OffTree, RoleRowTree, PlanTree, Off, Then}
 use Rattle.gcx_model.specs.Run.{Action, Wrote, Offed, Out, run, env0}
 use Rattle.gcx_model.specs.Variables.{var_tree, path_in}
 use Rattle.gcx_model.specs.Roles.{roles_of}
@@ -19,7 +18,7 @@ use Rattle.gcx_model.specs.Cores.{Good}
 use Rattle.gcx_model.specs.Placed.{row_at, offs_in, of_role, offs_of, plan_of}
 use Rattle.gcx_model.specs.Held.{is_node, path_of, statement_of, on_row, given_row, given, is_off, signed, held}
 use Rattle.gcx_model.specs.Growth.{may_come, may_all}
-use Rattle.gcx_model.specs.Points.{actions, so_far, ReachedFrom, here, fed, acted, Reached, Frame, Rest, Round, PointAt, Bound_in}
+use Rattle.gcx_model.specs.Points.{actions, so_far, ReachedFrom, here, fed, acted, Reached, Rest, Round, PointAt, Bound_in}
 use Rattle.gcx_laws.specs.Bridges.{GivesByKind, SignedIsOff, OneStatement, PathsByRows, DemandIsReached}
 use Rattle.gcx_laws.specs.Laws.{GivenStays, GoneStays, BoundLaw, TurnLaw, UnsignedLaw}
 use Rattle.gcx_laws.proofs.Reading as old

@@ -7,8 +7,8 @@ use Rattle.gcx_model.specs.Placed.{plan_of}
 use Rattle.gcx_model.specs.Held.{held, roles_given, sum_given, sum_taken}
 use Rattle.gcx_model.specs.Points.{actions, so_far}
 use Rattle.gcx_model.specs.Normal.{normal}
-use Rattle.gcx_laws.proofs.Rows.Words.{tree, query_children, tokens_children, query_exists}
-use Rattle.gcx_laws.proofs.Rows.TraceRows.{tokens_ahead}
+use Rattle.gcx_laws.proofs.Rows.Words.{tree, query_children, tokens_children, query_exists, element, document, query_nested}
+use Rattle.gcx_laws.proofs.Rows.TraceRows.{tokens_ahead, tokens_nested}
 
 abbrev serials : PlanTree → Tree → List Action → List ℕ
 serials plan P A = map serial_of (held plan P A)
@@ -96,3 +96,14 @@ five_acted_taken = refl
 -- the roles given to each node of that document
 given_children : map (roles_given plan_children (tree tokens_children)) (tree tokens_children).nodes ≡ (0 ∷ []) ∷ (1 ∷ []) ∷ (2 ∷ 3 ∷ []) ∷ (3 ∷ []) ∷ [] ∷ (2 ∷ 3 ∷ []) ∷ (3 ∷ []) ∷ []
 given_children = refl
+
+-- both of two nested elements have the role of the outer loop, the one inside that of the inner loop
+given_nested : map (roles_given (plan_of (normal query_nested)) (tree tokens_nested)) (tree tokens_nested).nodes ≡ (0 ∷ []) ∷ (1 ∷ []) ∷ (1 ∷ []) ∷ (2 ∷ []) ∷ []
+given_nested = refl
+
+-- of two matches of an exists the first has its role
+abbrev tokens_two : List Token
+tokens_two = document (element (codes "r") (element (codes "p") (element (codes "k") [] ++ element (codes "k") [])))
+
+given_exists : map (roles_given plan_exists (tree tokens_two)) (tree tokens_two).nodes ≡ (0 ∷ []) ∷ (1 ∷ []) ∷ (2 ∷ []) ∷ (3 ∷ []) ∷ [] ∷ []
+given_exists = refl

@@ -48,7 +48,7 @@ unfolding digits
 trace_compared = refl
 
 -- a node that two bases reach keeps its role until both are signed, and so do the nodes above it
-abbrev tokens_nested : List Token
+abbrev pub tokens_nested : List Token
 tokens_nested = document (element (codes "a") (element (codes "a") (element (codes "b") [])))
 
 trace_nested : trace_text query_nested (tree tokens_nested) ≡ lines (
