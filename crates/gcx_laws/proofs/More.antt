@@ -1,9 +1,13 @@
 -- Facts beside the laws: what a role's kind means, what is signed, what stays, and that the demand run goes through core states.
-use Rattle.std.proofs.Common.{◌≡◌, ℕ, zero, suc, ◌+◌, ◌≤◌, Bool, true, false, not, ◌&&◌, List, [], ◌∷◌, ◌++◌, length, refl, sym, ◌∙◌, ap, subst, inl, inr, arith, add-zero, Some, None, Option, eqb}
+use Rattle.std.proofs.Common.{◌≡◌, ℕ, zero, suc, ◌+◌, ◌≤◌, Bool, true, false, not, ◌&&◌, List, [], ◌∷◌, ◌++◌, length, refl, sym, ◌∙◌, ap, subst, inl, inr, arith, add-zero, Some, None, Option, eqb, append_assoc}
 use Rattle.std.specs.Prelude.{take}
-use Rattle.std.specs.List.{filter}
+use Rattle.std.specs.List.{filter, flat_map}
 use Rattle.std.proofs.lemmas.List.{length-append}
 use Rattle.std.proofs.lemmas.Bool.{and_parts, and_from, or_cases, or_left, or_right, false≢true, true≢false, eqb-true, eq-eqb, not-true, false_from_ne_true}
+use Rattle.gcx_laws.proofs.Meaning.{normal_law}
+use Rattle.gcx_laws.proofs.Moved.{normal_good}
+use Rattle.gcx_model.specs.Normal.{normal}
+use Rattle.gcx_model.specs.Document.{tree_of}
 use Rattle.gcx_base.specs.declared.steps.Step.{Step}
 use Rattle.gcx_model.specs.Needs.{Uses}
 use Rattle.gcx_model.specs.Tree.{Node, serial_of, above, within, Tree, Token, opening, grow, grow_all, is_open_at}
@@ -11,7 +15,7 @@ use Rattle.gcx_model.specs.Paths.{any, head, hits, matches, first}
 use Rattle.gcx_model.specs.Members.{In}
 use Rattle.gcx_model.specs.Nodes.{Grown}
 use Rattle.gcx_model.specs.Core.{BodyTree, OffTree, RoleRowTree, PlanTree, Off, Then}
-use Rattle.gcx_model.specs.Run.{Action, Wrote, Offed, Out, run, env0}
+use Rattle.gcx_model.specs.Run.{Action, Wrote, Offed, Out, run, env0, bytes_of}
 use Rattle.gcx_model.specs.Variables.{var_tree, path_in}
 use Rattle.gcx_model.specs.Roles.{roles_of}
 use Rattle.gcx_model.specs.Cores.{Good}
@@ -20,7 +24,7 @@ use Rattle.gcx_model.specs.Held.{is_node, path_of, statement_of, on_row, given_r
 use Rattle.gcx_model.specs.Growth.{may_come, may_all}
 use Rattle.gcx_model.specs.Points.{actions, so_far, ReachedFrom, here, fed, acted, Reached, Rest, Round, PointAt, Bound_in}
 use Rattle.gcx_laws.specs.Bridges.{GivesByKind, SignedIsOff, OneStatement, PathsByRows, DemandIsReached}
-use Rattle.gcx_laws.specs.Laws.{GivenStays, GoneStays, BoundLaw, TurnLaw, UnsignedLaw}
+use Rattle.gcx_laws.specs.Laws.{GivenStays, GoneStays, BoundLaw, TurnLaw, UnsignedLaw, is_write, PlanBytes, KnownIsFront}
 use Rattle.gcx_laws.proofs.Reading as old
 use Rattle.gcx_laws.proofs.Reading.{Reading, reading}
 use Rattle.gcx_laws.proofs.Lists.{In-filter, In-kept, any_in, any_from}
@@ -36,7 +40,7 @@ use Rattle.gcx_laws.proofs.CoreStates.{tree, grown, so_far_stays, taken_acted}
 use Rattle.gcx_laws.proofs.Evaluator as over
 use Rattle.gcx_laws.proofs.Growing.{grows, fed_all, grow_all-append}
 use Rattle.gcx_laws.proofs.Bridge.{path_is, held_is}
-use Rattle.gcx_laws.proofs.Public.{from_tokens, from_plan, from_state, reached_leads, offs_at_matches}
+use Rattle.gcx_laws.proofs.Public.{from_tokens, from_plan, from_state, reached_leads, offs_at_matches, plan_writes, prefix_law}
 
 -- the kinds of roles
 
@@ -253,3 +257,23 @@ turn_law core good plan pl P k r top below x y s e env n = from_state core good 
 pub unsigned_law : UnsignedLaw
 unsigned_law core good plan pl P k r top below o d env = from_state core good (λ plan P k. PointAt plan P k (top ++ Rest (Then (Off o) d) env ∷ below) → In (Offed o (serial_of (env o.base))) (so_far plan P k) → ⊥)
     (λ ts k st i. over.off_unsigned core good ts k top below o d env st i) plan pl P k r
+
+-- what is written
+
+flat_map-append : {X A : Type 0} (f : X → List A) (xs ys : List X) → flat_map f (xs ++ ys) ≡ flat_map f xs ++ flat_map f ys
+flat_map-append f [] ys = refl
+flat_map-append f (x ∷ xs) ys = ap (λ z. f x ++ z) (flat_map-append f xs ys) ∙ sym (append_assoc (f x) (flat_map f xs) (flat_map f ys))
+
+writes_only : (xs : List Action) → flat_map bytes_of (filter is_write xs) ≡ flat_map bytes_of xs
+writes_only [] = refl
+writes_only (Wrote b ∷ xs) = ap (λ z. b ++ z) (writes_only xs)
+writes_only (Offed o n ∷ xs) = writes_only xs
+
+pub plan_bytes : PlanBytes
+plan_bytes q plan pl P =
+    sym (writes_only (actions plan P)) ∙ (ap (flat_map bytes_of) (plan_writes (normal q) (normal_good q) plan pl P).0 ∙ writes_only (run (normal q) env0 P).acts)
+
+pub known_is_front : KnownIsFront
+known_is_front q s P l d m =
+    let h = (prefix_law P (tree_of d) l m (normal q)).0 in
+    (flat_map bytes_of h.0, sym (normal_law q s d) ∙ (ap (flat_map bytes_of) h.1 ∙ flat_map-append bytes_of (run (normal q) env0 P).acts h.0))

@@ -1,5 +1,5 @@
 -- The laws on the definitions.
-use Rattle.std.specs.Prelude.{◌≡◌, ℕ, Bool, true, false, List, [], ◌∷◌, ◌++◌, filter}
+use Rattle.std.specs.Prelude.{◌≡◌, ℕ, Bool, true, false, List, [], ◌∷◌, ◌++◌, filter, flat_map}
 use Rattle.gcx_base.specs.declared.steps.Step.{Step}
 use Rattle.gcx_model.specs.Document.{Nodes, tree_of}
 use Rattle.gcx_model.specs.Tree.{Node, serial_of, Tree, opening, is_closed}
@@ -9,7 +9,7 @@ use Rattle.gcx_model.specs.Query.{ExprTree}
 use Rattle.gcx_model.specs.Answer.{answer}
 use Rattle.gcx_model.specs.Core.{CondTree, BodyTree, Then, For, If, OffTree, PlanTree, ItemTree, Off}
 use Rattle.gcx_model.specs.Truth.{Env, truth}
-use Rattle.gcx_model.specs.Run.{Action, Wrote, Offed, Out, copy, run, env0}
+use Rattle.gcx_model.specs.Run.{Action, Wrote, Offed, Out, copy, run, env0, bytes_of}
 use Rattle.gcx_model.specs.Cores.{Good}
 use Rattle.gcx_model.specs.Placed.{offs_in, Placed, plan_of}
 use Rattle.gcx_model.specs.Held.{path_of, given, taken, held, held_tree}
@@ -139,3 +139,11 @@ is_write (Offed o n) = false
 abbrev pub PlanWrites : Type 0
 PlanWrites = (core : BodyTree) → Good core → (plan : PlanTree) → Placed core plan → (P : Tree)
     → (filter is_write (actions plan P) ≡ filter is_write (run core env0 P).acts) × ((run plan.body env0 P).done ≡ (run core env0 P).done)
+
+-- So what a plan of Normal(q) writes is Known(q, P),
+abbrev pub PlanBytes : Type 0
+PlanBytes = (q : List ExprTree) (plan : PlanTree) → Placed (normal q) plan → (P : Tree) → flat_map bytes_of (actions plan P) ≡ known q P
+
+-- which is a front of the answer over each document that the open tree becomes.
+abbrev pub KnownIsFront : Type 0
+KnownIsFront = (q : List ExprTree) → is_sound q ≡ true → (P : Tree) → Leads opening P → (d : Nodes) → Leads P (tree_of d) → (rest : List ℕ) × (answer q d ≡ known q P ++ rest)

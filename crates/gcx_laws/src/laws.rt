@@ -1,4 +1,4 @@
-ghost use Rattle.gcx_laws.specs.Laws.{PrefixLaw, ClosedLaw, NormalLaw, NormalIsGood, PlacedOnce, PlanWrites, BalanceLaw, EmptyAtEnd, OnceLaw, OffsAtMatches, TakenStays, GivenStays, GoneStays, PointLaw, ResumeLaw, NeedLaw, BoundLaw, TurnLaw, UnsignedLaw, TruthHeld, TurnsHeld, LoopHeld, CopyHeld};
+ghost use Rattle.gcx_laws.specs.Laws.{PrefixLaw, ClosedLaw, NormalLaw, NormalIsGood, PlacedOnce, PlanWrites, PlanBytes, KnownIsFront, BalanceLaw, EmptyAtEnd, OnceLaw, OffsAtMatches, TakenStays, GivenStays, GoneStays, PointLaw, ResumeLaw, NeedLaw, BoundLaw, TurnLaw, UnsignedLaw, TruthHeld, TurnsHeld, LoopHeld, CopyHeld};
 
 /// Where an open tree grows, the actions only go on; where they are done, they stay the same.
 pub fn prefix_law()
@@ -28,6 +28,16 @@ pub fn placed_once()
 /// A plan writes what its core writes.
 pub fn plan_writes()
     ensures { PlanWrites }
+{}
+
+/// A plan of a query's core writes what is settled.
+pub fn plan_bytes()
+    ensures { PlanBytes }
+{}
+
+/// What is settled is a front of the answer over each document that the open tree becomes.
+pub fn known_is_front()
+    ensures { KnownIsFront }
 {}
 
 /// At the end each role is taken from exactly the nodes to which it was given.
