@@ -6,7 +6,7 @@ use Rattle.gcx_base.specs.declared.steps.Test.TheVariants.{AnyText, AnyNode}
 use Rattle.gcx_model.specs.declared.query.QOperand.TheVariants as operand
 use Rattle.gcx_model.specs.Values.{number}
 use Rattle.gcx_model.specs.Tree.{Token, Start, Chars, End, opening}
-use Rattle.gcx_model.specs.Query.{ExprTree, Exists, Compare, Any, no_cond, more_conds, Empty, Elem, Path}
+use Rattle.gcx_model.specs.Query.{ExprTree, Exists, Compare, Any, no_cond, more_conds, Empty, Elem, Path, All, Not}
 use Rattle.gcx_model.specs.Normal.{known}
 use Rattle.gcx_laws.proofs.Rows.Words.{child, from_root, from, one_expr, tree, element, leaf, document, query_children, tokens_children, query_nested, each_p, query_exists, query_literal, tokens_literal, query_join, tokens_join}
 
@@ -62,6 +62,17 @@ query_or = each_p (Any (more_conds (Exists (from (codes "x") (child (codes "k") 
 
 or_waits_for_left : known query_or (tree (Start (codes "r") ∷ Start (codes "p") ∷ Start (codes "j") ∷ End ∷ [])) ≡ []
 or_waits_for_left = refl
+
+-- so is that of an `and`, whose right side is false
+abbrev query_and : List ExprTree
+query_and = each_p (All (more_conds (Exists (from (codes "x") (child (codes "k") ∷ []))) (more_conds (Not (Exists (from (codes "x") (child (codes "j") ∷ [])))) no_cond)))
+
+and_waits_for_left : known query_and (tree (Start (codes "r") ∷ Start (codes "p") ∷ Start (codes "j") ∷ End ∷ [])) ≡ []
+and_waits_for_left = refl
+
+-- a text of a copy is escaped
+copy_escaped : known (Path (from_root (child (codes "a") ∷ [])) ∷ []) (tree (document (leaf (codes "a") (codes "<x>&")))) ≡ codes "<a>&lt;x&gt;&amp;</a>"
+copy_escaped = refl
 
 -- //text() and /a/node() on <a>1<b>2</b>3</a>
 abbrev tokens_mixed : List Token
