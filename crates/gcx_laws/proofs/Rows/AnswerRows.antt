@@ -1,9 +1,9 @@
 -- The meaning of queries over whole documents, computed.
 use Rattle.std.specs.Prelude.{◌≡◌, ℕ, true, List, [], ◌∷◌, Some, refl, codes, pos, ◌*◌, ◌^◌}
 use Rattle.gcx_base.specs.declared.rel.Rel.TheVariants.{Lt}
-use Rattle.gcx_model.specs.Values.{number}
 use Rattle.gcx_model.specs.declared.query.QOperand.TheVariants as operand
 use Rattle.gcx_model.specs.Document.{Nodes, none, element, text}
+use Rattle.gcx_model.specs.Values.{number}
 use Rattle.gcx_model.specs.Query.{ExprTree, Exists, Compare, Not, All, no_cond, more_conds, Elem, Path, For}
 use Rattle.gcx_model.specs.Answer.{answer}
 use Rattle.gcx_model.specs.Sound.{is_sound}
@@ -22,6 +22,7 @@ abbrev document_literal : Nodes
 document_literal = element none (codes "r") (leaf (leaf (leaf none (codes "p") (codes "007")) (codes "p") (codes "7x")) (codes "p") (codes " 7 "))
 
 <<<<<<< HEAD
+<<<<<<< HEAD
 row9_number : answer (query9 (operand.Num (pos (7 * 10 ^ 18)))) document9 ≡ codes "<y></y><n></n><y></y>"
 unfolding number
 row9_number = refl
@@ -29,6 +30,11 @@ row9_number = refl
 compared_with_number : answer (query_literal (operand.Num (pos (7 * 10 ^ 18)))) document_literal ≡ codes "<y></y><n></n><y></y>"
 compared_with_number = refl
 >>>>>>> 5bd9283c353f2bebba7a1c2205232209c7900b4c
+=======
+compared_with_number : answer (query_literal (operand.Num (pos (7 * 10 ^ 18)))) document_literal ≡ codes "<y></y><n></n><y></y>"
+unfolding number
+compared_with_number = refl
+>>>>>>> af9f7127487bbca5b139e41083aa1ffbea76f7e4
 
 compared_with_text : answer (query_literal (operand.Str (codes "7"))) document_literal ≡ codes "<n></n><n></n><n></n>"
 compared_with_text = refl
@@ -49,13 +55,18 @@ abbrev book : Nodes → List ℕ → List ℕ → Nodes
 book before title price = element before (codes "book") (leaf (leaf none (codes "title") title) (codes "price") price)
 
 <<<<<<< HEAD
+<<<<<<< HEAD
 row37 : answer query37 (element none (codes "bib") (book (book none (codes "Data on the Web") (codes "39")) (codes "TCP/IP & more") (codes "65"))) ≡ codes "<out><cheap><title>Data on the Web</title></cheap></out>"
+=======
+cheap_books : answer query_books (element none (codes "bib") (book (book none (codes "Data on the Web") (codes "39")) (codes "TCP/IP & more") (codes "65"))) ≡ codes "<out><cheap><title>Data on the Web</title></cheap></out>"
+>>>>>>> af9f7127487bbca5b139e41083aa1ffbea76f7e4
 unfolding number
-row37 = refl
+cheap_books = refl
 
 -- and with the prices exchanged, an escaped text
-row37_escaped : answer query37 (element none (codes "bib") (book (book none (codes "Data on the Web") (codes "65")) (codes "TCP/IP & more") (codes "39"))) ≡ codes "<out><cheap><title>TCP/IP &amp; more</title></cheap></out>"
+cheap_books_escaped : answer query_books (element none (codes "bib") (book (book none (codes "Data on the Web") (codes "65")) (codes "TCP/IP & more") (codes "39"))) ≡ codes "<out><cheap><title>TCP/IP &amp; more</title></cheap></out>"
 unfolding number
+<<<<<<< HEAD
 row37_escaped = refl
 =======
 cheap_books : answer query_books (element none (codes "bib") (book (book none (codes "Data on the Web") (codes "39")) (codes "TCP/IP & more") (codes "65"))) ≡ codes "<out><cheap><title>Data on the Web</title></cheap></out>"
@@ -65,6 +76,9 @@ cheap_books = refl
 cheap_books_escaped : answer query_books (element none (codes "bib") (book (book none (codes "Data on the Web") (codes "65")) (codes "TCP/IP & more") (codes "39"))) ≡ codes "<out><cheap><title>TCP/IP &amp; more</title></cheap></out>"
 cheap_books_escaped = refl
 >>>>>>> 5bd9283c353f2bebba7a1c2205232209c7900b4c
+=======
+cheap_books_escaped = refl
+>>>>>>> af9f7127487bbca5b139e41083aa1ffbea76f7e4
 
 -- these queries are sound
 sound_children : is_sound query_children ≡ true

@@ -3,10 +3,10 @@ use Rattle.std.specs.Prelude.{◌≡◌, List, [], ◌∷◌, ◌++◌, refl, co
 use Rattle.gcx_base.specs.declared.rel.Rel.TheVariants.{Gt, Ge}
 use Rattle.gcx_base.specs.declared.steps.Axis.TheVariants.{Child, Descendant}
 use Rattle.gcx_base.specs.declared.steps.Test.TheVariants.{AnyText, AnyNode}
-use Rattle.gcx_model.specs.Values.{number}
 use Rattle.gcx_model.specs.declared.query.QOperand.TheVariants as operand
+use Rattle.gcx_model.specs.Values.{number}
 use Rattle.gcx_model.specs.Tree.{Token, Start, Chars, End, opening}
-use Rattle.gcx_model.specs.Query.{ExprTree, Exists, Compare, Any, no_cond, more_conds, Empty, Elem, Path}
+use Rattle.gcx_model.specs.Query.{ExprTree, Exists, Compare, Any, no_cond, more_conds, Empty, Elem, Path, All, Not}
 use Rattle.gcx_model.specs.Normal.{known}
 use Rattle.gcx_laws.proofs.Rows.Words.{child, from_root, from, one_expr, tree, element, leaf, document, query_children, tokens_children, query_nested, each_p, query_exists, query_literal, tokens_literal, query_join, tokens_join}
 
@@ -40,6 +40,7 @@ exists_of_two : known query_exists (tree (document (element (codes "r") (element
 exists_of_two = refl
 
 <<<<<<< HEAD
+<<<<<<< HEAD
 row9_number : known (query9 (operand.Num (pos (7 * 10 ^ 18)))) (tree tokens9) ≡ codes "<y></y><n></n><y></y>"
 unfolding number
 row9_number = refl
@@ -47,6 +48,11 @@ row9_number = refl
 compared_with_number : known (query_literal (operand.Num (pos (7 * 10 ^ 18)))) (tree tokens_literal) ≡ codes "<y></y><n></n><y></y>"
 compared_with_number = refl
 >>>>>>> 5bd9283c353f2bebba7a1c2205232209c7900b4c
+=======
+compared_with_number : known (query_literal (operand.Num (pos (7 * 10 ^ 18)))) (tree tokens_literal) ≡ codes "<y></y><n></n><y></y>"
+unfolding number
+compared_with_number = refl
+>>>>>>> af9f7127487bbca5b139e41083aa1ffbea76f7e4
 
 compared_with_text : known (query_literal (operand.Str (codes "7"))) (tree tokens_literal) ≡ codes "<n></n><n></n><n></n>"
 compared_with_text = refl
@@ -67,6 +73,20 @@ query_or = each_p (Any (more_conds (Exists (from (codes "x") (child (codes "k") 
 
 or_waits_for_left : known query_or (tree (Start (codes "r") ∷ Start (codes "p") ∷ Start (codes "j") ∷ End ∷ [])) ≡ []
 or_waits_for_left = refl
+<<<<<<< HEAD
+=======
+
+-- so is that of an `and`, whose right side is false
+abbrev query_and : List ExprTree
+query_and = each_p (All (more_conds (Exists (from (codes "x") (child (codes "k") ∷ []))) (more_conds (Not (Exists (from (codes "x") (child (codes "j") ∷ [])))) no_cond)))
+
+and_waits_for_left : known query_and (tree (Start (codes "r") ∷ Start (codes "p") ∷ Start (codes "j") ∷ End ∷ [])) ≡ []
+and_waits_for_left = refl
+
+-- a text of a copy is escaped
+copy_escaped : known (Path (from_root (child (codes "a") ∷ [])) ∷ []) (tree (document (leaf (codes "a") (codes "<x>&")))) ≡ codes "<a>&lt;x&gt;&amp;</a>"
+copy_escaped = refl
+>>>>>>> af9f7127487bbca5b139e41083aa1ffbea76f7e4
 
 -- //text() and /a/node() on <a>1<b>2</b>3</a>
 abbrev tokens_mixed : List Token
@@ -83,6 +103,7 @@ abbrev tokens_wide : List Token
 tokens_wide = document (element (codes "r") (leaf (codes "p") (49 ∷ replicate 42 48) ++ (leaf (codes "p") (codes "-0") ++ element (codes "p") [])))
 
 <<<<<<< HEAD
+<<<<<<< HEAD
 row32 : known (each_p (Compare (operand.Path (from (codes "x") [])) Gt (operand.Num (pos (9 * 10 ^ 18))))) (tree tokens32) ≡ codes "<y></y><n></n><n></n>"
 unfolding number
 row32 = refl
@@ -90,11 +111,17 @@ row32 = refl
 wide_numbers : known (each_p (Compare (operand.Path (from (codes "x") [])) Gt (operand.Num (pos (9 * 10 ^ 18))))) (tree tokens_wide) ≡ codes "<y></y><n></n><n></n>"
 wide_numbers = refl
 >>>>>>> 5bd9283c353f2bebba7a1c2205232209c7900b4c
+=======
+wide_numbers : known (each_p (Compare (operand.Path (from (codes "x") [])) Gt (operand.Num (pos (9 * 10 ^ 18))))) (tree tokens_wide) ≡ codes "<y></y><n></n><n></n>"
+unfolding number
+wide_numbers = refl
+>>>>>>> af9f7127487bbca5b139e41083aa1ffbea76f7e4
 
 -- >= 2.50
 abbrev tokens_decimal : List Token
 tokens_decimal = document (element (codes "r") (leaf (codes "p") (codes "2.5") ++ (leaf (codes "p") (codes "2.49999999999999999999") ++ (leaf (codes "p") (codes "+3.") ++ (leaf (codes "p") (codes ".5") ++ leaf (codes "p") (codes "2,6"))))))
 
+<<<<<<< HEAD
 <<<<<<< HEAD
 row_decimal : known (each_p (Compare (operand.Path (from (codes "x") [])) Ge (operand.Num (pos (25 * 10 ^ 17))))) (tree tokens_decimal) ≡ codes "<y></y><n></n><y></y><n></n><n></n>"
 unfolding number
@@ -103,3 +130,8 @@ row_decimal = refl
 decimals : known (each_p (Compare (operand.Path (from (codes "x") [])) Ge (operand.Num (pos (25 * 10 ^ 17))))) (tree tokens_decimal) ≡ codes "<y></y><n></n><y></y><n></n><n></n>"
 decimals = refl
 >>>>>>> 5bd9283c353f2bebba7a1c2205232209c7900b4c
+=======
+decimals : known (each_p (Compare (operand.Path (from (codes "x") [])) Ge (operand.Num (pos (25 * 10 ^ 17))))) (tree tokens_decimal) ≡ codes "<y></y><n></n><y></y><n></n><n></n>"
+unfolding number
+decimals = refl
+>>>>>>> af9f7127487bbca5b139e41083aa1ffbea76f7e4
