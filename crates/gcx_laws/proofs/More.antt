@@ -1,11 +1,6 @@
 -- Facts beside the laws: what a role's kind means, what is signed, what stays, and that the demand run goes through core states.
-<<<<<<< HEAD
-use Rattle.std.proofs.Common.{◌≡◌, ℕ, zero, suc, ◌+◌, ◌≤◌, Bool, true, false, not, ◌&&◌, List, [], ◌∷◌, ◌++◌, length, refl, sym, ◌∙◌, ap, subst, inl, inr, arith, add-zero, Some, None, Option, eqb, append_assoc}
-use Rattle.std.specs.Prelude.{take}
-=======
 use Rattle.std.proofs.Common.{◌≡◌, cond, ℕ, zero, suc, ◌+◌, ◌≤◌, Bool, true, false, not, ◌&&◌, List, [], ◌∷◌, ◌++◌, length, refl, sym, ◌∙◌, ap, subst, inl, inr, arith, add-zero, Some, None, Option, eqb, append_assoc}
 use Rattle.std.specs.Prelude.{take, drop}
->>>>>>> af9f7127487bbca5b139e41083aa1ffbea76f7e4
 use Rattle.std.specs.List.{filter, flat_map}
 use Rattle.std.proofs.lemmas.List.{length-append}
 use Rattle.std.proofs.lemmas.Bool.{and_parts, and_from, or_cases, or_left, or_right, false≢true, true≢false, eqb-true, eq-eqb, not-true, false_from_ne_true}
@@ -29,11 +24,7 @@ use Rattle.gcx_model.specs.Held.{is_node, path_of, statement_of, on_row, given_r
 use Rattle.gcx_model.specs.Growth.{may_come, may_all}
 use Rattle.gcx_model.specs.Points.{actions, so_far, ReachedFrom, here, fed, acted, Reached, Rest, Round, PointAt, Bound_in}
 use Rattle.gcx_laws.specs.Bridges.{GivesByKind, SignedIsOff, OneStatement, PathsByRows, DemandIsReached}
-<<<<<<< HEAD
-use Rattle.gcx_laws.specs.Laws.{GivenStays, GoneStays, BoundLaw, TurnLaw, UnsignedLaw, is_write, PlanBytes, KnownIsFront}
-=======
 use Rattle.gcx_laws.specs.Laws.{GivenStays, GoneStays, BoundLaw, TurnLaw, UnsignedLaw, is_write, PlanBytes, KnownIsFront, HeldByFeed, HeldByAct}
->>>>>>> af9f7127487bbca5b139e41083aa1ffbea76f7e4
 use Rattle.gcx_laws.proofs.Reading as old
 use Rattle.gcx_laws.proofs.Reading.{Reading, reading}
 use Rattle.gcx_laws.proofs.Lists.{In-filter, In-kept, any_in, any_from, In-left, filter_same}
@@ -48,11 +39,7 @@ use Rattle.gcx_laws.proofs.Waits.{nodes_stay}
 use Rattle.gcx_laws.proofs.CoreStates.{tree, grown, so_far_stays, taken_acted}
 use Rattle.gcx_laws.proofs.Evaluator as over
 use Rattle.gcx_laws.proofs.Growing.{grows, fed_all, grow_all-append}
-<<<<<<< HEAD
-use Rattle.gcx_laws.proofs.Bridge.{path_is, held_is}
-=======
 use Rattle.gcx_laws.proofs.Bridge.{path_is, held_is, is_held_is}
->>>>>>> af9f7127487bbca5b139e41083aa1ffbea76f7e4
 use Rattle.gcx_laws.proofs.Public.{from_tokens, from_plan, from_state, reached_leads, offs_at_matches, plan_writes, prefix_law}
 
 -- the kinds of roles
@@ -290,8 +277,6 @@ pub known_is_front : KnownIsFront
 known_is_front q s P l d m =
     let h = (prefix_law P (tree_of d) l m (normal q)).0 in
     (flat_map bytes_of h.0, sym (normal_law q s d) ∙ (ap (flat_map bytes_of) h.1 ∙ flat_map-append bytes_of (run (normal q) env0 P).acts h.0))
-<<<<<<< HEAD
-=======
 
 -- the rows behind a token, and behind an action
 
@@ -330,4 +315,3 @@ act_at core good P A a =
 
 pub held_by_act : HeldByAct
 held_by_act core good plan pl P A a = from_plan core good (λ plan. held plan P (A ++ a ∷ []) ≡ filter (is_held plan P (A ++ a ∷ [])) (held plan P A)) (act_at core good P A a) plan pl
->>>>>>> af9f7127487bbca5b139e41083aa1ffbea76f7e4

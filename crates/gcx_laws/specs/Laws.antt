@@ -1,9 +1,5 @@
 -- The laws on the definitions.
-<<<<<<< HEAD
-use Rattle.std.specs.Prelude.{◌≡◌, ℕ, Bool, true, false, List, [], ◌∷◌, ◌++◌, filter, flat_map}
-=======
 use Rattle.std.specs.Prelude.{◌≡◌, ℕ, Bool, true, false, List, [], ◌∷◌, ◌++◌, filter, flat_map, length, drop}
->>>>>>> af9f7127487bbca5b139e41083aa1ffbea76f7e4
 use Rattle.gcx_base.specs.declared.steps.Step.{Step}
 use Rattle.gcx_model.specs.Document.{Nodes, tree_of}
 use Rattle.gcx_model.specs.Tree.{Node, serial_of, Tree, opening, is_closed, Token, grow}

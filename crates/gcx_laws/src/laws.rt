@@ -1,8 +1,4 @@
-<<<<<<< HEAD
-ghost use Rattle.gcx_laws.specs.Laws.{PrefixLaw, ClosedLaw, NormalLaw, NormalIsGood, PlacedOnce, PlanWrites, PlanBytes, KnownIsFront, BalanceLaw, EmptyAtEnd, OnceLaw, OffsAtMatches, TakenStays, GivenStays, GoneStays, PointLaw, ResumeLaw, NeedLaw, BoundLaw, TurnLaw, UnsignedLaw, TruthHeld, TurnsHeld, LoopHeld, CopyHeld};
-=======
 ghost use Rattle.gcx_laws.specs.Laws.{PrefixLaw, ClosedLaw, NormalLaw, NormalIsGood, PlacedOnce, PlanWrites, PlanBytes, KnownIsFront, BalanceLaw, EmptyAtEnd, OnceLaw, OffsAtMatches, TakenStays, GivenStays, GoneStays, HeldByFeed, HeldByAct, PointLaw, ResumeLaw, NeedLaw, BoundLaw, TurnLaw, UnsignedLaw, TruthHeld, TurnsHeld, LoopHeld, CopyHeld};
->>>>>>> af9f7127487bbca5b139e41083aa1ffbea76f7e4
 
 /// Where an open tree grows, the actions only go on; where they are done, they stay the same.
 pub fn prefix_law()
@@ -78,8 +74,6 @@ pub fn given_stays()
 pub fn gone_stays()
     ensures { GoneStays }
 {}
-<<<<<<< HEAD
-=======
 
 /// The nodes held behind a token come from those held before it and the new one.
 pub fn held_by_feed()
@@ -90,7 +84,6 @@ pub fn held_by_feed()
 pub fn held_by_act()
     ensures { HeldByAct }
 {}
->>>>>>> af9f7127487bbca5b139e41083aa1ffbea76f7e4
 
 /// Behind each number of actions there is a point.
 pub fn point_law()

@@ -21,20 +21,9 @@ loop_over_children = refl
 abbrev document_literal : Nodes
 document_literal = element none (codes "r") (leaf (leaf (leaf none (codes "p") (codes "007")) (codes "p") (codes "7x")) (codes "p") (codes " 7 "))
 
-<<<<<<< HEAD
-<<<<<<< HEAD
-row9_number : answer (query9 (operand.Num (pos (7 * 10 ^ 18)))) document9 ≡ codes "<y></y><n></n><y></y>"
-unfolding number
-row9_number = refl
-=======
-compared_with_number : answer (query_literal (operand.Num (pos (7 * 10 ^ 18)))) document_literal ≡ codes "<y></y><n></n><y></y>"
-compared_with_number = refl
->>>>>>> 5bd9283c353f2bebba7a1c2205232209c7900b4c
-=======
 compared_with_number : answer (query_literal (operand.Num (pos (7 * 10 ^ 18)))) document_literal ≡ codes "<y></y><n></n><y></y>"
 unfolding number
 compared_with_number = refl
->>>>>>> af9f7127487bbca5b139e41083aa1ffbea76f7e4
 
 compared_with_text : answer (query_literal (operand.Str (codes "7"))) document_literal ≡ codes "<n></n><n></n><n></n>"
 compared_with_text = refl
@@ -54,31 +43,14 @@ query_books = Elem (codes "out") (one_expr (For (clause (codes "b") (from_root (
 abbrev book : Nodes → List ℕ → List ℕ → Nodes
 book before title price = element before (codes "book") (leaf (leaf none (codes "title") title) (codes "price") price)
 
-<<<<<<< HEAD
-<<<<<<< HEAD
-row37 : answer query37 (element none (codes "bib") (book (book none (codes "Data on the Web") (codes "39")) (codes "TCP/IP & more") (codes "65"))) ≡ codes "<out><cheap><title>Data on the Web</title></cheap></out>"
-=======
 cheap_books : answer query_books (element none (codes "bib") (book (book none (codes "Data on the Web") (codes "39")) (codes "TCP/IP & more") (codes "65"))) ≡ codes "<out><cheap><title>Data on the Web</title></cheap></out>"
->>>>>>> af9f7127487bbca5b139e41083aa1ffbea76f7e4
 unfolding number
 cheap_books = refl
 
 -- and with the prices exchanged, an escaped text
 cheap_books_escaped : answer query_books (element none (codes "bib") (book (book none (codes "Data on the Web") (codes "65")) (codes "TCP/IP & more") (codes "39"))) ≡ codes "<out><cheap><title>TCP/IP &amp; more</title></cheap></out>"
 unfolding number
-<<<<<<< HEAD
-row37_escaped = refl
-=======
-cheap_books : answer query_books (element none (codes "bib") (book (book none (codes "Data on the Web") (codes "39")) (codes "TCP/IP & more") (codes "65"))) ≡ codes "<out><cheap><title>Data on the Web</title></cheap></out>"
-cheap_books = refl
-
--- and with the prices exchanged, an escaped text
-cheap_books_escaped : answer query_books (element none (codes "bib") (book (book none (codes "Data on the Web") (codes "65")) (codes "TCP/IP & more") (codes "39"))) ≡ codes "<out><cheap><title>TCP/IP &amp; more</title></cheap></out>"
 cheap_books_escaped = refl
->>>>>>> 5bd9283c353f2bebba7a1c2205232209c7900b4c
-=======
-cheap_books_escaped = refl
->>>>>>> af9f7127487bbca5b139e41083aa1ffbea76f7e4
 
 -- these queries are sound
 sound_children : is_sound query_children ≡ true

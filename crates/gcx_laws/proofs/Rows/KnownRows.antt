@@ -39,20 +39,9 @@ exists_settles_early = refl
 exists_of_two : known query_exists (tree (document (element (codes "r") (element (codes "p") [] ++ element (codes "p") (element (codes "k") []))))) ≡ codes "<n></n><y></y>"
 exists_of_two = refl
 
-<<<<<<< HEAD
-<<<<<<< HEAD
-row9_number : known (query9 (operand.Num (pos (7 * 10 ^ 18)))) (tree tokens9) ≡ codes "<y></y><n></n><y></y>"
-unfolding number
-row9_number = refl
-=======
-compared_with_number : known (query_literal (operand.Num (pos (7 * 10 ^ 18)))) (tree tokens_literal) ≡ codes "<y></y><n></n><y></y>"
-compared_with_number = refl
->>>>>>> 5bd9283c353f2bebba7a1c2205232209c7900b4c
-=======
 compared_with_number : known (query_literal (operand.Num (pos (7 * 10 ^ 18)))) (tree tokens_literal) ≡ codes "<y></y><n></n><y></y>"
 unfolding number
 compared_with_number = refl
->>>>>>> af9f7127487bbca5b139e41083aa1ffbea76f7e4
 
 compared_with_text : known (query_literal (operand.Str (codes "7"))) (tree tokens_literal) ≡ codes "<n></n><n></n><n></n>"
 compared_with_text = refl
@@ -73,8 +62,6 @@ query_or = each_p (Any (more_conds (Exists (from (codes "x") (child (codes "k") 
 
 or_waits_for_left : known query_or (tree (Start (codes "r") ∷ Start (codes "p") ∷ Start (codes "j") ∷ End ∷ [])) ≡ []
 or_waits_for_left = refl
-<<<<<<< HEAD
-=======
 
 -- so is that of an `and`, whose right side is false
 abbrev query_and : List ExprTree
@@ -86,7 +73,6 @@ and_waits_for_left = refl
 -- a text of a copy is escaped
 copy_escaped : known (Path (from_root (child (codes "a") ∷ [])) ∷ []) (tree (document (leaf (codes "a") (codes "<x>&")))) ≡ codes "<a>&lt;x&gt;&amp;</a>"
 copy_escaped = refl
->>>>>>> af9f7127487bbca5b139e41083aa1ffbea76f7e4
 
 -- //text() and /a/node() on <a>1<b>2</b>3</a>
 abbrev tokens_mixed : List Token
@@ -102,36 +88,14 @@ child_nodes = refl
 abbrev tokens_wide : List Token
 tokens_wide = document (element (codes "r") (leaf (codes "p") (49 ∷ replicate 42 48) ++ (leaf (codes "p") (codes "-0") ++ element (codes "p") [])))
 
-<<<<<<< HEAD
-<<<<<<< HEAD
-row32 : known (each_p (Compare (operand.Path (from (codes "x") [])) Gt (operand.Num (pos (9 * 10 ^ 18))))) (tree tokens32) ≡ codes "<y></y><n></n><n></n>"
-unfolding number
-row32 = refl
-=======
-wide_numbers : known (each_p (Compare (operand.Path (from (codes "x") [])) Gt (operand.Num (pos (9 * 10 ^ 18))))) (tree tokens_wide) ≡ codes "<y></y><n></n><n></n>"
-wide_numbers = refl
->>>>>>> 5bd9283c353f2bebba7a1c2205232209c7900b4c
-=======
 wide_numbers : known (each_p (Compare (operand.Path (from (codes "x") [])) Gt (operand.Num (pos (9 * 10 ^ 18))))) (tree tokens_wide) ≡ codes "<y></y><n></n><n></n>"
 unfolding number
 wide_numbers = refl
->>>>>>> af9f7127487bbca5b139e41083aa1ffbea76f7e4
 
 -- >= 2.50
 abbrev tokens_decimal : List Token
 tokens_decimal = document (element (codes "r") (leaf (codes "p") (codes "2.5") ++ (leaf (codes "p") (codes "2.49999999999999999999") ++ (leaf (codes "p") (codes "+3.") ++ (leaf (codes "p") (codes ".5") ++ leaf (codes "p") (codes "2,6"))))))
 
-<<<<<<< HEAD
-<<<<<<< HEAD
-row_decimal : known (each_p (Compare (operand.Path (from (codes "x") [])) Ge (operand.Num (pos (25 * 10 ^ 17))))) (tree tokens_decimal) ≡ codes "<y></y><n></n><y></y><n></n><n></n>"
-unfolding number
-row_decimal = refl
-=======
-decimals : known (each_p (Compare (operand.Path (from (codes "x") [])) Ge (operand.Num (pos (25 * 10 ^ 17))))) (tree tokens_decimal) ≡ codes "<y></y><n></n><y></y><n></n><n></n>"
-decimals = refl
->>>>>>> 5bd9283c353f2bebba7a1c2205232209c7900b4c
-=======
 decimals : known (each_p (Compare (operand.Path (from (codes "x") [])) Ge (operand.Num (pos (25 * 10 ^ 17))))) (tree tokens_decimal) ≡ codes "<y></y><n></n><y></y><n></n><n></n>"
 unfolding number
 decimals = refl
->>>>>>> af9f7127487bbca5b139e41083aa1ffbea76f7e4
