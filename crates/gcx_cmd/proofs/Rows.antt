@@ -1,7 +1,7 @@
 -- The definitions compute on examples: what the query's and the document's bytes spell, and the answer.
 use Rattle.std.proofs.Common.{◌≡◌, ◌≤◌, ℕ, true, false, List, [], ◌∷◌, length, codes, refl, arith}
 use Rattle.gcx_base.specs.Limits.{full_limits}
-use Rattle.gcx_model.specs.Document.{Nodes, none, element, text}
+use Rattle.gcx_model.specs.Document.{none, element, text}
 use Rattle.gcx_model.specs.Spelling.{Content, nothing, char, tagged, spelling, has_element, IsContent, nodes, Fits, SpellsWithin}
 use Rattle.gcx_model.specs.Answer.{answer}
 use Rattle.gcx_cmd.specs.PlainQuery.{path_spelling, AreNames, IsSome, path_query, SpellsQuery}
