@@ -2,12 +2,12 @@
 use Rattle.std.proofs.Common.{◌≡◌, ℕ, List, rules}
 use Rattle.gcx_base.specs.declared.ids.VarId.{VarId}
 use Rattle.gcx_base.specs.declared.steps.Step.{Step}
-use Rattle.gcx_model.specs.declared.query.Expr.{Expr, fold-roll-Expr, the_lemmas as expr_lemmas}
+use Rattle.gcx_model.specs.declared.query.Expr.{the_lemmas as expr_lemmas}
 use Rattle.gcx_model.specs.declared.query.Expr.TheViews as expr
 use Rattle.gcx_model.specs.declared.query.Exprs.{Exprs}
-use Rattle.gcx_model.specs.Query.{ExprTree, Elem, exprs_of, expr_tree, expr_trees}
+use Rattle.gcx_model.specs.Query.{Elem, exprs_of, expr_tree, expr_trees}
 use Rattle.gcx_model.specs.declared.cond.Cond.{Cond}
-use Rattle.gcx_model.specs.declared.item.Item.{Item, fold-roll-Item, the_lemmas as item_lemmas}
+use Rattle.gcx_model.specs.declared.item.Item.{the_lemmas as item_lemmas}
 use Rattle.gcx_model.specs.declared.item.Item.TheViews as item
 use Rattle.gcx_model.specs.declared.item.Body.{Body}
 use Rattle.gcx_model.specs.Core as tree
