@@ -1,20 +1,18 @@
 -- Completeness without limits: what a front spells leads to its state.
-use Rattle.std.proofs.Common.{ℕ, ◌≡◌, ◌+◌, ◌≤◌, ◌<◌, Bool, true, false, ◌&&◌, ◌||◌, eqb, cond, List, [], ◌∷◌, ◌++◌, length, Option, Some, None, refl, sym, ap, ◌∙◌, append_assoc, append-nil, arith, eq-eqb, length-append, ltb-true, lt-ltb}
+use Rattle.std.proofs.Common.{ℕ, ◌≡◌, ◌+◌, ◌≤◌, ◌<◌, Bool, true, false, ◌&&◌, eqb, cond, List, [], ◌∷◌, ◌++◌, length, Some, None, refl, sym, ap, ◌∙◌, append_assoc, append-nil, arith, eq-eqb, length-append, ltb-true, lt-ltb}
 use Rattle.std.proofs.lemmas.Bool.{false≢true}
 use Rattle.std.proofs.lemmas.List.{map-append}
 use Rattle.std.specs.List.{list_all}
-use Rattle.std.specs.Prelude.{slice_get, nat_lt, map}
+use Rattle.std.specs.Prelude.{slice_get, nat_lt}
 use Rattle.std.proofs.Math.Seq.{get_or-append_seam}
 use Rattle.std.proofs.lemmas.Option.{slice_get-get_or, slice_get_past}
 use Rattle.gcx_base.specs.Name.{is_name_start, is_name_byte, is_plain_name}
-use Rattle.gcx_model.specs.Document.{Nodes, none, element, text, is_blank, tokens}
-use Rattle.gcx_model.specs.Tree.{Token as Said, Start as said_start, Chars, End as said_end}
+use Rattle.gcx_model.specs.Document.{Nodes, element, text, is_blank, tokens}
+use Rattle.gcx_model.specs.Tree.{Start as said_start, Chars, End as said_end}
 use Rattle.gcx_model.specs.Spelling.{Content, nothing, char, tagged, start_tag, end_tag, spelling, has_element, is_text_char, may_open, IsContent, run, with_run, nodes}
-use Rattle.doc_reader.specs.Machine.{State, start, is_inside, text_of, opened, closed, on_named, on_expected, steps, step}
-use Rattle.doc_reader.specs.declared.token.Token.{Token}
+use Rattle.doc_reader.specs.Machine.{start, text_of, closed, on_expected, steps, step}
 use Rattle.doc_reader.specs.declared.token.Token.TheVariants.{Start, End, Text}
-use Rattle.doc_reader.specs.declared.machine.Mode.{Mode}
-use Rattle.doc_reader.specs.declared.machine.Mode.TheVariants.{Between, Less, StartName, EndName}
+use Rattle.doc_reader.specs.declared.machine.Mode.TheVariants.{EndName}
 use Rattle.doc_reader.specs.Front.{given_token, node_tokens, Frames, bottom, frame, Piece, no_piece, less, started, ending, frames_spelling, piece_spelling, front_spelling, names, inside, rooted, IsFrames, IsPiece, IsFront, frames_tokens, state_of}
 use Rattle.doc_reader.proofs.Moves.{on_cond, and_true, true_and, or_true, may_rooted, steps_on_to, step_to}
 
@@ -22,7 +20,7 @@ use Rattle.doc_reader.proofs.Moves.{on_cond, and_true, true_and, or_true, may_ro
 pub tokens-with_run : (ns : Nodes) (r : List ℕ) → node_tokens (with_run ns r) ≡ node_tokens ns ++ text_of r
 tokens-with_run ns r =
     elim (is_blank r) as (λ (b : Bool). node_tokens (cond b ns (text ns r)) ≡ node_tokens ns ++ cond b [] (Text r ∷ []))
-      [ true ↦ sym (append-nil _) | false ↦ map-append given_token (tokens ns) (Chars r ∷ []) ]
+    [ true ↦ sym (append-nil _) | false ↦ map-append given_token (tokens ns) (Chars r ∷ []) ]
 
 pub tokens-element : (before inner : Nodes) (n : List ℕ) → node_tokens (element before n inner) ≡ node_tokens before ++ (Start n ∷ (node_tokens inner ++ (End ∷ [])))
 tokens-element before inner n =
@@ -116,7 +114,7 @@ pub start_steps : (fs : Frames) (x : Content) (n : List ℕ) → may_open (insid
 start_steps fs x n h g =
     step_to (state_of fs x no_piece) (state_of fs x less) 60 (n ++ (62 ∷ [])) (m_less fs x h)
     ∙ steps_on_to (state_of fs x less) (state_of fs x (started n)) n (62 ∷ []) _ (start_name fs x n g)
-      (step_to (state_of fs x (started n)) (state_of (frame fs x n) nothing no_piece) 62 [] (m_open fs x n g))
+    (step_to (state_of fs x (started n)) (state_of (frame fs x n) nothing no_piece) 62 [] (m_open fs x n g))
 
 pub end_name : (fs : Frames) (y k : Content) (n m a r : List ℕ) → m ++ (a ++ r) ≡ n → steps (state_of (frame fs y n) k (ending m (a ++ r))) a ≡ Some (state_of (frame fs y n) k (ending (m ++ a) r))
 end_name fs y k n m [] r e = ap (λ l. Some (state_of (frame fs y n) k (ending l r))) (sym (append-nil m))
@@ -134,26 +132,26 @@ end_front fs y k n a r e =
 pub end_steps : (fs : Frames) (y k : Content) (n : List ℕ) → steps (state_of (frame fs y n) k no_piece) (end_tag n) ≡ Some (state_of fs (tagged y n k) no_piece)
 end_steps fs y k n =
     steps_on_to (state_of (frame fs y n) k no_piece) (state_of (frame fs y n) k (ending n [])) (60 ∷ (47 ∷ n)) (62 ∷ []) _ (end_front fs y k n n [] (append-nil n))
-      (step_to (state_of (frame fs y n) k (ending n [])) (state_of fs (tagged y n k) no_piece) 62 [] (m_close fs y k n))
+    (step_to (state_of (frame fs y n) k (ending n [])) (state_of fs (tagged y n k) no_piece) 62 [] (m_close fs y k n))
 
 -- over content
 pub content_steps : (fs : Frames) (x : Content) → IsContent (inside fs) x → steps (state_of fs nothing no_piece) (spelling x) ≡ Some (state_of fs x no_piece)
 content_steps fs nothing g = refl
 content_steps fs (char y c) g =
     steps_on_to (state_of fs nothing no_piece) (state_of fs y no_piece) (spelling y) (c ∷ []) _ (content_steps fs y g.0)
-      (step_to (state_of fs y no_piece) (state_of fs (char y c) no_piece) c [] (m_char fs y c g.1))
+    (step_to (state_of fs y no_piece) (state_of fs (char y c) no_piece) c [] (m_char fs y c g.1))
 content_steps fs (tagged y n k) g =
     steps_on_to (state_of fs nothing no_piece) (state_of fs y no_piece) (spelling y) (start_tag n ++ (spelling k ++ end_tag n)) _ (content_steps fs y g.0)
-      (steps_on_to (state_of fs y no_piece) (state_of (frame fs y n) nothing no_piece) (start_tag n) (spelling k ++ end_tag n) _ (start_steps fs y n g.1 g.2)
-        (steps_on_to (state_of (frame fs y n) nothing no_piece) (state_of (frame fs y n) k no_piece) (spelling k) (end_tag n) _ (content_steps (frame fs y n) k g.3)
-          (end_steps fs y k n)))
+    (steps_on_to (state_of fs y no_piece) (state_of (frame fs y n) nothing no_piece) (start_tag n) (spelling k ++ end_tag n) _ (start_steps fs y n g.1 g.2)
+    (steps_on_to (state_of (frame fs y n) nothing no_piece) (state_of (frame fs y n) k no_piece) (spelling k) (end_tag n) _ (content_steps (frame fs y n) k g.3)
+    (end_steps fs y k n)))
 
 pub frames_steps : (fs : Frames) → IsFrames fs → steps start (frames_spelling fs) ≡ Some (state_of fs nothing no_piece)
 frames_steps bottom g = refl
 frames_steps (frame fs x n) g =
     steps_on_to start (state_of fs nothing no_piece) (frames_spelling fs) (spelling x ++ start_tag n) _ (frames_steps fs g.0)
-      (steps_on_to (state_of fs nothing no_piece) (state_of fs x no_piece) (spelling x) (start_tag n) _ (content_steps fs x g.1)
-        (start_steps fs x n g.2 g.3))
+    (steps_on_to (state_of fs nothing no_piece) (state_of fs x no_piece) (spelling x) (start_tag n) _ (content_steps fs x g.1)
+    (start_steps fs x n g.2 g.3))
 
 pub piece_steps : (fs : Frames) (x : Content) (p : Piece) → IsPiece fs x p → steps (state_of fs x no_piece) (piece_spelling p) ≡ Some (state_of fs x p)
 piece_steps fs x no_piece g = refl
@@ -166,5 +164,5 @@ piece_steps (frame fs y n) x (ending m r) g = end_front fs y x n m r g
 pub front_steps : (fs : Frames) (x : Content) (p : Piece) → IsFront fs x p → steps start (front_spelling fs x p) ≡ Some (state_of fs x p)
 front_steps fs x p g =
     steps_on_to start (state_of fs x no_piece) (frames_spelling fs ++ spelling x) (piece_spelling p) _
-      (steps_on_to start (state_of fs nothing no_piece) (frames_spelling fs) (spelling x) _ (frames_steps fs g.0) (content_steps fs x g.1))
-      (piece_steps fs x p g.2)
+    (steps_on_to start (state_of fs nothing no_piece) (frames_spelling fs) (spelling x) _ (frames_steps fs g.0) (content_steps fs x g.1))
+    (piece_steps fs x p g.2)

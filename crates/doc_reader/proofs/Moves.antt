@@ -1,5 +1,5 @@
 -- Steps one after another, and tests.
-use Rattle.std.proofs.Common.{ℕ, ◌≡◌, ◌⊎◌, inl, inr, Bool, true, false, ◌&&◌, ◌||◌, cond, List, [], ◌∷◌, ◌++◌, Option, Some, None, refl, sym, ap, ◌∙◌}
+use Rattle.std.proofs.Common.{ℕ, ◌≡◌, ◌⊎◌, inl, inr, Bool, true, false, ◌&&◌, ◌||◌, cond, List, [], ◌∷◌, ◌++◌, Option, Some, None, refl, ap, ◌∙◌}
 use Rattle.std.proofs.lemmas.Bool.{true≢false, false≢true}
 use Rattle.gcx_model.specs.Spelling.{may_open}
 use Rattle.gcx_base.specs.declared.limits.Limits.{Limits}
@@ -51,7 +51,7 @@ pub steps_append : (s : State) (a b : List ℕ) → steps s (a ++ b) ≡ go_on (
 steps_append s [] b = refl
 steps_append s (c ∷ cs) b =
     elim (step s c) as (λ (o : Option State). go_on o (λ t. steps t (cs ++ b)) ≡ go_on (go_on o (λ t. steps t cs)) (λ t. steps t b))
-      [ None ↦ refl | Some t ↦ steps_append t cs b ]
+    [ None ↦ refl | Some t ↦ steps_append t cs b ]
 
 pub steps_on : (s t : State) (a b : List ℕ) → steps s a ≡ Some t → steps s (a ++ b) ≡ steps t b
 steps_on s t a b e = steps_append s a b ∙ ap (λ o. go_on o (λ u. steps u b)) e
@@ -67,7 +67,7 @@ pub judged_append : (lim : Limits) (s : State) (a b : List ℕ) → judged_steps
 judged_append lim s [] b = refl
 judged_append lim s (c ∷ cs) b =
     elim (judged lim s c) as (λ (o : Option State). go_on o (λ t. judged_steps lim t (cs ++ b)) ≡ go_on (go_on o (λ t. judged_steps lim t cs)) (λ t. judged_steps lim t b))
-      [ None ↦ refl | Some t ↦ judged_append lim t cs b ]
+    [ None ↦ refl | Some t ↦ judged_append lim t cs b ]
 
 pub judged_on : (lim : Limits) (s : State) (a b : List ℕ) (o p : Option State) → judged_steps lim s a ≡ o → go_on o (λ t. judged_steps lim t b) ≡ p → judged_steps lim s (a ++ b) ≡ p
 judged_on lim s a b o p e f = judged_append lim s a b ∙ ap (λ q. go_on q (λ t. judged_steps lim t b)) e ∙ f

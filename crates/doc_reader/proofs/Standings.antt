@@ -1,14 +1,13 @@
 -- How a reader goes on, and what its end shows.
-use Rattle.std.proofs.Common.{ℕ, ◌≡◌, ◌+◌, ◌-◌, ◌^◌, min, ◌≤◌, ◌<◌, ◌⊎◌, inl, inr, Bool, true, false, List, [], ◌∷◌, ◌++◌, length, Option, Some, None, refl, sym, ap, ◌∙◌, subst, arith, length-append}
+use Rattle.std.proofs.Common.{ℕ, ◌≡◌, ◌+◌, ◌-◌, ◌^◌, min, ◌≤◌, ◌<◌, inl, inr, true, false, List, [], ◌∷◌, ◌++◌, length, refl, sym, ap, ◌∙◌, subst, arith, length-append}
 use Rattle.std.proofs.lemmas.Bool.{false≢true, true≢false}
 use Rattle.gcx_base.specs.declared.limits.Limits.{Limits}
 use Rattle.gcx_model.specs.Document.{Nodes}
 use Rattle.gcx_model.specs.Spelling.{SpellsWithin}
 use Rattle.doc_reader.specs.Machine.{State, start, is_whole}
-use Rattle.doc_reader.specs.Judging.{judged_steps}
 use Rattle.doc_reader.specs.Front.{Reads}
 use Rattle.doc_reader.specs.Reading.{GoesOn, is_reading}
-use Rattle.doc_reader.specs.Standing.{Held, Stands, StandsBy, IsHopeless, Accepted, Finished, answer_by, waiting_by}
+use Rattle.doc_reader.specs.Standing.{Held, Stands, StandsBy, Accepted, Finished, answer_by, waiting_by}
 use Rattle.doc_reader.specs.declared.token.Token.{Token}
 use Rattle.doc_reader.specs.declared.token.Token.TheVariants.{EndOfDocument}
 use Rattle.doc_reader.specs.declared.reader.Phase.{Phase}
@@ -19,8 +18,12 @@ use Rattle.doc_reader.proofs.Fronts.{steps_more}
 -- a new reader
 pub stands_new : (h : Held) (lim : Limits) → h.state ≡ start → h.limits ≡ lim → h.count ≡ 0 → h.finished ≡ false → h.phase ≡ Reading → lim.bytes ≤ 1099511627776 → Stands h lim []
 stands_new h lim e l n f p m =
-    record { open_still = f; limits = l; most = m;
-      by_phase = let P : Phase → Type 0 = λ q. StandsBy q h lim [] in subst P (sym p) (let Q : State → Type 0 = λ s. Reads lim [] s in subst Q (sym e) (start_reads lim), n, omega arith) }
+    record {
+      open_still = f;
+      limits = l;
+      most = m;
+      by_phase = let P : Phase → Type 0 = λ q. StandsBy q h lim [] in subst P (sym p) (let Q : State → Type 0 = λ s. Reads lim [] s in subst Q (sym e) (start_reads lim), n, omega arith);
+    }
 
 -- what a reader stands for when its phase is known
 pub at_phase : (h : Held) (lim : Limits) (b : List ℕ) (p : Phase) → h.phase ≡ p → Stands h lim b → StandsBy p h lim b
@@ -35,14 +38,19 @@ goes old new lim b piece Reading count s m e f g =
     (steps_more lim b old.state new.state piece s.0 g.1, omega arith, omega arith)
 goes old new lim b piece Refused count s m e f g =
     elim g [
-      inl long ↦ let total : length (b ++ piece) ≡ length b + length piece = length-append b piece in let was : old.count ≡ length b = s.1 in let past : lim.bytes < length (b ++ piece) = omega arith in long_hopeless lim (b ++ piece) past
-    | inr stuck ↦ stuck_hopeless lim b old.state piece s.0 stuck ]
+      | inl long ↦ let total : length (b ++ piece) ≡ length b + length piece = length-append b piece in let was : old.count ≡ length b = s.1 in let past : lim.bytes < length (b ++ piece) = omega arith in long_hopeless lim (b ++ piece) past
+      | inr stuck ↦ stuck_hopeless lim b old.state piece s.0 stuck
+    ]
 goes old new lim b piece Out count s m e f g = tt
 
 pub stands_goes : (old new : Held) (lim : Limits) (b piece : List ℕ) (count : ℕ) → old.phase ≡ Reading → new.finished ≡ false → new.limits ≡ old.limits → count ≡ min (old.count + length piece) (2 ^ 64 - 1) → new.count ≡ count → GoesOn new.phase old.limits count old.state piece new.state → Stands old lim b → Stands new lim (b ++ piece)
 stands_goes old new lim b piece count p f l e k g s =
-    record { open_still = f; limits = l ∙ s.limits; most = s.most;
-      by_phase = goes old new lim b piece new.phase count (at_phase old lim b Reading p s) s.most e k (let P : Limits → Type 0 = λ q. GoesOn new.phase q count old.state piece new.state in subst P s.limits g) }
+    record {
+      open_still = f;
+      limits = l ∙ s.limits;
+      most = s.most;
+      by_phase = goes old new lim b piece new.phase count (at_phase old lim b Reading p s) s.most e k (let P : Limits → Type 0 = λ q. GoesOn new.phase q count old.state piece new.state in subst P s.limits g);
+    }
 
 pub reading : (p : Phase) → is_reading p ≡ true → p ≡ Reading
 reading Reading e = refl

@@ -1,6 +1,6 @@
 -- Text: its bytes are UTF-8, and it is read in one go.
-use Rattle.std.proofs.Common.{ℕ, zero, suc, ◌≡◌, ◌+◌, ◌-◌, ◌<◌, ◌≤◌, ◌⊎◌, inl, inr, Bool, true, false, not, ◌&&◌, ◌||◌, eqb, cond, List, [], ◌∷◌, ◌++◌, length, take, drop, get_or, Option, Some, None, refl, sym, ap, ◌∙◌, subst, append_assoc, append-nil, arith, add-one, eqb-true, leb-true, le-leb, length-append}
-use Rattle.std.specs.Prelude.{IsUtf8, nat_le, slice_index}
+use Rattle.std.proofs.Common.{ℕ, zero, suc, ◌≡◌, ◌+◌, ◌-◌, ◌<◌, ◌≤◌, inl, inr, Bool, true, false, not, ◌&&◌, ◌||◌, eqb, List, [], ◌∷◌, ◌++◌, length, take, drop, get_or, Option, Some, None, refl, sym, ap, ◌∙◌, subst, append_assoc, append-nil, arith, eqb-true, leb-true, le-leb, length-append}
+use Rattle.std.specs.Prelude.{IsUtf8, nat_le}
 use Rattle.std.specs.Str.{IsAscii}
 use Rattle.std.specs.List.{list_all}
 use Rattle.std.proofs.lemmas.Bool.{or_cases}
@@ -14,26 +14,30 @@ use Rattle.doc_reader.specs.Reading.{Led}
 use Rattle.doc_reader.specs.declared.machine.Mode.{Mode}
 use Rattle.doc_reader.specs.declared.machine.Mode.TheVariants.{Between, Less, StartName, EndName}
 use Rattle.std.proofs.Math.Seq.{take-add}
-use Rattle.std.proofs.lemmas.List.{take_all, take_more, length-drop, length-take, take-append-drop}
+use Rattle.std.proofs.lemmas.List.{take_all, take_more, length-drop, take-append-drop}
 use Rattle.std.proofs.lemmas.Bool.{false≢true, true≢false}
-use Rattle.doc_reader.proofs.Moves.{and_true, true_and, on_cond, judged_on, judged_to, judged_past, judged_append}
+use Rattle.doc_reader.proofs.Moves.{and_true, true_and, on_cond, judged_on, judged_to, judged_past}
 
 space_below : (c : ℕ) → is_space c ≡ true → c < 128
 space_below c h =
     elim (or_cases (eqb c 32) _ h) [
-      inl e ↦ omega (arith, eqb-true c 32 e)
-    | inr h ↦ elim (or_cases (eqb c 9) _ h) [
-        inl e ↦ omega (arith, eqb-true c 9 e)
-      | inr h ↦ elim (or_cases (eqb c 13) _ h) [
-          inl e ↦ omega (arith, eqb-true c 13 e)
-        | inr e ↦ omega (arith, eqb-true c 10 e) ] ] ]
+      | inl e ↦ omega (arith, eqb-true c 32 e)
+      | inr h ↦ elim (or_cases (eqb c 9) _ h) [
+        | inl e ↦ omega (arith, eqb-true c 9 e)
+        | inr h ↦ elim (or_cases (eqb c 13) _ h) [
+          | inl e ↦ omega (arith, eqb-true c 13 e)
+          | inr e ↦ omega (arith, eqb-true c 10 e)
+        ]
+      ]
+    ]
 
 pub text_below : (c : ℕ) → is_text_char c ≡ true → c < 128
 text_below c h =
     let both = and_true (is_space c || (nat_le 32 c && nat_le c 127)) (not (eqb c 60) && not (eqb c 38)) h in
     elim (or_cases (is_space c) _ both.0) [
-      inl e ↦ space_below c e
-    | inr e ↦ let range = and_true (nat_le 32 c) (nat_le c 127) e in let most : c ≤ 127 = leb-true c 127 range.1 in omega arith ]
+      | inl e ↦ space_below c e
+      | inr e ↦ let range = and_true (nat_le 32 c) (nat_le c 127) e in let most : c ≤ 127 = leb-true c 127 range.1 in omega arith
+    ]
 
 text_ascii : (bs : List ℕ) → list_all is_text_char bs ≡ true → IsAscii bs
 text_ascii [] h i = omega arith
@@ -86,11 +90,12 @@ pub text_passes : (lim : Limits) (s : State) (cs : List ℕ) → InText s → li
 text_passes lim s [] i h l = absurd (omega arith)
 text_passes lim s (c ∷ cs) i h l =
     elim (nat_le (length (s.run ++ c ∷ [])) lim.text) as (λ (b : Bool). nat_le (length (s.run ++ c ∷ [])) lim.text ≡ b → judged_steps lim s (c ∷ cs) ≡ None) [
-      false ↦ λ e. ap (λ o. go_on o (λ t. judged_steps lim t cs)) (judged_past lim s (with_text s (c ∷ [])) c (text_step s c i both.0) (text_within lim s c false i e))
-    | true ↦ λ e.
-        let room : length (s.run ++ c ∷ []) ≤ lim.text = leb-true (length (s.run ++ c ∷ [])) lim.text e in
-        ap (λ o. go_on o (λ t. judged_steps lim t cs)) (judged_to lim s (with_text s (c ∷ [])) c (text_step s c i both.0) (text_within lim s c true i e))
-        ∙ text_passes lim (with_text s (c ∷ [])) cs (record { mode = i.mode; inside = i.inside }) both.1 (omega (arith, length-append s.run (c ∷ []))) ] refl
+      | false ↦ λ e. ap (λ o. go_on o (λ t. judged_steps lim t cs)) (judged_past lim s (with_text s (c ∷ [])) c (text_step s c i both.0) (text_within lim s c false i e))
+      | true ↦ λ e.
+          let room : length (s.run ++ c ∷ []) ≤ lim.text = leb-true (length (s.run ++ c ∷ [])) lim.text e in
+          ap (λ o. go_on o (λ t. judged_steps lim t cs)) (judged_to lim s (with_text s (c ∷ [])) c (text_step s c i both.0) (text_within lim s c true i e))
+          ∙ text_passes lim (with_text s (c ∷ [])) cs (record { mode = i.mode; inside = i.inside }) both.1 (omega (arith, length-append s.run (c ∷ [])))
+    ] refl
   where
     both : (is_text_char c ≡ true) × (list_all is_text_char cs ≡ true)
     both = and_true (is_text_char c) (list_all is_text_char cs) h
@@ -113,7 +118,8 @@ parts_more lim s t u piece k n h l e f =
     let l' : n ≤ length (drop k piece) = subst (λ r. n ≤ length r) (rest_is piece k h) l in
     record {
       within = omega (arith, length-drop k piece);
-      read = ap (judged_steps lim s) (take-add k n piece) ∙ judged_on lim s (take k piece) (take n (drop k piece)) (Some t) (Some u) e (ap (λ r. judged_steps lim t (take n r)) (sym (rest_is piece k h)) ∙ f) }
+      read = ap (judged_steps lim s) (take-add k n piece) ∙ judged_on lim s (take k piece) (take n (drop k piece)) (Some t) (Some u) e (ap (λ r. judged_steps lim t (take n r)) (sym (rest_is piece k h)) ∙ f);
+    }
 
 -- a byte more
 pub byte_more : (lim : Limits) (s t : State) (o : Option State) (piece : List ℕ) (k : ℕ) → k < length piece → judged_steps lim s (take k piece) ≡ Some t → judged lim t (get_or piece k 0) ≡ o → judged_steps lim s (take (k + 1) piece) ≡ o

@@ -1,16 +1,16 @@
 -- What reading shows: a front, a document, or that no document begins so; and that a text spells one document.
-use Rattle.std.proofs.Common.{ℕ, ◌≡◌, ◌+◌, ◌≤◌, ◌<◌, Bool, true, false, not, ◌&&◌, ◌||◌, List, [], ◌∷◌, ◌++◌, length, Option, Some, None, refl, sym, ap, ◌∙◌, subst, append_assoc, append-nil, arith, length-append}
+use Rattle.std.proofs.Common.{ℕ, ◌≡◌, ◌≤◌, ◌<◌, Bool, true, false, ◌||◌, List, [], ◌∷◌, ◌++◌, length, Some, None, refl, sym, ap, ◌∙◌, subst, append_assoc, append-nil, arith, length-append}
 use Rattle.std.proofs.lemmas.Bool.{false≢true}
 use Rattle.gcx_base.specs.declared.limits.Limits.{Limits}
 use Rattle.gcx_model.specs.Document.{Nodes, none, element, text, tokens}
-use Rattle.gcx_model.specs.Spelling.{Content, nothing, spelling, has_element, nodes, Spells, Fits, SpellsWithin}
-use Rattle.doc_reader.specs.Machine.{State, start, is_whole, go_on}
+use Rattle.gcx_model.specs.Spelling.{Content, nothing, spelling, has_element, nodes, SpellsWithin}
+use Rattle.doc_reader.specs.Machine.{State, start, is_whole}
 use Rattle.doc_reader.specs.Judging.{judged_steps}
 use Rattle.doc_reader.specs.declared.token.Token.{Token}
 use Rattle.doc_reader.specs.declared.token.Token.TheVariants.{Start, End, Text, EndOfDocument}
 use Rattle.doc_reader.specs.Front.{node_tokens, Frames, bottom, frame, Piece, no_piece, less, started, ending, front_spelling, IsFront, FrontFits, state_of, Reads}
 use Rattle.doc_reader.specs.Standing.{IsHopeless}
-use Rattle.doc_reader.proofs.Moves.{some_is, none_some, judged_append, judged_on}
+use Rattle.doc_reader.proofs.Moves.{some_is, none_some, judged_on}
 use Rattle.doc_reader.proofs.Laws.{tokens-element}
 use Rattle.std.proofs.lemmas.List.{map-append}
 use Rattle.doc_reader.proofs.Within.{front_judged, content_judged}
@@ -53,6 +53,7 @@ whole_spells lim b s r l h = go r.frames r.content r.piece r.good r.fits r.spell
     root : (b : Bool) → b || false ≡ true → b ≡ true
     root true e = refl
     root false e = e
+
     go : (fs : Frames) (x : Content) (p : Piece) → IsFront fs x p → FrontFits lim fs x p → front_spelling fs x p ≡ b → state_of fs x p ≡ s → is_whole (state_of fs x p) ≡ true → IsRead lim b s
     go (frame fs y n) x no_piece g f e i w = absurd (false≢true w)
     go bottom x no_piece g f e i w =
@@ -60,7 +61,8 @@ whole_spells lim b s r l h = go r.frames r.content r.piece r.good r.fits r.spell
         record {
           document = nodes x;
           spells = record { spells = record { content = x; good = g.1; root = root (has_element x) w; spelled = is; tree = refl }; fits = f.1; short = l };
-          said = sym (ap (λ t. t.tokens) i) }
+          said = sym (ap (λ t. t.tokens) i);
+        }
     go fs x less g f e i w = absurd (false≢true w)
     go fs x (started n) g f e i w = absurd (false≢true w)
     go fs x (ending m q) g f e i w = absurd (false≢true w)

@@ -1,4 +1,5 @@
 pub mod Machine
+pub mod OpenNames
 pub mod Judging
 pub mod Front
 pub mod Reading

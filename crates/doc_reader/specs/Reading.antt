@@ -1,5 +1,5 @@
 -- What the fields of the code stand for, and what its parts answer.
-use Rattle.std.specs.Prelude.{ℕ, ◌≡◌, ◌+◌, ◌<◌, ◌≤◌, ◌⊎◌, ◌^◌, Bool, true, false, List, [], ◌∷◌, ◌++◌, length, take, Option, Some, None, Result, Ok, Err, reverse, slice_get}
+use Rattle.std.specs.Prelude.{ℕ, ◌≡◌, ◌+◌, ◌<◌, ◌≤◌, ◌⊎◌, ◌^◌, Bool, true, false, List, [], ◌∷◌, ◌++◌, length, take, Option, Some, None, Result, Ok, Err}
 use Rattle.std.specs.List.{list_all}
 use Rattle.gcx_base.specs.declared.limits.Limits.{Limits}
 use Rattle.gcx_model.specs.Spelling.{is_text_char}
@@ -10,7 +10,7 @@ use Rattle.doc_reader.specs.declared.reader.Phase.{Phase}
 use Rattle.doc_reader.specs.declared.reader.Phase.TheVariants.{Reading, Refused, Out}
 
 abbrev pub view : Machine → State
-view m = record { mode = m.mode; names = reverse m.names.items; rooted = m.rooted; run = m.run; name = m.name.items; tokens = m.tokens.items }
+view m = record { mode = m.mode; names = m.names; rooted = m.rooted; run = m.run; name = m.name.items; tokens = m.tokens.items }
 
 -- a step was taken, or there is none and nothing changed
 abbrev pub Taken : Bool → State → Option State → State → Type 0
@@ -37,16 +37,6 @@ run_ended s = record s { run = []; tokens = s.tokens ++ text_of s.run }
 abbrev pub ClosedNames : List (List ℕ) → State → State → Type 0
 ClosedNames [] s t = Unit {0}
 ClosedNames (n ∷ rest) s t = t ≡ closed s rest
-
--- the character at i of the innermost name, or none behind its last one, if there is a name
-abbrev pub expected_at : List (List ℕ) → ℕ → Option (Option ℕ)
-expected_at [] i = None
-expected_at (n ∷ rest) i = Some (slice_get n i)
-
-abbrev pub IsBelow : Option (Option ℕ) → ℕ → Type 0
-IsBelow None i = Unit {0}
-IsBelow (Some None) i = Unit {0}
-IsBelow (Some (Some d)) i = i + 1 < 2 ^ 64
 
 -- the first n bytes are text
 pub record IsTextFront (n : ℕ) (rest : List ℕ) : Type 0 where

@@ -3,6 +3,7 @@
 
 mod judge;
 mod machine;
+mod open_names;
 mod read;
 mod reader;
 mod run;

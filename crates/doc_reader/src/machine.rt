@@ -1,8 +1,9 @@
-ghost use Rattle.std.specs.Prelude.{◌≡◌, ◌+◌, ◌≤◌, reverse, OnOk, OnErr, [], ◌∷◌, ◌++◌};
+ghost use Rattle.std.specs.Prelude.{◌≡◌, ◌+◌, ◌≤◌, OnOk, OnErr};
 ghost use Rattle.std.specs.VecDeque.{deque_len, deque_capacity};
-ghost use Rattle.doc_reader.specs.Machine.{start, is_inside, is_whole, on_named};
+ghost use Rattle.doc_reader.specs.Machine.{start, is_whole, on_named};
 ghost use Rattle.doc_reader.specs.Reading.{view, Stepped, run_ended, ClosedNames};
 
+use crate::open_names::OpenNames;
 use crate::run::Run;
 use crate::token::Token;
 use gcx_base::{Memory, Name};
@@ -27,8 +28,7 @@ pub(crate) enum Mode {
 pub(crate) struct Machine {
     pub(crate) alloc: Global,
     pub(crate) mode: Mode,
-    /// The names of the open elements, the innermost last.
-    pub(crate) names: Vec<Name>,
+    pub(crate) names: OpenNames,
     /// Whether there was a root element.
     pub(crate) rooted: bool,
     pub(crate) run: Run,
@@ -43,7 +43,7 @@ pub(crate) fn new_machine(alloc: Global) -> Machine
     Machine {
         alloc,
         mode: Mode::Between,
-        names: Vec::new(alloc),
+        names: OpenNames::new(alloc),
         rooted: false,
         run: Run::new(alloc),
         name: Vec::new(alloc),
@@ -51,19 +51,12 @@ pub(crate) fn new_machine(alloc: Global) -> Machine
     }
 }
 
-/// Whether an element is open.
-pub(crate) fn has_open(names: &Vec<Name>) -> bool
-    ensures { result ≡ is_inside (reverse names.now.items) }
-{
-    names.len() > 0
-}
-
 /// Whether a whole document was read.
 pub(crate) fn has_whole(m: &Machine) -> bool
     ensures { result ≡ is_whole (view m.now) }
 {
     match m.mode {
-        Mode::Between => !has_open(&m.names) && m.rooted,
+        Mode::Between => !m.names.has_open() && m.rooted,
         _ => false,
     }
 }
@@ -84,18 +77,16 @@ fn end_run(m: &mut Machine)
 }
 
 /// Opens the element of the name that was read, where it is a plain name.
-#[tactic(auto, using(crate::proofs::Lists::reverse_push, crate::proofs::Lists::joined))]
+#[tactic(auto, using(crate::proofs::Lists::joined))]
 pub(crate) fn open_element(m: &mut Machine) -> Result<bool, Memory>
     ensures { Stepped result (view m.old) (on_named (view m.old)) (view m.new) }
 {
     m.tokens.reserve(2)?;
-    m.names.reserve(1)?;
     match Name::from_bytes(m.alloc, &m.name)? {
         Some(name) => {
-            let copy = name.copy(m.alloc)?;
+            m.names.push(&m.name)?;
             end_run(m);
-            m.tokens.push_back(Token::Start(copy)).unwrap();
-            m.names.push(name).unwrap();
+            m.tokens.push_back(Token::Start(name)).unwrap();
             m.name.clear();
             m.rooted = true;
             m.mode = Mode::Between;
@@ -113,7 +104,7 @@ pub(crate) fn close_element(m: &mut Machine) -> Result<(), Memory>
     m.tokens.reserve(2)?;
     end_run(m);
     m.tokens.push_back(Token::End).unwrap();
-    let _ = m.names.pop();
+    m.names.pop();
     m.mode = Mode::Between;
     Ok(())
 }

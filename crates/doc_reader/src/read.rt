@@ -6,7 +6,7 @@ ghost use Rattle.doc_reader.specs.Judging.{judged_steps};
 ghost use Rattle.doc_reader.specs.Reading.{view, IsTextFront, Copied, Leads};
 
 use crate::judge::judge;
-use crate::machine::{Machine, Mode, has_open};
+use crate::machine::{Machine, Mode};
 use crate::run::is_text;
 use gcx_base::{Limits, Memory};
 use memchr::memchr2;
@@ -46,7 +46,7 @@ fn in_text(m: &Machine) -> bool
     ensures { result ≡ is_between (view m.now).mode && is_inside (view m.now).names }
 {
     match m.mode {
-        Mode::Between => has_open(&m.names),
+        Mode::Between => m.names.has_open(),
         _ => false,
     }
 }

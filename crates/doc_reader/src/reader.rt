@@ -1,4 +1,4 @@
-ghost use Rattle.std.specs.Prelude.{◌≡◌, ℕ, ◌≤◌, List, [], ◌++◌};
+ghost use Rattle.std.specs.Prelude.{◌≡◌, ◌↔◌, ℕ, ◌≤◌, List, [], ◌++◌};
 ghost use Rattle.gcx_model.specs.declared.fault.DocFault.TheVariants.{Memory as document_memory};
 ghost use Rattle.doc_reader.specs.Reading.{view, GoesOn, is_reading};
 
@@ -73,6 +73,7 @@ impl Reader {
         requires bytes { limits.bytes ≤ 1099511627776 }
         ensures stands { Stands result limits [] }
         ensures open { IsOpen result }
+        ensures memory { IsOut result → ⊥ }
     {
         Reader {
             machine: new_machine(alloc),
@@ -127,7 +128,7 @@ impl Reader {
         ensures done { IsDone self.new }
         ensures answer { result ≡ answer_of self.new }
         ensures again { IsDone self.old → self.new ≡ self.old }
-        ensures out { IsOut self.old → IsOut self.new }
+        ensures memory { IsOut self.new ↔ IsOut self.old }
     {
         self.end();
         match self.phase {
@@ -156,7 +157,7 @@ impl Reader {
         ensures ends { (lim : Limits) (b : List ℕ) → Stands self.old lim b → Finished (answer_of self.new) lim b (waiting self.new) }
         ensures done { IsDone self.new }
         ensures again { IsDone self.old → self.new ≡ self.old }
-        ensures out { IsOut self.old → IsOut self.new }
+        ensures memory { IsOut self.new ↔ IsOut self.old }
     {
         if self.finished {
             return;
@@ -172,3 +173,6 @@ impl Reader {
         self.phase = Phase::Refused;
     }
 }
+
+#[cfg(test)]
+mod tests;

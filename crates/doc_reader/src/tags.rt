@@ -1,11 +1,11 @@
-ghost use Rattle.std.specs.Prelude.{◌≡◌, ◌+◌, ◌<◌, ◌^◌, reverse, slice_get, IsSome};
+ghost use Rattle.std.specs.Prelude.{◌≡◌};
 ghost use Rattle.gcx_base.specs.Name.{is_name_start, is_name_byte};
 ghost use Rattle.doc_reader.specs.Machine.{on_between, on_less, on_start, on_end, step};
-ghost use Rattle.doc_reader.specs.Reading.{view, Stepped, expected_at, IsBelow};
+ghost use Rattle.doc_reader.specs.Reading.{view, Stepped};
 
-use crate::machine::{Machine, Mode, close_element, has_open, open_element};
+use crate::machine::{Machine, Mode, close_element, open_element};
 use crate::run::is_text;
-use gcx_base::{Memory, Name};
+use gcx_base::Memory;
 
 /// The most bytes of a plain name.
 const MOST: usize = 1_024;
@@ -25,7 +25,7 @@ fn goes_on_name(c: u8) -> bool
 fn between(m: &mut Machine, c: u8) -> Result<bool, Memory>
     ensures { Stepped result (view m.old) (on_between (view m.old) c) (view m.new) }
 {
-    let inside = has_open(&m.names);
+    let inside = m.names.has_open();
     if is_text(c) && inside {
         m.run.extend(&[c])?;
         Ok(true)
@@ -45,7 +45,7 @@ fn less(m: &mut Machine, c: u8) -> Result<bool, Memory>
         m.name.push(c)?;
         m.mode = Mode::StartName;
         Ok(true)
-    } else if c == b'/' && has_open(&m.names) {
+    } else if c == b'/' && m.names.has_open() {
         m.mode = Mode::EndName(0);
         Ok(true)
     } else {
@@ -66,26 +66,10 @@ fn start_name(m: &mut Machine, c: u8) -> Result<bool, Memory>
     }
 }
 
-fn byte_at(name: &Name, i: usize) -> Option<u8>
-    ensures value { result ≡ slice_get name.now i }
-    ensures below { IsSome result → i + 1 < 2 ^ 64 }
-{
-    name.as_bytes().get(i).copied()
-}
-
-/// The character at i of the innermost name, or none behind its last one.
-fn expected(names: &Vec<Name>, i: usize) -> Option<Option<u8>>
-    ensures value { result ≡ expected_at (reverse names.now.items) i }
-    ensures below { IsBelow result i }
-{
-    let name = names.last()?;
-    Some(byte_at(name, i))
-}
-
 fn end_name(m: &mut Machine, c: u8, i: usize) -> Result<bool, Memory>
     ensures { Stepped result (view m.old) (on_end (view m.old) i c (view m.old).names) (view m.new) }
 {
-    match expected(&m.names, i) {
+    match m.names.expected(i) {
         Some(Some(d)) => {
             if c == d {
                 m.mode = Mode::EndName(i + 1);

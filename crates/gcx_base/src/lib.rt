@@ -1,6 +1,7 @@
 //! What every crate of `gcx` speaks of: names, texts, steps, kinds of nodes, numbers of roles and variables, limits.
 #![tactic(auto)]
 
+mod chars;
 mod ids;
 mod kind;
 mod limits;
@@ -10,6 +11,7 @@ mod rel;
 mod steps;
 mod text;
 
+pub use chars::{is_name_char, is_name_start, is_space, is_xml_char};
 pub use ids::{Role, Serial, VarId};
 pub use kind::Kind;
 pub use limits::Limits;
@@ -116,5 +118,43 @@ mod tests {
         assert!(rt; matches!(Kind::Document.copy(alloc)?, Kind::Document));
         assert_eq!(rt; Limits::full().depth, 1000);
         Ok(())
+    }
+
+    #[test]
+    fn characters_have_their_classes(rt: HostRuntime) {
+        // Char, NameStartChar, NameChar, S
+        let table = [
+            ('\0', false, false, false, false),
+            ('\t', true, false, false, true),
+            ('\u{B}', false, false, false, false),
+            (' ', true, false, false, true),
+            ('-', true, false, true, false),
+            ('7', true, false, true, false),
+            (':', true, true, true, false),
+            ('_', true, true, true, false),
+            ('{', true, false, false, false),
+            ('\u{B7}', true, false, true, false),
+            ('\u{D7}', true, false, false, false),
+            ('\u{E9}', true, true, true, false),
+            ('\u{37E}', true, false, false, false),
+            ('\u{203F}', true, false, true, false),
+            ('\u{3000}', true, false, false, false),
+            ('\u{FFFD}', true, true, true, false),
+            ('\u{FFFE}', false, false, false, false),
+            ('\u{10000}', true, true, true, false),
+            ('\u{F0000}', true, false, false, false),
+        ];
+        for (c, char, start, part, space) in table {
+            let classes = (
+                is_xml_char(c),
+                is_name_start(c),
+                is_name_char(c),
+                is_space(c),
+            );
+            assert!(rt;
+                classes.0 == char && classes.1 == start && classes.2 == part && classes.3 == space,
+                "{c:?}"
+            );
+        }
     }
 }

@@ -74,8 +74,8 @@ numbered_inner p s (text before bytes) r low =
     let i = s + length ys in
     let e : length (ys ++ (Under p i (Text bytes) ∷ [])) ≡ length ys + 1 = length-append ys _ in
     every_append (Inner p s (s + length (ys ++ (Under p i (Text bytes) ∷ [])))) ys (Under p i (Text bytes) ∷ [])
-      (every_on (Inner p s (s + length ys)) _ ys (λ m h. inner_on p s (s + length ys) _ m (omega arith) h) (numbered_inner p s before r low))
-      (((omega arith, r), omega arith, omega arith, omega arith, inr (over_self p, omega arith)), tt)
+    (every_on (Inner p s (s + length ys)) _ ys (λ m h. inner_on p s (s + length ys) _ m (omega arith) h) (numbered_inner p s before r low))
+    (((omega arith, r), omega arith, omega arith, omega arith, inr (over_self p, omega arith)), tt)
 numbered_inner p s (element before name inner) r low =
     let ys = numbered p s before in
     let i = s + length ys in
@@ -83,11 +83,12 @@ numbered_inner p s (element before name inner) r low =
     let zs = numbered q (i + 1) inner in
     let e : length (ys ++ (q ∷ zs)) ≡ length ys + suc (length zs) = length-append ys (q ∷ zs) in
     every_append (Inner p s (s + length (ys ++ (q ∷ zs)))) ys (q ∷ zs)
-      (every_on (Inner p s (s + length ys)) _ ys (λ m h. inner_on p s (s + length ys) _ m (omega arith) h) (numbered_inner p s before r low))
-      (((omega arith, r), omega arith, omega arith, omega arith, inr (over_self p, omega arith)),
-       every_on (Inner q (i + 1) (i + 1 + length zs)) _ zs
-         (λ m h. inner_below p s i (Element name) _ m (omega arith) (omega arith) (inner_on q (i + 1) (i + 1 + length zs) _ m (omega arith) h))
-         (numbered_inner q (i + 1) inner (omega arith, r) (omega arith)))
+    (every_on (Inner p s (s + length ys)) _ ys (λ m h. inner_on p s (s + length ys) _ m (omega arith) h) (numbered_inner p s before r low)) (
+      ((omega arith, r), omega arith, omega arith, omega arith, inr (over_self p, omega arith)),
+      every_on (Inner q (i + 1) (i + 1 + length zs)) _ zs
+          (λ m h. inner_below p s i (Element name) _ m (omega arith) (omega arith) (inner_on q (i + 1) (i + 1 + length zs) _ m (omega arith) h))
+          (numbered_inner q (i + 1) inner (omega arith, r) (omega arith)),
+    )
 
 -- the parent's number is below lo, or not below hi
 abbrev pub Apart : ℕ → ℕ → Node → Type 0
@@ -122,9 +123,9 @@ inner_apart p s end lo hi (Under q i k) le h = let a = h.3 in inr (omega arith)
 pub all_rise : (P : Tree) (xs : List Node) (p : Node) (s : ℕ) (d : Nodes) (ys : List Node) → Around P xs p s d ys → Every Rises P.nodes
 all_rise P xs p s d ys a =
     subst (Every Rises) (sym a.parts)
-      (every_append Rises xs (numbered p s d ++ ys) (every_on _ Rises xs (λ m h. h.0) a.before)
-        (every_append Rises (numbered p s d) ys (every_on _ Rises (numbered p s d) (λ m h. inner_rises p s _ m h) (numbered_inner p s d a.rises a.low))
-          (every_on _ Rises ys (λ m h. h.0) a.behind)))
+    (every_append Rises xs (numbered p s d ++ ys) (every_on _ Rises xs (λ m h. h.0) a.before)
+    (every_append Rises (numbered p s d) ys (every_on _ Rises (numbered p s d) (λ m h. inner_rises p s _ m h) (numbered_inner p s d a.rises a.low))
+    (every_on _ Rises ys (λ m h. h.0) a.behind)))
 
 module _ (P : Tree) (xs : List Node) (p : Node) (s : ℕ) (before : Nodes) (ys : List Node) where
   -- the nodes before a text
@@ -135,7 +136,7 @@ module _ (P : Tree) (xs : List Node) (p : Node) (s : ℕ) (before : Nodes) (ys :
     low = a.low;
     before = a.before;
     behind = let l = a.low in let e : count p s (text before bytes) ≡ count p s before + 1 = length-append (numbered p s before) _ in
-      (((omega arith, a.rises), inl a.low), every_on _ _ ys (λ m h. (h.0, apart_on s (s + count p s (text before bytes)) s (s + count p s before) m (omega arith) (omega arith) h.1)) a.behind);
+        (((omega arith, a.rises), inl a.low), every_on _ _ ys (λ m h. (h.0, apart_on s (s + count p s (text before bytes)) s (s + count p s before) m (omega arith) (omega arith) h.1)) a.behind);
   }
 
   module _ (name : List ℕ) (inner : Nodes) where
@@ -155,11 +156,12 @@ module _ (P : Tree) (xs : List Node) (p : Node) (s : ℕ) (before : Nodes) (ys :
       rises = a.rises;
       low = a.low;
       before = a.before;
-      behind = let l = a.low in let e = counted in
-        (((omega arith, a.rises), inl a.low),
-         every_append (λ m. Rises m × Apart s place m) (numbered this (place + 1) inner) ys
-           (every_on _ _ (numbered this (place + 1) inner) (λ m h. (inner_rises this (place + 1) _ m h, inner_apart this (place + 1) _ s place m (omega arith) h)) (numbered_inner this (place + 1) inner (omega arith, a.rises) (omega arith)))
-           (every_on _ _ ys (λ m h. (h.0, apart_on s (s + count p s (element before name inner)) s place m (omega arith) (omega arith) h.1)) a.behind));
+      behind = let l = a.low in let e = counted in (
+        ((omega arith, a.rises), inl a.low),
+        every_append (λ m. Rises m × Apart s place m) (numbered this (place + 1) inner) ys
+            (every_on _ _ (numbered this (place + 1) inner) (λ m h. (inner_rises this (place + 1) _ m h, inner_apart this (place + 1) _ s place m (omega arith) h)) (numbered_inner this (place + 1) inner (omega arith, a.rises) (omega arith)))
+            (every_on _ _ ys (λ m h. (h.0, apart_on s (s + count p s (element before name inner)) s place m (omega arith) (omega arith) h.1)) a.behind),
+      );
     }
 
     -- the children of an element
@@ -169,8 +171,8 @@ module _ (P : Tree) (xs : List Node) (p : Node) (s : ℕ) (before : Nodes) (ys :
       rises = let l = a.low in (omega arith, a.rises);
       low = omega arith;
       before = let l = a.low in every_append (λ m. Rises m × (serial_of m < place + 1)) xs (numbered p s before ++ (this ∷ []))
-        (every_on _ _ xs (λ m h. let g = h.1 in (h.0, omega arith)) a.before)
-        (every_append (λ m. Rises m × (serial_of m < place + 1)) (numbered p s before) (this ∷ [])
+          (every_on _ _ xs (λ m h. let g = h.1 in (h.0, omega arith)) a.before)
+          (every_append (λ m. Rises m × (serial_of m < place + 1)) (numbered p s before) (this ∷ [])
           (every_on _ _ (numbered p s before) (λ m h. let g = inner_low p s _ m h in (inner_rises p s _ m h, omega arith)) (numbered_inner p s before a.rises a.low))
           (((omega arith, a.rises), omega arith), tt));
       behind = let e = counted in every_on _ _ ys (λ m h. (h.0, apart_on s (s + count p s (element before name inner)) (place + 1) (place + 1 + count this (place + 1) inner) m (omega arith) (omega arith) h.1)) a.behind;

@@ -145,8 +145,10 @@ stops_by f h e = go h.phase e
   where
     same : (a b : DocFault) (x : Result (Unit {0}) DocFault) → x ≡ Err a → x ≡ Err b → b ≡ a
     same a b x e h = cc
+
     no_ok : (a : DocFault) (x : Result (Unit {0}) DocFault) → x ≡ Err a → x ≡ Ok tt → ⊥
     no_ok a x e h = cc
+
     go : (p : Phase) → Err f ≡ answer_by p → StopsDocument (refusal_of f)
     go Reading e = absurd (no_ok f (Err f) refl e)
     go Refused e = subst (λ (x : DocFault). StopsDocument (refusal_of x)) (same f (Syntax 0) (Err f) refl e) refl

@@ -95,9 +95,9 @@ reads_on bytes names behind end r free stop good = record {
       ∙ append_assoc (path_spelling names) (47 ∷ take end behind) (drop end behind)
       ∙ ap (λ l. path_spelling names ++ (47 ∷ l)) (take-append-drop end behind) ∙ r.spelled;
   only = λ all g e. (
-    let m = r.only all g e in
-    let x = next end behind m.0 free stop m.1 m.2 in
-    (x.names, x.good, x.spelled, m.3 ∙ ap (λ l. names ++ l) x.parts ∙ sym (append_assoc names (take end behind ∷ []) x.names)));
+      let m = r.only all g e in
+      let x = next end behind m.0 free stop m.1 m.2 in
+      (x.names, x.good, x.spelled, m.3 ∙ ap (λ l. names ++ l) x.parts ∙ sym (append_assoc names (take end behind ∷ []) x.names)));
 }
 
 -- what is no name

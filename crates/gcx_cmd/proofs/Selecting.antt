@@ -68,13 +68,14 @@ module _ (P : Tree) (xs : List Node) (p : Node) (s : ℕ) (before : Nodes) (ys :
       let b = bytes_eq n name in
       let here : hits (serial_of p) (child_named n ∷ []) q ≡ b = child_of (Named n) (λ j. hits (serial_of j) [] q) p i (Element name) rises ∙ ap (λ c. b && c) (eq-eqb i i refl) ∙ and_same b in
       let there : filter (hits (serial_of p) (child_named n ∷ [])) zs ≡ [] = filter_none _ zs (every_on _ _ zs (λ m h.
-          child_over (Named n) (λ j. hits (serial_of j) [] m) p i (Element name) m rises (inner_over q (i + 1) _ m h)
-          ∙ ap (λ c. b && c) (ne_eqb (serial_of m) i (λ e. let l = inner_above q (i + 1) _ m h in omega arith)) ∙ and_none b) inside) in
+      child_over (Named n) (λ j. hits (serial_of j) [] m) p i (Element name) m rises (inner_over q (i + 1) _ m h)
+      ∙ ap (λ c. b && c) (ne_eqb (serial_of m) i (λ e. let l = inner_above q (i + 1) _ m h in omega arith)) ∙ and_none b) inside) in
       rw (here, there) refl
     where
       and_same : (b : Bool) → (b && true) ≡ b
       and_same true = refl
       and_same false = refl
+
       and_none : (b : Bool) → (b && false) ≡ false
       and_none true = refl
       and_none false = refl
@@ -85,11 +86,11 @@ module _ (P : Tree) (xs : List Node) (p : Node) (s : ℕ) (before : Nodes) (ys :
       let b = bytes_eq n name in
       let g : Node → Bool = hits i (child_named m ∷ path) in
       let here : hits (serial_of p) (child_named n ∷ (child_named m ∷ path)) q ≡ false =
-          child_of (Named n) (λ j. hits (serial_of j) (child_named m ∷ path) q) p i (Element name) rises
-          ∙ ap (λ c. b && c) (none_above i (Named m) (λ j. hits (serial_of j) path q) q rises (omega arith)) ∙ and_none b in
+      child_of (Named n) (λ j. hits (serial_of j) (child_named m ∷ path) q) p i (Element name) rises
+      ∙ ap (λ c. b && c) (none_above i (Named m) (λ j. hits (serial_of j) path q) q rises (omega arith)) ∙ and_none b in
       let there : filter (hits (serial_of p) (child_named n ∷ (child_named m ∷ path))) zs ≡ cond b (filter g zs) [] =
-          filter_same _ (λ x. b && g x) zs (every_on _ _ zs (λ x h. child_over (Named n) (λ j. hits (serial_of j) (child_named m ∷ path) x) p i (Element name) x rises (inner_over q (i + 1) _ x h)) inside)
-          ∙ filter_and b g zs in
+      filter_same _ (λ x. b && g x) zs (every_on _ _ zs (λ x h. child_over (Named n) (λ j. hits (serial_of j) (child_named m ∷ path) x) p i (Element name) x rises (inner_over q (i + 1) _ x h)) inside)
+      ∙ filter_and b g zs in
       rw (here, there) refl
     where
       and_none : (b : Bool) → (b && false) ≡ false
@@ -122,8 +123,8 @@ selects P xs p s (element before name inner) ys a n [] =
     ∙ flat_map-append (copy_of P) (filter g (numbered p s before)) (filter g (q ∷ zs))
     ∙ ap (λ l. l ++ flat_map (copy_of P) (filter g (q ∷ zs))) (selects P xs p s before _ (around_before P xs p s before ys name inner a) n [])
     ∙ ap (λ l. selected (n ∷ []) before ++ l)
-      (ap (flat_map (copy_of P)) (last_here P xs p s before ys name inner n a)
-       ∙ cond_map (flat_map (copy_of P)) (bytes_eq n name) (q ∷ []) _ refl (append-nil (copy_of P q) ∙ copy_is P xs p s before ys name inner n a))
+    (ap (flat_map (copy_of P)) (last_here P xs p s before ys name inner n a)
+    ∙ cond_map (flat_map (copy_of P)) (bytes_eq n name) (q ∷ []) _ refl (append-nil (copy_of P q) ∙ copy_is P xs p s before ys name inner n a))
 selects P xs p s (element before name inner) ys a n (m ∷ rest) =
     let g : Node → Bool = hits (serial_of p) (child_path (n ∷ (m ∷ rest))) in
     let q = Under p (s + count p s before) (Element name) in
@@ -132,8 +133,8 @@ selects P xs p s (element before name inner) ys a n (m ∷ rest) =
     ∙ flat_map-append (copy_of P) (filter g (numbered p s before)) (filter g (q ∷ zs))
     ∙ ap (λ l. l ++ flat_map (copy_of P) (filter g (q ∷ zs))) (selects P xs p s before _ (around_before P xs p s before ys name inner a) n (m ∷ rest))
     ∙ ap (λ l. selected (n ∷ (m ∷ rest)) before ++ l)
-      (ap (flat_map (copy_of P)) (on_here P xs p s before ys name inner n a m (child_path rest))
-       ∙ cond_map (flat_map (copy_of P)) (bytes_eq n name) (filter (hits (serial_of q) (child_path (m ∷ rest))) zs) _ refl (selects P (xs ++ (numbered p s before ++ (q ∷ []))) q (s + count p s before + 1) inner ys (around_inner P xs p s before ys name inner a) m rest))
+    (ap (flat_map (copy_of P)) (on_here P xs p s before ys name inner n a m (child_path rest))
+    ∙ cond_map (flat_map (copy_of P)) (bytes_eq n name) (filter (hits (serial_of q) (child_path (m ∷ rest))) zs) _ refl (selects P (xs ++ (numbered p s before ++ (q ∷ []))) q (s + count p s before + 1) inner ys (around_inner P xs p s before ys name inner a) m rest))
 
 abbrev whole : Nodes → Tree
 whole d = record { nodes = Root ∷ numbered Root 1 d; at = None }

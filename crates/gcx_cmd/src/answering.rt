@@ -23,7 +23,11 @@ fn take(selector: &mut Selector<'_>, token: Token) -> Result<(), Memory>
 }
 
 /// The answer of the path over the tokens that wait.
-pub(crate) fn answer_waiting(alloc: Global, path: &[Name], reader: &mut Reader) -> Result<Vec<u8>, Memory>
+pub(crate) fn answer_waiting(
+    alloc: Global,
+    path: &[Name],
+    reader: &mut Reader,
+) -> Result<Vec<u8>, Memory>
     ensures { IfOk result (λ answer. answer.items ≡ (given_all path.now no_selection (waiting reader.old)).answer) }
 {
     let mut selector = Selector::new(alloc, path);

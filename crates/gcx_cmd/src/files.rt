@@ -18,7 +18,12 @@ use gcx_model::{DocFault, QueryFault};
 use std::alloc::Global;
 
 /// Attaches a file and reads it to its end, or until there are more bytes than the limit.
-fn read_file<F: Shelf>(alloc: Global, files: &mut F, name: &Text, limit: usize) -> Result<Vec<u8>, ReadEnd>
+fn read_file<F: Shelf>(
+    alloc: Global,
+    files: &mut F,
+    name: &Text,
+    limit: usize,
+) -> Result<Vec<u8>, ReadEnd>
     ensures bytes { (bytes : List ℕ) → content_of (F.names files.old) name.now ≡ Some bytes → IfOk result (λ read. IsReadUpTo limit bytes read.items) }
     ensures names { F.names files.new ≡ F.names files.old }
     ensures handles { OnOk result (F.handles files.new ≡ F.handles files.old + 1) }
@@ -31,7 +36,11 @@ fn read_file<F: Shelf>(alloc: Global, files: &mut F, name: &Text, limit: usize) 
 }
 
 /// Reads a query, or the status to end with.
-pub(crate) fn read_query<F: Shelf>(alloc: Global, files: &mut F, name: &Text) -> Result<Vec<Name>, Status>
+pub(crate) fn read_query<F: Shelf>(
+    alloc: Global,
+    files: &mut F,
+    name: &Text,
+) -> Result<Vec<Name>, Status>
     ensures told { (query : List ℕ) → content_of (F.names files.old) name.now ≡ Some query →
         MatchResult result (λ path. IsQueryOf query path.items) (λ status. SaysOfQuery status query) }
     ensures stop { IfErr result StopsQuery }
@@ -52,7 +61,12 @@ pub(crate) fn read_query<F: Shelf>(alloc: Global, files: &mut F, name: &Text) ->
 }
 
 /// Feeds a file to the reader.
-fn feed_file<F: Shelf>(files: &mut F, handle: Handle, reader: &mut Reader, limit: u64) -> Result<(), ReadEnd>
+fn feed_file<F: Shelf>(
+    files: &mut F,
+    handle: Handle,
+    reader: &mut Reader,
+    limit: u64,
+) -> Result<(), ReadEnd>
     requires given { handle.0 < F.handles files.old }
     requires open { IsOpen reader.old }
     requires ends { limit < 2 ^ 64 - 1 }
@@ -89,7 +103,11 @@ fn finish(reader: &mut Reader) -> Result<(), Status>
 }
 
 /// Reads a document, or the status to end with.
-pub(crate) fn read_document<F: Shelf>(alloc: Global, files: &mut F, name: &Text) -> Result<Reader, Status>
+pub(crate) fn read_document<F: Shelf>(
+    alloc: Global,
+    files: &mut F,
+    name: &Text,
+) -> Result<Reader, Status>
     ensures told { (document : List ℕ) → content_of (F.names files.old) name.now ≡ Some document →
         MatchResult result (λ reader. Accepted full_limits document (waiting reader)) (λ status. SaysOfDocument status document) }
     ensures stop { IfErr result StopsDocument }

@@ -1,6 +1,6 @@
 -- Facts beside the laws: what a role's kind means, what is signed, what stays, and that the demand run goes through core states.
-use Rattle.std.proofs.Common.{◌≡◌, ℕ, zero, suc, ◌+◌, ◌≤◌, Bool, true, false, not, ◌&&◌, List, [], ◌∷◌, ◌++◌, length, refl, sym, ◌∙◌, ap, subst, inl, inr, arith, add-zero, Some, None, Option, eqb, append_assoc}
-use Rattle.std.specs.Prelude.{take}
+use Rattle.std.proofs.Common.{◌≡◌, cond, ℕ, zero, suc, ◌+◌, ◌≤◌, Bool, true, false, not, ◌&&◌, List, [], ◌∷◌, ◌++◌, length, refl, sym, ◌∙◌, ap, subst, inl, inr, arith, add-zero, Some, None, Option, eqb, append_assoc}
+use Rattle.std.specs.Prelude.{take, drop}
 use Rattle.std.specs.List.{filter, flat_map}
 use Rattle.std.proofs.lemmas.List.{length-append}
 use Rattle.std.proofs.lemmas.Bool.{and_parts, and_from, or_cases, or_left, or_right, false≢true, true≢false, eqb-true, eq-eqb, not-true, false_from_ne_true}
@@ -20,17 +20,17 @@ use Rattle.gcx_model.specs.Variables.{var_tree, path_in}
 use Rattle.gcx_model.specs.Roles.{roles_of}
 use Rattle.gcx_model.specs.Cores.{Good}
 use Rattle.gcx_model.specs.Placed.{row_at, offs_in, of_role, offs_of, plan_of}
-use Rattle.gcx_model.specs.Held.{is_node, path_of, statement_of, on_row, given_row, given, is_off, signed, held}
+use Rattle.gcx_model.specs.Held.{is_node, path_of, statement_of, on_row, given_row, given, is_off, signed, held, is_held}
 use Rattle.gcx_model.specs.Growth.{may_come, may_all}
 use Rattle.gcx_model.specs.Points.{actions, so_far, ReachedFrom, here, fed, acted, Reached, Rest, Round, PointAt, Bound_in}
 use Rattle.gcx_laws.specs.Bridges.{GivesByKind, SignedIsOff, OneStatement, PathsByRows, DemandIsReached}
-use Rattle.gcx_laws.specs.Laws.{GivenStays, GoneStays, BoundLaw, TurnLaw, UnsignedLaw, is_write, PlanBytes, KnownIsFront}
+use Rattle.gcx_laws.specs.Laws.{GivenStays, GoneStays, BoundLaw, TurnLaw, UnsignedLaw, is_write, PlanBytes, KnownIsFront, HeldByFeed, HeldByAct}
 use Rattle.gcx_laws.proofs.Reading as old
 use Rattle.gcx_laws.proofs.Reading.{Reading, reading}
-use Rattle.gcx_laws.proofs.Lists.{In-filter, In-kept, any_in, any_from}
-use Rattle.gcx_laws.proofs.Matches.{Grown-grow, Numbered-same, Matches-in, Matches-from}
+use Rattle.gcx_laws.proofs.Lists.{In-filter, In-kept, any_in, any_from, In-left, filter_same}
+use Rattle.gcx_laws.proofs.Matches.{Grown-grow, Numbered-same, Matches-in, Matches-from, added, grow_nodes}
 use Rattle.gcx_laws.proofs.Chains.{above_in}
-use Rattle.gcx_laws.proofs.Stays.{gives_same, held_back}
+use Rattle.gcx_laws.proofs.Stays.{gives_same, held_back, held_feed}
 use Rattle.gcx_laws.proofs.Prefix.{Before, Same, More}
 use Rattle.gcx_laws.proofs.Whole.{prefix}
 use Rattle.gcx_laws.proofs.Plans.{same_role}
@@ -39,7 +39,7 @@ use Rattle.gcx_laws.proofs.Waits.{nodes_stay}
 use Rattle.gcx_laws.proofs.CoreStates.{tree, grown, so_far_stays, taken_acted}
 use Rattle.gcx_laws.proofs.Evaluator as over
 use Rattle.gcx_laws.proofs.Growing.{grows, fed_all, grow_all-append}
-use Rattle.gcx_laws.proofs.Bridge.{path_is, held_is}
+use Rattle.gcx_laws.proofs.Bridge.{path_is, held_is, is_held_is}
 use Rattle.gcx_laws.proofs.Public.{from_tokens, from_plan, from_state, reached_leads, offs_at_matches, plan_writes, prefix_law}
 
 -- the kinds of roles
@@ -277,3 +277,41 @@ pub known_is_front : KnownIsFront
 known_is_front q s P l d m =
     let h = (prefix_law P (tree_of d) l m (normal q)).0 in
     (flat_map bytes_of h.0, sym (normal_law q s d) ∙ (ap (flat_map bytes_of) h.1 ∙ flat_map-append bytes_of (run (normal q) env0 P).acts h.0))
+
+-- the rows behind a token, and behind an action
+
+drop_front : {X : Type 0} (xs ys : List X) → drop (length xs) (xs ++ ys) ≡ ys
+drop_front [] ys = refl
+drop_front (x ∷ xs) ys = drop_front xs ys
+
+filter_sub : (p q : Node → Bool) (xs : List Node) → ((x : Node) → q x ≡ true → p x ≡ true) → filter q (filter p xs) ≡ filter q xs
+filter_sub p q [] h = refl
+filter_sub p q (x ∷ xs) h = go (p x) (q x) refl refl (filter_sub p q xs h)
+  where
+    go : (a b : Bool) → p x ≡ a → q x ≡ b → filter q (filter p xs) ≡ filter q xs → filter q (cond a (x ∷ filter p xs) (filter p xs)) ≡ cond b (x ∷ filter q xs) (filter q xs)
+    go true true e f i = rw f (ap (λ z. x ∷ z) i)
+    go true false e f i = rw f i
+    go false true e f i = absurd (false≢true (sym e ∙ h x f))
+    go false false e f i = i
+
+feed_at : (core : BodyTree) (good : Good core) (P : Tree) → Grown P → (t : Token) (A : List Action) → held (plan_of core) (grow t P) A ≡ filter (is_held (plan_of core) (grow t P) A) (held (plan_of core) P A ++ drop (length P.nodes) (grow t P).nodes)
+feed_at core good P w t A =
+    let p : Reading = reading core in
+    let n : drop (length P.nodes) (grow t P).nodes ≡ added t P = ap (drop (length P.nodes)) (grow_nodes t P) ∙ drop_front P.nodes (added t P) in
+    held_is core good (grow t P) A
+    ∙ (held_feed t P w p A
+    ∙ (ap (λ z. filter (old.is_held p (grow t P) A) (z ++ added t P)) (sym (held_is core good P A))
+    ∙ (ap (λ z. filter (old.is_held p (grow t P) A) (held (plan_of core) P A ++ z)) (sym n)
+    ∙ filter_same (old.is_held p (grow t P) A) (is_held (plan_of core) (grow t P) A) (held (plan_of core) P A ++ drop (length P.nodes) (grow t P).nodes) (λ m i. sym (is_held_is core good (grow t P) A m)))))
+
+pub held_by_feed : HeldByFeed
+held_by_feed core good plan pl P l t A =
+    from_plan core good (λ plan. held plan (grow t P) A ≡ filter (is_held plan (grow t P) A) (held plan P A ++ drop (length P.nodes) (grow t P).nodes)) (feed_at core good P (from_tokens (λ z. Grown z) grown P l) t A) plan pl
+
+act_at : (core : BodyTree) (good : Good core) (P : Tree) (A : List Action) (a : Action) → held (plan_of core) P (A ++ a ∷ []) ≡ filter (is_held (plan_of core) P (A ++ a ∷ [])) (held (plan_of core) P A)
+act_at core good P A a =
+    let B : List Action = A ++ a ∷ [] in
+    sym (filter_sub (is_held (plan_of core) P A) (is_held (plan_of core) P B) P.nodes (λ n h. is_held_is core good P A n ∙ held_acted (reading core) P A B n (λ x i. In-left x A (a ∷ []) i) (sym (is_held_is core good P B n) ∙ h)))
+
+pub held_by_act : HeldByAct
+held_by_act core good plan pl P A a = from_plan core good (λ plan. held plan P (A ++ a ∷ []) ≡ filter (is_held plan P (A ++ a ∷ [])) (held plan P A)) (act_at core good P A a) plan pl

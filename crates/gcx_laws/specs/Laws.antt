@@ -1,8 +1,8 @@
 -- The laws on the definitions.
-use Rattle.std.specs.Prelude.{◌≡◌, ℕ, Bool, true, false, List, [], ◌∷◌, ◌++◌, filter, flat_map}
+use Rattle.std.specs.Prelude.{◌≡◌, ℕ, Bool, true, false, List, [], ◌∷◌, ◌++◌, filter, flat_map, length, drop}
 use Rattle.gcx_base.specs.declared.steps.Step.{Step}
 use Rattle.gcx_model.specs.Document.{Nodes, tree_of}
-use Rattle.gcx_model.specs.Tree.{Node, serial_of, Tree, opening, is_closed}
+use Rattle.gcx_model.specs.Tree.{Node, serial_of, Tree, opening, is_closed, Token, grow}
 use Rattle.gcx_model.specs.Paths.{matches}
 use Rattle.gcx_model.specs.Members.{In, Once}
 use Rattle.gcx_model.specs.Query.{ExprTree}
@@ -12,7 +12,7 @@ use Rattle.gcx_model.specs.Truth.{Env, truth}
 use Rattle.gcx_model.specs.Run.{Action, Wrote, Offed, Out, copy, run, env0, bytes_of}
 use Rattle.gcx_model.specs.Cores.{Good}
 use Rattle.gcx_model.specs.Placed.{offs_in, Placed, plan_of}
-use Rattle.gcx_model.specs.Held.{path_of, given, taken, held, held_tree}
+use Rattle.gcx_model.specs.Held.{path_of, given, taken, held, held_tree, is_held}
 use Rattle.gcx_model.specs.Growth.{Leads}
 use Rattle.gcx_model.specs.Points.{actions, so_far, ReachedFrom, Reached, Frame, Rest, Round, Part, later, to_come, PointAt, Bound_in}
 use Rattle.gcx_model.specs.Needs.{Needs, Uses}
@@ -82,6 +82,15 @@ GivenStays = (plan : PlanTree) (P Q : Tree) → Leads opening P → Leads P Q �
 abbrev pub GoneStays : Type 0
 GoneStays = (core : BodyTree) → Good core → (plan : PlanTree) → Placed core plan → (P : Tree) (k : ℕ) → Reached plan P k → (Q : Tree) (j : ℕ) → ReachedFrom plan P k Q j
     → (n : Node) → In n P.nodes → In n (held plan Q (so_far plan Q j)) → In n (held plan P (so_far plan P k))
+
+-- The nodes held behind a token come from those held before it and the new one,
+abbrev pub HeldByFeed : Type 0
+HeldByFeed = (core : BodyTree) → Good core → (plan : PlanTree) → Placed core plan → (P : Tree) → Leads opening P → (t : Token) (A : List Action)
+    → held plan (grow t P) A ≡ filter (is_held plan (grow t P) A) (held plan P A ++ drop (length P.nodes) (grow t P).nodes)
+
+-- and those held behind an action from those held before it.
+abbrev pub HeldByAct : Type 0
+HeldByAct = (core : BodyTree) → Good core → (plan : PlanTree) → Placed core plan → (P : Tree) (A : List Action) (a : Action) → held plan P (A ++ a ∷ []) ≡ filter (is_held plan P (A ++ a ∷ [])) (held plan P A)
 
 -- Behind the first k actions there is a point. From each of them on, all that is to come follows on these actions.
 abbrev pub PointLaw : Type 0

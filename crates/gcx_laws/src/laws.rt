@@ -1,4 +1,4 @@
-ghost use Rattle.gcx_laws.specs.Laws.{PrefixLaw, ClosedLaw, NormalLaw, NormalIsGood, PlacedOnce, PlanWrites, PlanBytes, KnownIsFront, BalanceLaw, EmptyAtEnd, OnceLaw, OffsAtMatches, TakenStays, GivenStays, GoneStays, PointLaw, ResumeLaw, NeedLaw, BoundLaw, TurnLaw, UnsignedLaw, TruthHeld, TurnsHeld, LoopHeld, CopyHeld};
+ghost use Rattle.gcx_laws.specs.Laws.{PrefixLaw, ClosedLaw, NormalLaw, NormalIsGood, PlacedOnce, PlanWrites, PlanBytes, KnownIsFront, BalanceLaw, EmptyAtEnd, OnceLaw, OffsAtMatches, TakenStays, GivenStays, GoneStays, HeldByFeed, HeldByAct, PointLaw, ResumeLaw, NeedLaw, BoundLaw, TurnLaw, UnsignedLaw, TruthHeld, TurnsHeld, LoopHeld, CopyHeld};
 
 /// Where an open tree grows, the actions only go on; where they are done, they stay the same.
 pub fn prefix_law()
@@ -73,6 +73,16 @@ pub fn given_stays()
 /// A node that isn't held is never held again.
 pub fn gone_stays()
     ensures { GoneStays }
+{}
+
+/// The nodes held behind a token come from those held before it and the new one.
+pub fn held_by_feed()
+    ensures { HeldByFeed }
+{}
+
+/// The nodes held behind an action come from those held before it.
+pub fn held_by_act()
+    ensures { HeldByAct }
 {}
 
 /// Behind each number of actions there is a point.

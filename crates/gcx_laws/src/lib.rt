@@ -11,7 +11,7 @@ pub use bridges::{
 };
 pub use laws::{
     balance_law, bound_law, closed_law, copy_held, empty_at_end, given_stays, gone_stays,
-    known_is_front, loop_held, need_law, normal_is_good, normal_law, offs_at_matches, once_law,
-    placed_once, plan_bytes, plan_writes, point_law, prefix_law, resume_law, taken_stays,
-    truth_held, turn_law, turns_held, unsigned_law,
+    held_by_act, held_by_feed, known_is_front, loop_held, need_law, normal_is_good, normal_law,
+    offs_at_matches, once_law, placed_once, plan_bytes, plan_writes, point_law, prefix_law,
+    resume_law, taken_stays, truth_held, turn_law, turns_held, unsigned_law,
 };

@@ -1,6 +1,6 @@
 -- Open trees: documents in which some nodes are open, with their nodes numbered in document order.
 -- (XQuery 1.0, section 2.4.1 for document order; open trees are this project's.)
-use Rattle.std.specs.Prelude.{ℕ, Bool, true, false, not, ◌||◌, List, [], ◌∷◌, ◌++◌, length, ◌==◌, Option, Some, None}
+use Rattle.std.specs.Prelude.{ℕ, Bool, false, not, ◌||◌, List, [], ◌∷◌, ◌++◌, length, ◌==◌, Option, Some, None}
 use Rattle.gcx_base.specs.declared.kind.Kind.{Kind}
 use Rattle.gcx_base.specs.declared.kind.Kind.TheVariants.{Document, Element, Text}
 

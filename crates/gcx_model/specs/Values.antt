@@ -1,107 +1,153 @@
--- Values: their order by bytes, and as numbers.
-use Rattle.std.specs.Prelude.{ℕ, suc, ◌+◌, ◌*◌, ◌-◌, ◌^◌, Bool, true, false, cond, ◌&&◌, ◌||◌, List, [], ◌∷◌, ◌==◌, nat_lt, nat_le, Option, Some, None, ℤ, pos, neg_ℤ, ◌*ℤ◌, int_lt}
+-- Values: which bytes count as a number, as which number, and how a pair of values compares
+-- (general comparisons of untyped values: XQuery 1.0, section 3.5.2; the number rule is this project's).
+use Rattle.std.specs.Prelude.{◌≡◌, ℕ, ◌+◌, ◌-◌, ◌*◌, ◌^◌, ℤ, pos, neg_ℤ, ◌*ℤ◌, Bool, true, false, ◌&&◌, ◌||◌, ◌==◌, nat_lt, nat_le, if◌then◌else◌, List, [], ◌∷◌, ◌++◌, length, reverse, Option, Some, None, option_map}
+use Rattle.std.specs.List.{list_all, before_first, after_first}
+use Rattle.std.specs.Ordering.{int_cmp, nat_cmp, ordering_reverse, is_some_and, is_eq, is_ne, is_lt, is_le, is_gt, is_ge}
+use Rattle.std.specs.declared.cmp.Ordering.{Ordering}
+use Rattle.std.specs.Cmp.Lexicographic.{slice_cmp}
 use Rattle.gcx_base.specs.declared.rel.Rel.{Rel}
 use Rattle.gcx_base.specs.declared.rel.Rel.TheVariants.{Eq, Ne, Lt, Le, Gt, Ge}
 
-pub data Order : Type 0 where
-  Less : Order
-  Same : Order
-  More : Order
+-- ---- The number as which a value counts: optional white space, an optional sign, digits with an optional point among
+-- or round them (at least one digit), optional white space.
 
-abbrev pub holds : Rel → Order → Bool
-holds Eq Less = false
-holds Eq Same = true
-holds Eq More = false
-holds Ne Less = true
-holds Ne Same = false
-holds Ne More = true
-holds Lt Less = true
-holds Lt Same = false
-holds Lt More = false
-holds Le Less = true
-holds Le Same = true
-holds Le More = false
-holds Gt Less = false
-holds Gt Same = false
-holds Gt More = true
-holds Ge Less = false
-holds Ge Same = true
-holds Ge More = true
-
-abbrev pub backwards : Order → Order
-backwards Less = More
-backwards Same = Same
-backwards More = Less
-
--- by bytes
-abbrev pub order_bytes : List ℕ → List ℕ → Order
-order_bytes [] [] = Same
-order_bytes [] (w ∷ ws) = Less
-order_bytes (v ∷ vs) [] = More
-order_bytes (v ∷ vs) (w ∷ ws) = cond (nat_lt v w) Less (cond (nat_lt w v) More (order_bytes vs ws))
-
-abbrev pub order_int : ℤ → ℤ → Order
-order_int a b = cond (int_lt a b) Less (cond (int_lt b a) More Same)
-
+-- white space (XML 1.0, section 2.3)
 abbrev pub is_white : ℕ → Bool
 is_white c = (c == 32) || (c == 9) || (c == 13) || (c == 10)
 
 abbrev pub is_digit : ℕ → Bool
 is_digit c = nat_le 48 c && nat_le c 57
 
-abbrev pub all_white : List ℕ → Bool
-all_white [] = true
-all_white (c ∷ cs) = is_white c && all_white cs
+-- without the white space at one end, at both ends
+abbrev pub without_front : List ℕ → List ℕ
+without_front [] = []
+without_front (c ∷ cs) = if is_white c then without_front cs else c ∷ cs
 
-abbrev pub skip_white : List ℕ → List ℕ
-skip_white [] = []
-skip_white (c ∷ cs) = cond (is_white c) (skip_white cs) (c ∷ cs)
+abbrev pub without_back : List ℕ → List ℕ
+without_back v = reverse (without_front (reverse v))
 
--- the number of all digits, and how many of them stand behind the point
+abbrev pub trimmed : List ℕ → List ℕ
+trimmed v = without_back (without_front v)
+
+-- `-`
+abbrev pub is_negative : List ℕ → Bool
+is_negative [] = false
+is_negative (c ∷ cs) = c == 45
+
+-- without `+` or `-` at the front
+abbrev pub without_sign : List ℕ → List ℕ
+without_sign [] = []
+without_sign (c ∷ cs) = if (c == 43) || (c == 45) then cs else c ∷ cs
+
+-- before the first point, or all where there is none, and behind it
+abbrev pub is_point : ℕ → Bool
+is_point c = c == 46
+
+abbrev pub whole_of : List ℕ → List ℕ
+whole_of t = before_first is_point t
+
+abbrev pub fraction_of : List ℕ → List ℕ
+fraction_of t = after_first is_point t
+
+-- nothing but digits, and at least one
+abbrev pub is_numeral : List ℕ → Bool
+is_numeral ds = nat_lt 0 (length ds) && list_all is_digit ds
+
+-- the number that digits write behind those of n
+abbrev pub digits_from : ℕ → List ℕ → ℕ
+digits_from n [] = n
+digits_from n (d ∷ ds) = digits_from (n * 10 + (d - 48)) ds
+
+abbrev pub with_sign : Bool → ℕ → ℤ
+with_sign minus n = if minus then neg_ℤ (pos n) else pos n
+
+-- a number in units of 10^-places
 pub record Decimal : Type 0 where
   pub units : ℤ
   pub places : ℕ
 
--- behind the point: n is the number so far, k the digits behind the point, some whether there was a digit
-abbrev pub fraction : Bool → ℕ → ℕ → Bool → List ℕ → Option Decimal
-fraction minus n k some [] = cond some (Some (record { units = cond minus (neg_ℤ (pos n)) (pos n); places = k })) None
-fraction minus n k some (c ∷ cs) = cond (is_digit c) (fraction minus (n * 10 + (c - 48)) (suc k) true cs) (cond (some && all_white (c ∷ cs)) (Some (record { units = cond minus (neg_ℤ (pos n)) (pos n); places = k })) None)
+-- the integer of all digits with the sign, and how many stand behind the point
+abbrev pub decimal : Bool → List ℕ → List ℕ → Decimal
+decimal minus whole fraction = record { units = with_sign minus (digits_from 0 (whole ++ fraction)); places = length fraction }
 
-abbrev pub whole_part : Bool → ℕ → Bool → List ℕ → Option Decimal
-whole_part minus n some [] = fraction minus n 0 some []
-whole_part minus n some (c ∷ cs) = cond (is_digit c) (whole_part minus (n * 10 + (c - 48)) true cs) (cond (c == 46) (fraction minus n 0 some cs) (fraction minus n 0 some (c ∷ cs)))
+abbrev pub decimal_of : Bool → List ℕ → List ℕ → Option Decimal
+decimal_of minus whole fraction = if is_numeral (whole ++ fraction) then Some (decimal minus whole fraction) else None
 
-abbrev pub signed_number : List ℕ → Option Decimal
-signed_number [] = None
-signed_number (c ∷ cs) = cond (c == 43) (whole_part false 0 false cs) (cond (c == 45) (whole_part true 0 false cs) (whole_part false 0 false (c ∷ cs)))
+unfoldable pub number : List ℕ → Option Decimal
+number v = let t = trimmed v in decimal_of (is_negative t) (whole_of (without_sign t)) (fraction_of (without_sign t))
 
--- the number as which a value counts
-abbrev pub number : List ℕ → Option Decimal
-number v = signed_number (skip_white v)
+-- ---- The same rule as a grammar: white space, a sign, a numeral, white space.
+
+pub data Sign : Type 0 where
+  Bare : Sign
+  Plus : Sign
+  Minus : Sign
+
+abbrev pub sign_bytes : Sign → List ℕ
+sign_bytes Bare = []
+sign_bytes Plus = 43 ∷ []
+sign_bytes Minus = 45 ∷ []
+
+abbrev pub is_minus : Sign → Bool
+is_minus Bare = false
+is_minus Plus = false
+is_minus Minus = true
+
+-- digits alone, or a point with digits before and behind it
+pub data Numeral : Type 0 where
+  Whole : (digits : List ℕ) → Numeral
+  Pointed : (before behind : List ℕ) → Numeral
+
+abbrev pub numeral_bytes : Numeral → List ℕ
+numeral_bytes (Whole digits) = digits
+numeral_bytes (Pointed before behind) = before ++ 46 ∷ behind
+
+abbrev pub before_point : Numeral → List ℕ
+before_point (Whole digits) = digits
+before_point (Pointed before behind) = before
+
+abbrev pub behind_point : Numeral → List ℕ
+behind_point (Whole digits) = []
+behind_point (Pointed before behind) = behind
+
+-- v is spelled in this way, and d is its number
+pub record CountsAs (v : List ℕ) (d : Decimal) : Type 0 where
+  pub front : List ℕ
+  pub sign : Sign
+  pub numeral : Numeral
+  pub back : List ℕ
+  pub bytes : v ≡ front ++ ((sign_bytes sign ++ numeral_bytes numeral) ++ back)
+  pub white_front : list_all is_white front ≡ true
+  pub white_back : list_all is_white back ≡ true
+  pub digits : is_numeral (before_point numeral ++ behind_point numeral) ≡ true
+  pub value : d ≡ decimal (is_minus sign) (before_point numeral) (behind_point numeral)
+
+-- ---- Pairs of values.
+
+-- a number against a literal in units of 10^-18
+abbrev pub against : Decimal → ℤ → Ordering
+against d l = int_cmp (d.units *ℤ pos (10 ^ 18)) (l *ℤ pos (10 ^ d.places))
 
 -- the bytes of a node or of a string literal, or a number literal in units of 10^-18
 pub data Value : Type 0 where
   Bytes : (bytes : List ℕ) → Value
   Units : (units : ℤ) → Value
 
-abbrev pub against : Option Decimal → ℤ → Option Order
-against None l = None
-against (Some d) l = Some (order_int (d.units *ℤ pos (10 ^ 18)) (l *ℤ pos (10 ^ d.places)))
+-- None where a value that is compared with a number doesn't count as one
+abbrev pub order : Value → Value → Option Ordering
+order (Bytes v) (Bytes w) = Some (slice_cmp nat_cmp v w)
+order (Bytes v) (Units l) = option_map (λ d. against d l) (number v)
+order (Units l) (Bytes w) = option_map (λ d. ordering_reverse (against d l)) (number w)
+order (Units l) (Units k) = Some (int_cmp l k)
 
-abbrev pub turned : Option Order → Option Order
-turned None = None
-turned (Some o) = Some (backwards o)
+abbrev pub holds : Rel → Ordering → Bool
+holds Eq o = is_eq o
+holds Ne o = is_ne o
+holds Lt o = is_lt o
+holds Le o = is_le o
+holds Gt o = is_gt o
+holds Ge o = is_ge o
 
-abbrev pub order : Value → Value → Option Order
-order (Bytes v) (Bytes w) = Some (order_bytes v w)
-order (Bytes v) (Units l) = against (number v) l
-order (Units l) (Bytes w) = turned (against (number w) l)
-order (Units l) (Units k) = Some (order_int l k)
-
-abbrev pub holds_some : Rel → Option Order → Bool
-holds_some rel None = false
-holds_some rel (Some o) = holds rel o
-
--- one relation on one pair of values
+-- whether a relation holds of a pair; of one that has no order none does
 abbrev pub compare : Rel → Value → Value → Bool
-compare rel v w = holds_some rel (order v w)
+compare rel v w = is_some_and (holds rel) (order v w)

@@ -3,6 +3,7 @@ use Rattle.std.specs.Prelude.{◌≡◌, ℕ, true, List, [], ◌∷◌, Some, r
 use Rattle.gcx_base.specs.declared.rel.Rel.TheVariants.{Lt}
 use Rattle.gcx_model.specs.declared.query.QOperand.TheVariants as operand
 use Rattle.gcx_model.specs.Document.{Nodes, none, element, text}
+use Rattle.gcx_model.specs.Values.{number}
 use Rattle.gcx_model.specs.Query.{ExprTree, Exists, Compare, Not, All, no_cond, more_conds, Elem, Path, For}
 use Rattle.gcx_model.specs.Answer.{answer}
 use Rattle.gcx_model.specs.Sound.{is_sound}
@@ -21,6 +22,7 @@ abbrev document_literal : Nodes
 document_literal = element none (codes "r") (leaf (leaf (leaf none (codes "p") (codes "007")) (codes "p") (codes "7x")) (codes "p") (codes " 7 "))
 
 compared_with_number : answer (query_literal (operand.Num (pos (7 * 10 ^ 18)))) document_literal ≡ codes "<y></y><n></n><y></y>"
+unfolding number
 compared_with_number = refl
 
 compared_with_text : answer (query_literal (operand.Str (codes "7"))) document_literal ≡ codes "<n></n><n></n><n></n>"
@@ -42,10 +44,12 @@ abbrev book : Nodes → List ℕ → List ℕ → Nodes
 book before title price = element before (codes "book") (leaf (leaf none (codes "title") title) (codes "price") price)
 
 cheap_books : answer query_books (element none (codes "bib") (book (book none (codes "Data on the Web") (codes "39")) (codes "TCP/IP & more") (codes "65"))) ≡ codes "<out><cheap><title>Data on the Web</title></cheap></out>"
+unfolding number
 cheap_books = refl
 
 -- and with the prices exchanged, an escaped text
 cheap_books_escaped : answer query_books (element none (codes "bib") (book (book none (codes "Data on the Web") (codes "65")) (codes "TCP/IP & more") (codes "39"))) ≡ codes "<out><cheap><title>TCP/IP &amp; more</title></cheap></out>"
+unfolding number
 cheap_books_escaped = refl
 
 -- these queries are sound

@@ -1,6 +1,5 @@
 use Rattle.std.proofs.Common.{sym, ap, ◌∙◌, Some, take, length, ◌≤◌, ◌<◌, ◌-◌, arith, List, ℕ}
 use Rattle.std.proofs.lemmas.List.{length-take}
-use Rattle.doc_reader.specs.Machine.{State}
 use Rattle.doc_reader.specs.Reading.{view}
 use Rattle.doc_reader.proofs.Texts.{in_text, text_fits, text_passes, stuck_more}
 use Rattle.doc_reader.proofs.read.copy_text.Goals as goal

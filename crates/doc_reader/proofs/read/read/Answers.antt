@@ -1,4 +1,4 @@
-use Rattle.std.proofs.Common.{subst, arith, length, take, drop, ◌≡◌, ◌+◌, ◌-◌, ◌<◌, ◌≤◌, Some, None, get_or, Option, ℕ}
+use Rattle.std.proofs.Common.{subst, arith, length, take, drop, ◌+◌, ◌-◌, ◌<◌, Some, None, Option, ℕ}
 use Rattle.doc_reader.specs.Reading.{view, CopiedTo}
 use Rattle.doc_reader.proofs.Texts.{parts_more, byte_more, rest_stuck, stuck_more, led_true, led_false}
 use Rattle.doc_reader.proofs.read.read.Goals as goal

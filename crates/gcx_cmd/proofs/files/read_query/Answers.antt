@@ -12,6 +12,8 @@ returns-in-Ok-Some-clause-told g c = λ query told.
     (subst (λ (b : List ℕ). IsPath b c.in-Ok-Some.path.items) c.deref.ensures.value (rw c.in-Ok-Some.field-0-is at c.in-Ok-Some.ensures.some))
 
 pub returns-in-Ok-None-clause-told : goal.returns-in-Ok-None-clause-told
-returns-in-Ok-None-clause-told g c = λ query told.
-    (refl, query_none query c.in_ok-query.query.items (c.in_ok-query.ensures.bytes query told) (omega arith)
-    (λ names p. (rw c.in-Ok-None.field-0-is at c.in-Ok-None.ensures.none) refl names (rw c.deref.ensures.value p)))
+returns-in-Ok-None-clause-told g c = λ query told. (
+  refl,
+  query_none query c.in_ok-query.query.items (c.in_ok-query.ensures.bytes query told) (omega arith)
+      (λ names p. (rw c.in-Ok-None.field-0-is at c.in-Ok-None.ensures.none) refl names (rw c.deref.ensures.value p)),
+)

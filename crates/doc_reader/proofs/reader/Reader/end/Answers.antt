@@ -1,4 +1,4 @@
-use Rattle.std.proofs.Common.{sym, ap, ◌∙◌, subst, refl, true}
+use Rattle.std.proofs.Common.{sym, ◌∙◌, subst, refl, true}
 use Rattle.doc_reader.specs.Standing.{Held, Stands}
 use Rattle.doc_reader.specs.Inside.{held}
 use Rattle.doc_reader.proofs.Standings.{reading, at_phase, ends_whole, finished_at, ends_short, ends_other}

@@ -13,7 +13,7 @@ pub returns-clause-stands : goal.returns-clause-stands
 returns-clause-stands c lim b h =
     let old = held c.self.inside in
     stands_goes old _ lim b c.args.piece.now c.saturating_add-self-inside.result
-      (reading old.phase (sym c.reads.ensures ∙ c.if-not-reads.false))
-      (ap (λ (v : Held). v.finished) c.self.view_is ∙ c.requires)
-      refl c.saturating_add-self-inside.ensures refl c.go_on-self-inside.ensures
-      (subst (λ (v : Held). Stands v lim b) (sym c.self.view_is) h)
+    (reading old.phase (sym c.reads.ensures ∙ c.if-not-reads.false))
+    (ap (λ (v : Held). v.finished) c.self.view_is ∙ c.requires)
+    refl c.saturating_add-self-inside.ensures refl c.go_on-self-inside.ensures
+    (subst (λ (v : Held). Stands v lim b) (sym c.self.view_is) h)

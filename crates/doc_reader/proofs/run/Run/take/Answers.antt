@@ -1,4 +1,4 @@
-use Rattle.std.proofs.Common.{sym, ap, ◌∙◌, subst, List, ℕ, true, ◌≡◌}
+use Rattle.std.proofs.Common.{sym, ap, subst, List, ℕ, true, ◌≡◌}
 use Rattle.std.specs.List.{list_all}
 use Rattle.gcx_model.specs.Spelling.{is_text_char}
 use Rattle.std.proofs.lemmas.Bool.{false≢true}

@@ -1,0 +1,11 @@
+//! How values compare: as texts by their bytes, and as decimal numbers of any length, exactly.
+#![tactic(auto)]
+
+mod number;
+mod rel;
+
+pub use number::NumText;
+pub use rel::{compare_text, holds};
+
+#[cfg(test)]
+mod tests;
