@@ -110,7 +110,8 @@ impl Conds {
 
     /// The conditions in order.
     pub fn items(&self) -> &[Cond]
-        ensures { map core_cond_tree result.now ≡ core_cond_trees self.now }
+        ensures same { result.now ≡ self.now.members.items }
+        ensures trees { map core_cond_tree result.now ≡ core_cond_trees self.now }
     {
         &self.members
     }
@@ -121,7 +122,7 @@ impl Conds {
         ensures { IfOk result (λ conds. core_cond_trees conds ≡ core_cond_trees self.now) }
     {
         let mut copied = Conds::new(alloc);
-        for cond in &self.members {
+        for cond in self.items() {
             copied.push(cond.copy(alloc)?)?;
         }
         Ok(copied)

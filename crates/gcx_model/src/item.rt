@@ -138,7 +138,8 @@ impl Body {
 
     /// The items in order.
     pub fn items(&self) -> &[Item]
-        ensures { map item_tree result.now ≡ item_trees self.now }
+        ensures same { result.now ≡ self.now.members.items }
+        ensures trees { map item_tree result.now ≡ item_trees self.now }
     {
         &self.members
     }
@@ -149,7 +150,7 @@ impl Body {
         ensures { IfOk result (λ body. item_trees body ≡ item_trees self.now) }
     {
         let mut copied = Body::new(alloc);
-        for item in &self.members {
+        for item in self.items() {
             copied.push(item.copy(alloc)?)?;
         }
         Ok(copied)

@@ -200,7 +200,8 @@ impl QConds {
 
     /// The conditions in order.
     pub fn items(&self) -> &[QCond]
-        ensures { map cond_tree result.now ≡ cond_trees self.now }
+        ensures same { result.now ≡ self.now.members.items }
+        ensures trees { map cond_tree result.now ≡ cond_trees self.now }
     {
         &self.members
     }
@@ -211,7 +212,7 @@ impl QConds {
         ensures { IfOk result (λ conds. cond_trees conds ≡ cond_trees self.now) }
     {
         let mut copied = QConds::new(alloc);
-        for cond in &self.members {
+        for cond in self.items() {
             copied.push(cond.copy(alloc)?)?;
         }
         Ok(copied)
@@ -320,7 +321,8 @@ impl Exprs {
 
     /// The expressions in order.
     pub fn items(&self) -> &[Expr]
-        ensures { map expr_tree result.now ≡ expr_trees self.now }
+        ensures same { result.now ≡ self.now.members.items }
+        ensures trees { map expr_tree result.now ≡ expr_trees self.now }
     {
         &self.members
     }
@@ -331,7 +333,7 @@ impl Exprs {
         ensures { IfOk result (λ exprs. expr_trees exprs ≡ expr_trees self.now) }
     {
         let mut copied = Exprs::new(alloc);
-        for expr in &self.members {
+        for expr in self.items() {
             copied.push(expr.copy(alloc)?)?;
         }
         Ok(copied)

@@ -8,7 +8,7 @@ use Rattle.gcx_model.specs.Values.{number}
 use Rattle.gcx_model.specs.Tree.{Token, Start, Chars, End, opening}
 use Rattle.gcx_model.specs.Query.{ExprTree, Exists, Compare, Any, no_cond, more_conds, Empty, Elem, Path, All, Not}
 use Rattle.gcx_model.specs.Normal.{known}
-use Rattle.gcx_laws.proofs.Rows.Words.{child, from_root, from, one_expr, tree, element, leaf, document, query_children, tokens_children, query_nested, each_p, query_exists, query_literal, tokens_literal, query_join, tokens_join}
+use Rattle.gcx_laws.proofs.Rows.Words.{child, desc, for_in, empty, from_root, from, one_expr, tree, element, leaf, document, query_children, tokens_children, query_nested, each_p, query_exists, query_literal, tokens_literal, query_join, tokens_join}
 
 loop_over_children : known query_children (tree tokens_children) ≡ codes "<r><b>1</b><b>2</b></r>"
 loop_over_children = refl
@@ -73,6 +73,13 @@ and_waits_for_left = refl
 -- a text of a copy is escaped
 copy_escaped : known (Path (from_root (child (codes "a") ∷ [])) ∷ []) (tree (document (leaf (codes "a") (codes "<x>&")))) ≡ codes "<a>&lt;x&gt;&amp;</a>"
 copy_escaped = refl
+
+-- for $x in //a return for $y in $x//a return <h/> on <a><a/></a>: no node is a descendant of itself
+abbrev query_below : List ExprTree
+query_below = for_in (codes "x") (from_root (desc (codes "a") ∷ [])) (for_in (codes "y") (from (codes "x") (desc (codes "a") ∷ [])) (empty (codes "h"))) ∷ []
+
+descendants_are_below : known query_below (tree (document (element (codes "a") (element (codes "a") [])))) ≡ codes "<h></h>"
+descendants_are_below = refl
 
 -- //text() and /a/node() on <a>1<b>2</b>3</a>
 abbrev tokens_mixed : List Token
