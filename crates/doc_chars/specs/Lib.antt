@@ -1,0 +1,4 @@
+pub mod Stream
+pub mod Scan
+pub mod Cut
+pub mod Carried

@@ -1,0 +1,8 @@
+//! Characters of a document or a query: UTF-8 that comes in pieces, and references.
+#![tactic(auto)]
+
+mod chars;
+mod cut;
+mod scan;
+
+pub use chars::{CharFault, Chars, Split};
