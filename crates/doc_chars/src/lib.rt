@@ -3,6 +3,8 @@
 
 mod chars;
 mod cut;
+mod reference;
 mod scan;
 
 pub use chars::{CharFault, Chars, Split};
+pub use reference::{RefStep, Reference};
