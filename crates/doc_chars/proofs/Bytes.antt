@@ -1,5 +1,5 @@
 -- Where bytes stop being UTF-8: what std's words on it say of fronts of characters.
-use Rattle.std.proofs.Common.{◌≡◌, ◌⊎◌, ◌++◌, ◌∷◌, [], ◌&&◌, ◌<◌, ◌≤◌, ◌+◌, ◌-◌, ◌*◌, ◌/◌, ℕ, List, Bool, length, take, drop, true, false, refl, sym, ap, subst, ◌∙◌, append-nil, arith, length-append, append_assoc, None, Some, Option, take_at, get_or, inl, inr, cond}
+use Rattle.std.proofs.Common.{◌≡◌, ◌⊎◌, ◌++◌, ◌∷◌, [], ◌<◌, ◌≤◌, ◌+◌, ◌-◌, ◌*◌, ◌/◌, ℕ, List, Bool, length, take, true, false, refl, sym, ap, subst, ◌∙◌, append-nil, arith, length-append, append_assoc, None, Some, Option, take_at, get_or, inl, inr, cond}
 use Rattle.std.specs.Char.{IsScalar, encode_utf8}
 use Rattle.std.specs.Int.{is_in_range}
 use Rattle.std.specs.Str.{IsUtf8, IsValidUpTo, StartsWithNoChar}

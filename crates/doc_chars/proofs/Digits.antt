@@ -1,7 +1,6 @@
 -- Digits of a reference: what they may go on to, and what they can't.
-use Rattle.std.proofs.Common.{◌≡◌, ◌≢◌, ◌⊎◌, ◌++◌, ◌∷◌, [], ◌&&◌, ◌<◌, ◌≤◌, ◌+◌, ◌*◌, ℕ, suc, zero, List, Bool, length, drop, get_or, true, false, refl, sym, ap, subst, ◌∙◌, arith, length-append, append_assoc, None, Some, inl, inr, lt-ltb, le-ltb}
-use Rattle.std.specs.Prelude.{Option, MatchOption, unwrap_or, fold, nat_lt}
-use Rattle.std.specs.List.{list_all}
+use Rattle.std.proofs.Common.{◌≡◌, ◌≢◌, ◌⊎◌, ◌++◌, ◌∷◌, [], ◌&&◌, ◌<◌, ◌≤◌, ◌+◌, ◌*◌, ℕ, suc, zero, List, length, drop, get_or, true, false, refl, sym, ap, subst, ◌∙◌, arith, length-append, append_assoc, None, Some, inl, inr, lt-ltb, le-ltb}
+use Rattle.std.specs.Prelude.{Option, MatchOption, unwrap_or, fold}
 use Rattle.std.specs.Char.{is_digit, digit_value}
 use Rattle.std.proofs.lemmas.Bool.{and_parts, cases_lt, true≢false}
 use Rattle.std.proofs.lemmas.Bool.Decides.{nat_tests}
@@ -36,12 +35,12 @@ value_or radix (Some v) digits (some, is, small) = sym is
 all_push : (radix : ℕ) (digits : List ℕ) (c : ℕ) → all_digits radix digits ≡ true → is_digit c radix ≡ true → all_digits radix (digits ++ c ∷ []) ≡ true
 all_push radix digits c h k = list_all-append (λ d. is_digit d radix) digits (c ∷ []) ∙ (λ i. h i && (k i && true))
 
-digit_in : (radix : ℕ) (digits : List ℕ) (c : ℕ) (rest : List ℕ) → all_digits radix (digits ++ c ∷ rest) ≡ true → is_digit c radix ≡ true
+pub digit_in : (radix : ℕ) (digits : List ℕ) (c : ℕ) (rest : List ℕ) → all_digits radix (digits ++ c ∷ rest) ≡ true → is_digit c radix ≡ true
 digit_in radix digits c rest h =
     let both = and_parts (all_digits radix digits) (is_digit c radix && all_digits radix rest) (sym (list_all-append (λ d. is_digit d radix) digits (c ∷ rest)) ∙ h) in
     (and_parts (is_digit c radix) (all_digits radix rest) both.1).0
 
-semicolon_no_digit : (radix : Radix) → is_digit 59 (base_of radix) ≡ false
+pub semicolon_no_digit : (radix : Radix) → is_digit 59 (base_of radix) ≡ false
 semicolon_no_digit Decimal = refl
 semicolon_no_digit Hexadecimal = refl
 
@@ -58,7 +57,7 @@ base_some Hexadecimal = omega arith
 -- ---- what a reference is behind its opening
 
 -- digits and the semicolon
-abbrev Closed : ℕ → List ℕ → ℕ → Type 0
+abbrev pub Closed : ℕ → List ℕ → ℕ → Type 0
 Closed radix rest d = (digits : List ℕ) × IsNumber radix digits d × (rest ≡ digits ++ 59 ∷ [])
 
 abbrev first : List ℕ → ℕ
@@ -92,7 +91,7 @@ abbrev pub IsBehind : Radix → List ℕ → ℕ → Type 0
 IsBehind Decimal digits c = (0 < length digits) ⊎ (c ≢ 120)
 IsBehind Hexadecimal digits c = Unit {0}
 
-closed_of : (radix : Radix) (digits : List ℕ) (c : ℕ) (more : List ℕ) (d : ℕ) → all_digits (base_of radix) digits ≡ true → IsBehind radix digits c
+pub closed_of : (radix : Radix) (digits : List ℕ) (c : ℕ) (more : List ℕ) (d : ℕ) → all_digits (base_of radix) digits ≡ true → IsBehind radix digits c
     → Refers (opening_of radix ++ (digits ++ c ∷ more)) d → Closed (base_of radix) (digits ++ c ∷ more) d
 closed_of Decimal digits c more d are behind r = elim (behind_hash (digits ++ c ∷ more) d r) [
   | inl closed ↦ closed
@@ -106,7 +105,7 @@ closed_of Decimal digits c more d are behind r = elim (behind_hash (digits ++ c 
 closed_of Hexadecimal digits c more d are behind r = behind_hex (digits ++ c ∷ more) d r
 
 -- the next character is the semicolon, or the digits go on with it
-split_digits : (radix : ℕ) (digits found : List ℕ) (c : ℕ) (more : List ℕ) → is_digit 59 radix ≡ false → all_digits radix digits ≡ true → digits ++ c ∷ more ≡ found ++ 59 ∷ []
+pub split_digits : (radix : ℕ) (digits found : List ℕ) (c : ℕ) (more : List ℕ) → is_digit 59 radix ≡ false → all_digits radix digits ≡ true → digits ++ c ∷ more ≡ found ++ 59 ∷ []
     → ((c ≡ 59) × (found ≡ digits)) ⊎ ((rest : List ℕ) × (found ≡ digits ++ c ∷ rest))
 split_digits radix [] [] c more no_end are e = inl (ap first e, refl)
 split_digits radix [] (f ∷ found) c more no_end are e = inr (found, ap (λ x. x ∷ found) (sym (ap first e)))
@@ -162,6 +161,10 @@ never_digit radix value text c n behind no_digit no_end = never radix value text
       | inr (rest, all) ↦ true≢false (sym (digit_in (base_of radix) n.digits c rest (subst (λ l. all_digits (base_of radix) l ≡ true) all closed.1.are)) ∙ no_digit)
     ])
 
+pub behind_end : (radix : Radix) (digits : List ℕ) → IsBehind radix digits 59
+behind_end Decimal digits = inr (λ e. omega arith)
+behind_end Hexadecimal digits = tt
+
 pub never_closed : (radix : Radix) (value : Option ℕ) (text : List ℕ) → InNumber radix value text → MatchOption value (Unit {0}) (λ v. is_char v ≡ false) → NeverRefers (text ++ 59 ∷ [])
 never_closed radix value text n no_char = never radix value text 59 n (behind_end radix n.digits) (λ more d closed.
     elim (split_digits (base_of radix) n.digits closed.0 59 more (semicolon_no_digit radix) n.are closed.2) [
@@ -169,10 +172,6 @@ never_closed radix value text n no_char = never radix value text 59 n (behind_en
       | inr (rest, all) ↦ true≢false (sym (digit_in (base_of radix) n.digits 59 rest (subst (λ l. all_digits (base_of radix) l ≡ true) all closed.1.are)) ∙ semicolon_no_digit radix)
     ])
   where
-    behind_end : (radix : Radix) (digits : List ℕ) → IsBehind radix digits 59
-    behind_end Decimal digits = inr (λ e. omega arith)
-    behind_end Hexadecimal digits = tt
-
     refused : (base : ℕ) (value : Option ℕ) (digits : List ℕ) (d : ℕ) → IsValueOf base value digits → MatchOption value (Unit {0}) (λ v. is_char v ≡ false) → IsNumber base digits d → ⊥
     refused base None digits d none no_char is = let some = is.some in omega (arith, some, ap length none)
     refused base (Some v) digits d (some, has, small) no_char is = true≢false (sym is.char ∙ ap is_char (sym is.value ∙ has) ∙ no_char)

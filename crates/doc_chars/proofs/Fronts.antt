@@ -1,5 +1,5 @@
 -- Fronts of texts that are Chars.
-use Rattle.std.proofs.Common.{◌≡◌, ◌++◌, ◌∷◌, [], ◌&&◌, ◌<◌, ◌≤◌, ◌+◌, ◌-◌, ℕ, List, length, take, drop, true, false, refl, sym, ap, subst, ◌∙◌, append-nil, arith, length-append, append_assoc, None, Some, take-add, length-drop, length-take, take-take, take-append-drop}
+use Rattle.std.proofs.Common.{◌≡◌, ◌++◌, ◌∷◌, [], ◌&&◌, ◌<◌, ◌+◌, ℕ, List, length, take, drop, true, false, refl, sym, ap, subst, ◌∙◌, append-nil, arith, length-append, append_assoc, None, Some, take-add, length-drop, length-take, take-take, take-append-drop}
 use Rattle.std.specs.Prelude.{Option, is_some}
 use Rattle.std.specs.List.{list_all}
 use Rattle.std.specs.Char.{IsScalar, encode_utf8}

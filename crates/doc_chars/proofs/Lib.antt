@@ -5,3 +5,5 @@ pub mod Streams
 pub mod Digits
 pub mod Names
 pub mod Completions
+pub mod Laws
+pub mod ReferenceLaws

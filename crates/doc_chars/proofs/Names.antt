@@ -1,5 +1,5 @@
 -- Names of entities: what their first letters may go on to.
-use Rattle.std.proofs.Common.{◌≡◌, ◌≢◌, ◌⊎◌, ◌++◌, ◌∷◌, [], ◌<◌, ◌≤◌, ◌+◌, ◌==◌, ℕ, suc, zero, List, length, take, drop, get_or, refl, sym, ap, subst, ◌∙◌, arith, append_assoc, length-append, inl, inr, cond, length-take, take_all, codes}
+use Rattle.std.proofs.Common.{◌≡◌, ◌≢◌, ◌⊎◌, ◌++◌, ◌∷◌, [], ◌≤◌, ◌+◌, ◌==◌, ℕ, suc, zero, List, length, take, get_or, refl, sym, ap, subst, ◌∙◌, arith, append_assoc, inl, inr, cond, length-take, take_all}
 use Rattle.std.proofs.lemmas.List.{get_or_at, take_more}
 use Rattle.doc_chars.specs.declared.reference.Entity.{Entity}
 use Rattle.doc_chars.specs.declared.reference.Entity.TheVariants.{Lt, Gt, Amp, Apos, Quot}
@@ -17,23 +17,23 @@ entity_refers Apos = apos refl refl
 entity_refers Quot = quot refl refl
 
 -- a reference is an entity's name or begins with `#`
-pub kind_of : (text : List ℕ) (d : ℕ) → Refers text d → ((e : Entity) × (text ≡ spelling_of e)) ⊎ (letter 0 text ≡ 35)
-kind_of text d (lt e v) = inl (Lt, e)
-kind_of text d (gt e v) = inl (Gt, e)
-kind_of text d (amp e v) = inl (Amp, e)
-kind_of text d (apos e v) = inl (Apos, e)
-kind_of text d (quot e v) = inl (Quot, e)
+pub kind_of : (text : List ℕ) (d : ℕ) → Refers text d → ((e : Entity) × (text ≡ spelling_of e) × (d ≡ character_of e)) ⊎ (letter 0 text ≡ 35)
+kind_of text d (lt e v) = inl (Lt, e, v)
+kind_of text d (gt e v) = inl (Gt, e, v)
+kind_of text d (amp e v) = inl (Amp, e, v)
+kind_of text d (apos e v) = inl (Apos, e, v)
+kind_of text d (quot e v) = inl (Quot, e, v)
 kind_of text d (decimal digits n e) = inr (ap (letter 0) e)
 kind_of text d (hexadecimal digits n e) = inr (ap (letter 0) e)
 
 -- the entity by the letter that tells it
-abbrev told_by : ℕ → Entity
+abbrev pub told_by : ℕ → Entity
 told_by c = cond (c == 108) Lt (cond (c == 103) Gt (cond (c == 109) Amp (cond (c == 112) Apos Quot)))
 
-abbrev entity_at : List ℕ → Entity
+abbrev pub entity_at : List ℕ → Entity
 entity_at text = told_by (cond (letter 0 text == 97) (letter 1 text) (letter 0 text))
 
-told_whole : (e : Entity) → entity_at (spelling_of e) ≡ e
+pub told_whole : (e : Entity) → entity_at (spelling_of e) ≡ e
 told_whole Lt = refl
 told_whole Gt = refl
 told_whole Amp = refl
@@ -67,6 +67,21 @@ no_hash Apos (suc n) rest h is = omega (arith, is)
 no_hash Quot zero rest h is = omega arith
 no_hash Quot (suc n) rest h is = omega (arith, is)
 
+-- its whole spelling tells it, with anything behind it
+pub told_beyond : (e : Entity) (rest : List ℕ) → entity_at (spelling_of e ++ rest) ≡ e
+told_beyond Lt rest = refl
+told_beyond Gt rest = refl
+told_beyond Amp rest = refl
+told_beyond Apos rest = refl
+told_beyond Quot rest = refl
+
+pub no_hash_beyond : (e : Entity) (rest : List ℕ) → letter 0 (spelling_of e ++ rest) ≡ 35 → ⊥
+no_hash_beyond Lt rest is = omega (arith, is)
+no_hash_beyond Gt rest is = omega (arith, is)
+no_hash_beyond Amp rest is = omega (arith, is)
+no_hash_beyond Apos rest is = omega (arith, is)
+no_hash_beyond Quot rest is = omega (arith, is)
+
 -- the front with one letter more
 name_push : (e : Entity) (n c : ℕ) (text : List ℕ) → InName e n text → letter n (spelling_of e) ≡ c → text ++ c ∷ [] ≡ take (n + 1) (spelling_of e)
 name_push e n c text h is =
@@ -88,7 +103,7 @@ name_never e n c text h other more d r =
     let short = h.short in
     let size : length (take n (spelling_of e)) ≡ n = length-take n (spelling_of e) ∙ omega (arith, short) in
     elim (kind_of ((text ++ c ∷ []) ++ more) d r) [
-      | inl (f, is) ↦ (
+      | inl (f, is, _) ↦ (
           let same : f ≡ e = sym (told_whole f) ∙ ap entity_at (sym is ∙ whole) ∙ told e n (c ∷ more) h.telling in
           let all : take n (spelling_of e) ++ c ∷ more ≡ spelling_of e = sym whole ∙ is ∙ ap spelling_of same in
           other (sym (ap (letter n) all) ∙ get_or_at (take n (spelling_of e)) c more 0 n size))
@@ -99,7 +114,7 @@ name_never e n c text h other more d r =
 
 pub first_never : (c : ℕ) → c ≢ 35 → c ≢ 97 → c ≢ 103 → c ≢ 108 → c ≢ 113 → NeverRefers (c ∷ [])
 first_never c hash a g l q more d r = elim (kind_of (c ∷ more) d r) [
-  | inl (e, is) ↦ by_name e (ap (letter 0) is)
+  | inl (e, is, _) ↦ by_name e (ap (letter 0) is)
   | inr is ↦ hash is
 ]
   where
@@ -112,7 +127,7 @@ first_never c hash a g l q more d r = elim (kind_of (c ∷ more) d r) [
 
 pub second_never : (c : ℕ) → c ≢ 109 → c ≢ 112 → NeverRefers (97 ∷ c ∷ [])
 second_never c m p more d r = elim (kind_of (97 ∷ c ∷ more) d r) [
-  | inl (e, is) ↦ by_name e (ap (letter 0) is) (ap (letter 1) is)
+  | inl (e, is, _) ↦ by_name e (ap (letter 0) is) (ap (letter 1) is)
   | inr is ↦ omega (arith, is)
 ]
   where

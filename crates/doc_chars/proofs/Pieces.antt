@@ -1,24 +1,22 @@
 -- Carried bytes and a piece.
-use Rattle.std.proofs.Common.{◌≡◌, ◌++◌, ◌∷◌, [], ◌&&◌, ◌<◌, ◌≤◌, ◌+◌, ◌-◌, ℕ, List, length, take, drop, true, false, refl, sym, ap, subst, ◌∙◌, append-nil, arith, length-append, append_assoc, None, Some, take_all, take_at, inl, inr, length-drop, length-take, take-append-drop, drop-drop, cond}
+use Rattle.std.proofs.Common.{◌≡◌, ◌++◌, ◌∷◌, [], ◌<◌, ◌≤◌, ◌+◌, ◌-◌, ℕ, List, length, take, drop, true, false, refl, sym, ap, subst, ◌∙◌, append-nil, arith, length-append, append_assoc, None, Some, take_all, take_at, inl, inr, length-drop, length-take, take-append-drop, drop-drop}
 use Rattle.std.specs.Prelude.{Option, MatchOption, slice_range, min}
-use Rattle.std.specs.List.{list_all}
 use Rattle.std.specs.Char.{IsScalar, encode_utf8}
-use Rattle.std.specs.Str.{encode_utf8_all, chars}
 use Rattle.std.proofs.Math.Seq.{take-append-add}
 use Rattle.std.proofs.lemmas.List.{take-append-le}
 use Rattle.std.proofs.lemmas.Bool.{cases_lt}
 use Rattle.std.proofs.lemmas.Slice.{take-put_mid}
 use borrow.Rule.Slice.PartMut.{put_mid}
-use Rattle.std.proofs.lemmas.Str.{encodes-append, encode_same, chars_from_encodes}
+use Rattle.std.proofs.lemmas.Str.{encode_same}
 use Rattle.gcx_base.specs.Characters.{is_char}
 use Rattle.doc_chars.specs.declared.scan.First.{First}
 use Rattle.doc_chars.specs.declared.scan.First.TheVariants.{Whole, Bad, Front}
 use Rattle.doc_chars.specs.declared.scan.Cause.{Cause}
 use Rattle.doc_chars.specs.declared.cut.Cut.{Cut}
-use Rattle.doc_chars.specs.Stream.{IsFront, IsNotUtf8, IsNotChar, still_carried}
+use Rattle.doc_chars.specs.Stream.{IsFront, IsNotChar, still_carried}
 use Rattle.doc_chars.specs.Scan.{AreChars, BeginsWith, Ends, Scanned}
 use Rattle.doc_chars.specs.Cut.{IsCut}
-use Rattle.doc_chars.proofs.Bytes.{front_short, encode_some, encode_short}
+use Rattle.doc_chars.proofs.Bytes.{front_short, encode_short}
 use Rattle.doc_chars.proofs.Fronts.{begins_front, chars_nil}
 
 -- four bytes tell what bytes begin with

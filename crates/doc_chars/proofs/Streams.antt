@@ -1,5 +1,5 @@
 -- A piece more of a stream.
-use Rattle.std.proofs.Common.{◌≡◌, ◌++◌, ◌∷◌, [], ◌&&◌, ◌<◌, ◌≤◌, ◌+◌, ◌-◌, ℕ, List, length, take, drop, true, refl, sym, ap, subst, ◌∙◌, append-nil, arith, length-append, length-drop, length-take, append_assoc, take_all, None, Some, take-append-drop, drop-drop}
+use Rattle.std.proofs.Common.{◌≡◌, ◌++◌, ◌∷◌, [], ◌&&◌, ◌<◌, ◌≤◌, ◌+◌, ◌-◌, ℕ, List, length, take, drop, true, refl, sym, ap, subst, ◌∙◌, arith, length-append, length-drop, length-take, append_assoc, None, Some, take-append-drop, drop-drop}
 use Rattle.std.specs.Prelude.{Option, MatchOption, slice_range, IsUtf8}
 use Rattle.std.specs.List.{list_all}
 use Rattle.std.specs.Char.{IsScalar, encode_utf8}

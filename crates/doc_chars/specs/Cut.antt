@@ -1,5 +1,5 @@
 -- A piece behind the bytes of a character that the piece before it cut.
-use Rattle.std.specs.Prelude.{◌≡◌, ◌<◌, ◌≤◌, ℕ, true, List, ◌++◌, length, take, drop, Some, None, MatchOption, slice_range}
+use Rattle.std.specs.Prelude.{◌≡◌, ◌<◌, ◌≤◌, ℕ, true, List, ◌++◌, length, take, drop, MatchOption, slice_range}
 use Rattle.std.specs.Char.{encode_utf8}
 use Rattle.gcx_base.specs.Characters.{is_char}
 use Rattle.doc_chars.specs.declared.cut.Cut.{Cut}

@@ -1,5 +1,5 @@
 -- References behind their `&`, and the characters that they stand for (XML 1.0, fifth edition, sections 4.1 and 4.6).
-use Rattle.std.specs.Prelude.{◌≡◌, ◌<◌, ◌+◌, ◌*◌, ℕ, Bool, true, List, [], ◌∷◌, ◌++◌, length, fold, codes}
+use Rattle.std.specs.Prelude.{◌≡◌, ◌<◌, ◌+◌, ◌*◌, ℕ, Bool, true, List, ◌∷◌, ◌++◌, length, fold, codes}
 use Rattle.std.specs.List.{list_all}
 use Rattle.std.specs.Char.{is_digit, digit_value}
 use Rattle.gcx_base.specs.Characters.{is_char}

@@ -1,5 +1,5 @@
 -- What is known of a reference whose first characters were read.
-use Rattle.std.specs.Prelude.{◌≡◌, ◌<◌, ◌≤◌, ◌+◌, ◌*◌, ℕ, true, List, [], ◌∷◌, ◌++◌, length, take, Option, Some, None, codes}
+use Rattle.std.specs.Prelude.{◌≡◌, ◌<◌, ◌≤◌, ℕ, true, List, [], ◌++◌, length, take, Option, Some, None, codes}
 use Rattle.doc_chars.specs.declared.reference.RefStep.{RefStep}
 use Rattle.doc_chars.specs.declared.reference.RefStep.TheVariants.{More, Done, Bad}
 use Rattle.doc_chars.specs.declared.reference.Entity.{Entity}

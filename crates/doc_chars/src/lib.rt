@@ -5,6 +5,8 @@ mod chars;
 mod cut;
 mod reference;
 mod scan;
+#[cfg(test)]
+mod tests;
 
 pub use chars::{CharFault, Chars, Split};
 pub use reference::{RefStep, Reference};

@@ -1,5 +1,5 @@
 //! References in a document, character by character.
-ghost use Rattle.std.specs.Prelude.{◌≡◌, ◌<◌, ◌≤◌, ◌+◌, ◌*◌, [], ◌∷◌, ◌++◌, ℕ, List, MatchOption, Some, unwrap_or, length, true, false};
+ghost use Rattle.std.specs.Prelude.{◌≡◌, ◌<◌, ◌≤◌, ◌+◌, ◌*◌, [], ◌∷◌, ◌++◌, ℕ, List, MatchOption, IsTrue, ◌↔◌, unwrap_or, true, false};
 ghost use Rattle.gcx_base.specs.Characters.{is_char};
 ghost use Rattle.doc_chars.specs.References.{IsSoundValue};
 
@@ -140,6 +140,13 @@ fn char_of(value: Option<u32>) -> Option<char>
     if is_xml_char(c) { Some(c) } else { None }
 }
 
+/// Whether it is the `x` directly behind `#`.
+fn marks_hexadecimal(radix: Radix, value: Option<u32>, c: char) -> bool
+    ensures { IsTrue result ↔ ((radix ≡ Radix.Decimal) × (value ≡ None) × (c ≡ 120)) }
+{
+    c == 'x' && radix == Radix::Decimal && value.is_none()
+}
+
 impl Next {
     ghost use Rattle.doc_chars.specs.References.{InName, InNumber};
     ghost use Rattle.doc_chars.specs.Next.{Leads, IsSoundNext};
@@ -203,7 +210,7 @@ impl Next {
                 Some(c) => Next::Done(c),
                 None => Next::Bad,
             },
-            None if c == 'x' && radix == Radix::Decimal && value.is_none() => {
+            None if marks_hexadecimal(radix, value, c) => {
                 Next::More(State::Number(Radix::Hexadecimal, None))
             }
             None => Next::Bad,

@@ -1,4 +1,4 @@
-use Rattle.std.proofs.Common.{rules, ◌≡◌, ◌<◌, ◌-◌, ◌++◌, take, drop, length, subst, arith, true}
+use Rattle.std.proofs.Common.{rules, ◌≡◌, ◌<◌, ◌-◌, ◌++◌, take, length, subst, arith, true}
 use Rattle.std.specs.Char.{encode_utf8}
 use Rattle.gcx_base.specs.Characters.{is_char}
 use Rattle.doc_chars.proofs.Bytes.{front_short}

@@ -1,4 +1,4 @@
-use Rattle.std.proofs.Common.{rules, ◌≡◌, ◌++◌, ◌∙◌, take, ap, subst, refl, arith}
+use Rattle.std.proofs.Common.{rules, take, subst}
 use Rattle.doc_chars.specs.Scan.{BeginsWith}
 use Rattle.doc_chars.proofs.Pieces.{begins_whole}
 use Rattle.doc_chars.proofs.cut.first_of.Goals as goal

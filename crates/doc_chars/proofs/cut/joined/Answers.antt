@@ -1,4 +1,4 @@
-use Rattle.std.proofs.Common.{rules, ◌≡◌, ◌≤◌, ◌-◌, take, length, min, arith}
+use Rattle.std.proofs.Common.{rules, arith}
 use Rattle.doc_chars.proofs.Pieces.{joined_bytes}
 use Rattle.doc_chars.proofs.cut.joined.Goals as goal
 

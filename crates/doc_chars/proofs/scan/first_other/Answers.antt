@@ -1,4 +1,4 @@
-use Rattle.std.proofs.Common.{rules, ◌≡◌, ◌++◌, ◌+◌, length, take, true, [], refl, sym, ap, subst, ◌∙◌, length-append, append-nil, append_assoc}
+use Rattle.std.proofs.Common.{rules, ◌≡◌, ◌++◌, ◌+◌, length, true, [], sym, ap, subst, ◌∙◌, length-append, append-nil, append_assoc}
 use Rattle.std.specs.Char.{IsScalar, encode_utf8}
 use Rattle.gcx_base.specs.Characters.{is_char}
 use Rattle.doc_chars.specs.Scan.{AreChars}

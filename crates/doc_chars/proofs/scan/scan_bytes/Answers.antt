@@ -1,6 +1,4 @@
-use Rattle.std.proofs.Common.{rules, ◌≡◌, take, drop, sym, ◌∙◌, true, false}
-use Rattle.std.specs.Prelude.{is_some}
-use Rattle.std.specs.Str.Lossy.{utf8_error_len}
+use Rattle.std.proofs.Common.{rules}
 use Rattle.std.specs.Str.{IsValidUpTo, IsErrorLen}
 use Rattle.doc_chars.proofs.Fronts.{scanned_whole, scanned_other, scanned_bad, scanned_cut}
 use Rattle.doc_chars.proofs.scan.scan_bytes.Goals as goal

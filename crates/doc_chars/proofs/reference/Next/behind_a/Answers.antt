@@ -1,4 +1,4 @@
-use Rattle.std.proofs.Common.{rules, arith}
+use Rattle.std.proofs.Common.{arith}
 use Rattle.doc_chars.proofs.Names.{second_never}
 use Rattle.doc_chars.proofs.reference.Next.behind_a.Goals as goal
 

@@ -1,6 +1,5 @@
-use Rattle.std.proofs.Common.{rules, arith}
+use Rattle.std.proofs.Common.{arith}
 use Rattle.doc_chars.proofs.Names.{first_never}
-use Rattle.doc_chars.proofs.Digits.{closes}
 use Rattle.doc_chars.proofs.reference.Next.first.Goals as goal
 
 pub returns-in_default-clause-leads : goal.returns-in_default-clause-leads

@@ -1,8 +1,6 @@
-use Rattle.std.proofs.Common.{rules, ◌≡◌, ◌≢◌, ◌<◌, ◌≤◌, ◌+◌, ◌*◌, arith, subst, sym, ap, ◌∙◌, None, Some, true≢false}
-use Rattle.std.specs.Prelude.{MatchOption, unwrap_or}
+use Rattle.std.proofs.Common.{rules, ◌≡◌, ◌<◌, ◌+◌, ◌*◌, subst}
+use Rattle.std.specs.Prelude.{unwrap_or}
 use Rattle.std.specs.Char.{digit_value}
-use Rattle.gcx_base.specs.Characters.{is_char}
-use Rattle.doc_chars.specs.declared.reference.Radix.TheVariants.{Decimal}
 use Rattle.doc_chars.specs.References.{base_of}
 use Rattle.doc_chars.proofs.Digits.{digit_is, never_large, never_other, never_end, closes_at}
 use Rattle.doc_chars.proofs.reference.Next.in_number.Goals as goal
@@ -25,16 +23,4 @@ returns-in-None-char_of-clause-leads c text n = never_end c.args.radix c.args.va
 pub returns-in-None-3-clause-leads : goal.returns-in-None-3-clause-leads
 returns-in-None-3-clause-leads c text n =
     let no_digit : digit_value c.args.c < base_of c.args.radix → ⊥ = search rules in
-    let some : c.args.value ≡ None → ⊥ = search rules in
-    never_other c.args.radix c.args.value text c.args.c n no_digit c.if-c-eq59.false (λ _ none _. some none)
-
-pub returns-in-None-3-2-clause-leads : goal.returns-in-None-3-2-clause-leads
-returns-in-None-3-2-clause-leads c text n =
-    let no_digit : digit_value c.args.c < base_of c.args.radix → ⊥ = search rules in
-    let other : c.args.radix ≡ Decimal → ⊥ = search rules in
-    never_other c.args.radix c.args.value text c.args.c n no_digit c.if-c-eq59.false (λ is _ _. other is)
-
-pub returns-in-None-3-3-clause-leads : goal.returns-in-None-3-3-clause-leads
-returns-in-None-3-3-clause-leads c text n =
-    let no_digit : digit_value c.args.c < base_of c.args.radix → ⊥ = search rules in
-    never_other c.args.radix c.args.value text c.args.c n no_digit c.if-c-eq59.false (λ _ _. c.if-c-eq120.false)
+    never_other c.args.radix c.args.value text c.args.c n no_digit c.if-c-eq59.false (λ is none mark. absurd (search rules))
