@@ -12,8 +12,8 @@ use Rattle.doc_chars.specs.declared.reference.Radix.{Radix}
 use Rattle.doc_chars.specs.declared.reference.Radix.TheVariants.{Decimal, Hexadecimal}
 use Rattle.doc_chars.specs.declared.reference.State.{State}
 use Rattle.doc_chars.specs.declared.reference.State.TheVariants.{Start, LetterA, Name, Number}
-use Rattle.doc_chars.specs.Reference.{number, all_digits, IsNumber, Refers, lt, amp, decimal, hexadecimal, GoesOn}
-use Rattle.doc_chars.specs.References.{base_of, opening_of, spelling_of, character_of, IsValueOf, InNumber, InName, StandsFor}
+use Rattle.doc_chars.specs.Reference.{number, all_digits, IsNumber, Refers, lt, amp, decimal, hexadecimal, BeginsReference}
+use Rattle.doc_chars.specs.References.{base_of, opening_of, spelling_of, character_of, IsValueOf, InNumber, InName, StandsForText}
 use Rattle.doc_chars.proofs.Names.{entity_refers}
 
 -- some digits behind the value make a Char
@@ -68,7 +68,7 @@ completes radix v h = elim (cases_lt v 32) [
 
 -- ---- the rest of a reference
 
-goes_by : (text tail : List ℕ) (c : ℕ) → 0 < length tail → Refers (text ++ tail) c → GoesOn text
+goes_by : (text tail : List ℕ) (c : ℕ) → 0 < length tail → Refers (text ++ tail) c → BeginsReference text
 goes_by text [] c some r = absurd (omega arith)
 goes_by text (x ∷ tail) c some r = record { next = x; more = tail; c = c; refers = r }
 
@@ -88,7 +88,7 @@ some_digits : (radix : ℕ) (value : Option ℕ) (digits more : List ℕ) → Is
 some_digits radix None digits more is some = omega (arith, some (ap (number radix) is), length-append digits more)
 some_digits radix (Some v) digits more (any, is, most) some = omega (arith, any, length-append digits more)
 
-number_goes_on : (radix : Radix) (value : Option ℕ) (text : List ℕ) → InNumber radix value text → GoesOn text
+number_goes_on : (radix : Radix) (value : Option ℕ) (text : List ℕ) → InNumber radix value text → BeginsReference text
 number_goes_on radix value text n =
     let base = base_of radix in
     let done = completes radix (number base n.digits) (value_small base value n.digits n.value_is) in
@@ -104,7 +104,7 @@ number_goes_on radix value text n =
     })
     (closing text (opening_of radix) n.digits done.digits n.text_is))
 
-name_goes_on : (e : Entity) (count : ℕ) (text : List ℕ) → InName e count text → GoesOn text
+name_goes_on : (e : Entity) (count : ℕ) (text : List ℕ) → InName e count text → BeginsReference text
 name_goes_on e count text h =
     let short = h.short in
     let whole : text ++ drop count (spelling_of e) ≡ spelling_of e = ap (λ t. t ++ drop count (spelling_of e)) h.text_is ∙ take-append-drop count (spelling_of e) in
@@ -112,8 +112,8 @@ name_goes_on e count text h =
     (subst (λ t. Refers t (character_of e)) (sym whole) (entity_refers e))
 
 -- behind a state some reference goes on
-pub goes_on : (state : State) (text : List ℕ) → StandsFor state text → GoesOn text
-goes_on Start text is = subst GoesOn (sym is) (record { next = 108; more = 116 ∷ 59 ∷ []; c = 60; refers = lt refl refl })
-goes_on LetterA text is = subst GoesOn (sym is) (record { next = 109; more = 112 ∷ 59 ∷ []; c = 38; refers = amp refl refl })
+pub goes_on : (state : State) (text : List ℕ) → StandsForText state text → BeginsReference text
+goes_on Start text is = subst BeginsReference (sym is) (record { next = 108; more = 116 ∷ 59 ∷ []; c = 60; refers = lt refl refl })
+goes_on LetterA text is = subst BeginsReference (sym is) (record { next = 109; more = 112 ∷ 59 ∷ []; c = 38; refers = amp refl refl })
 goes_on (Name e count) text h = name_goes_on e count text h
 goes_on (Number radix value) text h = number_goes_on radix value text h

@@ -29,7 +29,7 @@ pub data Refers (text : List ℕ) (c : ℕ) : Type 0 where
   hexadecimal : (digits : List ℕ) → IsNumber 16 digits c → text ≡ codes "#x" ++ (digits ++ codes ";") → Refers text c
 
 -- a reference begins with these characters, and is longer
-pub record GoesOn (text : List ℕ) : Type 0 where
+pub record BeginsReference (text : List ℕ) : Type 0 where
   pub next : ℕ
   pub more : List ℕ
   pub c : ℕ

@@ -8,7 +8,7 @@ use Rattle.doc_chars.specs.declared.reference.Radix.{Radix}
 use Rattle.doc_chars.specs.declared.reference.Radix.TheVariants.{Decimal, Hexadecimal}
 use Rattle.doc_chars.specs.declared.reference.State.{State}
 use Rattle.doc_chars.specs.declared.reference.State.TheVariants.{Start, LetterA, Name, Number}
-use Rattle.doc_chars.specs.Reference.{number, all_digits, Refers, GoesOn, NeverRefers}
+use Rattle.doc_chars.specs.Reference.{number, all_digits, Refers, BeginsReference, NeverRefers}
 
 abbrev pub spelling_of : Entity → List ℕ
 spelling_of Lt = codes "lt;"
@@ -59,15 +59,15 @@ pub record InName (entity : Entity) (count : ℕ) (text : List ℕ) : Type 0 whe
   pub text_is : text ≡ take count (spelling_of entity)
 
 -- the state is that behind these characters
-abbrev pub StandsFor : State → List ℕ → Type 0
-StandsFor Start text = text ≡ []
-StandsFor LetterA text = text ≡ codes "a"
-StandsFor (Name entity count) text = InName entity count text
-StandsFor (Number radix value) text = InNumber radix value text
+abbrev pub StandsForText : State → List ℕ → Type 0
+StandsForText Start text = text ≡ []
+StandsForText LetterA text = text ≡ codes "a"
+StandsForText (Name entity count) text = InName entity count text
+StandsForText (Number radix value) text = InNumber radix value text
 
 -- the answer is that for these characters
 abbrev pub Answers : RefStep → State → List ℕ → Type 0
-Answers More state text = GoesOn text × StandsFor state text
+Answers More state text = BeginsReference text × StandsForText state text
 Answers (Done c) state text = Refers text c
 Answers Bad state text = NeverRefers text
 

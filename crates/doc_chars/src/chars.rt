@@ -87,7 +87,8 @@ impl Chars {
 
     /// Nothing read.
     pub fn new() -> Chars
-        ensures { result ≡ record { bytes = []; seen = 0 } }
+        ensures empty { result ≡ record { bytes = []; seen = 0 } }
+        ensures stream { StandsFor result [] [] }
     {
         Chars {
             bytes: [0; LONGEST],

@@ -219,13 +219,13 @@ impl Next {
 }
 
 impl State {
-    ghost use Rattle.doc_chars.specs.References.{StandsFor, IsSound};
+    ghost use Rattle.doc_chars.specs.References.{StandsForText, IsSound};
     ghost use Rattle.doc_chars.specs.Next.{Leads, IsSoundNext};
 
     fn next(self, c: char) -> Next
         requires { IsSound self }
         ensures sound { IsSoundNext result }
-        ensures leads { (text : List ℕ) → StandsFor self text → Leads result (text ++ c ∷ []) }
+        ensures leads { (text : List ℕ) → StandsForText self text → Leads result (text ++ c ∷ []) }
     {
         match self {
             State::Start => Next::first(c),
@@ -237,11 +237,11 @@ impl State {
 }
 
 impl Reference {
-    ghost use Rattle.doc_chars.specs.References.{StandsFor, Answers, Stays};
+    ghost use Rattle.doc_chars.specs.References.{StandsForText, Answers, Stays};
 
     /// Nothing read behind `&`.
     pub fn new() -> Reference
-        ensures { StandsFor result [] }
+        ensures { StandsForText result [] }
     {
         Reference {
             state: State::Start,
@@ -250,7 +250,7 @@ impl Reference {
 
     /// The next character. Behind an end a new value is wanted: this one stays as it was.
     pub fn step(&mut self, c: char) -> RefStep
-        ensures answer { (text : List ℕ) → StandsFor self.old text → Answers result self.new (text ++ c ∷ []) }
+        ensures answer { (text : List ℕ) → StandsForText self.old text → Answers result self.new (text ++ c ∷ []) }
         ensures stays { Stays result self.old self.new }
     {
         match self.state.next(c) {
