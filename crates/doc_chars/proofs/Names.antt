@@ -1,10 +1,9 @@
 -- Names of entities: what their first letters may go on to.
-use Rattle.std.proofs.Common.{◌≡◌, ◌≢◌, ◌⊎◌, ◌++◌, ◌∷◌, [], ◌≤◌, ◌+◌, ◌==◌, ℕ, suc, zero, List, length, take, get_or, refl, sym, ap, subst, ◌∙◌, arith, append_assoc, inl, inr, cond, length-take, take_all}
-use Rattle.std.proofs.lemmas.List.{get_or_at, take_more}
+use Rattle.std.proofs.Common.{◌≡◌, ◌≢◌, ◌⊎◌, ◌++◌, ◌∷◌, [], ◌==◌, ℕ, List, get_or, refl, ap, arith, inl, inr, cond}
 use Rattle.doc_chars.specs.declared.reference.Entity.{Entity}
 use Rattle.doc_chars.specs.declared.reference.Entity.TheVariants.{Lt, Gt, Amp, Apos, Quot}
 use Rattle.doc_chars.specs.Reference.{Refers, lt, gt, amp, apos, quot, decimal, hexadecimal, NeverRefers}
-use Rattle.doc_chars.specs.References.{spelling_of, character_of, telling_of, InName}
+use Rattle.doc_chars.specs.References.{spelling_of, character_of}
 
 abbrev pub letter : ℕ → List ℕ → ℕ
 letter n text = get_or text n 0
@@ -40,33 +39,6 @@ told_whole Amp = refl
 told_whole Apos = refl
 told_whole Quot = refl
 
--- the letters that tell an entity, with anything behind them
-told : (e : Entity) (n : ℕ) (rest : List ℕ) → telling_of e ≤ n → entity_at (take n (spelling_of e) ++ rest) ≡ e
-told Lt zero rest h = absurd (omega arith)
-told Lt (suc n) rest h = refl
-told Gt zero rest h = absurd (omega arith)
-told Gt (suc n) rest h = refl
-told Amp zero rest h = absurd (omega arith)
-told Amp (suc zero) rest h = absurd (omega arith)
-told Amp (suc (suc n)) rest h = refl
-told Apos zero rest h = absurd (omega arith)
-told Apos (suc zero) rest h = absurd (omega arith)
-told Apos (suc (suc n)) rest h = refl
-told Quot zero rest h = absurd (omega arith)
-told Quot (suc n) rest h = refl
-
-no_hash : (e : Entity) (n : ℕ) (rest : List ℕ) → telling_of e ≤ n → letter 0 (take n (spelling_of e) ++ rest) ≡ 35 → ⊥
-no_hash Lt zero rest h is = omega arith
-no_hash Lt (suc n) rest h is = omega (arith, is)
-no_hash Gt zero rest h is = omega arith
-no_hash Gt (suc n) rest h is = omega (arith, is)
-no_hash Amp zero rest h is = omega arith
-no_hash Amp (suc n) rest h is = omega (arith, is)
-no_hash Apos zero rest h is = omega arith
-no_hash Apos (suc n) rest h is = omega (arith, is)
-no_hash Quot zero rest h is = omega arith
-no_hash Quot (suc n) rest h is = omega (arith, is)
-
 -- its whole spelling tells it, with anything behind it
 pub told_beyond : (e : Entity) (rest : List ℕ) → entity_at (spelling_of e ++ rest) ≡ e
 told_beyond Lt rest = refl
@@ -81,34 +53,6 @@ no_hash_beyond Gt rest is = omega (arith, is)
 no_hash_beyond Amp rest is = omega (arith, is)
 no_hash_beyond Apos rest is = omega (arith, is)
 no_hash_beyond Quot rest is = omega (arith, is)
-
--- the front with one letter more
-name_push : (e : Entity) (n c : ℕ) (text : List ℕ) → InName e n text → letter n (spelling_of e) ≡ c → text ++ c ∷ [] ≡ take (n + 1) (spelling_of e)
-name_push e n c text h is =
-    ap (λ t. t ++ c ∷ []) h.text_is ∙ ap (λ x. take n (spelling_of e) ++ x ∷ []) (sym is) ∙ sym (take_more (spelling_of e) n 0 h.short)
-
-pub name_more : (e : Entity) (n c : ℕ) (text : List ℕ) → InName e n text → letter n (spelling_of e) ≡ c → n + 1 ≢ length (spelling_of e) → InName e (n + 1) (text ++ c ∷ [])
-name_more e n c text h is more =
-    let telling = h.telling in
-    let short = h.short in
-    record { telling = omega arith; short = omega (arith, short, more); text_is = name_push e n c text h is }
-
-pub name_done : (e : Entity) (n c : ℕ) (text : List ℕ) → InName e n text → letter n (spelling_of e) ≡ c → n + 1 ≡ length (spelling_of e) → Refers (text ++ c ∷ []) (character_of e)
-name_done e n c text h is end =
-    subst (λ t. Refers t (character_of e)) (sym (name_push e n c text h is ∙ take_all (n + 1) (spelling_of e) (omega (arith, end)))) (entity_refers e)
-
-pub name_never : (e : Entity) (n c : ℕ) (text : List ℕ) → InName e n text → letter n (spelling_of e) ≢ c → NeverRefers (text ++ c ∷ [])
-name_never e n c text h other more d r =
-    let whole : (text ++ c ∷ []) ++ more ≡ take n (spelling_of e) ++ c ∷ more = append_assoc text (c ∷ []) more ∙ ap (λ t. t ++ c ∷ more) h.text_is in
-    let short = h.short in
-    let size : length (take n (spelling_of e)) ≡ n = length-take n (spelling_of e) ∙ omega (arith, short) in
-    elim (kind_of ((text ++ c ∷ []) ++ more) d r) [
-      | inl (f, is, _) ↦ (
-          let same : f ≡ e = sym (told_whole f) ∙ ap entity_at (sym is ∙ whole) ∙ told e n (c ∷ more) h.telling in
-          let all : take n (spelling_of e) ++ c ∷ more ≡ spelling_of e = sym whole ∙ is ∙ ap spelling_of same in
-          other (sym (ap (letter n) all) ∙ get_or_at (take n (spelling_of e)) c more 0 n size))
-      | inr is ↦ no_hash e n (c ∷ more) h.telling (sym (ap (letter 0) whole) ∙ is)
-    ]
 
 -- ---- the first letters
 
