@@ -1,7 +1,7 @@
 -- Cells side by side: a block's places are cells, and cells that are owned together lie apart. Assumes `Logic`.
 use mathlib.Core.Path.{◌≡◌, refl, sym, ap, subst, ◌∙◌}
 use mathlib.Core.Bool.{Bool, true, false, cond}
-use Prim.Native.Nat.{ℕ, ◌+◌, ◌-◌, ◌<◌, ◌≤◌}
+use Prim.Native.Nat.{ℕ, suc, ◌+◌, ◌-◌, ◌<◌, ◌≤◌}
 use lib.ListN.{length}
 use native.Mathlib.Omega.{arith}
 use mathlib.Core.List.{List, [], ◌∷◌, ◌++◌, map}
@@ -16,14 +16,14 @@ use types.Kit.{Item, Goal, Seq, mean, prop, ‵, raw, some, given, ◌⊛◌, �
 use denote.RattleType.{RattleType}
 use denote.Steps.{nothing}
 use denote.Memory.{part_at}
-use denote.RawPtr.{Ptr, block_ptr, null_ptr, lies_at, room_for}
+use denote.RawPtr.{Ptr, block_ptr, null_ptr, lies_at, room_for, ◌+ₚ◌}
 use mir.Val.{Val}
 use Rattle.std.specs.Prelude.{Option, Some, None}
 use Rattle.std.specs.List.{AllByRecursion, IsDistinct}
 use Rattle.core.proofs.mem.Param.{El, R, el_x, elτ}
 use Rattle.std_alloc.proofs.RcSteps.{Good}
 use Rattle.raw_nodes.specs.Ownership.{slots}
-use Rattle.raw_nodes.specs.Spots.{Spot, same_ptr, spots, spots_own, places, IsApart}
+use Rattle.raw_nodes.specs.Spots.{Spot, same_ptr, spots, spots_own, run_places, places, IsApart}
 use Rattle.raw_nodes.proofs.Memory.{sz, value_out}
 use Rattle.raw_nodes.proofs.Pointers.{same_ptr_eq}
 
@@ -103,6 +103,32 @@ module _ (R : RattleType) {M : Type 1} {𝓤 : Ura M} (𝓛 : Logic 𝓤) where
   pub run_null : (size : ℕ) (xs : List R.Denot) → 0 < length xs → ent 𝓤 (sem 𝓛 (spots_own R (spots size null_ptr xs))) (never 𝓤)
   run_null size [] long = absurd (omega arith)
   run_null size (x ∷ xs) long = fst∗ 𝓤 (never 𝓤) (sem 𝓛 (spots_own R (spots size null_ptr xs)))
+
+-- the places of values side by side
+pub places_spots : {X : Type 0} (size : ℕ) (p : Ptr) (xs : List X) → places (spots size p xs) ≡ run_places size p (length xs)
+places_spots size p [] = refl
+places_spots size p (x ∷ xs) = ap (λ ps. p ∷ ps) (places_spots size (p +ₚ size) xs)
+
+pub length_spots : {X : Type 0} (size : ℕ) (p : Ptr) (xs : List X) → length (spots size p xs) ≡ length xs
+length_spots size p [] = refl
+length_spots size p (x ∷ xs) = ap suc (length_spots size (p +ₚ size) xs)
+
+-- cells at places side by side are values side by side
+pub side_by_side : {X : Type 0} (size : ℕ) (p : Ptr) (ss : List (Spot X)) → places ss ≡ run_places size p (length ss) → ss ≡ spots size p (map (λ s. s.held) ss)
+side_by_side size p [] e = refl
+side_by_side {X} size p (s ∷ ss) e =
+    let here : s.at ≡ p = ap (head_or p) e in
+    let rest : places ss ≡ run_places size (p +ₚ size) (length ss) = ap tail_of e in
+    let rest_is = side_by_side size (p +ₚ size) ss rest in
+    λ i. let one : Spot X = record { at = here i; held = s.held } in one ∷ rest_is i
+  where
+    head_or : Ptr → List Ptr → Ptr
+    head_or q [] = q
+    head_or q (x ∷ xs) = x
+
+    tail_of : List Ptr → List Ptr
+    tail_of [] = []
+    tail_of (x ∷ xs) = xs
 
 pub rest_long : (n k : ℕ) → k ≤ n → n - (n - k) ≡ k
 rest_long n k le = omega arith

@@ -1,9 +1,10 @@
 -- Cells that lie anywhere in memory, each with what it holds.
-use Rattle.std.specs.Prelude.{◌≡◌, ℕ, Bool, true, false, ◌&&◌, ◌==◌, ◌-◌, ◌*◌, ◌≤◌, length, drop, if◌then◌else◌, List, [], ◌∷◌, map, Option, Some, None}
+use Rattle.std.specs.Prelude.{◌≡◌, ℕ, zero, suc, ◌^◌, Bool, true, false, ◌&&◌, ◌==◌, ◌-◌, ◌*◌, ◌≤◌, length, drop, if◌then◌else◌, List, [], ◌∷◌, map, Option, Some, None}
 use Rattle.std.specs.List.{IsDistinct}
 use Rattle.raw_nodes.specs.Places.{somes}
 use base.Fraction.{full_share}
-use base.Fml.{Lft, Fml, ftrue, fsep}
+use base.Fml.{Lft, Fml, ftrue, fsep, flt, feq}
+use Rattle.std.specs.Mem.{type_size}
 use denote.RattleType.{RattleType}
 use denote.Sharing.{nothing, beside}
 use denote.RawPtr.{Ptr, block_ptr, null_ptr, lies_at, ◌+ₚ◌}
@@ -48,10 +49,9 @@ module _ {X : Type 0} where
   abbrev pub IsFull : List (Option X) → Type 0
   IsFull cs = cs ≡ map Some (somes cs)
 
-  -- the last `len` cells lie side by side from p on
-  abbrev pub IsLastRun : ℕ → Ptr → ℕ → List (Spot X) → Type 0
-  IsLastRun size p len cells =
-      (len ≤ length cells) × (drop (length cells - len) cells ≡ spots size p (map (λ s. s.held) (drop (length cells - len) cells)))
+  -- the last cells lie at these places
+  abbrev pub IsLast : List Ptr → List (Spot X) → Type 0
+  IsLast ps cells = (length ps ≤ length cells) × (places (drop (length cells - length ps) cells) ≡ ps)
 
 -- the pointer lies in a block
 abbrev pub IsIn : Ptr → Type 0
@@ -61,7 +61,16 @@ IsIn p = (b : ℕ) × (o : ℕ) × (p ≡ block_ptr b o)
 abbrev pub cell_ptr : ℕ → Ptr → ℕ → Ptr
 cell_ptr size p index = p +ₚ (index * size)
 
+-- so many places side by side from p on
+abbrev pub run_places : ℕ → Ptr → ℕ → List Ptr
+run_places size p zero = []
+run_places size p (suc n) = p ∷ run_places size (p +ₚ size) n
+
 module _ (R : RattleType) where
+  -- that the places lie side by side, and fit in a block
+  abbrev pub run_owns : Ptr → List Ptr → Fml
+  run_owns p ps = fsep (flt (length ps * type_size R) (2 ^ 63)) (feq (List Ptr) ps (run_places (type_size R) p (length ps)))
+
   abbrev pub spots_own : List (Spot R.Denot) → Fml
   spots_own [] = ftrue
   spots_own (s ∷ ss) = fsep (lies_at R full_share s.at s.held) (spots_own ss)

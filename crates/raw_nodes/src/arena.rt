@@ -2,9 +2,10 @@
 ghost use Rattle.std.specs.Prelude.{◌≡◌, ◌-◌, ◌*◌, ◌^◌, ◌<◌, List, Some, IsSome, [], ◌++◌, map, length, take, drop, ⊤};
 ghost use Rattle.std.specs.Borrow.{sem};
 ghost use Rattle.std.specs.Mem.{type_size};
-ghost use Rattle.std.specs.Vec.Ownership.{FitsInBlock};
+ghost use base.Fml.{ftrue};
+ghost use denote.RawPtr.{Ptr};
 ghost use Rattle.raw_nodes.specs.Places.{somes};
-ghost use Rattle.raw_nodes.specs.Spots.{Spot, spots_own, spots_lent, found, spots, cell_ptr, IsApart, IsIn, IsLastRun, IsFull};
+ghost use Rattle.raw_nodes.specs.Spots.{Spot, spots_own, spots_lent, run_owns, found, spots, places, cell_ptr, IsApart, IsIn, IsLast, IsFull};
 
 use crate::cells::{Base, Cells};
 use std::alloc::AllocError;
@@ -38,6 +39,19 @@ impl Link {
     }
 }
 
+/// Where the cells of a block lie. It takes no space.
+pub struct Run<N> {
+    mark: PhantomData<*const N>,
+    ghost at: { Ptr },
+    ghost places: { List Ptr },
+}
+
+impl<N> Model for Run<N> {
+    ghost also_owns = { λ r. run_owns N.row r.at r.places };
+
+    ghost also_shares = { λ _ _ _. ftrue };
+}
+
 /// The owner of the cells. It takes no space.
 pub struct Arena<N> {
     mark: PhantomData<*const N>,
@@ -60,20 +74,22 @@ impl<N> Arena<N> {
     }
 
     /// Takes over a block whose cells all hold a value.
-    pub(crate) fn adopt(&mut self, cells: Cells<N>)
+    pub(crate) fn adopt(&mut self, cells: Cells<N>) -> Run<N>
         requires { IsFull cells.slots × (0 < type_size N.row) }
         ensures cells { self.new.cells ≡ self.old.cells ++ spots (type_size N.row) cells.at (somes cells.slots) }
-        ensures apart { IsApart self.new.cells × IsIn cells.at }
+        ensures run { IsApart self.new.cells × (result.at ≡ cells.at) × (result.places ≡ places (spots (type_size N.row) cells.at (somes cells.slots))) }
     {
         let Cells { mark: _ } = cells;
+        Run { mark: PhantomData }
     }
 
     /// Gives the last block back.
-    pub(crate) fn release(&mut self, base: Base<N>, len: usize) -> Cells<N>
-        requires { IsLastRun (type_size N.row) base.ptr len self.old.cells × (0 < len) × FitsInBlock N.row len }
-        ensures cells { self.new.cells ≡ take (length self.old.cells - len) self.old.cells }
-        ensures result { (result.at ≡ base.ptr) × (result.slots ≡ map (λ s. Some s.held) (drop (length self.old.cells - len) self.old.cells)) }
+    pub(crate) fn release(&mut self, run: Run<N>) -> Cells<N>
+        requires { IsLast run.places self.old.cells × (0 < length run.places) }
+        ensures cells { self.new.cells ≡ take (length self.old.cells - length run.places) self.old.cells }
+        ensures result { (result.at ≡ run.at) × (result.slots ≡ map (λ s. Some s.held) (drop (length self.old.cells - length run.places) self.old.cells)) }
     {
+        let Run { mark: _ } = run;
         Cells { mark: PhantomData }
     }
 
