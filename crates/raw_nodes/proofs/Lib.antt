@@ -1,5 +1,8 @@
 pub mod Arenas
+pub mod Blocks
+pub mod Filling
 pub mod Found
+pub mod Growing
 pub mod Memory
 pub mod Pointers
 pub mod Runs

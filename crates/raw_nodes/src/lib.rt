@@ -3,6 +3,8 @@
 
 mod arena;
 mod cells;
+mod heap;
+mod node;
 
 pub use arena::{Arena, Link};
 pub use cells::{Base, Cells, Deed};

@@ -44,6 +44,7 @@ use denote.Builtin.{usize}
 use Rattle.std.specs.Prelude.{None}
 use Rattle.core.proofs.mem.Param.{El, R, elτ}
 use Rattle.std_alloc.proofs.RawLayout.{as_written}
+use Rattle.raw_nodes.specs.Spots.{IsIn}
 use Rattle.raw_nodes.specs.Ownership.{slots}
 use Rattle.raw_nodes.proofs.Memory.{Cr, Bs, Mark, sz, mark, mark_made, word_made}
 use base.Fml.{Incl-trans}
@@ -120,7 +121,7 @@ module _ (E : El) (Z : Al) {M : Type 1} {𝓤 : Ura M} (𝓛 : Logic 𝓤) (at_m
   abbrev Post : Val → SProp 𝓤
   Post = (walk_of 𝓛 (ended E Z) (stayed E Z) (clauses E Z 𝓛 at_mem run)).post bound
 
-  exits : (r : (Out E Z).Denot) (v : Val) → IfOk r (λ t. (t.1.at ≡ t.0.ptr) × (t.1.slots ≡ replicate len None) × (t.2.at ≡ t.0.ptr) × (t.2.len ≡ len) × (t.2.alloc ≡ a))
+  exits : (r : (Out E Z).Denot) (v : Val) → IfOk r (λ t. (t.1.at ≡ t.0.ptr) × (t.1.slots ≡ replicate len None) × (t.2.at ≡ t.0.ptr) × (t.2.len ≡ len) × (t.2.alloc ≡ a) × IsIn t.0.ptr)
       → ent 𝓤 (⋆ 𝓛 (‵ ((Out E Z).own_val r (v ∷ [])) ∷ ‵ (flft κ q) ∷ others ∷ [])) (Post v)
   exits r v g =
       qed 𝓛 (‵ ((Out E Z).own_val r (v ∷ [])) ∷ ‵ (flft κ q) ∷ others ∷ []) ∵
@@ -166,7 +167,7 @@ module _ (E : El) (Z : Al) {M : Type 1} {𝓤 : Ura M} (𝓛 : Logic 𝓤) (at_m
       use0 𝓛 (‵ ((Mark E).own_val (tt, tt) (mark ∷ []))) (mark_made E 𝓛) $ fjoin ! $ word_made ! p $
       use3 𝓛 (‵ ((Three E Z).own_val (base, cells, deed) (made ∷ []))) (three_of 𝓛 (Bs E) (Cr E) (Dd E Z) base cells deed (word p) mark mark) $
       use1 𝓛 (‵ ((Out E Z).own_val (Ok (base, cells, deed)) (live 0 (vcons made vnil) ∷ []))) (ok_of 𝓛 (Three E Z) AE.the_row (base, cells, deed) made) $
-      returns ! (look_at ! 0 refl) $ free_all ! refl $ keep ! (0 ∷ 1 ∷ 2 ∷ []) $ by ! (exits (Ok (base, cells, deed)) (live 0 (vcons made vnil)) (refl, refl, refl, refl, refl)))
+      returns ! (look_at ! 0 refl) $ free_all ! refl $ keep ! (0 ∷ 1 ∷ 2 ∷ []) $ by ! (exits (Ok (base, cells, deed)) (live 0 (vcons made vnil)) (refl, refl, refl, refl, refl, (b, o, refl))))
       (λ e.
       let Refusal : RattleType = Struct (Declared.shape AE.the_type) in
       let none : Val = live 1 (vcons (vstruct vnil) vnil) in
