@@ -3,7 +3,9 @@ pub mod Blocks
 pub mod Filling
 pub mod Found
 pub mod Growing
+pub mod Looks
 pub mod Memory
 pub mod Pointers
 pub mod Runs
 pub mod Sharing
+pub mod Updates

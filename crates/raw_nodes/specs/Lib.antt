@@ -1,3 +1,4 @@
+pub mod Edits
 pub mod Heaps
 pub mod Lends
 pub mod NodeLends

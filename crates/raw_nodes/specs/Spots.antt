@@ -40,6 +40,11 @@ module _ {X : Type 0} where
   written [] p w = []
   written (s ∷ ss) p w = if same_ptr s.at p then record { at = s.at; held = w } ∷ ss else s ∷ written ss p w
 
+  -- the cells, with what the one at p holds changed by f
+  abbrev pub updated : (X → X) → List (Spot X) → Ptr → List (Spot X)
+  updated f [] p = []
+  updated f (s ∷ ss) p = if same_ptr s.at p then record { at = s.at; held = f s.held } ∷ ss else s ∷ updated f ss p
+
   -- values side by side from p on, each of which takes so many bytes
   abbrev pub spots : ℕ → Ptr → List X → List (Spot X)
   spots size p [] = []

@@ -3,6 +3,7 @@
 
 mod arena;
 mod cells;
+mod edit;
 mod heap;
 mod node;
 
