@@ -8,4 +8,5 @@ pub mod Memory
 pub mod Pointers
 pub mod Runs
 pub mod Sharing
+pub mod Stored
 pub mod Updates

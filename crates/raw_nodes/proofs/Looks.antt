@@ -16,7 +16,7 @@ mapped : {X Y Z : Type 0} (g : Y → Z) (f : X → Y) (h : X → Z) (o : Option 
 mapped g f h None e = refl
 mapped g f h (Some x) e = ap Some (sym (e x))
 
-unmapped : {X Y : Type 0} (f : X → Y) (o : Option X) → IsSome (option_map f o) → IsSome o
+pub unmapped : {X Y : Type 0} (f : X → Y) (o : Option X) → IsSome (option_map f o) → IsSome o
 unmapped f None h = absurd (cc)
 unmapped f (Some x) h = search rules
 

@@ -5,4 +5,5 @@ pub mod NodeLends
 pub mod Nodes
 pub mod Ownership
 pub mod Places
+pub mod Raw
 pub mod Spots

@@ -6,6 +6,7 @@ mod cells;
 mod edit;
 mod heap;
 mod node;
+mod rows;
 
 pub use arena::{Arena, Link};
 pub use cells::{Base, Cells, Deed};
