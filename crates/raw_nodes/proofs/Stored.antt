@@ -10,7 +10,8 @@ use Rattle.node_store.specs.Rows.{Rows, Entry, parent_of, children_of, children_
 use Rattle.node_store.specs.Links.{Linked, Cells, cell_at, rows_of, linked_at, Holds, IsSound}
 use Rattle.node_store.proofs.Siblings.{head_listed, last_listed, after_listed, listed_apart, or_right, none_or}
 use Rattle.node_store.proofs.Maps.{some_row, is_there, parent_at, child_at, used_parent, used_child}
-use Rattle.node_store.proofs.Held.{get_row, len_rows, rows_is, sound_of}
+use Rattle.node_store.proofs.Held.{get_row, len_rows, rows_is, sound_of, holds_empty}
+use Rattle.node_store.proofs.Trees.{tree_empty}
 use Rattle.raw_nodes.specs.Spots.{Spot, same_ptr, places, found, IsApart}
 use Rattle.raw_nodes.specs.Nodes.{place_of, index_in, linked_in, cells_of, Numbered, Chain, dead_node, dead_nodes, head_link, IsFree, IsStore}
 use Rattle.raw_nodes.specs.declared.arena.Link.{Link}
@@ -129,7 +130,7 @@ module _ {T : Type 0} where
         go (Some e) is h = subst (λ o. IsSome o) (sym is) (search rules)
 
   -- the number that a cell keeps is its own
-  numbered_at : (k : ℕ) (ss : List (Spot (Node T))) → Numbered k ss → (j : ℕ) (n : Node T) → held_at ss j ≡ Some n → n.number ≡ k + j
+  pub numbered_at : (k : ℕ) (ss : List (Spot (Node T))) → Numbered k ss → (j : ℕ) (n : Node T) → held_at ss j ≡ Some n → n.number ≡ k + j
   numbered_at k [] h j n e = absurd (cc)
   numbered_at k (s ∷ ss) h zero n e = let same : s.held ≡ n = search e in ap (λ m. m.number) (sym same) ∙ h.0 ∙ zero_more k
     where
@@ -150,12 +151,12 @@ module _ {T : Type 0} where
       go true lt rest = refl
       go false lt rest = ap suc (rest (omega arith))
 
-  held_more : (cells more : List (Spot (Node T))) (k : ℕ) → k < length cells → held_at (cells ++ more) k ≡ held_at cells k
+  pub held_more : (cells more : List (Spot (Node T))) (k : ℕ) → k < length cells → held_at (cells ++ more) k ≡ held_at cells k
   held_more [] more k lt = absurd (omega arith)
   held_more (s ∷ ss) more zero lt = refl
   held_more (s ∷ ss) more (suc k) lt = held_more ss more k (omega arith)
 
-  held_past : (cells more : List (Spot (Node T))) (k : ℕ) → length cells ≤ k → held_at (cells ++ more) k ≡ held_at more (k - length cells)
+  pub held_past : (cells more : List (Spot (Node T))) (k : ℕ) → length cells ≤ k → held_at (cells ++ more) k ≡ held_at more (k - length cells)
   held_past [] more k le = let same : k ≡ k - 0 = omega arith in ap (held_at more) same
   held_past (s ∷ ss) more zero le = absurd (omega arith)
   held_past (s ∷ ss) more (suc k) le = let same : k - length ss ≡ suc k - suc (length ss) = omega arith in held_past ss more k (omega arith) ∙ ap (held_at more) same
@@ -177,15 +178,15 @@ abbrev pub numbers : ℕ → ℕ → List ℕ
 numbers k zero = []
 numbers k (suc n) = k ∷ numbers (suc k) n
 
-not_below : (j k n : ℕ) → j < k → is_listed j (numbers k n) ≡ false
+pub not_below : (j k n : ℕ) → j < k → is_listed j (numbers k n) ≡ false
 not_below j k zero lt = refl
 not_below j k (suc n) lt = none_or (k == j) _ (ne_eqb k j (λ e. absurd (omega arith))) (not_below j (suc k) n (omega arith))
 
-numbers_once : (k n : ℕ) → Distinct (numbers k n)
+pub numbers_once : (k n : ℕ) → Distinct (numbers k n)
 numbers_once k zero = tt
 numbers_once k (suc n) = (not_below k (suc k) n (omega arith), numbers_once (suc k) n)
 
-numbers_have : (j k n : ℕ) → k ≤ j → j < k + n → is_listed j (numbers k n) ≡ true
+pub numbers_have : (j k n : ℕ) → k ≤ j → j < k + n → is_listed j (numbers k n) ≡ true
 numbers_have j k zero le lt = absurd (omega arith)
 numbers_have j k (suc n) le lt = elim (cases_eq k j) [
   | inl same ↦ ap (λ b. b || is_listed j (numbers (suc k) n)) (eq-eqb k j same)
@@ -203,7 +204,7 @@ module _ {T : Type 0} where
   held_by (s ∷ ss) (suc k) = held_by ss k
 
   -- dead cells at the end of the list, each linked to the next
-  fresh_chain : (cells : List (Spot (Node T))) → IsApart cells → (ps : List Ptr) (hs : List (Node T)) (k : ℕ) (ls : List Link) → length ps ≡ k → length hs ≡ k
+  pub fresh_chain : (cells : List (Spot (Node T))) → IsApart cells → (ps : List Ptr) (hs : List (Node T)) (k : ℕ) (ls : List Link) → length ps ≡ k → length hs ≡ k
       → places cells ≡ ps ++ map (λ l. l.ptr) ls → map (λ s. s.held) cells ≡ hs ++ dead_nodes k ls → Chain cells (head_link ls) (numbers k (length ls))
   fresh_chain cells apart ps hs k [] pl hl pe he = refl
   fresh_chain cells apart ps hs k (l ∷ ls) pl hl pe he =
@@ -223,7 +224,7 @@ module _ {T : Type 0} where
       )
 
   -- what stands behind the older cells is dead
-  dead_there : (cells : List (Spot (Node T))) (k : ℕ) (ls : List Link) → map (λ s. s.held) cells ≡ dead_nodes k ls → (j : ℕ) (n : Node T) → held_at cells j ≡ Some n → n.payload ≡ None
+  pub dead_there : (cells : List (Spot (Node T))) (k : ℕ) (ls : List Link) → map (λ s. s.held) cells ≡ dead_nodes k ls → (j : ℕ) (n : Node T) → held_at cells j ≡ Some n → n.payload ≡ None
   dead_there [] k ls e j n is = absurd (cc)
   dead_there (s ∷ ss) k [] e j n is = absurd (cc)
   dead_there (s ∷ ss) k (l ∷ ls) e zero n is =
@@ -239,3 +240,22 @@ module _ {T : Type 0} where
       tail_nodes : List (Node T) → List (Node T)
       tail_nodes [] = []
       tail_nodes (x ∷ xs) = xs
+
+module _ {T : Type 0} where
+  -- a store without cells
+  none_there : (k : ℕ) → look {T = T} [] k ≡ None
+  none_there k = refl
+
+  pub no_rows : rows_of (cells_of {T = T} []) ≡ fin.empty
+  no_rows = rows_is (cells_of []) fin.empty None (holds_empty (look []) none_there) tree_empty
+
+  pub store_empty : IsStore {T = T} [] None None 0 0
+  store_empty =
+      record {
+        sound = sound_of (cells_of []) fin.empty None (holds_empty (look []) none_there) tree_empty 0 (zero_len (fin.len-empty _ _));
+        count = sym (ap fin.len no_rows ∙ fin.len-empty _ _);
+        dead = ([], record { chain = refl; once = tt; all = λ k lt none. absurd (omega arith) });
+      }
+    where
+      zero_len : {n : ℕ} → n ≡ 0 → n ≤ 0
+      zero_len e = omega (arith, e)

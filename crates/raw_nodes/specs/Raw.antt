@@ -1,9 +1,9 @@
 -- What a contract sees of a raw store, and what one call makes of it. All definitions here are this project's.
-use Rattle.std.specs.Prelude.{◌≡◌, ◌<◌, ◌+◌, ℕ, List, ◌∷◌, length, max, Option, Some, None, refl}
+use Rattle.std.specs.Prelude.{◌≡◌, ◌<◌, ◌+◌, ℕ, List, ◌∷◌, length, max, Option, Some, None, is_some, if◌then◌else◌, refl}
 use Rattle.std.specs.Coded.{Coded, code_by, coded×, coded_ℕ, coded_option}
 use Rattle.std.specs.FinMap as fin
 use denote.RawPtr.{Ptr}
-use Rattle.node_store.specs.Rows.{Rows, Entry, entry_code, appended, planted}
+use Rattle.node_store.specs.Rows.{Rows, Entry, entry_code, appended, planted, unlinked, parent_of}
 use Rattle.node_store.specs.Links.{rows_of, cell_at, Holds}
 use Rattle.raw_nodes.specs.Nodes.{place_of, index_in, cells_of, Chain, IsFree, IsStore}
 use Rattle.raw_nodes.specs.Heaps.{IsHeap}
@@ -69,3 +69,10 @@ module _ {T : Type 0} where
     pub root : new.root ≡ Some p
     pub most : new.most ≡ max old.most 1
     pub spares : Spares old new.cells
+
+  -- `unlink_leaf`
+  pub record Unlinks (old new : Raw T) (p : ℕ) : Type 0 where
+    pub rows : new.rows ≡ unlinked old.rows p
+    pub root : new.root ≡ (if is_some (parent_of old.rows p) then old.root else None)
+    pub most : new.most ≡ old.most
+    pub cells : new.cells ≡ old.cells

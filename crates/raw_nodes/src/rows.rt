@@ -1,15 +1,14 @@
 //! The fields of a raw store, and the steps that keep its rows.
 ghost use Rattle.std.specs.Prelude.{◌≡◌, ◌<◌, ℕ, Some, None, [], IfOk, IfErr, OnErr, IsOk, IsSome, IfSome, option_map, length, is_some, if◌then◌else◌};
 ghost use Rattle.std.specs.FinMap as fin;
-ghost use Rattle.node_store.specs.Rows.{Entry, unlinked, parent_of};
+ghost use Rattle.node_store.specs.Rows.{Entry};
 ghost use Rattle.raw_nodes.specs.Spots.{found};
 ghost use Rattle.raw_nodes.specs.Nodes.{place_of};
-ghost use Rattle.raw_nodes.specs.Raw.{raw_of, IsRaw, Ready, Appends, Plants};
+ghost use Rattle.raw_nodes.specs.Raw.{raw_of, IsRaw, Ready, Appends, Plants, Unlinks};
 
 use crate::arena::Link;
 use crate::edit::{join, set_dead, set_last, set_row};
 use crate::heap::Heap;
-use crate::node::Node;
 use node_store::{Place, Refused};
 use std::alloc::{AllocError, Global};
 
@@ -70,5 +69,84 @@ impl<T> RawRows<T> {
             Some(link) => Ok(link),
             None => self.heap.grow(),
         }
+    }
+
+    /// Makes the root of an empty store.
+    pub(crate) fn plant(&mut self, payload: T) -> Result<Place, Refused<T>>
+        requires raw { IsRaw self.old }
+        requires empty { (raw_of self.old).rows ≡ fin.empty }
+        ensures raw { IsRaw self.new }
+        ensures ok { IfOk result (λ p. Plants (raw_of self.old) (raw_of self.new) p.0 payload) }
+        ensures err { IfErr result (λ e. (e.payload ≡ payload) × (raw_of self.new ≡ raw_of self.old)) }
+        ensures spare { fin.len (raw_of self.old).rows < (raw_of self.old).cells → IsOk result }
+    {
+        match self.dead_cell() {
+            Ok(link) => {
+                let number = self.heap.arena.follow(link).number;
+                self.free = self.heap.arena.follow(link).next;
+                set_row(&mut self.heap.arena, link, None, None, payload);
+                self.root = Some(link);
+                self.len = 1;
+                self.most = self.most.max(1);
+                Ok(Place(number))
+            }
+            Err(AllocError) => Err(Refused { payload }),
+        }
+    }
+
+    /// Makes a last child of the row at `parent`.
+    pub(crate) fn append(&mut self, parent: Place, payload: T) -> Result<Place, Refused<T>>
+        requires raw { IsRaw self.old }
+        requires used { IsSome (fin.get (raw_of self.old).rows parent.0) }
+        ensures raw { IsRaw self.new }
+        ensures ok { IfOk result (λ p. Appends (raw_of self.old) (raw_of self.new) parent.0 p.0 payload) }
+        ensures err { IfErr result (λ e. (e.payload ≡ payload) × (raw_of self.new ≡ raw_of self.old)) }
+        ensures spare { fin.len (raw_of self.old).rows < (raw_of self.old).cells → IsOk result }
+    {
+        let up = self.link(parent);
+        match self.dead_cell() {
+            Ok(link) => {
+                let number = self.heap.arena.follow(link).number;
+                self.free = self.heap.arena.follow(link).next;
+                let last = self.heap.arena.follow(up).last;
+                set_row(&mut self.heap.arena, link, Some(up), last, payload);
+                set_last(&mut self.heap.arena, up, Some(link));
+                join(&mut self.heap.arena, Some(up), last, Some(link));
+                self.len += 1;
+                self.most = self.most.max(self.len);
+                Ok(Place(number))
+            }
+            Err(AllocError) => Err(Refused { payload }),
+        }
+    }
+
+    /// Takes a row without children out.
+    pub(crate) fn unlink_leaf(&mut self, place: Place) -> T
+        requires raw { IsRaw self.old }
+        requires leaf { (e : Entry T) × (fin.get (raw_of self.old).rows place.0 ≡ Some e) × (e.children ≡ []) }
+        ensures raw { IsRaw self.new }
+        ensures payload { (e : Entry T) → fin.get (raw_of self.old).rows place.0 ≡ Some e → result ≡ e.payload }
+        ensures left { Unlinks (raw_of self.old) (raw_of self.new) place.0 }
+    {
+        let link = self.link(place);
+        let parent = self.heap.arena.follow(link).parent;
+        let prev = self.heap.arena.follow(link).prev;
+        let next = self.heap.arena.follow(link).next;
+        let payload = set_dead(&mut self.heap.arena, link, self.free);
+        self.free = Some(link);
+        join(&mut self.heap.arena, parent, prev, next);
+        self.root = root_left(parent, self.root);
+        self.len -= 1;
+        payload
+    }
+}
+
+// The root that stays where a row is taken out of the one below this parent.
+fn root_left(parent: Option<Link>, root: Option<Link>) -> Option<Link>
+    ensures { result ≡ (if is_some parent then root else None) }
+{
+    match parent {
+        Some(_) => root,
+        None => None,
     }
 }
