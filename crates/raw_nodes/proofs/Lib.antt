@@ -1,5 +1,6 @@
 pub mod Arenas
 pub mod Blocks
+pub mod Changing
 pub mod Filling
 pub mod Found
 pub mod Growing

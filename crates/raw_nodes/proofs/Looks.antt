@@ -194,7 +194,7 @@ module _ {T : Type 0} where
 
   -- ---- neighbours are joined
 
-  alive_still : (f : Linked T → Linked T) (j k : ℕ) (cells : ℕ → Option (Linked T)) → IsSome (cells k) → IsSome (altered f j cells k)
+  pub alive_still : (f : Linked T → Linked T) (j k : ℕ) (cells : ℕ → Option (Linked T)) → IsSome (cells k) → IsSome (altered f j cells k)
   alive_still f j k cells some = go (k == j) (cells k) some
     where
       go : (b : Bool) (o : Option (Linked T)) → IsSome o → IsSome (cond b (option_map f o) o)

@@ -82,8 +82,9 @@ impl<T> RawRows<T> {
     {
         match self.dead_cell() {
             Ok(link) => {
-                let number = self.heap.arena.follow(link).number;
-                self.free = self.heap.arena.follow(link).next;
+                let dead = self.heap.arena.follow(link);
+                let number = dead.number;
+                self.free = dead.next;
                 set_row(&mut self.heap.arena, link, None, None, payload);
                 self.root = Some(link);
                 self.len = 1;
@@ -106,8 +107,9 @@ impl<T> RawRows<T> {
         let up = self.link(parent);
         match self.dead_cell() {
             Ok(link) => {
-                let number = self.heap.arena.follow(link).number;
-                self.free = self.heap.arena.follow(link).next;
+                let dead = self.heap.arena.follow(link);
+                let number = dead.number;
+                self.free = dead.next;
                 let last = self.heap.arena.follow(up).last;
                 set_row(&mut self.heap.arena, link, Some(up), last, payload);
                 set_last(&mut self.heap.arena, up, Some(link));
@@ -129,9 +131,8 @@ impl<T> RawRows<T> {
         ensures left { Unlinks (raw_of self.old) (raw_of self.new) place.0 }
     {
         let link = self.link(place);
-        let parent = self.heap.arena.follow(link).parent;
-        let prev = self.heap.arena.follow(link).prev;
-        let next = self.heap.arena.follow(link).next;
+        let leaf = self.heap.arena.follow(link);
+        let (parent, prev, next) = (leaf.parent, leaf.prev, leaf.next);
         let payload = set_dead(&mut self.heap.arena, link, self.free);
         self.free = Some(link);
         join(&mut self.heap.arena, parent, prev, next);
