@@ -8,16 +8,17 @@ use Rattle.std.proofs.lemmas.Bool.{cases_eq, eq-eqb, ne_eqb}
 use Rattle.std.proofs.lemmas.List.{length-map}
 use Rattle.std.proofs.Math.Facts.{Fits-of_lt}
 use denote.RawPtr.{Ptr}
-use Rattle.node_store.specs.Rows.{Rows, Entry, leaf, with_child, children_in, is_listed, children_of, changed, changed_at, planted, appended, unlinked, left_by, without_child, parent_of, last_of, head_of, before, after, Distinct, IsTree}
-use Rattle.node_store.specs.Links.{Linked, rows_of, linked_at, fresh_cell, with_last, altered, put, joined, Holds, IsSound}
+use Rattle.node_store.specs.Rows.{Rows, Entry, leaf, with_payload, with_child, children_in, is_listed, children_of, changed, changed_at, planted, appended, unlinked, left_by, without_child, parent_of, last_of, head_of, before, after, Distinct, IsTree}
+use Rattle.node_store.specs.Links.{Linked, rows_of, linked_at, fresh_cell, with_last, with_paid, altered, put, joined, Holds, IsSound}
 use Rattle.node_store.proofs.Siblings.{listed_cases, not_listed, or_right, false_of, not_both}
 use Rattle.node_store.proofs.Maps.{get_same, get_other, gone_other, some_row, is_there, parent_at, len_new}
-use Rattle.node_store.proofs.Trees.{tree_planted, tree_appended, tree_unlinked, len_appended, len_unlinked, away}
-use Rattle.node_store.proofs.Held.{rows_is, sound_of, holds_planted, holds_appended, holds_unlinked}
-use Rattle.raw_nodes.specs.Spots.{Spot, same_ptr, places, found, updated, IsApart}
-use Rattle.raw_nodes.specs.Nodes.{place_of, index_in, linked_in, cells_of, Numbered, Chain, IsFree, IsStore}
+use Rattle.node_store.proofs.Trees.{tree_planted, tree_appended, tree_unlinked, len_appended, len_unlinked, away, tree_paid, len_paid}
+use Rattle.node_store.proofs.Held.{rows_is, sound_of, holds_planted, holds_appended, holds_unlinked, holds_paid}
+use Rattle.raw_nodes.specs.Spots.{Spot, same_ptr, places, found, written, updated, IsApart}
+use Rattle.raw_nodes.specs.Nodes.{place_of, index_in, linked_in, cells_of, Numbered, Chain, IsFree, IsStore, Keeps, paid_node}
 use Rattle.raw_nodes.specs.Heaps.{IsHeap}
 use Rattle.raw_nodes.specs.Edits.{to_row, to_last, to_dead, join_put}
+use Rattle.raw_nodes.specs.Lends.{with_written}
 use Rattle.raw_nodes.specs.Raw.{Raw, raw_of, IsRaw, Ready, Spares, Appends, Plants, Unlinks}
 use Rattle.raw_nodes.specs.declared.arena.Arena.{Arena}
 use Rattle.raw_nodes.specs.declared.arena.Link.{Link}
@@ -26,9 +27,9 @@ use Rattle.raw_nodes.specs.declared.heap.Heap.{Heap}
 use Rattle.raw_nodes.specs.declared.rows.RawRows.{RawRows}
 use Rattle.raw_nodes.proofs.Blocks.{held_at, found_at, held_within, held_same, place_alike}
 use Rattle.raw_nodes.proofs.Updates.{written_updated}
-use Rattle.raw_nodes.proofs.Looks.{look, look_at, look_node, node_of, found_living, look_updated, look_altered, last_in, index_alike, alike_in, Lives, Calm, calm_still, calm_updated, calm_both, chain_calm, join_looks, held_elsewhere, places_updated, numbered_updated, alive_still}
+use Rattle.raw_nodes.proofs.Looks.{look, look_at, look_written, look_node, node_of, found_living, look_updated, look_altered, last_in, index_alike, alike_in, Lives, Calm, calm_still, calm_updated, calm_both, chain_calm, join_looks, held_elsewhere, places_updated, numbered_updated, alive_still}
 use Rattle.raw_nodes.proofs.Stored.{last_used, parent_used, prev_used, next_used, before_apart, after_apart, alive_of, below, rows_less}
-use Rattle.raw_nodes.proofs.Readying.{Keeps, keeps, dead_look}
+use Rattle.raw_nodes.proofs.Readying.{keeps, dead_look}
 
 -- ---- rows that are not there
 
@@ -615,3 +616,94 @@ module _ {T : Type 0} where
               most = refl;
               cells = ap length is ∙ long_alike were closed closed_places;
             }
+
+  -- ---- a payload is written
+
+  module _ (old : RawRows T) (raw : IsRaw old) (k : ℕ) (link : Link) (at : place_of old.heap.arena.cells link.ptr ≡ k)
+      (e : Entry T) (has : fin.get (rows_of (cells_of old.heap.arena.cells)) k ≡ Some e)
+      (m : Node T) (there : found old.heap.arena.cells link.ptr ≡ Some m) (w : T) where
+    abbrev before_it : List (Spot (Node T))
+    before_it = old.heap.arena.cells
+
+    abbrev paid_cells : List (Spot (Node T))
+    paid_cells = written old.heap.arena.cells link.ptr (paid_node m w)
+
+    abbrev rows_before : Rows T
+    rows_before = rows_of (cells_of old.heap.arena.cells)
+
+    paid_in : (o : Option T) → m.payload ≡ o → IsSome o → linked_in before_it (paid_node m w) ≡ option_map (with_paid w) (linked_in before_it m)
+    paid_in None is some = absurd (cc)
+    paid_in (Some x) is some = sym (ap (λ o. option_map (with_paid w) (option_map (λ y. record {
+      parent = index_in before_it m.parent;
+      first = index_in before_it m.first;
+      last = index_in before_it m.last;
+      prev = index_in before_it m.prev;
+      next = index_in before_it m.next;
+      payload = y;
+    }) o)) is)
+
+    node_paid : IsSome m.payload
+    node_paid = subst (λ o. IsSome o) (sym (leaf_paid old raw k link at e has m there)) (search rules)
+
+    paid_look : look paid_cells ≡ altered (with_paid w) k (look before_it)
+    paid_look = λ i j. at_cell j i
+      where
+        at_cell : (j : ℕ) → look paid_cells j ≡ altered (with_paid w) k (look before_it) j
+        at_cell j = look_written before_it link.ptr (paid_node m w) j (subst (λ o. IsSome o) (sym there) (search rules)) ∙ elim (cases_eq j k) [
+          | inl jk ↦
+              ap (λ b. cond b (linked_in before_it (paid_node m w)) (look before_it j)) (eq-eqb j (place_of before_it link.ptr) (jk ∙ sym at))
+              ∙ paid_in m.payload refl node_paid
+              ∙ ap (option_map (with_paid w)) (sym (ap (look before_it) jk ∙ look_node before_it k m (ap (held_at before_it) (sym at) ∙ sym (found_at before_it link.ptr) ∙ there)))
+              ∙ sym (ap (λ b. cond b (option_map (with_paid w) (look before_it j)) (look before_it j)) (eq-eqb j k jk))
+          | inr d ↦
+              ap (λ b. cond b (linked_in before_it (paid_node m w)) (look before_it j)) (ne_eqb j (place_of before_it link.ptr) (λ same. d (same ∙ at)))
+              ∙ sym (ap (λ b. cond b (option_map (with_paid w) (look before_it j)) (look before_it j)) (ne_eqb j k d))
+        ]
+
+    paid_calm : Calm before_it paid_cells
+    paid_calm =
+        subst (Calm before_it) (sym (written_updated (λ n. paid_node n w) before_it link.ptr m there))
+        (calm_updated (λ n. paid_node n w) (λ n. refl) before_it link.ptr
+        (alive_of before_it (place_of before_it link.ptr) (subst (λ j. IsSome (fin.get rows_before j)) (sym at) (is_there rows_before k e has))))
+
+    paid_holds : Holds (changed_at (with_payload w) k rows_before) (look paid_cells)
+    paid_holds = subst (Holds (changed_at (with_payload w) k rows_before)) (sym paid_look) (holds_paid rows_before (index_in before_it old.root) k e has w (look before_it) raw.store.sound.holds)
+
+    pub paid_root : index_in paid_cells old.root ≡ index_in before_it old.root
+    paid_root = index_alike before_it paid_cells paid_calm.places_same old.root
+
+    pub paid_long : length paid_cells ≡ length before_it
+    paid_long = long_alike before_it paid_cells paid_calm.places_same
+
+    paid_tree : IsTree (changed_at (with_payload w) k rows_before) (index_in paid_cells old.root)
+    paid_tree = subst (IsTree (changed_at (with_payload w) k rows_before)) (sym paid_root) (tree_paid rows_before (index_in before_it old.root) k e has w raw.store.sound.tree)
+
+    pub paid_rows : rows_of (cells_of paid_cells) ≡ changed_at (with_payload w) k rows_before
+    paid_rows = rows_is (cells_of paid_cells) (changed_at (with_payload w) k rows_before) (index_in paid_cells old.root) paid_holds paid_tree
+
+    paid_free : IsFree paid_cells old.free raw.store.dead.0
+    paid_free =
+        record {
+          chain = chain_calm before_it paid_cells paid_calm old.free raw.store.dead.0 raw.store.dead.1.chain;
+          once = raw.store.dead.1.once;
+          all = λ j lt gone.
+          let none = none_changed (with_payload w) k rows_before j (unmapped_none (linked_at (changed_at (with_payload w) k rows_before) j) (fin.get (changed_at (with_payload w) k rows_before) j) (sym (paid_holds j) ∙ gone)) in
+          let dead : look before_it j ≡ None = raw.store.sound.holds j ∙ ap (option_map (linked_at rows_before j)) none in
+          raw.store.dead.1.all j (subst (λ n. j < n) paid_long lt) dead;
+        }
+
+    pub paid_raw : IsRaw (record {
+      heap = record { arena = with_written old.heap.arena link.ptr (paid_node m w); blocks = old.heap.blocks; links = old.heap.links; alloc = old.heap.alloc };
+      free = old.free;
+      root = old.root;
+      len = old.len;
+      most = old.most;
+    })
+    paid_raw =
+        let counted = raw.store.count in
+        let fits : fin.len rows_before ≤ old.most = raw.store.sound.within in
+        record {
+          heap = heap_kept old.heap (with_written old.heap.arena link.ptr (paid_node m w)) raw.heap paid_calm.places_same (paid_calm.numbers raw.heap.numbered);
+          store = store_is paid_cells (changed_at (with_payload w) k rows_before) old.free old.root old.len old.most paid_holds paid_tree
+          (raw.store.count ∙ sym (len_paid rows_before (index_in before_it old.root) k e has w)) (omega (arith, counted, fits)) raw.store.dead.0 paid_free;
+        }

@@ -7,6 +7,7 @@ pub mod Growing
 pub mod Looks
 pub mod Memory
 pub mod Pointers
+pub mod Reading
 pub mod Readying
 pub mod Runs
 pub mod Sharing

@@ -9,7 +9,7 @@ use Rattle.node_store.specs.Rows.{Rows, Entry, is_listed, children_of, head_of, 
 use Rattle.node_store.specs.Links.{Linked, rows_of, linked_at, Holds}
 use Rattle.node_store.proofs.Held.{get_row}
 use Rattle.raw_nodes.specs.Spots.{Spot, places, IsApart}
-use Rattle.raw_nodes.specs.Nodes.{place_of, index_in, linked_in, cells_of, Chain, dead_nodes, head_link, IsFree, IsStore}
+use Rattle.raw_nodes.specs.Nodes.{place_of, index_in, linked_in, cells_of, Chain, dead_nodes, head_link, IsFree, IsStore, Keeps}
 use Rattle.raw_nodes.specs.Heaps.{IsHeap, Grows, addresses}
 use Rattle.raw_nodes.specs.Raw.{Raw, raw_of, IsRaw, Ready, Spares}
 use Rattle.raw_nodes.specs.declared.arena.Link.{Link}
@@ -25,15 +25,6 @@ linked_with a b c d e o = option_map (λ x. record { parent = a; first = b; last
 module _ {T : Type 0} where
   pub dead_look : (cells : List (Spot (Node T))) (k : ℕ) (n : Node T) → held_at cells k ≡ Some n → n.payload ≡ None → look cells k ≡ None
   dead_look cells k n is gone = look_node cells k n is ∙ ap (option_map _) gone
-
-  -- the links that a living node keeps
-  pub record Keeps (cells : List (Spot (Node T))) (n : Node T) (m : Linked T) : Type 0 where
-    pub parent : index_in cells n.parent ≡ m.parent
-    pub first : index_in cells n.first ≡ m.first
-    pub last : index_in cells n.last ≡ m.last
-    pub prev : index_in cells n.prev ≡ m.prev
-    pub next : index_in cells n.next ≡ m.next
-    pub payload : n.payload ≡ Some m.payload
 
   pub keeps : (cells : List (Spot (Node T))) (n : Node T) (m : Linked T) → linked_in cells n ≡ Some m → Keeps cells n m
   keeps cells n m is = go n.payload refl is

@@ -46,6 +46,15 @@ module _ {T : Type 0} where
   abbrev pub node_at : List (Spot (Node T)) → ℕ → Option (Node T)
   node_at cells k = slice_index_or (map (λ s. Some s.held) cells) k None
 
+  -- the links that a living node keeps
+  pub record Keeps (cells : List (Spot (Node T))) (n : Node T) (m : Linked T) : Type 0 where
+    pub parent : index_in cells n.parent ≡ m.parent
+    pub first : index_in cells n.first ≡ m.first
+    pub last : index_in cells n.last ≡ m.last
+    pub prev : index_in cells n.prev ≡ m.prev
+    pub next : index_in cells n.next ≡ m.next
+    pub payload : n.payload ≡ Some m.payload
+
   -- each cell keeps its own number
   abbrev pub Numbered : ℕ → List (Spot (Node T)) → Type 0
   Numbered k [] = Unit {0}

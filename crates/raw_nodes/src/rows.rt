@@ -2,13 +2,15 @@
 ghost use Rattle.std.specs.Prelude.{◌≡◌, ◌<◌, ℕ, Some, None, [], IfOk, IfErr, OnErr, IsOk, IsSome, IfSome, option_map, length, is_some, if◌then◌else◌};
 ghost use Rattle.std.specs.FinMap as fin;
 ghost use Rattle.node_store.specs.Rows.{Entry};
+ghost use Rattle.node_store.specs.Links.{linked_at};
 ghost use Rattle.raw_nodes.specs.Spots.{found};
-ghost use Rattle.raw_nodes.specs.Nodes.{place_of};
+ghost use Rattle.raw_nodes.specs.Nodes.{place_of, index_in, Keeps};
 ghost use Rattle.raw_nodes.specs.Raw.{raw_of, IsRaw, Ready, Appends, Plants, Unlinks};
 
 use crate::arena::Link;
 use crate::edit::{join, set_dead, set_last, set_row};
 use crate::heap::Heap;
+use crate::node::Node;
 use node_store::{Place, Refused};
 use std::alloc::{AllocError, Global};
 
@@ -139,6 +141,29 @@ impl<T> RawRows<T> {
         self.root = root_left(parent, self.root);
         self.len -= 1;
         payload
+    }
+}
+
+impl<T> RawRows<T> {
+    /// The node of a row.
+    pub(crate) fn node(&self, place: Place) -> &Node<T>
+        requires raw { IsRaw self.now }
+        requires used { IsSome (fin.get (raw_of self.now).rows place.0) }
+        ensures { (e : Entry T) → fin.get (raw_of self.now).rows place.0 ≡ Some e → Keeps self.now.heap.arena.cells result.now (linked_at (raw_of self.now).rows place.0 e) }
+    {
+        self.heap.arena.follow(self.link(place))
+    }
+
+    /// The number of the cell that a link leads to, where it leads to a row.
+    pub(crate) fn place_at(&self, link: Option<Link>) -> Option<Place>
+        requires raw { IsRaw self.now }
+        requires used { IfSome link (λ l. IsSome (fin.get (raw_of self.now).rows (place_of self.now.heap.arena.cells l.ptr))) }
+        ensures { option_map (λ p. p.0) result ≡ index_in self.now.heap.arena.cells link }
+    {
+        match link {
+            Some(link) => Some(self.place(link)),
+            None => None,
+        }
     }
 }
 
