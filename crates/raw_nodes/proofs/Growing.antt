@@ -24,7 +24,7 @@ held_spots : {X : Type 0} (s : ℕ) (p : Ptr) (xs : List X) → map (λ t. t.hel
 held_spots s p [] = refl
 held_spots s p (x ∷ xs) = ap (λ ys. x ∷ ys) (held_spots s (p +ₚ s) xs)
 
-drop_mapped : {X Y : Type 0} (f : X → Y) (n : ℕ) (xs : List X) → map f (drop n xs) ≡ drop n (map f xs)
+pub drop_mapped : {X Y : Type 0} (f : X → Y) (n : ℕ) (xs : List X) → map f (drop n xs) ≡ drop n (map f xs)
 drop_mapped f zero xs = refl
 drop_mapped f (suc n) [] = refl
 drop_mapped f (suc n) (x ∷ xs) = drop_mapped f n xs
@@ -46,7 +46,7 @@ module _ {T : Type 0} where
   blocks_more [] b all one = (one, tt)
   blocks_more (c ∷ cs) b all one = (all.0, blocks_more cs b all.1 one)
 
-  places_more : (bs : List (Block T)) (b : Block T) → block_places (bs ++ b ∷ []) ≡ block_places bs ++ b.run.places
+  pub places_more : (bs : List (Block T)) (b : Block T) → block_places (bs ++ b ∷ []) ≡ block_places bs ++ b.run.places
   places_more [] b = append-nil b.run.places
   places_more (c ∷ cs) b = ap (λ ps. c.run.places ++ ps) (places_more cs b) ∙ sym (append_assoc c.run.places (block_places cs) b.run.places)
 

@@ -1,6 +1,7 @@
 pub mod Arenas
 pub mod Blocks
 pub mod Changing
+pub mod Emptying
 pub mod Filling
 pub mod Found
 pub mod Growing

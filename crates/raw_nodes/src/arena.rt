@@ -93,6 +93,13 @@ impl<N> Arena<N> {
         Cells { mark: PhantomData }
     }
 
+    /// Ends the owner of no cells.
+    pub(crate) fn destroy_empty(self)
+        requires { self.cells ≡ [] }
+    {
+        let Arena { mark: _ } = self;
+    }
+
     /// What the cell at the link holds.
     pub(crate) fn follow(&self, link: Link) -> &N
         requires { IsSome (found self.now.cells link.ptr) }

@@ -1,7 +1,7 @@
 //! Blocks of cells, and the links to the cells by place.
-ghost use Rattle.std.specs.Prelude.{◌≡◌, ◌+◌, ◌<◌, ◌≤◌, ◌++◌, [], Some, None, IfOk, IfErr, OnOk, OnErr, map, length, replicate, drop, slice_get, vec_len};
+ghost use Rattle.std.specs.Prelude.{◌≡◌, List, take, ◌-◌, ◌+◌, ◌<◌, ◌≤◌, ◌++◌, [], Some, None, IfOk, IfErr, OnOk, OnErr, map, length, replicate, drop, slice_get, vec_len};
 ghost use Rattle.std.specs.Mem.{type_size};
-ghost use Rattle.raw_nodes.specs.Spots.{IsIn, run_places, places};
+ghost use Rattle.raw_nodes.specs.Spots.{IsIn, IsLast, run_places, places};
 ghost use Rattle.raw_nodes.specs.Nodes.{dead_nodes};
 ghost use Rattle.raw_nodes.specs.Heaps.{IsBlock, IsHeap, addresses, Grows};
 
@@ -112,5 +112,48 @@ impl<T> Heap<T> {
         let run = self.arena.adopt(cells);
         self.blocks.push_reserved(Block { base, run, deed });
         Ok(self.links[count])
+    }
+
+    /// Drops what the cells hold, and frees the blocks.
+    pub(crate) fn destroy(self)
+    where
+        T: Drop,
+        requires { IsHeap self }
+    {
+        let Heap {
+            mut arena,
+            mut blocks,
+            links: _,
+            alloc,
+        } = self;
+        while let Some(block) = blocks.pop() {
+            free_block(&mut arena, alloc, block);
+        }
+        blocks.destroy_empty();
+        arena.destroy_empty();
+    }
+}
+
+// Drops what the last block's cells hold, and frees it.
+fn free_block<T: Drop>(arena: &mut Arena<Node<T>>, alloc: Global, block: Block<T>)
+    requires last { IsLast block.run.places arena.old.cells }
+    requires block { IsBlock block }
+    ensures { arena.new.cells ≡ take (length arena.old.cells - 256) arena.old.cells }
+{
+    let Block { base, run, deed } = block;
+    let mut cells = arena.release(run);
+    empty(&mut cells, base, BLOCK_CELLS);
+    deallocate(&alloc, base, BLOCK_CELLS, cells, deed);
+}
+
+// Drops what the cells hold.
+fn empty<N: Drop>(cells: &mut Cells<N>, base: Base<N>, count: usize)
+    requires at { cells.old.at ≡ base.ptr }
+    requires filled { (xs : List N) × (cells.old.slots ≡ map Some xs) × (length xs ≡ count) }
+    ensures at { cells.new.at ≡ cells.old.at }
+    ensures empty { cells.new.slots ≡ replicate count None }
+{
+    for index in 0..count {
+        drop(cells.read(base, index));
     }
 }

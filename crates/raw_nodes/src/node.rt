@@ -8,6 +8,7 @@ use crate::arena::Link;
 
 /// A row, where there is a payload, and else a dead cell. The links lead to the row's parent, its first and last child
 /// and both siblings, and a dead cell's `next` leads to the dead cell that is used after it.
+#[derive(Drop)]
 pub struct Node<T> {
     pub(crate) number: usize,
     pub(crate) parent: Option<Link>,

@@ -63,15 +63,47 @@ impl<T> NodeStore<T> for RawNodes<T> {
 
     ghost written_root = { λ s p x used. refl };
 
-    fn plant(&mut self, payload: T) -> Result<Place, Refused<T>> {
+    /// The same as the trait's. A dead cell is used before a block is made: where `cells` is above the number of rows,
+    /// no memory is taken.
+    fn plant(&mut self, payload: T) -> Result<Place, Refused<T>>
+        requires { self.old.rows ≡ map.empty }
+        ensures ok { IfOk result (λ p. self.new.rows ≡ planted self.old.rows p.0 payload) }
+        ensures most { OnOk result (self.new.most ≡ max self.old.most 1) }
+        ensures root { IfOk result (λ p. self.new.root ≡ Some p.0) }
+        ensures err { IfErr result (λ e. (e.payload ≡ payload) × (self.new.rows ≡ self.old.rows) × (self.new.most ≡ self.old.most)) }
+        ensures root_kept { OnErr result (self.new.root ≡ self.old.root) }
+        ensures cells { OnOk result (Spares self.old self.new.cells) }
+        ensures cells_kept { OnErr result (self.new.cells ≡ self.old.cells) }
+        ensures spare { map.len self.old.rows < self.old.cells → IsOk result }
+    {
         self.rows.plant(payload)
     }
 
-    fn append(&mut self, parent: Place, payload: T) -> Result<Place, Refused<T>> {
+    /// The same as the trait's. A dead cell is used before a block is made: where `cells` is above the number of rows,
+    /// no memory is taken. The cells of a new block are linked once, so that over many calls each row costs the same.
+    fn append(&mut self, parent: Place, payload: T) -> Result<Place, Refused<T>>
+        requires { IsSome (map.get self.old.rows parent.0) }
+        ensures free { IfOk result (λ p. map.get self.old.rows p.0 ≡ None) }
+        ensures ok { IfOk result (λ p. self.new.rows ≡ appended self.old.rows parent.0 p.0 payload) }
+        ensures most { OnOk result (self.new.most ≡ max self.old.most (map.len self.new.rows)) }
+        ensures root { self.new.root ≡ self.old.root }
+        ensures err { IfErr result (λ e. (e.payload ≡ payload) × (self.new.rows ≡ self.old.rows) × (self.new.most ≡ self.old.most)) }
+        ensures cells { OnOk result (Spares self.old self.new.cells) }
+        ensures cells_kept { OnErr result (self.new.cells ≡ self.old.cells) }
+        ensures spare { map.len self.old.rows < self.old.cells → IsOk result }
+    {
         self.rows.append(parent, payload)
     }
 
-    fn unlink_leaf(&mut self, place: Place) -> T {
+    /// The same as the trait's. The cell is dead then, and the next one that is used. No block is freed.
+    fn unlink_leaf(&mut self, place: Place) -> T
+        requires { (e : Entry T) × (map.get self.old.rows place.0 ≡ Some e) × (e.children ≡ []) }
+        ensures payload { (e : Entry T) → map.get self.old.rows place.0 ≡ Some e → result ≡ e.payload }
+        ensures rows { self.new.rows ≡ unlinked self.old.rows place.0 }
+        ensures most { self.new.most ≡ self.old.most }
+        ensures root { self.new.root ≡ (if is_some (parent_of self.old.rows place.0) then self.old.root else None) }
+        ensures cells { self.new.cells ≡ self.old.cells }
+    {
         self.rows.unlink_leaf(place)
     }
 
@@ -102,5 +134,12 @@ impl<T> NodeStore<T> for RawNodes<T> {
 
     fn most(&self) -> usize {
         self.rows.most
+    }
+}
+
+impl<T: Drop> Drop for RawNodes<T> {
+    fn drop(self) {
+        let RawNodes { rows } = self;
+        rows.destroy();
     }
 }

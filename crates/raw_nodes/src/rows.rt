@@ -41,6 +41,22 @@ impl<T> RawRows<T> {
         }
     }
 
+    /// Drops the payloads, and frees the blocks.
+    pub(crate) fn destroy(self)
+    where
+        T: Drop,
+        requires { IsRaw self }
+    {
+        let RawRows {
+            heap,
+            free: _,
+            root: _,
+            len: _,
+            most: _,
+        } = self;
+        heap.destroy();
+    }
+
     /// The link to a cell.
     pub(crate) fn link(&self, place: Place) -> Link
         requires raw { IsRaw self.now }
