@@ -8,7 +8,7 @@ mod heap;
 mod node;
 mod raw;
 mod rows;
+#[cfg(test)]
+mod tests;
 
-pub use arena::{Arena, Link};
-pub use cells::{Base, Cells, Deed};
 pub use raw::RawNodes;
