@@ -9,6 +9,7 @@ use std::process::Abort;
 use std::test::Fail;
 
 /// A call on a store whose payloads tell the rows apart. An `Append` names the parent first.
+#[derive(Drop)]
 enum Call {
     Plant(u32),
     Append(u32, u32),
