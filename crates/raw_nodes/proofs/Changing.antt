@@ -193,13 +193,13 @@ module _ {T : Type 0} where
         let same : places (updated f made link.ptr) ≡ places made = places_updated f made link.ptr in
         record {
           chain = chain_calm (updated f made link.ptr) later calm n.next ready.later
-          (chain_apart made (updated f made link.ptr) spot same (λ j d. held_elsewhere f made link.ptr n is j d) n.next ready.later ready.free.once.0 (rest n is));
+              (chain_apart made (updated f made link.ptr) spot same (λ j d. held_elsewhere f made link.ptr n is j d) n.next ready.later ready.free.once.0 (rest n is));
           once = ready.free.once.1;
           all = λ j lt gone.
-          let away = none j (unmapped_none (linked_at more j) (fin.get more j) (sym (holds j) ∙ gone)) in
-          let dead : look made j ≡ None = ready.holds j ∙ ap (option_map (linked_at rows j)) away.1 in
-          let listed = ready.free.all j (subst (λ n. j < n) (long_alike made later (calm.places_same ∙ same)) lt) dead in
-          listed_cases j spot ready.later listed (λ e. away.0 (sym e));
+              let away = none j (unmapped_none (linked_at more j) (fin.get more j) (sym (holds j) ∙ gone)) in
+              let dead : look made j ≡ None = ready.holds j ∙ ap (option_map (linked_at rows j)) away.1 in
+              let listed = ready.free.all j (subst (λ n. j < n) (long_alike made later (calm.places_same ∙ same)) lt) dead in
+              listed_cases j spot ready.later listed (λ e. away.0 (sym e));
         }
 
     -- the rows can be counted
@@ -264,7 +264,7 @@ module _ {T : Type 0} where
               record {
                 heap = heap_kept new.heap arena ready.heap (ap places is ∙ plant_places) (subst (Numbered 0) (sym is) (numbered_updated (to_row None None x) (λ m. refl) made link.ptr ready.heap.numbered));
                 store = subst (λ cs. IsStore cs n.next (Some link) 1 most) (sym is)
-                (store_is planted_cells (planted fin.empty spot x) n.next (Some link) 1 most plant_holds plant_tree (sym one_row) (omega (arith, highest)) ready.later plant_free);
+                    (store_is planted_cells (planted fin.empty spot x) n.next (Some link) 1 most plant_holds plant_tree (sym one_row) (omega (arith, highest)) ready.later plant_free);
               }
 
           pub plants : Plants (raw_of old) (raw_of planted_raw) spot x
@@ -408,9 +408,9 @@ module _ {T : Type 0} where
             append_raw =
                 record {
                   heap = heap_kept new.heap arena ready.heap (ap places is ∙ four_places)
-                  (subst (Numbered 0) (sym is) (calm_four.numbers (numbered_updated (to_row (Some up) m.last x) (λ k. refl) made link.ptr ready.heap.numbered)));
+                      (subst (Numbered 0) (sym is) (calm_four.numbers (numbered_updated (to_row (Some up) m.last x) (λ k. refl) made link.ptr ready.heap.numbered)));
                   store = subst (λ cs. IsStore cs n.next new.root (new.len + 1) most) (sym is)
-                  (store_is four (appended rows q spot x) n.next new.root (new.len + 1) most four_holds four_tree four_len (omega (arith, highest)) ready.later four_free);
+                      (store_is four (appended rows q spot x) n.next new.root (new.len + 1) most four_holds four_tree four_len (omega (arith, highest)) ready.later four_free);
                 }
 
             rows_four : rows_of (cells_of arena.cells) ≡ appended rows q spot x
@@ -557,9 +557,15 @@ module _ {T : Type 0} where
           ∙ held_same were link.ptr (to_dead old.free m) k (sym at) (held_within were k (subst (λ o. IsSome o) (sym leaf_held) (search rules)))
 
       out_chain : Chain out (Some link) (k ∷ raw.store.dead.0)
-      out_chain =
-          (link, to_dead old.free m, refl, place_alike out were link.ptr out_places ∙ at, out_held, refl,
-          chain_apart were out k out_places (λ j d. held_elsewhere (to_dead old.free) were link.ptr m there j (λ same. d (same ∙ at))) old.free raw.store.dead.0 not_free raw.store.dead.1.chain)
+      out_chain = (
+        link,
+        to_dead old.free m,
+        refl,
+        place_alike out were link.ptr out_places ∙ at,
+        out_held,
+        refl,
+        chain_apart were out k out_places (λ j d. held_elsewhere (to_dead old.free) were link.ptr m there j (λ same. d (same ∙ at))) old.free raw.store.dead.0 not_free raw.store.dead.1.chain,
+      )
 
       listed_now : (j : ℕ) → j < length closed → look closed j ≡ None → is_listed j (k ∷ raw.store.dead.0) ≡ true
       listed_now j lt gone = elim (cases_eq k j) [
@@ -602,10 +608,10 @@ module _ {T : Type 0} where
             let counted = raw.store.count in
             record {
               heap = heap_kept old.heap arena raw.heap (ap places is ∙ closed_places)
-              (subst (Numbered 0) (sym is) (closes.1.numbers (numbered_updated (to_dead old.free) (λ n. refl) were link.ptr raw.heap.numbered)));
+                  (subst (Numbered 0) (sym is) (closes.1.numbers (numbered_updated (to_dead old.free) (λ n. refl) were link.ptr raw.heap.numbered)));
               store = subst (λ cs. IsStore cs (Some link) root (old.len - 1) old.most) (sym is)
-              (subst (λ r. IsStore closed (Some link) r (old.len - 1) old.most) (sym root_is)
-              (store_is closed (unlinked rows_were k) (Some link) root_now (old.len - 1) old.most closed_holds closed_tree count (omega (arith, fits, counted)) (k ∷ raw.store.dead.0) closed_free));
+                  (subst (λ r. IsStore closed (Some link) r (old.len - 1) old.most) (sym root_is)
+                  (store_is closed (unlinked rows_were k) (Some link) root_now (old.len - 1) old.most closed_holds closed_tree count (omega (arith, fits, counted)) (k ∷ raw.store.dead.0) closed_free));
             }
 
         pub unlinks : Unlinks (raw_of old) (raw_of unlinked_raw) k
@@ -687,9 +693,9 @@ module _ {T : Type 0} where
           chain = chain_calm before_it paid_cells paid_calm old.free raw.store.dead.0 raw.store.dead.1.chain;
           once = raw.store.dead.1.once;
           all = λ j lt gone.
-          let none = none_changed (with_payload w) k rows_before j (unmapped_none (linked_at (changed_at (with_payload w) k rows_before) j) (fin.get (changed_at (with_payload w) k rows_before) j) (sym (paid_holds j) ∙ gone)) in
-          let dead : look before_it j ≡ None = raw.store.sound.holds j ∙ ap (option_map (linked_at rows_before j)) none in
-          raw.store.dead.1.all j (subst (λ n. j < n) paid_long lt) dead;
+              let none = none_changed (with_payload w) k rows_before j (unmapped_none (linked_at (changed_at (with_payload w) k rows_before) j) (fin.get (changed_at (with_payload w) k rows_before) j) (sym (paid_holds j) ∙ gone)) in
+              let dead : look before_it j ≡ None = raw.store.sound.holds j ∙ ap (option_map (linked_at rows_before j)) none in
+              raw.store.dead.1.all j (subst (λ n. j < n) paid_long lt) dead;
         }
 
     pub paid_raw : IsRaw (record {
@@ -705,5 +711,5 @@ module _ {T : Type 0} where
         record {
           heap = heap_kept old.heap (with_written old.heap.arena link.ptr (paid_node m w)) raw.heap paid_calm.places_same (paid_calm.numbers raw.heap.numbered);
           store = store_is paid_cells (changed_at (with_payload w) k rows_before) old.free old.root old.len old.most paid_holds paid_tree
-          (raw.store.count ∙ sym (len_paid rows_before (index_in before_it old.root) k e has w)) (omega (arith, counted, fits)) raw.store.dead.0 paid_free;
+              (raw.store.count ∙ sym (len_paid rows_before (index_in before_it old.root) k e has w)) (omega (arith, counted, fits)) raw.store.dead.0 paid_free;
         }

@@ -67,10 +67,11 @@ module _ {T : Type 0} where
     pub last_block : IsLast b.run.places cells
     last_block =
         let l = long in
-        let before : length cells - length b.run.places ≡ length (block_places bs) = omega (arith, l) in
-        (omega (arith, l),
-        drop_mapped (λ (s : Spot (Node T)). s.at) (length cells - length b.run.places) cells ∙ ap (λ n. drop n (places cells)) before
-        ∙ ap (drop (length (block_places bs))) placed ∙ drop-append_seam (block_places bs) b.run.places)
+        let before : length cells - length b.run.places ≡ length (block_places bs) = omega (arith, l) in (
+          omega (arith, l),
+          drop_mapped (λ (s : Spot (Node T)). s.at) (length cells - length b.run.places) cells ∙ ap (λ n. drop n (places cells)) before
+              ∙ ap (drop (length (block_places bs))) placed ∙ drop-append_seam (block_places bs) b.run.places,
+        )
 
     pub blocks_left : places (take (length cells - 256) cells) ≡ block_places bs
     blocks_left =

@@ -44,7 +44,7 @@ module _ (R : RattleType) where
         go : (b : Bool) → same_ptr s.at p ≡ b → cond b (Some s.held) (found ss p) ≡ Some x
             → (found ss p ≡ Some x → ent 𝓤 (sep 𝓤 (sem 𝓛 (lies_at R full_share p w)) (sem 𝓛 (besides ss p))) (sem 𝓛 (spots_own R (written ss p w))))
             → ent 𝓤 (sep 𝓤 (sem 𝓛 (lies_at R full_share p w)) (sem 𝓛 (cond b (spots_own R ss) (fsep (lies_at R full_share s.at s.held) (besides ss p)))))
-              (sem 𝓛 (spots_own R (cond b (record { at = s.at; held = w } ∷ ss) (s ∷ written ss p w))))
+            (sem 𝓛 (spots_own R (cond b (record { at = s.at; held = w } ∷ ss) (s ∷ written ss p w))))
         go true is e rest =
             qed 𝓛 (‵ (lies_at R full_share p w) ∷ ‵ (spots_own R ss) ∷ []) ∵ rewrite ! 0 (λ (a : Ptr). ‵ (lies_at R full_share a w)) (sym (same_ptr_eq s.at p is)) refl $ fjoin ! $ done !
         go false is e rest =

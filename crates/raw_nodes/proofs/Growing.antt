@@ -106,7 +106,7 @@ module _ {T : Type 0} where
           laid = all_places ∙ ap (λ qs. qs ++ run_places s base 256) h.laid ∙ ap (λ qs. block_places old.blocks.items ++ qs) (sym (ps ∙ run_is))
               ∙ sym (ap block_places pushed ∙ places_more old.blocks.items b);
           numbered = subst (Numbered 0) (sym cells_are) (numbered_both 0 old.arena.cells (spots s base nodes) h.numbered
-          (subst (λ n. Numbered n (spots s base nodes)) (sym (zero_more (length old.arena.cells) ∙ as_many)) (numbered_dead T (length old.links.items) s base links)));
+              (subst (λ n. Numbered n (spots s base nodes)) (sym (zero_more (length old.arena.cells) ∙ as_many)) (numbered_dead T (length old.links.items) s base links)));
         }
       where
         zero_more : (n : ℕ) → 0 + n ≡ n
@@ -123,6 +123,12 @@ module _ {T : Type 0} where
 
     pub grows : (first : Link) → first ≡ get_or new.links.items (length old.links.items) first → Grows old new first
     grows first is =
-        let long = links_long in
-        (links, links_long, head_first links first (omega arith) (get_dropped (length old.links.items) new.links.items first ∙ sym is), spots s base nodes, cells_are, node_places ∙ sym link_places,
-        held_spots s base nodes ∙ ap (λ n. dead_nodes n links) (sym as_many))
+        let long = links_long in (
+          links,
+          links_long,
+          head_first links first (omega arith) (get_dropped (length old.links.items) new.links.items first ∙ sym is),
+          spots s base nodes,
+          cells_are,
+          node_places ∙ sym link_places,
+          held_spots s base nodes ∙ ap (λ n. dead_nodes n links) (sym as_many),
+        )

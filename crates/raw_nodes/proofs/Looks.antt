@@ -181,9 +181,9 @@ module _ {T : Type 0} where
         places_same = places_updated f cells p;
         numbers = numbered_updated f same cells p;
         dead = λ k m is gone. held_elsewhere f cells p one.0 (found_at cells p ∙ one.1) k (λ e.
-        let both : Some one.0 ≡ Some m = sym one.1 ∙ ap (held_at cells) (sym e) ∙ is in
-        let it : one.0 ≡ m = search both in
-        none_some one.0.payload (ap (λ y. y.payload) it ∙ gone) one.2) ∙ is;
+            let both : Some one.0 ≡ Some m = sym one.1 ∙ ap (held_at cells) (sym e) ∙ is in
+            let it : one.0 ≡ m = search both in
+            none_some one.0.payload (ap (λ y. y.payload) it ∙ gone) one.2) ∙ is;
       }
 
   -- the free list stays
@@ -238,6 +238,6 @@ module _ {T : Type 0} where
       let still = lives_still cells mid (index_in cells parent) (index_in cells left) (index_in cells right) same one.0 in
       let two = left_looks mid parent left right (still parent p) (still right r) in (
         two.0
-        ∙ (λ i. left_set (index_alike cells mid same parent i) (index_alike cells mid same left i) (index_alike cells mid same right i) (one.0 i)),
+            ∙ (λ i. left_set (index_alike cells mid same parent i) (index_alike cells mid same left i) (index_alike cells mid same right i) (one.0 i)),
         calm_both cells mid (join_put parent left right cells) one.1 two.1,
       )

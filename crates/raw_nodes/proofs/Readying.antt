@@ -162,11 +162,11 @@ module _ {T : Type 0} where
       free_more free apart links ll ml first head table dead =
           record {
             chain = subst (λ l. Chain (cells ++ more) l (numbers (length cells) 256)) head
-            (subst (λ n. Chain (cells ++ more) (head_link links) (numbers (length cells) n)) ll
-            (fresh_chain (cells ++ more) apart (places cells) (map (λ s. s.held) cells) (length cells) links
-            (length-map cells (λ (s : Spot (Node T)). s.at)) (length-map cells (λ (s : Spot (Node T)). s.held))
-            (map-append (λ (s : Spot (Node T)). s.at) cells more ∙ ap (λ ps. places cells ++ ps) table)
-            (map-append (λ (s : Spot (Node T)). s.held) cells more ∙ ap (λ hs. map (λ s. s.held) cells ++ hs) dead)));
+                (subst (λ n. Chain (cells ++ more) (head_link links) (numbers (length cells) n)) ll
+                (fresh_chain (cells ++ more) apart (places cells) (map (λ s. s.held) cells) (length cells) links
+                (length-map cells (λ (s : Spot (Node T)). s.at)) (length-map cells (λ (s : Spot (Node T)). s.held))
+                (map-append (λ (s : Spot (Node T)). s.at) cells more ∙ ap (λ ps. places cells ++ ps) table)
+                (map-append (λ (s : Spot (Node T)). s.held) cells more ∙ ap (λ hs. map (λ s. s.held) cells ++ hs) dead)));
             once = numbers_once (length cells) 256;
             all = λ j lt none. listed_more j free links ll ml lt none;
           }

@@ -218,9 +218,14 @@ module _ {T : Type 0} where
       ∙ at_seam (map Some hs) (Some (dead_node k (head_link ls))) (map Some (dead_nodes (suc k) ls)) None in
       let pl_more : length (ps ++ l.ptr ∷ []) ≡ suc k = omega (arith, length-append ps (l.ptr ∷ [])) in
       let hl_more : length (hs ++ dead_node k (head_link ls) ∷ []) ≡ suc k = omega (arith, length-append hs (dead_node k (head_link ls) ∷ [])) in (
-        l, dead_node k (head_link ls), refl, ap (place_of cells) (sym at) ∙ place_at cells k l.ptr apart lt, holds, refl,
+        l,
+        dead_node k (head_link ls),
+        refl,
+        ap (place_of cells) (sym at) ∙ place_at cells k l.ptr apart lt,
+        holds,
+        refl,
         fresh_chain cells apart (ps ++ l.ptr ∷ []) (hs ++ dead_node k (head_link ls) ∷ []) (suc k) ls pl_more hl_more
-        (pe ∙ sym (append_assoc ps (l.ptr ∷ []) (map (λ m. m.ptr) ls))) (he ∙ sym (append_assoc hs (dead_node k (head_link ls) ∷ []) (dead_nodes (suc k) ls))),
+            (pe ∙ sym (append_assoc ps (l.ptr ∷ []) (map (λ m. m.ptr) ls))) (he ∙ sym (append_assoc hs (dead_node k (head_link ls) ∷ []) (dead_nodes (suc k) ls))),
       )
 
   -- what stands behind the older cells is dead

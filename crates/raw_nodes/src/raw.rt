@@ -35,7 +35,9 @@ impl<T> RawNodes<T> {
         ensures root { result.root ≡ None }
         ensures cells { result.cells ≡ 0 }
     {
-        RawNodes { rows: RawRows::new(alloc) }
+        RawNodes {
+            rows: RawRows::new(alloc),
+        }
     }
 
     /// How many cells all blocks together have.

@@ -12,9 +12,10 @@ read-requires g c =
 pub loop-index-preserved : goal.loop-index-preserved
 loop-index-preserved g c =
     let inv = c.loop-index.invariant in
-    let long = inv.1.2 in
-    (c.read.ensures.slots.0 ∙ inv.0,
-    (inv.1.0, rw add-one (c.read.ensures.slots.1 ∙ ap (λ cs. set cs c.loop-index.index None) inv.1.1 ∙ emptying_more c.loop-index.index inv.1.0 (omega (arith, long))), long))
+    let long = inv.1.2 in (
+      c.read.ensures.slots.0 ∙ inv.0,
+      (inv.1.0, rw add-one (c.read.ensures.slots.1 ∙ ap (λ cs. set cs c.loop-index.index None) inv.1.1 ∙ emptying_more c.loop-index.index inv.1.0 (omega (arith, long))), long),
+    )
 
 pub returns-clause-empty : goal.returns-clause-empty
 returns-clause-empty g c =

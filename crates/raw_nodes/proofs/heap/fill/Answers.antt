@@ -14,12 +14,13 @@ pub loop-index-preserved : goal.loop-index-preserved
 loop-index-preserved g c =
     let T = g.row.T.Denot in
     let next = rw add-one at c.link_at-next.ensures in
-    let wrote = filling_more T c.loop-index.index c.args.first c.args.links.now (omega arith) in
-    (c.write.ensures.0 ∙ c.loop-index.invariant.0,
-    rw add-one (c.write.ensures.1
-    ∙ ap (λ xs. set xs c.loop-index.index (Some c.dead.result)) c.loop-index.invariant.1
-    ∙ ap (λ n. set (filling T c.loop-index.index c.args.first c.args.links.now) c.loop-index.index (Some n)) (c.dead.ensures ∙ ap (dead_node (c.args.first + c.loop-index.index)) next)
-    ∙ wrote))
+    let wrote = filling_more T c.loop-index.index c.args.first c.args.links.now (omega arith) in (
+      c.write.ensures.0 ∙ c.loop-index.invariant.0,
+      rw add-one (c.write.ensures.1
+          ∙ ap (λ xs. set xs c.loop-index.index (Some c.dead.result)) c.loop-index.invariant.1
+          ∙ ap (λ n. set (filling T c.loop-index.index c.args.first c.args.links.now) c.loop-index.index (Some n)) (c.dead.ensures ∙ ap (dead_node (c.args.first + c.loop-index.index)) next)
+          ∙ wrote),
+    )
 
 pub returns-clause-filled : goal.returns-clause-filled
 returns-clause-filled g c =

@@ -22,7 +22,7 @@ linked old now later s p n l before pushed at =
 pub loop-index-preserved : goal.loop-index-preserved
 loop-index-preserved g c = (
   linked c.reserve.new.self.items c.loop-index.links.items c.push_reserved.new.self.items (type_size g.row.N) c.in_ok-base.base.ptr c.loop-index.index c.within.result
-  c.loop-index.invariant.0 c.push_reserved.ensures.items c.within.ensures,
+      c.loop-index.invariant.0 c.push_reserved.ensures.items c.within.ensures,
   omega (arith, c.push_reserved.ensures.len, c.loop-index.invariant.1),
   c.push_reserved.ensures.capacity ∙ c.loop-index.invariant.2,
 )

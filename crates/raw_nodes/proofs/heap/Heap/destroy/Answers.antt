@@ -17,5 +17,5 @@ loop-block-preserved g c =
     let parts = last_parts c.pop.new.self.items c.in-Some.block (subst AreBlocks c.in-Some.ensures.items c.loop-block.invariant.0) in (
       parts.0,
       ap places c.free_block.ensures
-      ∙ blocks_left c.pop.new.self.items c.in-Some.block c.loop-block.arena.cells (c.loop-block.invariant.1 ∙ ap block_places c.in-Some.ensures.items) parts.1.1,
+          ∙ blocks_left c.pop.new.self.items c.in-Some.block c.loop-block.arena.cells (c.loop-block.invariant.1 ∙ ap block_places c.in-Some.ensures.items) parts.1.1,
     )

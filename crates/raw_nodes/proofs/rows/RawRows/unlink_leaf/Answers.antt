@@ -6,9 +6,11 @@ use Rattle.raw_nodes.proofs.Changing.{leaf_paid, parent_found_out, prev_found_ou
 use Rattle.raw_nodes.proofs.rows.RawRows.unlink_leaf.Goals as goal
 
 pub set_dead-payload-requires : goal.set_dead-payload-requires
-set_dead-payload-requires g c =
-    (c.follow-leaf.result.now, c.follow-leaf.ensures,
-    subst (λ o. IsSome o) (sym (leaf_paid c.args.self.now c.requires.raw c.args.place.0 c.link-link.result c.link-link.ensures.place c.requires.leaf.0 c.requires.leaf.1 c.follow-leaf.result.now c.follow-leaf.ensures)) (search rules))
+set_dead-payload-requires g c = (
+  c.follow-leaf.result.now,
+  c.follow-leaf.ensures,
+  subst (λ o. IsSome o) (sym (leaf_paid c.args.self.now c.requires.raw c.args.place.0 c.link-link.result c.link-link.ensures.place c.requires.leaf.0 c.requires.leaf.1 c.follow-leaf.result.now c.follow-leaf.ensures)) (search rules),
+)
 
 pub join-requires-clause-parent : goal.join-requires-clause-parent
 join-requires-clause-parent g c =
