@@ -1,14 +1,12 @@
 -- Cells that lie apart are found by their pointers, and by their numbers.
-use Rattle.std.proofs.Common.{◌≡◌, ◌≢◌, ◌==◌, ℕ, zero, suc, ◌+◌, ◌<◌, ◌≤◌, Bool, true, false, cond, List, [], ◌∷◌, ◌++◌, Option, Some, None, map, length, get_or, set, take, drop, refl, sym, ap, subst, ◌∙◌, inl, inr, arith, rules, add-zero, add-suc}
-use Rattle.std.specs.Prelude.{option_map, IsSome}
+use Rattle.std.proofs.Common.{◌≡◌, ◌≢◌, ℕ, zero, suc, ◌<◌, Bool, true, false, cond, List, [], ◌∷◌, Option, Some, None, map, length, get_or, refl, ap, ◌∙◌, arith, rules}
+use Rattle.std.specs.Prelude.{IsSome}
 use Rattle.std.specs.List.{AllByRecursion, IsDistinct}
-use Rattle.std.proofs.lemmas.List.{map-append, length-append, length-map}
-use Rattle.std.proofs.lemmas.Bool.{cases_eq, eq-eqb, ne_eqb}
+use Rattle.std.proofs.lemmas.List.{length-map}
 use denote.RawPtr.{Ptr}
 use Rattle.raw_nodes.specs.Spots.{Spot, same_ptr, places, IsApart, found, written}
-use Rattle.raw_nodes.specs.Nodes.{place_of, index_in}
-use Rattle.raw_nodes.specs.declared.arena.Link.{Link}
-use Rattle.raw_nodes.proofs.Pointers.{same_ptr_refl, same_ptr_eq}
+use Rattle.raw_nodes.specs.Nodes.{place_of}
+use Rattle.raw_nodes.proofs.Pointers.{same_ptr_refl}
 
 pub none_apart : (X : Type 0) → IsApart {X = X} []
 unfolding IsDistinct

@@ -1,5 +1,5 @@
 -- A block's places as they are filled one after another, and the links to them.
-use Rattle.std.proofs.Common.{◌≡◌, ℕ, zero, suc, ◌+◌, ◌*◌, ◌-◌, ◌<◌, ◌≤◌, List, [], ◌∷◌, ◌++◌, Option, Some, None, map, length, replicate, get_or, set, refl, sym, ap, ◌∙◌, arith, slice_get}
+use Rattle.std.proofs.Common.{◌≡◌, ℕ, zero, suc, ◌+◌, ◌*◌, ◌<◌, List, [], ◌∷◌, ◌++◌, Option, Some, None, map, length, replicate, get_or, set, refl, sym, ap, ◌∙◌, arith, slice_get}
 use Rattle.std.proofs.Math.ListN.{length-replicate}
 use denote.RawPtr.{Ptr, block_ptr, null_ptr, ◌+ₚ◌}
 use Rattle.raw_nodes.specs.Spots.{run_places, cell_ptr}

@@ -1,17 +1,17 @@
 -- What the walks of the owner share: one cell is taken out, put back, or seen. Assumes `Logic`.
-use mathlib.Core.Path.{◌≡◌, refl, sym, ap, subst, ◌∙◌}
+use mathlib.Core.Path.{◌≡◌, refl, sym}
 use mathlib.Core.Bool.{Bool, true, false, cond}
 use mathlib.Core.List.{List, [], ◌∷◌}
 use seplogic.Ra.Ura.{Ura}
 use base.Fraction.{full_share}
-use base.Logic.{ent, sep, via, fst∗, snd∗, id⊢}
+use base.Logic.{ent, sep, via, snd∗}
 use base.Fml.{Fml, Lft, ftrue, fsep}
 use types.Logic.{Logic, sem}
-use types.Kit.{‵, ◌⊛◌, ◌$◌, ◌∵◌, !, qed, by, move, keep, use1, use2, split, fsplit, fjoin, rewrite, done}
+use types.Kit.{‵, ◌⊛◌, ◌$◌, ◌∵◌, !, qed, move, keep, use1, use2, split, fsplit, fjoin, rewrite, done}
 use denote.RattleType.{RattleType}
 use denote.RawPtr.{Ptr, lies_at}
 use denote.Struct.Lending.{lent_at}
-use Rattle.std.specs.Prelude.{Option, Some, None}
+use Rattle.std.specs.Prelude.{Some}
 use Rattle.raw_nodes.specs.Spots.{Spot, same_ptr, found, written, spots_own, spots_lent}
 use Rattle.raw_nodes.proofs.Pointers.{same_ptr_eq}
 

@@ -1,6 +1,6 @@
 -- What a new block makes of the heap.
-use Rattle.std.proofs.Common.{◌≡◌, ℕ, zero, suc, ◌+◌, ◌<◌, ◌≤◌, List, [], ◌∷◌, ◌++◌, Option, Some, None, map, length, drop, get_or, refl, sym, ap, subst, ◌∙◌, arith, append_assoc, append-nil, length-drop}
-use Rattle.std.proofs.lemmas.List.{map-append, length-append, length-map}
+use Rattle.std.proofs.Common.{◌≡◌, ℕ, zero, suc, ◌+◌, ◌<◌, List, [], ◌∷◌, ◌++◌, Option, Some, map, length, drop, get_or, refl, sym, ap, subst, ◌∙◌, arith, append_assoc, append-nil}
+use Rattle.std.proofs.lemmas.List.{map-append, length-map}
 use Rattle.std.proofs.Math.Seq.{drop-append_seam}
 use denote.RawPtr.{Ptr, ◌+ₚ◌}
 use Rattle.raw_nodes.specs.Places.{somes}
@@ -11,7 +11,7 @@ use Rattle.raw_nodes.specs.declared.arena.Link.{Link}
 use Rattle.raw_nodes.specs.declared.node.Node.{Node}
 use Rattle.raw_nodes.specs.declared.heap.Block.{Block}
 use Rattle.raw_nodes.specs.declared.heap.Heap.{Heap}
-use Rattle.raw_nodes.proofs.Runs.{places_spots, length_spots}
+use Rattle.raw_nodes.proofs.Runs.{places_spots}
 
 pub somes_map : {X : Type 0} (xs : List X) → somes (map Some xs) ≡ xs
 somes_map [] = refl

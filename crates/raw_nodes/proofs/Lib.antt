@@ -14,3 +14,4 @@ pub mod Runs
 pub mod Sharing
 pub mod Stored
 pub mod Updates
+pub mod Unlinking

@@ -1,11 +1,11 @@
 -- The nodes of the cells as a store's cells, and what a changed node makes of them.
-use Rattle.std.proofs.Common.{◌≡◌, ◌≢◌, ◌==◌, ℕ, zero, suc, ◌<◌, Bool, true, false, cond, List, [], ◌∷◌, Option, Some, None, map, length, get_or, refl, sym, ap, subst, ◌∙◌, inl, inr, arith, rules}
+use Rattle.std.proofs.Common.{◌≡◌, ◌≢◌, ◌==◌, ℕ, zero, suc, ◌<◌, Bool, true, false, cond, List, [], ◌∷◌, Option, Some, None, map, length, get_or, refl, sym, ap, subst, ◌∙◌, inl, inr, rules}
 use Rattle.std.specs.Prelude.{option_map, option_and_then, IsSome, IfSome}
 use Rattle.std.proofs.lemmas.Bool.{cases_eq, eq-eqb, ne_eqb}
 use denote.RawPtr.{Ptr}
-use Rattle.node_store.specs.Links.{Linked, Cells, cell_at, altered, put, with_first, with_last, with_prev, with_next, with_paid, right_set, left_set, joined}
+use Rattle.node_store.specs.Links.{Linked, cell_at, altered, put, with_first, with_last, with_prev, with_next, right_set, left_set, joined}
 use Rattle.raw_nodes.specs.Spots.{Spot, same_ptr, places, found, written, updated}
-use Rattle.raw_nodes.specs.Nodes.{place_of, index_in, linked_in, cells_of, Numbered, Chain, paid_node}
+use Rattle.raw_nodes.specs.Nodes.{place_of, index_in, linked_in, cells_of, Numbered, Chain}
 use Rattle.raw_nodes.specs.Edits.{to_first, to_last, to_prev, to_next, right_put, left_put, join_put}
 use Rattle.raw_nodes.specs.declared.arena.Link.{Link}
 use Rattle.raw_nodes.specs.declared.node.Node.{Node}

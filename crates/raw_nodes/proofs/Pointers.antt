@@ -1,5 +1,5 @@
 -- Pointers are told apart, and cells found by them.
-use Rattle.std.proofs.Common.{◌≡◌, ℕ, true, false, ◌&&◌, ◌==◌, cond, refl, sym, ap, ◌∙◌, subst, eqb→eq, T}
+use Rattle.std.proofs.Common.{◌≡◌, true, false, ◌&&◌, ◌==◌, refl, eqb→eq, T}
 use mathlib.Core.Bool.{Bool}
 use lib.Dec.{eqb_refl}
 use denote.RawPtr.{Ptr, block_ptr, null_ptr}

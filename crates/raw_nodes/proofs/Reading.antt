@@ -7,13 +7,13 @@ use Rattle.node_store.specs.Rows.{Rows, Entry, parent_of, children_of, children_
 use Rattle.node_store.specs.Links.{rows_of, linked_at}
 use Rattle.node_store.proofs.Maps.{some_row, is_there, parent_at}
 use Rattle.raw_nodes.specs.Spots.{Spot, found}
-use Rattle.raw_nodes.specs.Nodes.{place_of, index_in, linked_in, cells_of, Keeps}
-use Rattle.raw_nodes.specs.Raw.{raw_of, IsRaw}
+use Rattle.raw_nodes.specs.Nodes.{place_of, index_in, cells_of, Keeps}
+use Rattle.raw_nodes.specs.Raw.{IsRaw}
 use Rattle.raw_nodes.specs.declared.arena.Link.{Link}
 use Rattle.raw_nodes.specs.declared.node.Node.{Node}
 use Rattle.raw_nodes.specs.declared.rows.RawRows.{RawRows}
 use Rattle.raw_nodes.proofs.Blocks.{held_at, found_at}
-use Rattle.raw_nodes.proofs.Looks.{look, look_node, found_living}
+use Rattle.raw_nodes.proofs.Looks.{look_node, found_living}
 use Rattle.raw_nodes.proofs.Stored.{alive_of, parent_used, first_used, next_used}
 use Rattle.raw_nodes.proofs.Readying.{keeps}
 

@@ -1,22 +1,20 @@
 -- A dead cell is there: the first of the free list, or that of a new block.
-use Rattle.std.proofs.Common.{◌≡◌, ◌≢◌, ℕ, zero, suc, ◌+◌, ◌-◌, ◌<◌, ◌≤◌, Bool, true, false, List, [], ◌∷◌, ◌++◌, Option, Some, None, map, length, get_or, refl, sym, ap, subst, ◌∙◌, inl, inr, arith, rules}
+use Rattle.std.proofs.Common.{◌≡◌, ℕ, suc, ◌+◌, ◌-◌, ◌<◌, ◌≤◌, true, false, List, [], ◌∷◌, ◌++◌, Option, Some, None, map, length, refl, sym, ap, subst, ◌∙◌, inl, inr, arith, rules}
 use Rattle.std.specs.Prelude.{option_map, option_and_then, IsSome, Result, Ok, Err, IfOk}
 use Rattle.std.specs.FinMap as fin
 use Rattle.std.proofs.lemmas.Bool.{cases_lt}
 use Rattle.std.proofs.lemmas.List.{map-append, length-append, length-map}
-use denote.RawPtr.{Ptr}
-use Rattle.node_store.specs.Rows.{Rows, Entry, is_listed, children_of, head_of, last_of, before, after, Distinct}
+use Rattle.node_store.specs.Rows.{Rows, is_listed}
 use Rattle.node_store.specs.Links.{Linked, rows_of, linked_at, Holds}
-use Rattle.node_store.proofs.Held.{get_row}
 use Rattle.raw_nodes.specs.Spots.{Spot, places, IsApart}
-use Rattle.raw_nodes.specs.Nodes.{place_of, index_in, linked_in, cells_of, Chain, dead_nodes, head_link, IsFree, IsStore, Keeps}
+use Rattle.raw_nodes.specs.Nodes.{place_of, index_in, linked_in, cells_of, Chain, dead_nodes, head_link, IsFree, Keeps}
 use Rattle.raw_nodes.specs.Heaps.{IsHeap, Grows, addresses}
-use Rattle.raw_nodes.specs.Raw.{Raw, raw_of, IsRaw, Ready, Spares}
+use Rattle.raw_nodes.specs.Raw.{IsRaw, Ready}
 use Rattle.raw_nodes.specs.declared.arena.Link.{Link}
 use Rattle.raw_nodes.specs.declared.node.Node.{Node}
 use Rattle.raw_nodes.specs.declared.rows.RawRows.{RawRows}
 use Rattle.raw_nodes.proofs.Blocks.{held_at, held_within}
-use Rattle.raw_nodes.proofs.Looks.{look, look_at, look_node, node_of}
+use Rattle.raw_nodes.proofs.Looks.{look, look_at, look_node}
 use Rattle.raw_nodes.proofs.Stored.{parent_used, first_used, last_used, next_used, prev_used, rows_less, all_rows, alive_of, below, linked, used_of, place_more, held_more, held_past, numbers, numbers_once, numbers_have, fresh_chain, dead_there}
 
 abbrev linked_with : {T : Type 0} → Option ℕ → Option ℕ → Option ℕ → Option ℕ → Option ℕ → Option T → Option (Linked T)

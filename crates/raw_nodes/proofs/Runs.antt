@@ -1,14 +1,14 @@
 -- Cells side by side: a block's places are cells, and cells that are owned together lie apart. Assumes `Logic`.
-use mathlib.Core.Path.{◌≡◌, refl, sym, ap, subst, ◌∙◌}
-use mathlib.Core.Bool.{Bool, true, false, cond}
+use mathlib.Core.Path.{◌≡◌, refl, ap, subst}
+use mathlib.Core.Bool.{Bool, true, false}
 use Prim.Native.Nat.{ℕ, suc, ◌+◌, ◌-◌, ◌<◌, ◌≤◌}
 use lib.ListN.{length}
 use native.Mathlib.Omega.{arith}
 use mathlib.Core.List.{List, [], ◌∷◌, ◌++◌, map}
 use seplogic.Ra.Ura.{Ura}
 use base.Fraction.{full_share}
-use base.Logic.{SProp, ent, sep, via, never, never_e, fst∗, id⊢, mono_r}
-use base.Fml.{Fml, ftrue, fsep, fat, froom}
+use base.Logic.{ent, sep, via, never, never_e, fst∗, id⊢, mono_r}
+use base.Fml.{ftrue, fat}
 use prog.Model.{Model}
 use types.Logic.{Logic, sem}
 use contract.Monad.{fact, fact_i, fact_use}
@@ -18,7 +18,7 @@ use denote.Steps.{nothing}
 use denote.Memory.{part_at}
 use denote.RawPtr.{Ptr, block_ptr, null_ptr, lies_at, room_for, ◌+ₚ◌}
 use mir.Val.{Val}
-use Rattle.std.specs.Prelude.{Option, Some, None}
+use Rattle.std.specs.Prelude.{Some}
 use Rattle.std.specs.List.{AllByRecursion, IsDistinct}
 use Rattle.core.proofs.mem.Param.{El, R, el_x, elτ}
 use Rattle.std_alloc.proofs.RcSteps.{Good}

@@ -1,23 +1,23 @@
 -- What the steps of a raw store make of its rows.
 use Rattle.std.proofs.Common.{◌≡◌, ◌≢◌, ◌==◌, ◌||◌, ℕ, zero, suc, ◌+◌, ◌-◌, ◌<◌, ◌≤◌, Bool, true, false, cond, List, [], ◌∷◌, ◌++◌, Option, Some, None, map, length, get_or, count_by, is_some, refl, sym, ap, subst, ◌∙◌, inl, inr, arith, rules, append_assoc}
-use Rattle.std.specs.Prelude.{option_map, option_and_then, IsSome, IfSome}
+use Rattle.std.specs.Prelude.{option_map, IsSome}
 use Rattle.std.specs.FinMap as fin
 use Rattle.std.proofs.lemmas.Bool.{cases_eq, eq-eqb, ne_eqb, eqb-true}
 use Rattle.std.proofs.lemmas.List.Sums.{sum_by-cons, count_by-le-length}
 use Rattle.std.proofs.lemmas.List.{map-append, length-append, length-map}
 use denote.RawPtr.{Ptr}
-use Rattle.node_store.specs.Rows.{Rows, Entry, parent_of, children_of, children_in, head_of, last_of, before, after, starts, is_listed, is_child, Distinct, IsTree}
-use Rattle.node_store.specs.Links.{Linked, Cells, cell_at, rows_of, linked_at, Holds, IsSound}
+use Rattle.node_store.specs.Rows.{Rows, Entry, children_of, head_of, last_of, before, after, starts, is_listed, Distinct, IsTree}
+use Rattle.node_store.specs.Links.{Linked, rows_of, linked_at, IsSound}
 use Rattle.node_store.proofs.Siblings.{head_listed, last_listed, after_listed, listed_apart, or_right, none_or}
-use Rattle.node_store.proofs.Maps.{some_row, is_there, parent_at, child_at, used_parent, used_child}
+use Rattle.node_store.proofs.Maps.{some_row, parent_at, child_at, used_parent, used_child}
 use Rattle.node_store.proofs.Held.{get_row, len_rows, rows_is, sound_of, holds_empty}
 use Rattle.node_store.proofs.Trees.{tree_empty}
 use Rattle.raw_nodes.specs.Spots.{Spot, same_ptr, places, found, IsApart}
-use Rattle.raw_nodes.specs.Nodes.{place_of, index_in, linked_in, cells_of, Numbered, Chain, dead_node, dead_nodes, head_link, IsFree, IsStore}
+use Rattle.raw_nodes.specs.Nodes.{place_of, linked_in, cells_of, Numbered, Chain, dead_node, dead_nodes, head_link, IsFree, IsStore}
 use Rattle.raw_nodes.specs.declared.arena.Link.{Link}
 use Rattle.raw_nodes.specs.declared.node.Node.{Node}
-use Rattle.raw_nodes.proofs.Blocks.{held_at, found_at, held_within, within_held, place_at, place_alike}
-use Rattle.raw_nodes.proofs.Looks.{look, look_at, look_node, node_of, Calm, unmapped}
+use Rattle.raw_nodes.proofs.Blocks.{held_at, found_at, held_within, place_at}
+use Rattle.raw_nodes.proofs.Looks.{look, node_of, unmapped}
 
 -- ---- siblings that a list tells
 

@@ -1,6 +1,6 @@
 -- A changed cell.
-use Rattle.std.proofs.Common.{◌≡◌, ℕ, Bool, true, false, cond, List, [], ◌∷◌, Option, Some, None, refl, sym, ap, ◌∙◌, rules}
-use Rattle.std.specs.Prelude.{option_map, IsSome, IfSome}
+use Rattle.std.proofs.Common.{◌≡◌, Bool, true, false, cond, List, [], ◌∷◌, Option, Some, None, refl, sym, ap, rules}
+use Rattle.std.specs.Prelude.{IsSome, IfSome}
 use Rattle.raw_nodes.specs.Edits.{to_next, to_first, right_put}
 use Rattle.raw_nodes.specs.declared.arena.Link.{Link}
 use Rattle.raw_nodes.specs.declared.node.Node.{Node}

@@ -1,5 +1,5 @@
 -- What one call makes of the nodes. All definitions here are this project's.
-use Rattle.std.specs.Prelude.{ℕ, List, Option, Some, None}
+use Rattle.std.specs.Prelude.{List, Option, Some, None}
 use Rattle.raw_nodes.specs.Spots.{Spot, updated}
 use Rattle.raw_nodes.specs.declared.arena.Link.{Link}
 use Rattle.raw_nodes.specs.declared.node.Node.{Node}

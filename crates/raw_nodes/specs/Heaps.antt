@@ -1,5 +1,5 @@
 -- How blocks, links and cells agree. All definitions here are this project's.
-use Rattle.std.specs.Prelude.{◌≡◌, ◌<◌, ◌+◌, ℕ, suc, List, [], ◌∷◌, ◌++◌, map, length, drop, Some}
+use Rattle.std.specs.Prelude.{◌≡◌, List, [], ◌∷◌, ◌++◌, map, length, Some}
 use denote.RawPtr.{Ptr}
 use Rattle.raw_nodes.specs.Spots.{Spot, places, IsApart}
 use Rattle.raw_nodes.specs.Nodes.{Numbered, dead_nodes, head_link}

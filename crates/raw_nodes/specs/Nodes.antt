@@ -1,10 +1,10 @@
 -- What the cells hold, as a store's cells are seen. All definitions here are this project's.
-use Rattle.std.specs.Prelude.{◌≡◌, ◌<◌, ◌≤◌, ◌+◌, ℕ, zero, suc, Bool, true, false, if◌then◌else◌, List, [], ◌∷◌, ◌++◌, map, length, Option, Some, None, option_map, slice_index_or}
+use Rattle.std.specs.Prelude.{◌≡◌, ◌<◌, ℕ, suc, true, if◌then◌else◌, List, [], ◌∷◌, map, length, Option, Some, None, option_map, slice_index_or}
 use Rattle.std.specs.FinMap as fin
 use denote.RawPtr.{Ptr}
 use Rattle.node_store.specs.Rows.{Distinct, is_listed}
 use Rattle.node_store.specs.Links.{Linked, Cells, cell_at, rows_of, IsSound}
-use Rattle.raw_nodes.specs.Spots.{Spot, same_ptr, places, IsApart}
+use Rattle.raw_nodes.specs.Spots.{Spot, same_ptr}
 use Rattle.raw_nodes.specs.declared.arena.Link.{Link}
 use Rattle.raw_nodes.specs.declared.node.Node.{Node}
 

@@ -3,9 +3,9 @@ use Rattle.std.specs.Prelude.{◌≡◌, ◌<◌, ◌+◌, ℕ, List, ◌∷◌,
 use Rattle.std.specs.Coded.{Coded, code_by, coded×, coded_ℕ, coded_option}
 use Rattle.std.specs.FinMap as fin
 use denote.RawPtr.{Ptr}
-use Rattle.node_store.specs.Rows.{Rows, Entry, entry_code, appended, planted, unlinked, parent_of}
+use Rattle.node_store.specs.Rows.{Rows, entry_code, appended, planted, unlinked, parent_of}
 use Rattle.node_store.specs.Links.{rows_of, cell_at, Holds}
-use Rattle.raw_nodes.specs.Nodes.{place_of, index_in, cells_of, Chain, IsFree, IsStore}
+use Rattle.raw_nodes.specs.Nodes.{place_of, index_in, cells_of, IsFree, IsStore}
 use Rattle.raw_nodes.specs.Heaps.{IsHeap}
 use Rattle.raw_nodes.specs.declared.arena.Link.{Link}
 use Rattle.raw_nodes.specs.declared.rows.RawRows.{RawRows}

@@ -1,4 +1,4 @@
-use Rattle.std.proofs.Common.{rules, ◌≡◌, sym, subst, IsSome}
+use Rattle.std.proofs.Common.{sym, subst, IsSome}
 use Rattle.std.specs.Prelude.{IfSome}
 use Rattle.raw_nodes.specs.Spots.{found}
 use Rattle.raw_nodes.proofs.Updates.{still_there}

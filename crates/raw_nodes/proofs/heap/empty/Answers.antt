@@ -1,4 +1,4 @@
-use Rattle.std.proofs.Common.{◌≡◌, ◌+◌, ◌<◌, suc, None, set, length, replicate, sym, ap, subst, ◌∙◌, arith, add-one}
+use Rattle.std.proofs.Common.{◌≡◌, None, set, length, replicate, sym, ap, subst, ◌∙◌, arith, add-one}
 use Rattle.raw_nodes.specs.Places.{IsFilled}
 use Rattle.raw_nodes.proofs.Emptying.{emptying, emptying_at, emptying_more, emptying_all}
 use Rattle.raw_nodes.proofs.heap.empty.Goals as goal

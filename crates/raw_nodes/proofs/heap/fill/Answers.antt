@@ -1,4 +1,4 @@
-use Rattle.std.proofs.Common.{◌≡◌, ◌+◌, ◌<◌, suc, Some, None, set, slice_index_or, rules, sym, ap, ◌∙◌, arith, length, add-one}
+use Rattle.std.proofs.Common.{◌≡◌, ◌+◌, ◌<◌, Some, None, set, slice_index_or, sym, ap, ◌∙◌, arith, length, add-one}
 use Rattle.raw_nodes.specs.Nodes.{dead_node}
 use Rattle.raw_nodes.proofs.Filling.{filling, filling_none, filling_long, filling_more, filling_all}
 use Rattle.raw_nodes.proofs.heap.fill.Goals as goal

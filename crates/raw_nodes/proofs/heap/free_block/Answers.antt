@@ -1,4 +1,4 @@
-use Rattle.std.proofs.Common.{◌≡◌, ◌-◌, List, length, map, drop, ◌∙◌}
+use Rattle.std.proofs.Common.{◌-◌, length, map, drop, ◌∙◌}
 use Rattle.raw_nodes.proofs.Emptying.{mapped_held, last_long}
 use Rattle.raw_nodes.proofs.heap.free_block.Goals as goal
 

@@ -1,4 +1,4 @@
-use Rattle.std.proofs.Common.{◌≡◌, ◌+◌, ◌++◌, ◌∷◌, [], suc, List, sym, ap, ◌∙◌, arith, append_assoc, add-one, ℕ}
+use Rattle.std.proofs.Common.{◌≡◌, ◌+◌, ◌++◌, ◌∷◌, [], List, ap, ◌∙◌, arith, append_assoc, add-one, ℕ}
 use Rattle.std.proofs.lemmas.List.{map-append}
 use denote.RawPtr.{Ptr}
 use Rattle.std.specs.Mem.{type_size}

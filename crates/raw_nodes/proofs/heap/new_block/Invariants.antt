@@ -1,4 +1,4 @@
-use Rattle.std.proofs.Common.{◌≡◌, ◌++◌, ◌+◌, ◌≤◌, vec_len, vec_capacity}
+use Rattle.std.proofs.Common.{◌≡◌, ◌++◌, ◌+◌, vec_len, vec_capacity}
 use Rattle.std.specs.Mem.{type_size}
 use Rattle.raw_nodes.specs.Spots.{run_places}
 use Rattle.raw_nodes.specs.Heaps.{addresses}

@@ -1,14 +1,13 @@
 -- `follow` shows the value that the cell lends. Assumes `Logic`.
-use mathlib.Core.Path.{◌≡◌, refl, sym, subst, ◌∙◌}
-use Prim.Native.Nat.{ℕ, ◌+◌, ◌*◌, ◌<◌, ◌^◌}
-use native.Mathlib.Omega.{arith}
+use mathlib.Core.Path.{◌≡◌, refl, sym, subst}
+use Prim.Native.Nat.{ℕ}
 use mathlib.Core.List.{List, [], ◌∷◌, ◌++◌}
 use seplogic.Ra.Ura.{Ura}
 use base.Fraction.{full_share}
-use mir.Syntax.{Fn, named, w64}
+use mir.Syntax.{Fn, named}
 use mir.MapTy.{inst_fn}
-use mir.Val.{Val, vptr, vint}
-use base.Logic.{SProp, ent, never, id⊢}
+use mir.Val.{Val, vptr}
+use base.Logic.{SProp, ent}
 use base.Fml.{Lft, Share, ftrue, fat, flft}
 use prog.Wp.{Env, Calls, Loops, WpFn, Tables}
 use types.Logic.{Logic}
@@ -37,11 +36,10 @@ use denote.Triple.Table.{entered, run_framed}
 use denote.Triple.Walked.{says, needs, Stays, stay_dropped, walk_of, ends_at, Goes-dropped, walk_Meets}
 use Rattle.std_alloc.proofs.VecSteps.Shapes.{after}
 use Rattle.std_alloc.proofs.RcSteps.{word, word-Good}
-use lib.ListN.{length, get_or}
 use types.ByLocal.{take_at, give_at}
 use Rattle.std.specs.Prelude.{Some, IsSome}
 use Rattle.core.proofs.mem.Param.{El, R, args, el_x}
-use Rattle.raw_nodes.specs.Spots.{found, spots_lent}
+use Rattle.raw_nodes.specs.Spots.{found}
 use Rattle.raw_nodes.proofs.Memory.{word_had}
 use Rattle.raw_nodes.proofs.Found.{spot_seen}
 use Rattle.raw_nodes.proofs.Arenas.{Ar, Lk, found_value, unblocked}

@@ -1,13 +1,12 @@
 -- `follow_mut` lends the value of the cell, and the cells follow it. Assumes `Logic`.
-use mathlib.Core.Path.{◌≡◌, refl, sym, subst, ◌∙◌}
-use Prim.Native.Nat.{ℕ, ◌+◌, ◌*◌, ◌<◌, ◌^◌}
-use native.Mathlib.Omega.{arith}
+use mathlib.Core.Path.{◌≡◌, refl, sym, subst}
+use Prim.Native.Nat.{ℕ}
 use mathlib.Core.List.{List, [], ◌∷◌, ◌++◌}
 use seplogic.Ra.Ura.{Ura}
 use base.Fraction.{full_share}
-use mir.Syntax.{Fn, named, w64}
+use mir.Syntax.{Fn, named}
 use mir.MapTy.{inst_fn}
-use mir.Val.{Val, vptr, vint}
+use mir.Val.{Val, vptr}
 use base.Logic.{SProp, ent, sep, never, id⊢}
 use base.Fml.{Lft, GName, Share, Fml, ftrue, fsep, fat, flft, fobs, fbor}
 use prog.Wp.{Env, Calls, Loops, WpFn, Tables}
@@ -37,11 +36,10 @@ use denote.Triple.Table.{entered, run_framed}
 use denote.Triple.Walked.{says, needs, Stays, stay_dropped, walk_of, ends_at, Goes-dropped, Goes-spent_ref, walk_Meets}
 use Rattle.std_alloc.proofs.VecSteps.Shapes.{after}
 use Rattle.std_alloc.proofs.RcSteps.{word, word-Good}
-use lib.ListN.{length, set, get_or, length-set}
 use types.ByLocal.{take_at, give_at}
 use Rattle.std.specs.Prelude.{Some, IsSome}
 use Rattle.core.proofs.mem.Param.{El, R, args, el_x}
-use Rattle.raw_nodes.specs.Spots.{found, written, spots_own}
+use Rattle.raw_nodes.specs.Spots.{found, spots_own}
 use denote.RawPtr.{lies_at}
 use Rattle.raw_nodes.proofs.Memory.{word_had}
 use Rattle.raw_nodes.proofs.Found.{besides, spot_out, spot_in}

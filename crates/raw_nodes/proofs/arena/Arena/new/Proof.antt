@@ -1,18 +1,18 @@
 -- `new` makes the owner of no cell. Assumes `Logic`.
 use mathlib.Core.Path.{◌≡◌, refl}
-use mathlib.Core.List.{List, [], ◌∷◌}
+use mathlib.Core.List.{[], ◌∷◌}
 use seplogic.Ra.Ura.{Ura}
 use mir.Syntax.{Fn}
 use mir.MapTy.{inst_fn}
 use mir.Val.{Val}
 use base.Logic.{SProp, ent, emp, via, fst∗}
 use base.Fml.{ftrue}
-use prog.Wp.{Env, Calls, Loops, WpFn, Tables}
+use prog.Wp.{Calls, Loops, WpFn, Tables}
 use types.Logic.{Logic}
 use contract.Monad.{fact}
 use contract.Running.{tables, tables_of}
 use sound.WpLaws.{WpFn-mono}
-use types.Kit.{Item, ⋆, ‵, at_ret, ◌$◌, ◌∵◌, !, qed, by, move, keep, use0, join, fjoin, suffices, frame, done}
+use types.Kit.{⋆, ‵, ◌$◌, ◌∵◌, !, qed, by, keep, use0, fjoin, suffices, frame, done}
 use types.Part.{agg}
 use types.Run.{and_then, no_more, returns, enter}
 use types.ByLocal.{alloc_all, pass_all, free_all, look_at, get, sets}
@@ -25,7 +25,7 @@ use denote.Triple.Entry.{on_entry}
 use denote.Triple.Spec.{Meets, triple_of}
 use denote.Triple.Table.{entered, run_framed}
 use denote.Triple.Walked.{says, Stays, walk_of, ends_at, walk_Meets}
-use Rattle.core.proofs.mem.Param.{El, R, args}
+use Rattle.core.proofs.mem.Param.{El, args}
 use Rattle.raw_nodes.proofs.Memory.{mark}
 use Rattle.raw_nodes.proofs.Arenas.{Ar, Mark, mark_made}
 use Rattle.raw_nodes.specs.contracts.arena.Arena.new.Key.{name as #self}

@@ -1,29 +1,25 @@
 -- `release` gives the last block's places back. Assumes `Logic`.
 use mathlib.Core.Path.{◌≡◌, refl, sym, ap, subst, ◌∙◌}
-use Prim.Native.Nat.{ℕ, ◌-◌, ◌*◌, ◌<◌, ◌≤◌, ◌^◌}
-use native.Mathlib.Omega.{arith}
+use Prim.Native.Nat.{ℕ, ◌-◌, ◌*◌, ◌<◌, ◌^◌}
 use mathlib.Core.List.{List, [], ◌∷◌, ◌++◌, map}
 use seplogic.Ra.Ura.{Ura}
-use base.Fraction.{full_share}
-use mir.Syntax.{Fn, named, w64}
+use mir.Syntax.{Fn, named}
 use mir.MapTy.{inst_fn}
-use mir.Val.{Val, vptr, vint}
-use base.Logic.{SProp, ent, sep, never, id⊢}
-use base.Fml.{Lft, GName, Share, ftrue, fat, froom, flft, fobs, fbor}
-use prog.Wp.{Env, Calls, Loops, WpFn, Tables}
+use mir.Val.{Val, vptr}
+use base.Logic.{SProp, ent, sep}
+use base.Fml.{Lft, GName, Share, ftrue, flft, fobs, fbor}
+use prog.Wp.{Calls, Loops, WpFn, Tables}
 use types.Logic.{Logic}
 use contract.Monad.{fact}
 use contract.Running.{tables, tables_of}
 use sound.WpLaws.{WpFn-mono}
-use types.Kit.{Item, ⋆, ‵, ◌⊛◌, some, given, pick, learn, at_ret, ◌$◌, ◌∵◌, !, qed, by, move, keep, use1, use2, split, join, rewrite, fsplit, fsplit3, fjoin, fjoin3, feq_i, feq_l, suffices, frame, done}
-use types.Part.{whole, sub}
-use types.Run.{look, stop, fld, load, of_opd, first, blocks, exec, returns, enter}
-use types.ByLocal.{alloc_all, pass_all, free_all, look_at, get, get_in, through, sets, sets_last, env}
+use types.Kit.{Item, ⋆, ‵, ◌⊛◌, ◌$◌, ◌∵◌, !, qed, by, move, keep, use1, split, join, rewrite, fsplit, fsplit3, fjoin, fjoin3, feq_i, feq_l, suffices, frame, done}
+use types.Run.{returns, enter}
+use types.ByLocal.{alloc_all, pass_all, free_all, look_at, get, sets}
 use types.SemTy.{Body as Borrowed}
 use denote.Exit.{yes, no}
 use denote.RattleType.{owns}
 use denote.Memory.{mem}
-use denote.Param.{layout}
 use denote.RawPtr.{Ptr, in_a_block}
 use denote.Ref.{MutBor, MutRef}
 use denote.Builtin.{RefMutOf}
@@ -34,19 +30,15 @@ use denote.Triple.Clauses.{Clauses, Ended, closing}
 use denote.Triple.Entry.{on_entry}
 use denote.Triple.Spec.{Meets, triple_of}
 use denote.Triple.Table.{entered, run_framed}
-use denote.Triple.Walked.{needs, Stays, stay_dropped, stay_ref, walk_of, ends_at, Goes-dropped, Goes-ref, walk_Meets}
-use Rattle.std_alloc.proofs.VecSteps.Shapes.{after}
-use Rattle.std_alloc.proofs.RcSteps.{Good, word, word-Good}
+use denote.Triple.Walked.{needs, Stays, stay_dropped, stay_ref, walk_of, ends_at, Goes-ref, walk_Meets}
 use lib.ListN.{length, take, drop, take-append-drop, length-drop}
 use types.Kit.{flt_l, flt_i, use0}
 use types.Part.{agg}
 use types.Run.{and_then, no_more}
-use denote.Builtin.{usize}
-use Rattle.std.specs.Prelude.{Some, None}
+use Rattle.std.specs.Prelude.{Some}
 use Rattle.core.proofs.mem.Param.{El, R, args, el_x}
 use Rattle.std.proofs.lemmas.List.{length-map}
 use Rattle.std.proofs.lemmas.Simd.{map-map}
-use Rattle.std.specs.Vec.Ownership.{FitsInBlock}
 use Rattle.raw_nodes.specs.Ownership.{slots, cells_own}
 use Rattle.raw_nodes.specs.Spots.{Spot, spots, spots_own, run_places, IsLast}
 use Rattle.core.proofs.alloc.Calls.{Goes-blank}

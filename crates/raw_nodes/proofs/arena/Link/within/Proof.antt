@@ -1,13 +1,13 @@
 -- `within` moves a block's pointer up to one of its cells. Assumes `Logic`.
 use mathlib.Core.Path.{◌≡◌, refl, sym, ap, subst, ◌∙◌}
-use Prim.Native.Nat.{ℕ, ◌+◌, ◌*◌, ◌<◌, ◌^◌}
+use Prim.Native.Nat.{◌+◌, ◌*◌, ◌<◌, ◌^◌}
 use native.Mathlib.Omega.{arith}
 use mathlib.Core.List.{List, [], ◌∷◌, ◌++◌}
 use seplogic.Ra.Ura.{Ura}
 use base.Fraction.{full_share}
 use mir.Syntax.{Fn, w64}
 use mir.MapTy.{inst_fn}
-use mir.Val.{Val, vint, vptr}
+use mir.Val.{Val, vint}
 use base.Logic.{SProp, ent}
 use base.Fml.{ftrue, fat}
 use prog.Wp.{Env, Calls, Loops, WpFn, Tables}
@@ -15,7 +15,7 @@ use types.Logic.{Logic}
 use contract.Monad.{fact}
 use contract.Running.{tables, tables_of}
 use sound.WpLaws.{WpFn-mono}
-use types.Kit.{Item, ⋆, ‵, ◌⊛◌, at_ret, ◌$◌, ◌∵◌, !, qed, by, move, keep, rewrite, fsplit, fjoin, feq_l, flt_l, suffices, frame, done}
+use types.Kit.{⋆, ‵, at_ret, ◌$◌, ◌∵◌, !, qed, by, move, keep, rewrite, fsplit, fjoin, feq_l, flt_l, suffices, frame, done}
 use types.Part.{whole, sub, agg}
 use types.Run.{stop, fld, of_opd, bin, size_lit, and_then, no_more, first, blocks, exec, returns, enter}
 use types.ByLocal.{alloc_all, pass_all, free_all, look_at, get, get_in, sets, sets_last, take_at, give_at, env}
@@ -34,7 +34,7 @@ use denote.Triple.Table.{entered, run_framed}
 use denote.Triple.Walked.{says, needs, Stays, stay_dropped, walk_of, ends_at, Goes-dropped, walk_Meets}
 use Rattle.std_alloc.proofs.VecSteps.Shapes.{after}
 use Rattle.std_alloc.proofs.RcSteps.{word, word-Good}
-use Rattle.core.proofs.mem.Param.{El, R, args}
+use Rattle.core.proofs.mem.Param.{El, args}
 use Rattle.raw_nodes.specs.Spots.{IsIn, cell_ptr}
 use Rattle.raw_nodes.proofs.Memory.{Bs, sz, word_had, word_made}
 use Rattle.raw_nodes.proofs.Arenas.{Lk}

@@ -1,4 +1,4 @@
-use Rattle.std.proofs.Common.{◌≡◌, ◌++◌, ◌∷◌, [], ap, subst, ◌∙◌}
+use Rattle.std.proofs.Common.{ap, subst, ◌∙◌}
 use Rattle.raw_nodes.specs.Spots.{places}
 use Rattle.raw_nodes.specs.Heaps.{AreBlocks, block_places}
 use Rattle.raw_nodes.proofs.Emptying.{last_parts, last_block, blocks_left}

@@ -1,4 +1,4 @@
-use Rattle.std.proofs.Common.{rules, ◌≡◌, [], ◌∷◌, get_or, ◌+◌, ◌-◌, ◌≤◌, ◌++◌, ℕ, length, drop, replicate, map, Some, None, refl, sym, ap, subst, ◌∙◌, arith, length-drop, vec_len}
+use Rattle.std.proofs.Common.{◌≡◌, [], ◌∷◌, get_or, ◌-◌, ◌++◌, length, drop, replicate, map, Some, None, sym, ap, ◌∙◌, arith, length-drop}
 use Rattle.raw_nodes.specs.Spots.{run_places}
 use Rattle.raw_nodes.specs.Nodes.{dead_nodes}
 use Rattle.raw_nodes.specs.Heaps.{addresses}
@@ -6,7 +6,6 @@ use Rattle.raw_nodes.specs.declared.heap.Block.{Block}
 use Rattle.raw_nodes.specs.declared.heap.Heap.{Heap}
 use Rattle.raw_nodes.proofs.Growing.{grown, grows, full}
 use Rattle.raw_nodes.proofs.heap.Heap.grow.Goals as goal
-use Rattle.raw_nodes.proofs.heap.Heap.grow.Given.{Over}
 
 pub links_from-requires : goal.links_from-requires
 links_from-requires g c = omega (arith, c.in_ok-base.ensures.len, c.len-count.ensures)

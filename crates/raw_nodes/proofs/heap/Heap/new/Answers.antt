@@ -1,5 +1,5 @@
-use Rattle.std.proofs.Common.{◌≡◌, [], sym, ap, ◌∙◌, subst, refl}
-use Rattle.raw_nodes.specs.Spots.{Spot, IsApart, places}
+use Rattle.std.proofs.Common.{◌≡◌, [], sym, ap, ◌∙◌, subst}
+use Rattle.raw_nodes.specs.Spots.{IsApart, places}
 use Rattle.raw_nodes.specs.Nodes.{Numbered}
 use Rattle.raw_nodes.specs.Heaps.{addresses, AreBlocks, block_places}
 use Rattle.raw_nodes.specs.declared.node.Node.{Node}

@@ -1,12 +1,11 @@
-use Rattle.std.proofs.Common.{◌≡◌, IsSome, Some, rules, refl, sym, ap, subst, ◌∙◌}
+use Rattle.std.proofs.Common.{IsSome, rules, refl, sym, ap, subst, ◌∙◌}
 use Rattle.std.specs.Prelude.{option_map}
 use Rattle.std.specs.FinMap as fin
-use Rattle.node_store.specs.Rows.{Entry, changed_at, with_payload}
+use Rattle.node_store.specs.Rows.{changed_at, with_payload}
 use Rattle.node_store.proofs.Maps.{some_row}
 use Rattle.raw_nodes.specs.Raw.{raw_of}
-use Rattle.raw_nodes.proofs.Changing.{leaf_paid, paid_raw, paid_rows, paid_root, paid_long}
+use Rattle.raw_nodes.proofs.Unlinking.{leaf_paid, paid_raw, paid_rows, paid_root, paid_long}
 use Rattle.raw_nodes.proofs.raw.RawNodesNodeStore.payload_mut.Goals as goal
-use Rattle.raw_nodes.proofs.raw.RawNodesNodeStore.payload_mut.Given.{Over}
 
 pub payload_mut-requires : goal.payload_mut-requires
 payload_mut-requires g c =

@@ -1,13 +1,12 @@
-use Rattle.std.proofs.Common.{◌≡◌, ◌+◌, Some, IsSome, Fits, w64, sym, ap, subst, ◌∙◌, arith}
+use Rattle.std.proofs.Common.{◌+◌, Some, IsSome, sym, ap, subst, ◌∙◌}
 use Rattle.std.specs.Prelude.{IfSome}
 use Rattle.raw_nodes.specs.Spots.{found, updated}
-use Rattle.raw_nodes.specs.Edits.{to_row, to_last, join_put}
+use Rattle.raw_nodes.specs.Edits.{to_last, join_put}
 use Rattle.raw_nodes.specs.Raw.{raw_of, Appends}
 use Rattle.raw_nodes.specs.declared.rows.RawRows.{RawRows}
 use Rattle.raw_nodes.proofs.Stored.{number_is}
-use Rattle.raw_nodes.proofs.Changing.{link_found, no_payload, spot_within, up_found, up_found_two, parent_found_three, last_found_three, link_found_three, append_raw, appends, room}
+use Rattle.raw_nodes.proofs.Changing.{link_found, no_payload, up_found, up_found_two, parent_found_three, last_found_three, link_found_three, append_raw, appends, room}
 use Rattle.raw_nodes.proofs.rows.RawRows.append.Goals as goal
-use Rattle.raw_nodes.proofs.rows.RawRows.append.Given.{Over}
 
 pub follow-dead-requires : goal.follow-dead-requires
 follow-dead-requires g c = link_found c.args.self.now c.dead_cell.new.self c.requires.raw c.in-Ok.link c.in-Ok.ensures.ok

@@ -1,4 +1,4 @@
-use Rattle.std.proofs.Common.{◌≡◌, Some, None, rules, sym, ap, subst, ◌∙◌, refl, arith}
+use Rattle.std.proofs.Common.{◌≡◌, Some, None, rules, refl, arith}
 use Rattle.raw_nodes.specs.Heaps.{Grows}
 use Rattle.raw_nodes.specs.Raw.{Ready}
 use Rattle.raw_nodes.specs.declared.rows.RawRows.{RawRows}

@@ -1,6 +1,4 @@
-use Rattle.std.proofs.Common.{◌≡◌, ◌<◌, ℕ, length, get_or, map, sym, ap, subst, ◌∙◌, arith, IsSome, rules}
-use denote.RawPtr.{Ptr}
-use Rattle.raw_nodes.specs.Nodes.{place_of}
+use Rattle.std.proofs.Common.{sym, subst, IsSome}
 use Rattle.raw_nodes.proofs.Stored.{alive_of, below, place_of_link}
 use Rattle.raw_nodes.proofs.Looks.{look, found_living}
 use Rattle.raw_nodes.proofs.rows.RawRows.link.Goals as goal

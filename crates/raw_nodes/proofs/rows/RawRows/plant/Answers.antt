@@ -1,4 +1,4 @@
-use Rattle.std.proofs.Common.{◌≡◌, Some, None, sym, ap, subst, ◌∙◌}
+use Rattle.std.proofs.Common.{Some, sym, subst}
 use Rattle.raw_nodes.specs.Raw.{raw_of, Plants}
 use Rattle.raw_nodes.specs.declared.rows.RawRows.{RawRows}
 use Rattle.raw_nodes.proofs.Stored.{number_is}

@@ -1,8 +1,8 @@
-use Rattle.std.proofs.Common.{◌≡◌, ◌≤◌, Some, IsSome, sym, ap, subst, ◌∙◌, arith, rules}
+use Rattle.std.proofs.Common.{◌≡◌, Some, IsSome, sym, ap, subst, ◌∙◌, rules}
 use Rattle.std.specs.Prelude.{IfSome}
 use Rattle.raw_nodes.specs.Spots.{found}
 use Rattle.raw_nodes.specs.Edits.{join_put}
-use Rattle.raw_nodes.proofs.Changing.{leaf_paid, parent_found_out, prev_found_out, next_found_out, some_rows, unlink_raw, unlinks}
+use Rattle.raw_nodes.proofs.Unlinking.{leaf_paid, parent_found_out, prev_found_out, next_found_out, some_rows, unlink_raw, unlinks}
 use Rattle.raw_nodes.proofs.rows.RawRows.unlink_leaf.Goals as goal
 
 pub set_dead-payload-requires : goal.set_dead-payload-requires
