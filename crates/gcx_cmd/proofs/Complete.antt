@@ -1,9 +1,7 @@
 -- Completeness, from what each status says and from the causes of faults.
-use Rattle.std.proofs.Common.{◌≡◌, ◌⊎◌, ℕ, List, inl, inr, ⊎_elim, refl, sym, ◌∙◌, ap, subst}
-use Rattle.std.specs.declared.option.Option.{Option}
+use Rattle.std.proofs.Common.{◌≡◌, ◌⊎◌, ℕ, List, inl, inr, ⊎_elim, refl, subst}
 use Rattle.std.specs.declared.option.Option.TheVariants as o
 use Rattle.gcx_io.specs.Shelf.{Names, content_of, IsMissing}
-use Rattle.gcx_io.specs.Bytes.{Grows}
 use Rattle.gcx_cmd.specs.Main.{IsRun, IsQuery, IsDocument, SaysOfQuery, SaysOfDocument, StopsDocument}
 use Rattle.gcx_cmd.specs.declared.status.Status.{Status}
 use Rattle.gcx_cmd.specs.declared.status.Status.TheVariants.{Ok, Usage, QueryRefused, DocumentRefused, ReadFault, WriteFault, Memory}

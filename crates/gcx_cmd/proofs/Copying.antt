@@ -1,21 +1,21 @@
 -- The copies of nodes, from their tree.
-use Rattle.std.proofs.Common.{◌≡◌, ◌⊎◌, ℕ, zero, suc, ◌+◌, ◌<◌, ◌≤◌, Bool, true, false, cond, ◌&&◌, List, [], ◌∷◌, ◌++◌, length, refl, sym, ◌∙◌, ap, subst, inl, inr, arith, eqb, append_assoc, append-nil, length-append}
+use Rattle.std.proofs.Common.{◌≡◌, ◌⊎◌, ℕ, zero, suc, ◌+◌, ◌<◌, ◌≤◌, Bool, true, false, ◌&&◌, List, [], ◌∷◌, ◌++◌, length, refl, sym, ◌∙◌, ap, subst, inl, inr, arith, append_assoc, append-nil, length-append}
 use Rattle.std.specs.Prelude.{flat_map}
 use Rattle.std.specs.List.{filter}
 use Rattle.std.proofs.lemmas.Bool.{ne_eqb, eq-eqb}
 use Rattle.std.proofs.lemmas.List.Elements.{filter-append}
 use Rattle.std.proofs.lemmas.Grind.{flat_map-append}
 use Rattle.gcx_base.specs.declared.kind.Kind.{Kind}
-use Rattle.gcx_base.specs.declared.kind.Kind.TheVariants.{Document, Element, Text}
+use Rattle.gcx_base.specs.declared.kind.Kind.TheVariants.{Element, Text}
 use Rattle.gcx_base.specs.declared.steps.Test.TheVariants.{AnyNode}
-use Rattle.gcx_model.specs.Tree.{Node, Root, Under, serial_of, kind_of, Tree}
+use Rattle.gcx_model.specs.Tree.{Node, Root, Under, serial_of, Tree}
 use Rattle.gcx_model.specs.Paths.{passes, reach, hits}
 use Rattle.gcx_model.specs.Written.{start_tag, end_tag, escaped}
 use Rattle.gcx_model.specs.Document.{Nodes, none, element, text}
-use Rattle.gcx_model.specs.Answer.{children, child_step, copied, copied_with}
+use Rattle.gcx_model.specs.Answer.{children, child_step, copied}
 use Rattle.gcx_cmd.specs.Selected.{copies}
 use Rattle.gcx_cmd.proofs.Numbering.{numbered}
-use Rattle.gcx_cmd.proofs.Below.{Rises, Over, over_high, child, hits_one}
+use Rattle.gcx_cmd.proofs.Below.{Rises, Over, hits_one}
 
 abbrev pub Every : (Node → Type 0) → List Node → Type 0
 Every Q [] = Unit {0}

@@ -8,7 +8,7 @@ use Rattle.gcx_model.specs.Spelling.{SpellsWithin}
 use Rattle.gcx_model.specs.Tree.{Token as Said, Start, Chars, End}
 use Rattle.gcx_model.specs.Query.{ExprTree}
 use Rattle.gcx_model.specs.Answer.{answer}
-use Rattle.doc_reader.specs.Front.{given_token, node_tokens}
+use Rattle.doc_reader.specs.Front.{given_token}
 use Rattle.std.specs.declared.result.Result.{Result}
 use Rattle.std.specs.declared.result.Result.TheVariants.{Ok, Err}
 use Rattle.gcx_base.specs.Limits.{full_limits}
@@ -21,11 +21,11 @@ use Rattle.gcx_cmd.specs.declared.status.Status.TheVariants as status
 use Rattle.doc_reader.specs.Standing.{Held, Stands, Accepted, Finished, answer_of, answer_by, reader_tokens}
 use Rattle.doc_reader.specs.declared.token.Token.{Token}
 use Rattle.doc_reader.specs.declared.token.Token.TheVariants.{EndOfDocument}
-use Rattle.gcx_cmd.specs.PlainQuery.{AreNames, IsSome, IsPath, path_query, SpellsQuery}
-use Rattle.gcx_cmd.specs.Main.{IsQuery, IsQueryOf, IsDocument, Judges, refusal_of, StopsDocument, SaysOfDocument}
+use Rattle.gcx_cmd.specs.PlainQuery.{IsSome, IsPath, path_query, SpellsQuery}
+use Rattle.gcx_cmd.specs.Main.{IsQuery, IsQueryOf, Judges, refusal_of, StopsDocument, SaysOfDocument}
 use Rattle.gcx_cmd.specs.Reading.{IsReadUpTo, Fed, FedUpTo}
 use Rattle.gcx_cmd.specs.Selector.{Selection, no_selection, selects, selects_all}
-use Rattle.gcx_cmd.specs.Selecting.{given, given_all}
+use Rattle.gcx_cmd.specs.Selecting.{given_all}
 use Rattle.gcx_cmd.proofs.Paths.{path_once}
 use Rattle.gcx_cmd.proofs.Selecting.{answer_selected}
 use Rattle.gcx_cmd.proofs.Selections.{selected_all}

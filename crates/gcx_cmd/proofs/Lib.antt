@@ -7,3 +7,4 @@ pub mod Selections
 pub mod Lists
 pub mod Judged
 pub mod Complete
+pub mod Rows

@@ -1,8 +1,7 @@
 -- The nodes of a document's tree, numbered in document order.
-use Rattle.std.proofs.Common.{◌≡◌, ℕ, suc, ◌+◌, ◌<◌, ◌≤◌, Bool, true, false, List, [], ◌∷◌, ◌++◌, length, refl, sym, ◌∙◌, ap, arith, Some, None, append_assoc, append-nil, length-append}
-use Rattle.gcx_base.specs.declared.kind.Kind.{Kind}
-use Rattle.gcx_base.specs.declared.kind.Kind.TheVariants.{Document, Element, Text}
-use Rattle.gcx_model.specs.Tree.{Node, Root, Under, serial_of, Tree, Token, Start, Chars, End, opening, grow, grow_all}
+use Rattle.std.proofs.Common.{◌≡◌, ℕ, ◌+◌, List, [], ◌∷◌, ◌++◌, length, refl, sym, ◌∙◌, ap, Some, None, append_assoc, append-nil, length-append}
+use Rattle.gcx_base.specs.declared.kind.Kind.TheVariants.{Element, Text}
+use Rattle.gcx_model.specs.Tree.{Node, Root, Under, Tree, Token, Start, Chars, End, opening, grow, grow_all}
 use Rattle.gcx_model.specs.Document.{Nodes, none, element, text, tokens, tree_of}
 
 -- the nodes below p, numbered from s on

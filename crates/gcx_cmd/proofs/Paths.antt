@@ -1,12 +1,12 @@
 -- Bytes as names of a path.
-use Rattle.std.proofs.Common.{◌≡◌, ◌⊎◌, ℕ, ◌≤◌, Bool, true, false, ◌&&◌, ◌||◌, not, List, [], ◌∷◌, ◌++◌, length, take, drop, refl, sym, ◌∙◌, ap, subst, inl, inr, arith, eqb, append_assoc, append-nil}
+use Rattle.std.proofs.Common.{◌≡◌, ◌⊎◌, ℕ, true, false, ◌&&◌, not, List, [], ◌∷◌, ◌++◌, take, drop, refl, sym, ◌∙◌, ap, subst, inl, inr, eqb, append_assoc, append-nil}
 use Rattle.std.specs.List.{list_all}
-use Rattle.std.proofs.lemmas.Bool.{and_parts, and_from, false≢true, eq-eqb}
+use Rattle.std.proofs.lemmas.Bool.{and_parts, and_from, false≢true}
 use Rattle.std.proofs.lemmas.Bool.Decides.{eqb_tells}
 use Rattle.std.proofs.lemmas.List.{take-append-drop}
 use Rattle.gcx_base.specs.Name.{is_name_start, is_name_byte, is_plain_name}
 use Rattle.gcx_model.specs.Query.{ExprTree}
-use Rattle.gcx_cmd.specs.PlainQuery.{path_spelling, AreNames, IsSome, IsPath, path_query, SpellsQuery, Reads, BeginsPath, is_slashless}
+use Rattle.gcx_cmd.specs.PlainQuery.{path_spelling, AreNames, IsPath, path_query, SpellsQuery, Reads, BeginsPath, is_slashless}
 
 not_slash : (c : ℕ) → is_name_byte c ≡ true → not (eqb c 47) ≡ true
 not_slash c h = go (eqb_tells c 47)

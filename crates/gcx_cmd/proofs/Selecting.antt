@@ -1,5 +1,5 @@
 -- An absolute path of child names stands for what is selected by recursion on the document.
-use Rattle.std.proofs.Common.{◌≡◌, ℕ, zero, suc, ◌+◌, ◌<◌, ◌≤◌, Bool, true, false, cond, ◌&&◌, List, [], ◌∷◌, ◌++◌, length, refl, sym, ◌∙◌, ap, subst, arith, eqb, append_assoc, append-nil, length-append, None}
+use Rattle.std.proofs.Common.{◌≡◌, ℕ, zero, suc, ◌+◌, ◌≤◌, Bool, true, false, cond, ◌&&◌, List, [], ◌∷◌, ◌++◌, length, refl, sym, ◌∙◌, ap, arith, append-nil, length-append, None}
 use Rattle.std.specs.Prelude.{flat_map, bytes_eq}
 use Rattle.std.specs.List.{filter}
 use Rattle.std.proofs.lemmas.Bool.{ne_eqb, eq-eqb}
@@ -9,15 +9,15 @@ use Rattle.gcx_base.specs.declared.kind.Kind.TheVariants.{Element, Text}
 use Rattle.gcx_base.specs.declared.steps.Step.{Step}
 use Rattle.gcx_base.specs.declared.steps.Test.TheVariants.{Named}
 use Rattle.gcx_model.specs.Tree.{Node, Root, Under, serial_of, Tree}
-use Rattle.gcx_model.specs.Paths.{hits, reach, any, matches}
+use Rattle.gcx_model.specs.Paths.{hits, matches}
 use Rattle.gcx_model.specs.Written.{start_tag, end_tag}
-use Rattle.gcx_model.specs.Document.{Nodes, none, element, text, tree_of}
+use Rattle.gcx_model.specs.Document.{Nodes, none, element, text}
 use Rattle.gcx_model.specs.Query.{Path}
 use Rattle.gcx_model.specs.Answer.{copied, copy_of, answer}
 use Rattle.gcx_cmd.specs.Selected.{copies, selected, child_named, child_path}
 use Rattle.gcx_cmd.proofs.Numbering.{numbered, tree_nodes}
 use Rattle.gcx_cmd.proofs.Below.{Rises, Over, child_of, child_over, none_above}
-use Rattle.gcx_cmd.proofs.Copying.{Every, every_on, filter_same, filter_none, count, Inner, numbered_inner, Around, around_text, around_before, around_inner, counted, this, children_are, copies_are}
+use Rattle.gcx_cmd.proofs.Copying.{Every, every_on, filter_same, filter_none, count, Inner, numbered_inner, Around, around_text, around_before, around_inner, counted, children_are, copies_are}
 
 -- one test for all
 filter_and : (b : Bool) (g : Node → Bool) (xs : List Node) → filter (λ m. b && g m) xs ≡ cond b (filter g xs) []

@@ -1,5 +1,5 @@
 -- Which bytes spell which query. So far: an absolute path of child steps with plain names (XQuery 1.0, section 3.2.4; this project's fragment).
-use Rattle.std.specs.Prelude.{ℕ, ◌≡◌, ◌≤◌, ◌==◌, Bool, true, false, not, List, [], ◌∷◌, ◌++◌, length, Option, Some, None}
+use Rattle.std.specs.Prelude.{ℕ, ◌≡◌, ◌≤◌, ◌==◌, Bool, true, not, List, [], ◌∷◌, ◌++◌, length, None}
 use Rattle.std.specs.List.{list_all}
 use Rattle.gcx_base.specs.Name.{is_plain_name}
 use Rattle.gcx_model.specs.Query.{ExprTree, Path}

@@ -99,7 +99,7 @@ module _ (F : ℕ → Var) where
       let t : vars e ++ vars d ≡ count (suc k) (length (vars e ++ vars d)) = cc in
       let sp = split_count (vars e) (vars d) (suc k) t in
       let path : path_at (upto k) y ++ s ∷ [] ≡ (F k).path =
-          ap (λ z. z ++ s ∷ []) (at_below (λ z. (F z).path) 0 k y (l y q.0.1) ∙ ap (λ (z : ℕ). (F z).path) (let g : 0 + y ≡ y = omega arith in g)) ∙ (sym (ap (λ (v : Var). v.path) f.0.0) ∙ ap (λ (z : ℕ). (F z).path) h) in
+      ap (λ z. z ++ s ∷ []) (at_below (λ z. (F z).path) 0 k y (l y q.0.1) ∙ ap (λ (z : ℕ). (F z).path) (let g : 0 + y ≡ y = omega arith in g)) ∙ (sym (ap (λ (v : Var). v.path) f.0.0) ∙ ap (λ (z : ℕ). (F z).path) h) in
       let m : ℕ = length (vars e) in
       let first : upto k ++ (path_at (upto k) y ++ s ∷ []) ∷ [] ≡ upto (suc k) = ap (λ z. upto k ++ z ∷ []) path ∙ sym (upto_push k) in
       let len : suc k + m + length (vars d) ≡ k + suc (length (vars e ++ vars d)) = rw length-append (omega arith) in
@@ -129,8 +129,8 @@ module _ (core : BodyTree) (good : Good core) where
       let ps : paths_from ([] ∷ []) (var_rows core) ≡ upto V (1 + n) = ap (λ z. paths_from z (var_rows core)) start ∙ paths_are V core 0 1 true (0 ∷ []) good.inside (good_fits core good) good.numbered (λ z i. elim i [ inl e ↦ omega arith | inr j ↦ absurd j ]) in
       let zero_add : 0 + x ≡ x = omega arith in
       let beyond : (z : ℕ) → 1 + n ≤ z → (V (0 + z)).path ≡ [] = λ z l.
-          let e : 0 + z ≡ z = omega arith in
-          ap (λ (y : ℕ). (V y).path) e ∙ ap (λ (v : Var). v.path) (away_body core 0 (λ y. var0) z (λ i. let h = In-count-high 1 n z (subst (λ (y : List ℕ). In z y) good.numbered i) in omega arith)) in
+      let e : 0 + z ≡ z = omega arith in
+      ap (λ (y : ℕ). (V y).path) e ∙ ap (λ (v : Var). v.path) (away_body core 0 (λ y. var0) z (λ i. let h = In-count-high 1 n z (subst (λ (y : List ℕ). In z y) good.numbered i) in omega arith)) in
       ap (λ z. path_at z x) ps ∙ (at_all (λ z. (V z).path) 0 (1 + n) x beyond ∙ ap (λ (z : ℕ). (V z).path) zero_add)
 
   at_statements : (k : ℕ) (rs : List RoleRowTree) (r : ℕ) (row : RoleRowTree) → row_at rs r ≡ Some row → At_row row (statement V (roles_of core) (k + r) row) rs (statements V (roles_of core) k rs) × In (statement V (roles_of core) (k + r) row) (statements V (roles_of core) k rs)

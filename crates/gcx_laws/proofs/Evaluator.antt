@@ -1,9 +1,11 @@
 -- At each point: how its variables are bound, which statements wait, and that the evaluator sees in the held rows what it would see in the whole tree.
 use Rattle.std.proofs.Common.{◌≡◌, ℕ, true, List, [], ◌∷◌, ◌++◌, refl, sym, ap, subst, inl, inr, ◌⊎◌, append_assoc, ltb}
+use Rattle.gcx_laws.proofs.Plans.{good_zero}
+use Rattle.gcx_model.specs.Needs.{Uses}
 use Rattle.gcx_model.specs.Tree.{Node, serial_of, Tree, Token}
 use Rattle.gcx_base.specs.declared.steps.Step.{Step}
 use Rattle.gcx_model.specs.Paths.{hits, matches}
-use Rattle.gcx_model.specs.Core.{CondTree, For, If, Off, BodyTree, Nil, Then, OffTree}
+use Rattle.gcx_model.specs.Core.{CondTree, For, If, Off, BodyTree, Nil, Then, OffTree, ItemTree, Write, Copy}
 use Rattle.gcx_model.specs.Truth.{Env, bind, truth}
 use Rattle.gcx_model.specs.Run.{env0, Offed, copy}
 use Rattle.gcx_laws.proofs.Reading.{is_held, reading}
@@ -12,10 +14,10 @@ use Rattle.gcx_model.specs.Placed.{at_end, offs_of}
 use Rattle.gcx_model.specs.Roles.{whole_row, roles_of}
 use Rattle.gcx_model.specs.Cores.{Good}
 use Rattle.gcx_laws.proofs.Lists.{In, In-filter}
-use Rattle.gcx_laws.proofs.Matches.{Matches-in}
+use Rattle.gcx_laws.proofs.Matches.{Matches-in, Grown}
 use Rattle.gcx_laws.proofs.Stands.{Frame, Rest, Round, Part, Stands, later}
-use Rattle.gcx_laws.proofs.Waits.{Waits, waits_unsigned}
-use Rattle.gcx_laws.proofs.Frames.{waits_bound, Here, Bound_in, Turn, Fact, Facts, facts, hit_on, Last}
+use Rattle.gcx_laws.proofs.Waits.{Waits, waits_unsigned, Waits-right}
+use Rattle.gcx_laws.proofs.Frames.{waits_bound, Here, Bound_in, Turn, Fact, Facts, facts, hit_on, Last, Loop, Fact_item, bound_hit}
 use Rattle.gcx_laws.proofs.Need.{Frame_needs, Needs, needs_held}
 use Rattle.gcx_laws.proofs.Local.{later_held}
 use Rattle.gcx_laws.proofs.Pruned.{pruned, matches_kept, truth_kept, copy_kept}
@@ -105,3 +107,29 @@ pub waits_unsigned_at : (core : BodyTree) (good : Good core) (ts : List Token) (
 waits_unsigned_at core good ts k fs st o v h i =
     let y = plan_way core good o (waits_only core good ts k fs st o v h).0 in
     waits_unsigned (tree ts) (grown ts) (root_in ts) (reading core).body o (var_tree core o.base).path y.0 y.1 (so_far core (tree ts) k) fs st v h (offed_sig o (serial_of (v o.base)) (so_far core (tree ts) k) i)
+
+-- what an item uses is bound below
+uses_bound : (P : Tree) (w : Grown P) (core : BodyTree) (good : Good core) (i : ItemTree) (env : Env) (fs : List Frame) → Fact_item P w core good i env fs → (x : ℕ) → Uses i x → Bound_in x (env x) fs
+uses_bound P w core good (Write s) env fs f x u = absurd u
+uses_bound P w core good (Copy y) env fs f x u = subst (λ (z : ℕ). Bound_in z (env z) fs) u f.1.1
+uses_bound P w core good (For z y s d) env fs f x u = let l : Loop P w core good z y s d env fs = f in subst (λ (z : ℕ). Bound_in z (env z) fs) u l.bound
+uses_bound P w core good (If c a b) env fs f x u = subst (λ (z : ℕ). Bound_in z (env z) fs) u.2 (f u.0 u.1).1.1
+uses_bound P w core good (Off o) env fs f x u = subst (λ (z : ℕ). Bound_in z (env z) fs) u f
+
+module _ (core : BodyTree) (good : Good core) (ts : List Token) (k : ℕ) (top below : List Frame) where
+  abbrev all_facts : (f : Frame) → At core good ts k top below f → Facts (tree ts) (grown ts) core good [] (top ++ f ∷ below)
+  all_facts f st = facts (tree ts) (grown ts) core good (root_in ts) (so_far core (tree ts) k) (top ++ f ∷ below) st
+
+  below_facts : (pre up : List Frame) (f : Frame) → Facts (tree ts) (grown ts) core good pre (up ++ f ∷ below) → (over : List Frame) × Facts (tree ts) (grown ts) core good over below
+  below_facts pre [] f h = (pre ++ f ∷ [], h.1)
+  below_facts pre (g ∷ up) f h = below_facts (pre ++ g ∷ []) up f h.1
+
+  -- what is bound below a frame is a match of its variable's path
+  pub below_hit : (f : Frame) → At core good ts k top below f → (x : ℕ) (n : Node) → Bound_in x n below → In n (tree ts).nodes × (hits 0 ((reading core).paths x) n ≡ true)
+  below_hit f st x n b = let h = below_facts [] top f (all_facts f st) in bound_hit (tree ts) (grown ts) core good (root_in ts) (good_zero core good) h.0 below x n h.1 b
+
+  pub item_bound : (i : ItemTree) (d : BodyTree) (env : Env) → At core good ts k top below (Rest (Then i d) env) → (x : ℕ) → Uses i x → Bound_in x (env x) below
+  item_bound i d env st x u = uses_bound (tree ts) (grown ts) core good i env (Rest (Then i d) env ∷ below) (fact core good ts k top below (Rest (Then i d) env) st).0 x u
+
+  pub off_unsigned : (o : OffTree) (d : BodyTree) (env : Env) → At core good ts k top below (Rest (Then (Off o) d) env) → In (Offed o (serial_of (env o.base))) (so_far core (tree ts) k) → ⊥
+  off_unsigned o d env st i = waits_unsigned_at core good ts k (top ++ Rest (Then (Off o) d) env ∷ below) st o env (Waits-right o env top (Rest (Then (Off o) d) env ∷ below) (inl (inl refl, refl))) i

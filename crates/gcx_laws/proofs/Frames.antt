@@ -2,6 +2,7 @@
 use Rattle.std.proofs.Common.{◌≡◌, ℕ, Bool, true, false, ◌&&◌, List, [], ◌∷◌, ◌++◌, length, refl, sym, ◌∙◌, ap, subst, inl, inr, ◌⊎◌, append_assoc}
 use Rattle.std.proofs.lemmas.List.{append-nil}
 use Rattle.std.proofs.lemmas.Bool.{and_parts, and_from, false≢true, eqb-true, eq-eqb, ne_eqb}
+pub use Rattle.gcx_model.specs.Points.{Bound_in}
 use Rattle.gcx_model.specs.Tree.{Node, Root, serial_of, above, Tree}
 use Rattle.gcx_base.specs.declared.steps.Step.{Step}
 use Rattle.gcx_model.specs.Paths.{reach, hits, matches, first}
@@ -64,13 +65,6 @@ Last-in : {X : Type 0} (l : X) (xs : List X) → Last l xs → In l xs
 Last-in l [] h = absurd h
 Last-in l (x ∷ []) h = inl h
 Last-in l (x ∷ y ∷ ys) h = inr (Last-in l (y ∷ ys) h)
-
--- the variable x is bound to n below: by the nearest of its rounds, or it is variable 0
-abbrev pub Bound_in : ℕ → Node → List Frame → Type 0
-Bound_in x n [] = (x ≡ 0) × (n ≡ Root)
-Bound_in x n (Rest d env ∷ fs) = Bound_in x n fs
-Bound_in x n (Round z y s e env m ∷ fs) = ((z ≡ x) × (m ≡ n)) ⊎ Bound_in x n fs
-Bound_in x n (Part z env k ∷ fs) = Bound_in x n fs
 
 bound_over : (x : ℕ) (n : Node) (f : Frame) (fs : List Frame) → Bound_in x n fs → Bound_in x n (f ∷ fs)
 bound_over x n (Rest d env) fs h = h
@@ -454,3 +448,14 @@ module _ (P : Tree) (w : Grown P) (core : BodyTree) (good : Good core) where
   waits_bound top (Rest d env ∷ fs) o v f (inr h) = waits_bound (top ++ Rest d env ∷ []) fs o v f.1 h
   waits_bound top (Round x y s e env n ∷ fs) o v f h = let r = waits_bound (top ++ Round x y s e env n ∷ []) fs o v f.1 h in (r.0, inr r.1)
   waits_bound top (Part x env k ∷ fs) o v f h = waits_bound (top ++ Part x env k ∷ []) fs o v f.1 h
+
+  -- what is bound in some frames of a point is a match of its variable's path
+  pub bound_hit : (root : In Root P.nodes) (zero : F 0 ≡ var0) (top fs : List Frame) (x : ℕ) (n : Node) → Facts top fs → Bound_in x n fs → In n P.nodes × (hits 0 (F x).path n ≡ true)
+  bound_hit root zero top [] x n f b = subst (λ (z : Node). In z P.nodes × (hits 0 (F x).path z ≡ true)) (sym b.1) (root, subst (λ (z : ℕ). hits 0 (F z).path Root ≡ true) (sym b.0) (subst (λ (z : Var). hits 0 z.path Root ≡ true) (sym zero) refl))
+  bound_hit root zero top (Rest d env ∷ fs) x n f b = bound_hit root zero (top ++ Rest d env ∷ []) fs x n f.1 b
+  bound_hit root zero top (Part z env k ∷ fs) x n f b = bound_hit root zero (top ++ Part z env k ∷ []) fs x n f.1 b
+  bound_hit root zero top (Round z y s e env m ∷ fs) x n f (inr b) = bound_hit root zero (top ++ Round z y s e env m ∷ []) fs x n f.1 b
+  bound_hit root zero top (Round z y s e env m ∷ fs) x n f (inl b) =
+      let t : Turn top z y s e env m fs = f.0 in
+      subst (λ (v : ℕ). In n P.nodes × (hits 0 (F v).path n ≡ true)) b.0 (subst (λ (v : Node). In v P.nodes × (hits 0 (F z).path v ≡ true)) b.1
+      ((Matches-in P (serial_of (env y)) (s ∷ []) m t.match).0, hit_on z y s t.straight t.var (env y) m t.parent.inside t.parent.hit t.match))

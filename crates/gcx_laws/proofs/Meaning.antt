@@ -167,8 +167,8 @@ module _ (P : Tree) (w : Grown P) (o : Ordered P) (over : P.at ≡ None) where
   said_copy zero n i l = let r = Numbered-high 0 P.nodes w.numbered n i in absurd (omega arith)
   said_copy (suc most) n i l =
       let below : (m : Node) → In m (children P n) → In m P.nodes × (length P.nodes ≤ most + serial_of m) = λ m j.
-          let q = Matches-in P (serial_of n) (child_step ∷ []) m j in
-          let g = child_above P w over (serial_of n) m q.0 q.1 in (q.0, omega arith) in
+      let q = Matches-in P (serial_of n) (child_step ∷ []) m j in
+      let g = child_above P w over (serial_of n) m q.0 q.1 in (q.0, omega arith) in
       let f : (m : Node) → In m (children P n) → (copy most P m).done ≡ true = λ m j. let q = below m j in copy_is_done P w over most m q.0 q.1 in
       copy-with (kind_of n) (loop (copy most P) (children P n) (is_closed P n)) (flat_map (copied most P) (children P n))
       (loop_done (copy most P) (children P n) (is_closed P n) (closed n) f)
@@ -325,8 +325,8 @@ module _ (P : Tree) (w : Grown P) (o : Ordered P) (over : P.at ≡ None) where
       let ms : List Node = matches P (serial_of (env y)) (s ∷ []) in
       let t' : (n : Node) → truth c (bind env x n) P ≡ Known_as h = λ n. truth_same P L (bind env x n) env (λ z i. bind_other env x z n (λ q. f z (inl (sym q)) i)) c u ∙ t in
       let inner : (n : Node) → In n ms → said E (bind env x n) ≡ cond g (said e (bind env x n)) [] = λ n i.
-          let p' : In_P (bind env x n) = in_bind env x n p (Matches-in P (serial_of (env y)) (s ∷ []) n i).0 in
-          go (has_loop e) (bind env x n) p' (t' n) (said_spread c first h L u Nil e (bind env x n) p' (λ z j. f z (inr (In-left z (vars e) (vars d) j))) (t' n)) in
+      let p' : In_P (bind env x n) = in_bind env x n p (Matches-in P (serial_of (env y)) (s ∷ []) n i).0 in
+      go (has_loop e) (bind env x n) p' (t' n) (said_spread c first h L u Nil e (bind env x n) p' (λ z j. f z (inr (In-left z (vars e) (vars d) j))) (t' n)) in
       said_flush c first h r (Then (For x y s E) D) env p t
       ∙ (ap (λ z. cond g (said r env) [] ++ z) (said-then (For x y s E) D env p
       ∙ (ap (λ z. z ++ said D env) (said_for x y s E env p ∙ (flat_map-same (λ n. said E (bind env x n)) (λ n. cond g (said e (bind env x n)) []) ms inner ∙ (all_or_none g (λ n. said e (bind env x n)) ms ∙ ap (λ z. cond g z []) (sym (said_for x y s e env p)))))

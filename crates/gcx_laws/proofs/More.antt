@@ -1,40 +1,46 @@
 -- Facts beside the laws: what a role's kind means, what is signed, what stays, and that the demand run goes through core states.
-use Rattle.std.proofs.Common.{◌≡◌, ℕ, zero, suc, ◌+◌, ◌≤◌, Bool, true, false, not, ◌&&◌, List, [], ◌∷◌, ◌++◌, length, refl, sym, ◌∙◌, ap, subst, inl, inr, arith, add-zero, Some, None, Option, eqb}
-use Rattle.std.specs.Prelude.{take}
-use Rattle.std.specs.List.{filter}
+use Rattle.std.proofs.Common.{◌≡◌, cond, ℕ, zero, suc, ◌+◌, ◌≤◌, Bool, true, false, not, ◌&&◌, List, [], ◌∷◌, ◌++◌, length, refl, sym, ◌∙◌, ap, subst, inl, inr, arith, add-zero, Some, None, Option, eqb, append_assoc}
+use Rattle.std.specs.Prelude.{take, drop}
+use Rattle.std.specs.List.{filter, flat_map}
 use Rattle.std.proofs.lemmas.List.{length-append}
 use Rattle.std.proofs.lemmas.Bool.{and_parts, and_from, or_cases, or_left, or_right, false≢true, true≢false, eqb-true, eq-eqb, not-true, false_from_ne_true}
+use Rattle.gcx_laws.proofs.Meaning.{normal_law}
+use Rattle.gcx_laws.proofs.Moved.{normal_good}
+use Rattle.gcx_model.specs.Normal.{normal}
+use Rattle.gcx_model.specs.Document.{tree_of}
 use Rattle.gcx_base.specs.declared.steps.Step.{Step}
+use Rattle.gcx_model.specs.Needs.{Uses}
 use Rattle.gcx_model.specs.Tree.{Node, serial_of, above, within, Tree, Token, opening, grow, grow_all, is_open_at}
 use Rattle.gcx_model.specs.Paths.{any, head, hits, matches, first}
 use Rattle.gcx_model.specs.Members.{In}
 use Rattle.gcx_model.specs.Nodes.{Grown}
-use Rattle.gcx_model.specs.Core.{BodyTree, OffTree, RoleRowTree, PlanTree}
-use Rattle.gcx_model.specs.Run.{Action, Wrote, Offed, Out, run, env0}
+use Rattle.gcx_model.specs.Core.{BodyTree, OffTree, RoleRowTree, PlanTree, Off, Then}
+use Rattle.gcx_model.specs.Run.{Action, Wrote, Offed, Out, run, env0, bytes_of}
 use Rattle.gcx_model.specs.Variables.{var_tree, path_in}
 use Rattle.gcx_model.specs.Roles.{roles_of}
 use Rattle.gcx_model.specs.Cores.{Good}
 use Rattle.gcx_model.specs.Placed.{row_at, offs_in, of_role, offs_of, plan_of}
-use Rattle.gcx_model.specs.Held.{is_node, path_of, statement_of, on_row, given_row, given, is_off, signed, held}
+use Rattle.gcx_model.specs.Held.{is_node, path_of, statement_of, on_row, given_row, given, is_off, signed, held, is_held}
 use Rattle.gcx_model.specs.Growth.{may_come, may_all}
-use Rattle.gcx_model.specs.Points.{actions, so_far, ReachedFrom, here, fed, acted, Reached}
+use Rattle.gcx_model.specs.Points.{actions, so_far, ReachedFrom, here, fed, acted, Reached, Rest, Round, PointAt, Bound_in}
 use Rattle.gcx_laws.specs.Bridges.{GivesByKind, SignedIsOff, OneStatement, PathsByRows, DemandIsReached}
-use Rattle.gcx_laws.specs.Laws.{GivenStays, GoneStays}
+use Rattle.gcx_laws.specs.Laws.{GivenStays, GoneStays, BoundLaw, TurnLaw, UnsignedLaw, is_write, PlanBytes, KnownIsFront, HeldByFeed, HeldByAct}
 use Rattle.gcx_laws.proofs.Reading as old
 use Rattle.gcx_laws.proofs.Reading.{Reading, reading}
-use Rattle.gcx_laws.proofs.Lists.{In-filter, In-kept, any_in, any_from}
-use Rattle.gcx_laws.proofs.Matches.{Grown-grow, Numbered-same, Matches-in, Matches-from}
+use Rattle.gcx_laws.proofs.Lists.{In-filter, In-kept, any_in, any_from, In-left, filter_same}
+use Rattle.gcx_laws.proofs.Matches.{Grown-grow, Numbered-same, Matches-in, Matches-from, added, grow_nodes}
 use Rattle.gcx_laws.proofs.Chains.{above_in}
-use Rattle.gcx_laws.proofs.Stays.{gives_same, held_back}
+use Rattle.gcx_laws.proofs.Stays.{gives_same, held_back, held_feed}
 use Rattle.gcx_laws.proofs.Prefix.{Before, Same, More}
 use Rattle.gcx_laws.proofs.Whole.{prefix}
 use Rattle.gcx_laws.proofs.Plans.{same_role}
 use Rattle.gcx_laws.proofs.Placed.{one_statement, statements_only}
 use Rattle.gcx_laws.proofs.Waits.{nodes_stay}
 use Rattle.gcx_laws.proofs.CoreStates.{tree, grown, so_far_stays, taken_acted}
+use Rattle.gcx_laws.proofs.Evaluator as over
 use Rattle.gcx_laws.proofs.Growing.{grows, fed_all, grow_all-append}
-use Rattle.gcx_laws.proofs.Bridge.{path_is, held_is}
-use Rattle.gcx_laws.proofs.Public.{from_tokens, from_plan, from_state, reached_leads, offs_at_matches}
+use Rattle.gcx_laws.proofs.Bridge.{path_is, held_is, is_held_is}
+use Rattle.gcx_laws.proofs.Public.{from_tokens, from_plan, from_state, reached_leads, offs_at_matches, plan_writes, prefix_law}
 
 -- the kinds of roles
 
@@ -231,3 +237,81 @@ demand_is_reached plan ts m =
     let start : Reached plan opening (long plan opening) = let e : 0 + long plan opening ≡ long plan opening = omega arith in subst (λ (z : ℕ). Reached plan opening z) e (act_on plan opening 0 (long plan opening) (omega arith) here) in
     let all : Reached plan (tree ts) (long plan (tree ts)) = reached_from plan [] ts m start in
     (all, λ t h. (fed all (grows t (tree ts) h), (let q = longer plan ts t in ap (take (long plan (tree ts))) q.1 ∙ take_front (actions plan (tree ts)) q.0)))
+
+-- what is bound
+
+pub bound_law : BoundLaw
+bound_law core good plan pl P k r top below i d env = from_state core good (λ plan P k. PointAt plan P k (top ++ Rest (Then i d) env ∷ below) → (x : ℕ) → Uses i x → Bound_in x (env x) below × In (env x) (matches P 0 (path_of plan x)))
+    (λ ts k st x u.
+    let b = over.item_bound core good ts k top below i d env st x u in
+    let h = over.below_hit core good ts k top below (Rest (Then i d) env) st x (env x) b in
+    (b, subst (λ (z : List Step). In (env x) (matches (tree ts) 0 z)) (sym (path_is core good x)) (Matches-from (tree ts) 0 (path_in core x) (env x) h.0 h.1))) plan pl P k r
+
+pub turn_law : TurnLaw
+turn_law core good plan pl P k r top below x y s e env n = from_state core good (λ plan P k. PointAt plan P k (top ++ Round x y s e env n ∷ below) → Bound_in y (env y) below × In n (matches P (serial_of (env y)) (s ∷ [])) × In n (matches P 0 (path_of plan x)))
+    (λ ts k st.
+    let b = over.parent_bound core good ts k top below x y s e env n st in
+    let h = over.turn_bound core good ts k top below x y s e env n st in
+    (b, h.0, subst (λ (z : List Step). In n (matches (tree ts) 0 z)) (sym (path_is core good x)) (Matches-from (tree ts) 0 (path_in core x) n (Matches-in (tree ts) (serial_of (env y)) (s ∷ []) n h.0).0 h.2))) plan pl P k r
+
+pub unsigned_law : UnsignedLaw
+unsigned_law core good plan pl P k r top below o d env = from_state core good (λ plan P k. PointAt plan P k (top ++ Rest (Then (Off o) d) env ∷ below) → In (Offed o (serial_of (env o.base))) (so_far plan P k) → ⊥)
+    (λ ts k st i. over.off_unsigned core good ts k top below o d env st i) plan pl P k r
+
+-- what is written
+
+flat_map-append : {X A : Type 0} (f : X → List A) (xs ys : List X) → flat_map f (xs ++ ys) ≡ flat_map f xs ++ flat_map f ys
+flat_map-append f [] ys = refl
+flat_map-append f (x ∷ xs) ys = ap (λ z. f x ++ z) (flat_map-append f xs ys) ∙ sym (append_assoc (f x) (flat_map f xs) (flat_map f ys))
+
+writes_only : (xs : List Action) → flat_map bytes_of (filter is_write xs) ≡ flat_map bytes_of xs
+writes_only [] = refl
+writes_only (Wrote b ∷ xs) = ap (λ z. b ++ z) (writes_only xs)
+writes_only (Offed o n ∷ xs) = writes_only xs
+
+pub plan_bytes : PlanBytes
+plan_bytes q plan pl P =
+    sym (writes_only (actions plan P)) ∙ (ap (flat_map bytes_of) (plan_writes (normal q) (normal_good q) plan pl P).0 ∙ writes_only (run (normal q) env0 P).acts)
+
+pub known_is_front : KnownIsFront
+known_is_front q s P l d m =
+    let h = (prefix_law P (tree_of d) l m (normal q)).0 in
+    (flat_map bytes_of h.0, sym (normal_law q s d) ∙ (ap (flat_map bytes_of) h.1 ∙ flat_map-append bytes_of (run (normal q) env0 P).acts h.0))
+
+-- the rows behind a token, and behind an action
+
+drop_front : {X : Type 0} (xs ys : List X) → drop (length xs) (xs ++ ys) ≡ ys
+drop_front [] ys = refl
+drop_front (x ∷ xs) ys = drop_front xs ys
+
+filter_sub : (p q : Node → Bool) (xs : List Node) → ((x : Node) → q x ≡ true → p x ≡ true) → filter q (filter p xs) ≡ filter q xs
+filter_sub p q [] h = refl
+filter_sub p q (x ∷ xs) h = go (p x) (q x) refl refl (filter_sub p q xs h)
+  where
+    go : (a b : Bool) → p x ≡ a → q x ≡ b → filter q (filter p xs) ≡ filter q xs → filter q (cond a (x ∷ filter p xs) (filter p xs)) ≡ cond b (x ∷ filter q xs) (filter q xs)
+    go true true e f i = rw f (ap (λ z. x ∷ z) i)
+    go true false e f i = rw f i
+    go false true e f i = absurd (false≢true (sym e ∙ h x f))
+    go false false e f i = i
+
+feed_at : (core : BodyTree) (good : Good core) (P : Tree) → Grown P → (t : Token) (A : List Action) → held (plan_of core) (grow t P) A ≡ filter (is_held (plan_of core) (grow t P) A) (held (plan_of core) P A ++ drop (length P.nodes) (grow t P).nodes)
+feed_at core good P w t A =
+    let p : Reading = reading core in
+    let n : drop (length P.nodes) (grow t P).nodes ≡ added t P = ap (drop (length P.nodes)) (grow_nodes t P) ∙ drop_front P.nodes (added t P) in
+    held_is core good (grow t P) A
+    ∙ (held_feed t P w p A
+    ∙ (ap (λ z. filter (old.is_held p (grow t P) A) (z ++ added t P)) (sym (held_is core good P A))
+    ∙ (ap (λ z. filter (old.is_held p (grow t P) A) (held (plan_of core) P A ++ z)) (sym n)
+    ∙ filter_same (old.is_held p (grow t P) A) (is_held (plan_of core) (grow t P) A) (held (plan_of core) P A ++ drop (length P.nodes) (grow t P).nodes) (λ m i. sym (is_held_is core good (grow t P) A m)))))
+
+pub held_by_feed : HeldByFeed
+held_by_feed core good plan pl P l t A =
+    from_plan core good (λ plan. held plan (grow t P) A ≡ filter (is_held plan (grow t P) A) (held plan P A ++ drop (length P.nodes) (grow t P).nodes)) (feed_at core good P (from_tokens (λ z. Grown z) grown P l) t A) plan pl
+
+act_at : (core : BodyTree) (good : Good core) (P : Tree) (A : List Action) (a : Action) → held (plan_of core) P (A ++ a ∷ []) ≡ filter (is_held (plan_of core) P (A ++ a ∷ [])) (held (plan_of core) P A)
+act_at core good P A a =
+    let B : List Action = A ++ a ∷ [] in
+    sym (filter_sub (is_held (plan_of core) P A) (is_held (plan_of core) P B) P.nodes (λ n h. is_held_is core good P A n ∙ held_acted (reading core) P A B n (λ x i. In-left x A (a ∷ []) i) (sym (is_held_is core good P B n) ∙ h)))
+
+pub held_by_act : HeldByAct
+held_by_act core good plan pl P A a = from_plan core good (λ plan. held plan P (A ++ a ∷ []) ≡ filter (is_held plan P (A ++ a ∷ [])) (held plan P A)) (act_at core good P A a) plan pl

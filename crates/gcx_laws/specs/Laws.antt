@@ -1,21 +1,21 @@
 -- The laws on the definitions.
-use Rattle.std.specs.Prelude.{◌≡◌, ℕ, Bool, true, false, List, [], ◌∷◌, ◌++◌, filter}
+use Rattle.std.specs.Prelude.{◌≡◌, ℕ, Bool, true, false, List, [], ◌∷◌, ◌++◌, filter, flat_map, length, drop}
 use Rattle.gcx_base.specs.declared.steps.Step.{Step}
 use Rattle.gcx_model.specs.Document.{Nodes, tree_of}
-use Rattle.gcx_model.specs.Tree.{Node, serial_of, Tree, opening, is_closed}
+use Rattle.gcx_model.specs.Tree.{Node, serial_of, Tree, opening, is_closed, Token, grow}
 use Rattle.gcx_model.specs.Paths.{matches}
 use Rattle.gcx_model.specs.Members.{In, Once}
 use Rattle.gcx_model.specs.Query.{ExprTree}
 use Rattle.gcx_model.specs.Answer.{answer}
-use Rattle.gcx_model.specs.Core.{CondTree, BodyTree, Then, For, If, OffTree, PlanTree}
+use Rattle.gcx_model.specs.Core.{CondTree, BodyTree, Then, For, If, OffTree, PlanTree, ItemTree, Off}
 use Rattle.gcx_model.specs.Truth.{Env, truth}
-use Rattle.gcx_model.specs.Run.{Action, Wrote, Offed, Out, copy, run, env0}
+use Rattle.gcx_model.specs.Run.{Action, Wrote, Offed, Out, copy, run, env0, bytes_of}
 use Rattle.gcx_model.specs.Cores.{Good}
 use Rattle.gcx_model.specs.Placed.{offs_in, Placed, plan_of}
-use Rattle.gcx_model.specs.Held.{path_of, given, taken, held, held_tree}
+use Rattle.gcx_model.specs.Held.{path_of, given, taken, held, held_tree, is_held}
 use Rattle.gcx_model.specs.Growth.{Leads}
-use Rattle.gcx_model.specs.Points.{actions, so_far, ReachedFrom, Reached, Frame, Rest, Round, Part, later, to_come, PointAt}
-use Rattle.gcx_model.specs.Needs.{Needs}
+use Rattle.gcx_model.specs.Points.{actions, so_far, ReachedFrom, Reached, Frame, Rest, Round, Part, later, to_come, PointAt, Bound_in}
+use Rattle.gcx_model.specs.Needs.{Needs, Uses}
 use Rattle.gcx_model.specs.Sound.{is_sound}
 use Rattle.gcx_model.specs.Normal.{normal, known}
 
@@ -83,6 +83,15 @@ abbrev pub GoneStays : Type 0
 GoneStays = (core : BodyTree) → Good core → (plan : PlanTree) → Placed core plan → (P : Tree) (k : ℕ) → Reached plan P k → (Q : Tree) (j : ℕ) → ReachedFrom plan P k Q j
     → (n : Node) → In n P.nodes → In n (held plan Q (so_far plan Q j)) → In n (held plan P (so_far plan P k))
 
+-- The nodes held behind a token come from those held before it and the new one,
+abbrev pub HeldByFeed : Type 0
+HeldByFeed = (core : BodyTree) → Good core → (plan : PlanTree) → Placed core plan → (P : Tree) → Leads opening P → (t : Token) (A : List Action)
+    → held plan (grow t P) A ≡ filter (is_held plan (grow t P) A) (held plan P A ++ drop (length P.nodes) (grow t P).nodes)
+
+-- and those held behind an action from those held before it.
+abbrev pub HeldByAct : Type 0
+HeldByAct = (core : BodyTree) → Good core → (plan : PlanTree) → Placed core plan → (P : Tree) (A : List Action) (a : Action) → held plan P (A ++ a ∷ []) ≡ filter (is_held plan P (A ++ a ∷ [])) (held plan P A)
+
 -- Behind the first k actions there is a point. From each of them on, all that is to come follows on these actions.
 abbrev pub PointLaw : Type 0
 PointLaw = (plan : PlanTree) (P : Tree) (k : ℕ) → (fs : List Frame) × PointAt plan P k fs
@@ -95,6 +104,21 @@ ResumeLaw = (plan : PlanTree) (P : Tree) → Leads opening P → (k : ℕ) (fs :
 abbrev pub NeedLaw : Type 0
 NeedLaw = (core : BodyTree) → Good core → (plan : PlanTree) → Placed core plan → (P : Tree) (k : ℕ) → Reached plan P k → (fs : List Frame) → PointAt plan P k fs
     → (m : Node) → In m P.nodes → Needs P [] fs m → In m (held plan P (so_far plan P k))
+
+-- At a point each variable that the item uses with which a body goes on is bound below, to a match of its path,
+abbrev pub BoundLaw : Type 0
+BoundLaw = (core : BodyTree) → Good core → (plan : PlanTree) → Placed core plan → (P : Tree) (k : ℕ) → Reached plan P k → (top below : List Frame) (i : ItemTree) (d : BodyTree) (env : Env)
+    → PointAt plan P k (top ++ Rest (Then i d) env ∷ below) → (x : ℕ) → Uses i x → Bound_in x (env x) below × In (env x) (matches P 0 (path_of plan x))
+
+-- the present match of a loop is one of its parent's node, which is bound below, and of the variable's path,
+abbrev pub TurnLaw : Type 0
+TurnLaw = (core : BodyTree) → Good core → (plan : PlanTree) → Placed core plan → (P : Tree) (k : ℕ) → Reached plan P k → (top below : List Frame) (x y : ℕ) (s : Step) (e : BodyTree) (env : Env) (n : Node)
+    → PointAt plan P k (top ++ Round x y s e env n ∷ below) → Bound_in y (env y) below × In n (matches P (serial_of (env y)) (s ∷ [])) × In n (matches P 0 (path_of plan x))
+
+-- and a statement with which a body goes on isn't carried out yet at its base's node.
+abbrev pub UnsignedLaw : Type 0
+UnsignedLaw = (core : BodyTree) → Good core → (plan : PlanTree) → Placed core plan → (P : Tree) (k : ℕ) → Reached plan P k → (top below : List Frame) (o : OffTree) (d : BodyTree) (env : Env)
+    → PointAt plan P k (top ++ Rest (Then (Off o) d) env ∷ below) → In (Offed o (serial_of (env o.base))) (so_far plan P k) → ⊥
 
 -- So over the held nodes the evaluator finds what it would find over the whole tree, wherever a frame stands among the others: the truth of a condition with which a body goes on,
 abbrev pub TruthHeld : Type 0
@@ -124,3 +148,11 @@ is_write (Offed o n) = false
 abbrev pub PlanWrites : Type 0
 PlanWrites = (core : BodyTree) → Good core → (plan : PlanTree) → Placed core plan → (P : Tree)
     → (filter is_write (actions plan P) ≡ filter is_write (run core env0 P).acts) × ((run plan.body env0 P).done ≡ (run core env0 P).done)
+
+-- So what a plan of Normal(q) writes is Known(q, P),
+abbrev pub PlanBytes : Type 0
+PlanBytes = (q : List ExprTree) (plan : PlanTree) → Placed (normal q) plan → (P : Tree) → flat_map bytes_of (actions plan P) ≡ known q P
+
+-- which is a front of the answer over each document that the open tree becomes.
+abbrev pub KnownIsFront : Type 0
+KnownIsFront = (q : List ExprTree) → is_sound q ≡ true → (P : Tree) → Leads opening P → (d : Nodes) → Leads P (tree_of d) → (rest : List ℕ) × (answer q d ≡ known q P ++ rest)

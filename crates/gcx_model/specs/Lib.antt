@@ -29,3 +29,7 @@ pub mod Grammar
 pub mod Fronts
 pub mod Faults
 pub mod Seen
+pub mod CondView
+pub mod ItemView
+pub mod Given
+pub mod PlanView

@@ -1,5 +1,5 @@
 -- What a point needs (this project's).
-use Rattle.std.specs.Prelude.{◌≡◌, true, List, [], ◌∷◌, ◌++◌, ◌⊎◌, Some}
+use Rattle.std.specs.Prelude.{◌≡◌, ℕ, true, List, [], ◌∷◌, ◌++◌, ◌⊎◌, Some}
 use Rattle.gcx_model.specs.Tree.{Node, Root, serial_of, within, Tree}
 use Rattle.gcx_model.specs.Paths.{matches, first}
 use Rattle.gcx_model.specs.Members.{In}
@@ -51,3 +51,11 @@ Frame_needs P top (Part x env k) m = within (serial_of (env x)) m ≡ true
 abbrev pub Needs : Tree → (top fs : List Frame) → Node → Type 0
 Needs P top [] m = (to_come P top ≡ idle true → ⊥) × (Root ≡ m)
 Needs P top (f ∷ fs) m = Frame_needs P top f m ⊎ Needs P (top ++ f ∷ []) fs m
+
+-- the item uses the variable
+abbrev pub Uses : ItemTree → ℕ → Type 0
+Uses (Write s) x = ⊥
+Uses (Copy y) x = y ≡ x
+Uses (For z y s d) x = y ≡ x
+Uses (If c a b) x = (r : RoleRowTree) × In r (cond_rows c) × (r.var ≡ x)
+Uses (Off o) x = o.base ≡ x

@@ -1,7 +1,7 @@
 -- The point behind some actions of a run, as a stack of frames, and what is still to come from there (this project's).
-use Rattle.std.specs.Prelude.{◌≡◌, ℕ, suc, ◌<◌, true, List, [], ◌∷◌, ◌++◌, length, filter, take, drop, nat_lt}
+use Rattle.std.specs.Prelude.{◌≡◌, ℕ, suc, ◌<◌, true, List, [], ◌∷◌, ◌++◌, length, filter, take, drop, nat_lt, ◌⊎◌}
 use Rattle.gcx_base.specs.declared.steps.Step.{Step}
-use Rattle.gcx_model.specs.Tree.{Node, serial_of, Tree, opening, is_closed}
+use Rattle.gcx_model.specs.Tree.{Node, Root, serial_of, Tree, opening, is_closed}
 use Rattle.gcx_model.specs.Paths.{matches}
 use Rattle.gcx_model.specs.Core.{CondTree, ItemTree, Copy, For, If, BodyTree, Then, PlanTree}
 use Rattle.gcx_model.specs.Truth.{True, False, Env, bind, truth}
@@ -63,3 +63,10 @@ pub data Stands (P : Tree) : BodyTree → Env → (before : List Action) → Lis
 -- Behind the first k actions of a plan's run: what follows on them is what is still to come.
 abbrev pub PointAt : PlanTree → Tree → ℕ → List Frame → Type 0
 PointAt plan P k fs = Stands P plan.body env0 (so_far plan P k) fs
+
+-- the variable is bound to the node, by the nearest round of its loop in these frames; variable 0 is bound to the document node behind them all
+abbrev pub Bound_in : ℕ → Node → List Frame → Type 0
+Bound_in x n [] = (x ≡ 0) × (n ≡ Root)
+Bound_in x n (Rest d env ∷ fs) = Bound_in x n fs
+Bound_in x n (Round z y s e env m ∷ fs) = ((z ≡ x) × (m ≡ n)) ⊎ Bound_in x n fs
+Bound_in x n (Part z env k ∷ fs) = Bound_in x n fs

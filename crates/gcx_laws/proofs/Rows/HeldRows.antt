@@ -7,8 +7,8 @@ use Rattle.gcx_model.specs.Placed.{plan_of}
 use Rattle.gcx_model.specs.Held.{held, roles_given, sum_given, sum_taken}
 use Rattle.gcx_model.specs.Points.{actions, so_far}
 use Rattle.gcx_model.specs.Normal.{normal}
-use Rattle.gcx_laws.proofs.Rows.Words.{tree, query1, tokens1, query5}
-use Rattle.gcx_laws.proofs.Rows.TraceRows.{tokens_ahead}
+use Rattle.gcx_laws.proofs.Rows.Words.{tree, query_children, tokens_children, query_exists, element, document, query_nested}
+use Rattle.gcx_laws.proofs.Rows.TraceRows.{tokens_ahead, tokens_nested}
 
 abbrev serials : PlanTree → Tree → List Action → List ℕ
 serials plan P A = map serial_of (held plan P A)
@@ -25,74 +25,85 @@ behind_feeds plan (t ∷ ts) P = serials plan (grow t P) (actions plan P) ∷ (b
 abbrev behind_events : PlanTree → List Token → List (List ℕ)
 behind_events plan ts = serials plan opening [] ∷ (behind_acts plan opening [] (actions plan opening) ++ behind_feeds plan ts opening)
 
-abbrev plan1 : PlanTree
-plan1 = plan_of (normal query1)
+abbrev plan_children : PlanTree
+plan_children = plan_of (normal query_children)
 
-held1 : behind_events plan1 tokens1 ≡
+held_children : behind_events plan_children tokens_children ≡
     (0 ∷ []) ∷ (0 ∷ []) ∷ (0 ∷ 1 ∷ []) ∷ (0 ∷ 1 ∷ 2 ∷ []) ∷ (0 ∷ 1 ∷ 2 ∷ []) ∷ (0 ∷ 1 ∷ 2 ∷ 3 ∷ []) ∷ (0 ∷ 1 ∷ 2 ∷ 3 ∷ []) ∷ (0 ∷ 1 ∷ 2 ∷ 3 ∷ []) ∷ (0 ∷ 1 ∷ 2 ∷ 3 ∷ []) ∷ (0 ∷ 1 ∷ 2 ∷ []) ∷ (0 ∷ 1 ∷ [])
     ∷ (0 ∷ 1 ∷ 4 ∷ []) ∷ (0 ∷ 1 ∷ []) ∷ (0 ∷ 1 ∷ 5 ∷ []) ∷ (0 ∷ 1 ∷ 5 ∷ []) ∷ (0 ∷ 1 ∷ 5 ∷ 6 ∷ []) ∷ (0 ∷ 1 ∷ 5 ∷ 6 ∷ []) ∷ (0 ∷ 1 ∷ 5 ∷ 6 ∷ []) ∷ (0 ∷ 1 ∷ 5 ∷ 6 ∷ []) ∷ (0 ∷ 1 ∷ 5 ∷ []) ∷ (0 ∷ 1 ∷ [])
     ∷ (0 ∷ 1 ∷ []) ∷ (0 ∷ []) ∷ (0 ∷ []) ∷ (0 ∷ []) ∷ [] ∷ []
-held1 = refl
+held_children = refl
 
-abbrev plan5 : PlanTree
-plan5 = plan_of (normal query5)
+abbrev plan_exists : PlanTree
+plan_exists = plan_of (normal query_exists)
 
-held_ahead : behind_events plan5 tokens_ahead ≡
+held_ahead : behind_events plan_exists tokens_ahead ≡
     (0 ∷ []) ∷ (0 ∷ 1 ∷ []) ∷ (0 ∷ 1 ∷ 2 ∷ []) ∷ (0 ∷ 1 ∷ 2 ∷ 3 ∷ []) ∷ (0 ∷ 1 ∷ 2 ∷ 3 ∷ []) ∷ (0 ∷ 1 ∷ 2 ∷ 3 ∷ []) ∷ (0 ∷ 1 ∷ 2 ∷ 3 ∷ []) ∷ (0 ∷ 1 ∷ 2 ∷ 3 ∷ []) ∷ (0 ∷ 1 ∷ 2 ∷ []) ∷ (0 ∷ 1 ∷ [])
     ∷ (0 ∷ 1 ∷ []) ∷ (0 ∷ []) ∷ (0 ∷ []) ∷ [] ∷ []
 held_ahead = refl
 
--- states of row 1's query and document: all tokens and no action
-state1 : serials plan1 (tree tokens1) [] ≡ 0 ∷ 1 ∷ 2 ∷ 3 ∷ 5 ∷ 6 ∷ []
-state1 = refl
+-- states with this query and document: all tokens and no action
+all_fed : serials plan_children (tree tokens_children) [] ≡ 0 ∷ 1 ∷ 2 ∷ 3 ∷ 5 ∷ 6 ∷ []
+all_fed = refl
 
-state1_nodes : length (tree tokens1).nodes ≡ 7
-state1_nodes = refl
+all_fed_nodes : length (tree tokens_children).nodes ≡ 7
+all_fed_nodes = refl
 
-state1_given : sum_given plan1 (tree tokens1) ≡ 8
-state1_given = refl
+all_fed_given : sum_given plan_children (tree tokens_children) ≡ 8
+all_fed_given = refl
 
-state1_taken : sum_taken plan1 (tree tokens1) [] ≡ 0
-state1_taken = refl
+all_fed_taken : sum_taken plan_children (tree tokens_children) [] ≡ 0
+all_fed_taken = refl
 
 -- all tokens and all 14 actions
-abbrev A14 : List Action
-A14 = so_far plan1 (tree tokens1) 14
+abbrev all_acts : List Action
+all_acts = so_far plan_children (tree tokens_children) 14
 
-state2_all : length (actions plan1 (tree tokens1)) ≡ 14
-state2_all = refl
+all_acts_number : length (actions plan_children (tree tokens_children)) ≡ 14
+all_acts_number = refl
 
-state2 : serials plan1 (tree tokens1) A14 ≡ []
-state2 = refl
+all_acted : serials plan_children (tree tokens_children) all_acts ≡ []
+all_acted = refl
 
-state2_bytes : flat_map bytes_of A14 ≡ codes "<r><b>1</b><b>2</b></r>"
-state2_bytes = refl
+all_acted_bytes : flat_map bytes_of all_acts ≡ codes "<r><b>1</b><b>2</b></r>"
+all_acted_bytes = refl
 
-state2_taken : sum_taken plan1 (tree tokens1) A14 ≡ 8
-state2_taken = refl
+all_acted_taken : sum_taken plan_children (tree tokens_children) all_acts ≡ 8
+all_acted_taken = refl
 
 -- five tokens and five actions: the fifth takes role 3 from the nodes 2 and 3
-abbrev P5 : Tree
-P5 = tree (take 5 tokens1)
+abbrev five_fed : Tree
+five_fed = tree (take 5 tokens_children)
 
-abbrev A5 : List Action
-A5 = so_far plan1 P5 5
+abbrev five_acts : List Action
+five_acts = so_far plan_children five_fed 5
 
-state3 : serials plan1 P5 A5 ≡ 0 ∷ 1 ∷ 2 ∷ 4 ∷ []
-state3 = refl
+five_acted : serials plan_children five_fed five_acts ≡ 0 ∷ 1 ∷ 2 ∷ 4 ∷ []
+five_acted = refl
 
-state3_bytes : flat_map bytes_of A5 ≡ codes "<r><b>1</b>"
-state3_bytes = refl
+five_acted_bytes : flat_map bytes_of five_acts ≡ codes "<r><b>1</b>"
+five_acted_bytes = refl
 
-state3_nodes : length P5.nodes ≡ 5
-state3_nodes = refl
+five_acted_nodes : length five_fed.nodes ≡ 5
+five_acted_nodes = refl
 
-state3_given : sum_given plan1 P5 ≡ 5
-state3_given = refl
+five_acted_given : sum_given plan_children five_fed ≡ 5
+five_acted_given = refl
 
-state3_taken : sum_taken plan1 P5 A5 ≡ 2
-state3_taken = refl
+five_acted_taken : sum_taken plan_children five_fed five_acts ≡ 2
+five_acted_taken = refl
 
--- the roles given to each node of row 1's document
-given1 : map (roles_given plan1 (tree tokens1)) (tree tokens1).nodes ≡ (0 ∷ []) ∷ (1 ∷ []) ∷ (2 ∷ 3 ∷ []) ∷ (3 ∷ []) ∷ [] ∷ (2 ∷ 3 ∷ []) ∷ (3 ∷ []) ∷ []
-given1 = refl
+-- the roles given to each node of that document
+given_children : map (roles_given plan_children (tree tokens_children)) (tree tokens_children).nodes ≡ (0 ∷ []) ∷ (1 ∷ []) ∷ (2 ∷ 3 ∷ []) ∷ (3 ∷ []) ∷ [] ∷ (2 ∷ 3 ∷ []) ∷ (3 ∷ []) ∷ []
+given_children = refl
+
+-- both of two nested elements have the role of the outer loop, the one inside that of the inner loop
+given_nested : map (roles_given (plan_of (normal query_nested)) (tree tokens_nested)) (tree tokens_nested).nodes ≡ (0 ∷ []) ∷ (1 ∷ []) ∷ (1 ∷ []) ∷ (2 ∷ []) ∷ []
+given_nested = refl
+
+-- of two matches of an exists the first has its role
+abbrev tokens_two : List Token
+tokens_two = document (element (codes "r") (element (codes "p") (element (codes "k") [] ++ element (codes "k") [])))
+
+given_exists : map (roles_given plan_exists (tree tokens_two)) (tree tokens_two).nodes ≡ (0 ∷ []) ∷ (1 ∷ []) ∷ (2 ∷ []) ∷ (3 ∷ []) ∷ [] ∷ []
+given_exists = refl

@@ -69,37 +69,37 @@ role x tail kind = record { var = x; tail = tail; kind = kind }
 
 -- a loop over the children of children, on a document with two of them
 
-abbrev pub query1 : List ExprTree
-query1 = Elem (codes "r") (one_expr (for_in (codes "x") (from_root (child (codes "a") ∷ child (codes "b") ∷ [])) (Path (from (codes "x") [])))) ∷ []
+abbrev pub query_children : List ExprTree
+query_children = Elem (codes "r") (one_expr (for_in (codes "x") (from_root (child (codes "a") ∷ child (codes "b") ∷ [])) (Path (from (codes "x") [])))) ∷ []
 
-abbrev pub tokens1 : List Token
-tokens1 = document (element (codes "a") (leaf (codes "b") (codes "1") ++ (element (codes "c") [] ++ leaf (codes "b") (codes "2"))))
+abbrev pub tokens_children : List Token
+tokens_children = document (element (codes "a") (leaf (codes "b") (codes "1") ++ (element (codes "c") [] ++ leaf (codes "b") (codes "2"))))
 
 -- for $x in //a return for $y in $x//b return <h/>
-abbrev pub query3 : List ExprTree
-query3 = for_in (codes "x") (from_root (desc (codes "a") ∷ [])) (for_in (codes "y") (from (codes "x") (desc (codes "b") ∷ [])) (empty (codes "h"))) ∷ []
+abbrev pub query_nested : List ExprTree
+query_nested = for_in (codes "x") (from_root (desc (codes "a") ∷ [])) (for_in (codes "y") (from (codes "x") (desc (codes "b") ∷ [])) (empty (codes "h"))) ∷ []
 
 -- for $x in /r/p return if (c) then <y/> else <n/>
 abbrev pub each_p : CondTree → List ExprTree
 each_p c = for_in (codes "x") (from_root (child (codes "r") ∷ child (codes "p") ∷ [])) (If c (empty (codes "y")) (empty (codes "n"))) ∷ []
 
-abbrev pub query5 : List ExprTree
-query5 = each_p (Exists (from (codes "x") (child (codes "k") ∷ [])))
+abbrev pub query_exists : List ExprTree
+query_exists = each_p (Exists (from (codes "x") (child (codes "k") ∷ [])))
 
 -- compared with a literal
-abbrev pub query9 : QOperand → List ExprTree
-query9 l = each_p (Compare (operand.Path (from (codes "x") [])) Eq l)
+abbrev pub query_literal : QOperand → List ExprTree
+query_literal l = each_p (Compare (operand.Path (from (codes "x") [])) Eq l)
 
-abbrev pub tokens9 : List Token
-tokens9 = document (element (codes "r") (leaf (codes "p") (codes "007") ++ (leaf (codes "p") (codes "7x") ++ leaf (codes "p") (codes " 7 "))))
+abbrev pub tokens_literal : List Token
+tokens_literal = document (element (codes "r") (leaf (codes "p") (codes "007") ++ (leaf (codes "p") (codes "7x") ++ leaf (codes "p") (codes " 7 "))))
 
 -- for $a in /r/x return for $b in /r/y return if ($a/k = $b/k) then <m/> else ()
-abbrev pub query13 : List ExprTree
-query13 = for_in (codes "a") (from_root (child (codes "r") ∷ child (codes "x") ∷ [])) (for_in (codes "b") (from_root (child (codes "r") ∷ child (codes "y") ∷ []))
+abbrev pub query_join : List ExprTree
+query_join = for_in (codes "a") (from_root (child (codes "r") ∷ child (codes "x") ∷ [])) (for_in (codes "b") (from_root (child (codes "r") ∷ child (codes "y") ∷ []))
     (If (Compare (operand.Path (from (codes "a") (child (codes "k") ∷ []))) Eq (operand.Path (from (codes "b") (child (codes "k") ∷ [])))) (empty (codes "m")) Empty)) ∷ []
 
-abbrev pub tokens13 : List Token
-tokens13 = document (element (codes "r") (element (codes "x") (leaf (codes "k") (codes "1")) ++ (element (codes "y") (leaf (codes "k") (codes "1")) ++ element (codes "y") (leaf (codes "k") (codes "2")))))
+abbrev pub tokens_join : List Token
+tokens_join = document (element (codes "r") (element (codes "x") (leaf (codes "k") (codes "1")) ++ (element (codes "y") (leaf (codes "k") (codes "1")) ++ element (codes "y") (leaf (codes "k") (codes "2")))))
 
 -- for $x in /r/p return if (exists($x/k)) then for $y in $x/j return $y else ()
 abbrev pub query_moved : List ExprTree

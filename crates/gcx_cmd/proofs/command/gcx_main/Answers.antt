@@ -1,4 +1,4 @@
-use Rattle.std.proofs.Common.{◌≡◌, ℕ, List, Some, sym, subst}
+use Rattle.std.proofs.Common.{◌≡◌, ℕ, List, Some, subst}
 use Rattle.gcx_io.specs.Shelf.{content_of}
 use Rattle.gcx_cmd.proofs.Complete.{complete_run, same_run}
 use Rattle.gcx_cmd.proofs.command.gcx_main.Goals as goal

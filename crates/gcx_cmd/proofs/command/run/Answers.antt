@@ -1,4 +1,4 @@
-use Rattle.std.proofs.Common.{◌≡◌, ℕ, List, sym, ◌∙◌, ap, subst}
+use Rattle.std.proofs.Common.{◌≡◌, ℕ, List, ◌∙◌, ap, subst}
 use Rattle.gcx_base.specs.Limits.{full_limits}
 use Rattle.gcx_io.specs.Bytes.{Grows, GrowsWithin}
 use Rattle.gcx_model.specs.Answer.{answer}

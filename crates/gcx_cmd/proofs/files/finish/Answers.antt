@@ -1,7 +1,4 @@
-use Rattle.std.proofs.Common.{◌≡◌, sym, ◌∙◌, subst}
-use Rattle.gcx_cmd.specs.declared.status.Status.{Status}
-use Rattle.gcx_cmd.specs.Main.{Judges, StopsDocument}
-use Rattle.std.specs.declared.result.Result.TheVariants.{Err}
+use Rattle.std.proofs.Common.{sym, ◌∙◌}
 use Rattle.gcx_cmd.proofs.Judged.{judged_by, stops_by}
 use Rattle.gcx_cmd.proofs.files.finish.Goals as goal
 

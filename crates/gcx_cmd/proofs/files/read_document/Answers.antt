@@ -1,4 +1,4 @@
-use Rattle.std.proofs.Common.{◌≡◌, ℕ, List, Option, Some, sym, ◌∙◌, subst}
+use Rattle.std.proofs.Common.{◌≡◌, ℕ, List, Option, Some, ◌∙◌, subst}
 use Rattle.gcx_base.specs.declared.limits.Limits.{Limits}
 use Rattle.doc_reader.specs.Standing.{Accepted, waiting}
 use Rattle.gcx_cmd.specs.Reading.{FedUpTo}

@@ -1,4 +1,4 @@
-use Rattle.std.proofs.Common.{refl, arith, ◌≡◌, List, ℕ, subst, ◌≤◌, length}
+use Rattle.std.proofs.Common.{refl, arith, List, ℕ, subst}
 use Rattle.gcx_cmd.specs.PlainQuery.{IsPath}
 use Rattle.gcx_cmd.proofs.Judged.{query_long, query_found, query_none}
 use Rattle.gcx_cmd.proofs.files.read_query.Goals as goal

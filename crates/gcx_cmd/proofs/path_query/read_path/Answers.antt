@@ -1,6 +1,6 @@
-use Rattle.std.proofs.Common.{◌≡◌, ℕ, [], ◌∷◌, ◌++◌, List, take, drop, length, ◌-◌, sym, ◌∙◌, ap, subst, arith, true, false, refl}
+use Rattle.std.proofs.Common.{◌≡◌, ℕ, [], ◌∷◌, ◌++◌, List, take, drop, length, ◌-◌, ◌∙◌, ap, subst, arith, true, refl}
 use Rattle.std.proofs.lemmas.List.{take_all, length-drop}
-use Rattle.gcx_cmd.specs.PlainQuery.{Reads, is_slashless}
+use Rattle.gcx_cmd.specs.PlainQuery.{Reads}
 use Rattle.gcx_base.specs.Name.{is_plain_name}
 use Rattle.gcx_cmd.proofs.Paths.{reads_on, name_stuck, byte_stuck}
 use Rattle.gcx_cmd.proofs.path_query.read_path.Goals as goal

@@ -1,4 +1,4 @@
-use Rattle.std.proofs.Common.{rules, arith, ◌≡◌, length, take}
+use Rattle.std.proofs.Common.{rules, arith}
 use Rattle.gcx_cmd.proofs.Judged.{fed_on}
 use Rattle.gcx_cmd.proofs.reading.feed_up_to.Goals as goal
 

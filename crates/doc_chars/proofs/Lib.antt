@@ -1,0 +1,9 @@
+pub mod Bytes
+pub mod Fronts
+pub mod Pieces
+pub mod Streams
+pub mod Digits
+pub mod Names
+pub mod Completions
+pub mod Laws
+pub mod ReferenceLaws

@@ -1,0 +1,6 @@
+use Rattle.std.proofs.Common.{arith}
+use Rattle.doc_chars.proofs.Names.{second_never}
+use Rattle.doc_chars.proofs.reference.Next.behind_a.Goals as goal
+
+pub returns-in_default-clause-leads : goal.returns-in_default-clause-leads
+returns-in_default-clause-leads c = second_never c.args.c (λ e. omega arith) (λ e. omega arith)

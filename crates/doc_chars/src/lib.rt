@@ -1,0 +1,12 @@
+//! Characters of a document or a query: UTF-8 that comes in pieces, and references.
+#![tactic(auto)]
+
+mod chars;
+mod cut;
+mod reference;
+mod scan;
+#[cfg(test)]
+mod tests;
+
+pub use chars::{CharFault, Chars, Split};
+pub use reference::{RefStep, Reference};

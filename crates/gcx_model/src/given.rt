@@ -1,0 +1,62 @@
+ghost use Rattle.std.specs.Prelude.{◌≡◌, ◌++◌, ◌∷◌, [], IfOk, OnOk, OnErr};
+ghost use Rattle.gcx_model.specs.Given.{IsAboveLast, IsRising};
+
+use gcx_base::{Memory, Role};
+use std::alloc::Global;
+use std::marker::Model;
+
+/// The roles given to a node: a strictly rising list.
+#[derive(Drop, Debug)]
+pub struct Given {
+    roles: Vec<Role>,
+}
+
+impl Model for Given {
+    ghost use Rattle.std.specs.Prelude.{List};
+    ghost use Rattle.gcx_base.specs.declared.ids.Role.{Role};
+
+    ghost Value = { List Role };
+
+    ghost use Rattle.gcx_model.specs.Given.{IsRising};
+
+    ghost view = { λ g. g.roles.items };
+
+    ghost invariant = { λ g. IsRising g.roles.items };
+}
+
+impl Given {
+    /// The empty list.
+    pub fn new(alloc: Global) -> Given
+        ensures { result ≡ [] }
+    {
+        Given {
+            roles: Vec::new(alloc),
+        }
+    }
+
+    /// Adds a role, which is above the last one, at the end. After `Memory` the list is unchanged.
+    pub fn push(&mut self, role: Role) -> Result<(), Memory>
+        requires { IsAboveLast self.old role }
+        ensures ok { OnOk result (self.new ≡ self.old ++ role ∷ []) }
+        ensures err { OnErr result (self.new ≡ self.old) }
+    {
+        self.roles.push(role)?;
+        Ok(())
+    }
+
+    /// The roles, strictly rising.
+    pub fn items(&self) -> &[Role]
+        ensures same { result.now ≡ self.now }
+        ensures rising { IsRising self.now }
+    {
+        &self.roles
+    }
+
+    /// The same list once more.
+    pub fn copy(&self, alloc: Global) -> Result<Given, Memory>
+        ensures { IfOk result (λ given. given ≡ self.now) }
+    {
+        let roles = self.roles.as_slice().to_vec(alloc)?;
+        Ok(Given { roles })
+    }
+}

@@ -1,0 +1,17 @@
+pub mod Arenas
+pub mod Blocks
+pub mod Changing
+pub mod Emptying
+pub mod Filling
+pub mod Found
+pub mod Growing
+pub mod Looks
+pub mod Memory
+pub mod Pointers
+pub mod Reading
+pub mod Readying
+pub mod Runs
+pub mod Sharing
+pub mod Stored
+pub mod Updates
+pub mod Unlinking

@@ -1,0 +1,145 @@
+-- `release` gives the last block's places back. Assumes `Logic`.
+use mathlib.Core.Path.{◌≡◌, refl, sym, ap, subst, ◌∙◌}
+use Prim.Native.Nat.{ℕ, ◌-◌, ◌*◌, ◌<◌, ◌^◌}
+use mathlib.Core.List.{List, [], ◌∷◌, ◌++◌, map}
+use seplogic.Ra.Ura.{Ura}
+use mir.Syntax.{Fn, named}
+use mir.MapTy.{inst_fn}
+use mir.Val.{Val, vptr}
+use base.Logic.{SProp, ent, sep}
+use base.Fml.{Lft, GName, Share, ftrue, flft, fobs, fbor}
+use prog.Wp.{Calls, Loops, WpFn, Tables}
+use types.Logic.{Logic}
+use contract.Monad.{fact}
+use contract.Running.{tables, tables_of}
+use sound.WpLaws.{WpFn-mono}
+use types.Kit.{Item, ⋆, ‵, ◌⊛◌, ◌$◌, ◌∵◌, !, qed, by, move, keep, use1, split, join, rewrite, fsplit, fsplit3, fjoin, fjoin3, feq_i, feq_l, suffices, frame, done}
+use types.Run.{returns, enter}
+use types.ByLocal.{alloc_all, pass_all, free_all, look_at, get, sets}
+use types.SemTy.{Body as Borrowed}
+use denote.Exit.{yes, no}
+use denote.RattleType.{owns}
+use denote.Memory.{mem}
+use denote.RawPtr.{Ptr, in_a_block}
+use denote.Ref.{MutBor, MutRef}
+use denote.Builtin.{RefMutOf}
+use denote.Signature.{plain}
+use denote.Steps.{nothing, opens, closes}
+use denote.Triple.Carry.{spared}
+use denote.Triple.Clauses.{Clauses, Ended, closing}
+use denote.Triple.Entry.{on_entry}
+use denote.Triple.Spec.{Meets, triple_of}
+use denote.Triple.Table.{entered, run_framed}
+use denote.Triple.Walked.{needs, Stays, stay_dropped, stay_ref, walk_of, ends_at, Goes-ref, walk_Meets}
+use lib.ListN.{length, take, drop, take-append-drop, length-drop}
+use types.Kit.{flt_l, flt_i, use0}
+use types.Part.{agg}
+use types.Run.{and_then, no_more}
+use Rattle.std.specs.Prelude.{Some}
+use Rattle.core.proofs.mem.Param.{El, R, args, el_x}
+use Rattle.std.proofs.lemmas.List.{length-map}
+use Rattle.std.proofs.lemmas.Simd.{map-map}
+use Rattle.raw_nodes.specs.Ownership.{slots, cells_own}
+use Rattle.raw_nodes.specs.Spots.{Spot, spots, spots_own, run_places, IsLast}
+use Rattle.core.proofs.alloc.Calls.{Goes-blank}
+use Rattle.raw_nodes.proofs.Memory.{Cr, Mark, sz, mark, mark_made, says_both}
+use Rattle.raw_nodes.proofs.Runs.{own_cut, run_out, run_null, rest_long, side_by_side}
+use Rattle.raw_nodes.proofs.Arenas.{Ar, Rn, run_mark_had}
+use Rattle.raw_nodes.specs.contracts.arena.Arena.release.Key.{name as #self}
+use Rattle.raw_nodes.proofs.arena.Arena.release.Statement as stated
+use Rattle.raw_nodes.proofs.arena.Arena.release.Code as code
+
+module _ (E : El) where
+  abbrev function : Fn
+  function = inst_fn (args E) code.function
+
+  abbrev ended : Ended
+  ended = record { signature = record { lifetimes = 1; outlives = []; params = RefMutOf (0 ∷ []) tt (plain (λ _. Ar E)) (λ _. tt) ∷ plain (λ _. Rn E) ∷ []; result = plain (λ _. Cr E) }; kept = (yes, (no, tt)) }
+
+  abbrev stayed : Stays ended.signature.params ended.kept
+  stayed = (stay_ref (0 ∷ []) tt (plain (λ _. Ar E)), (stay_dropped (plain (λ _. Rn E)) no, tt))
+
+  abbrev Asks : (Ar E).Denot → (Rn E).Denot → Type 0
+  Asks d run = IsLast run.places d.cells × (0 < length run.places)
+
+  abbrev Gives0 : (Ar E).Denot → (Rn E).Denot → (Cr E).Denot → (Ar E).Denot → Type 0
+  Gives0 d run r new = new.cells ≡ take (length d.cells - length run.places) d.cells
+
+  abbrev Gives1 : (Ar E).Denot → (Rn E).Denot → (Cr E).Denot → (Ar E).Denot → Type 0
+  Gives1 d run r new = (r.at ≡ run.at) × (r.slots ≡ map (λ s. Some s.held) (drop (length d.cells - length run.places) d.cells))
+
+  abbrev spec : {M : Type 1} {𝓤 : Ura M} (𝓛 : Logic 𝓤) → Clauses 𝓤 ended
+  spec {𝓤 = 𝓤} 𝓛 κs a = record { ghost = Unit {0}; requires = λ _. fact 𝓤 (Asks a.0.now a.1.0); ensures = λ _ r w. sep 𝓤 (fact 𝓤 (Gives0 a.0.now a.1.0 r w.0.now)) (fact 𝓤 (Gives1 a.0.now a.1.0 r w.0.now)) }
+
+module _ (E : El) {M : Type 1} {𝓤 : Ura M} (𝓛 : Logic 𝓤) (C : Calls 𝓤 𝓛.H) (Λ : Loops 𝓤 𝓛.H) (κ : Lft) (q : Share) (rb ro : ℕ) (γ : GName) (d : (Ar E).Denot) (run : (Rn E).Denot) (us0 us1 : List Val) where
+  open 𝓛 use {H, A}
+
+  abbrev self : MutBor (Ar E).Denot
+  self = record { ref_ptr = (rb, ro); ghost_name = γ; now = d }
+
+  abbrev bound : (walk_of 𝓛 (ended E) (stayed E) (spec E 𝓛)).Ghost
+  bound = (((κ, tt), (q, tt), tt, (self, (run, tt)), (us0, (us1, tt))), tt)
+
+  abbrev Post : Val → SProp 𝓤
+  Post = (walk_of 𝓛 (ended E) (stayed E) (spec E 𝓛)).post bound
+
+  exits : us0 ≡ vptr rb ro ∷ [] → (r : (Cr E).Denot) (v : Val) (new : (Ar E).Denot) → Gives0 E d run r new → Gives1 E d run r new → ent 𝓤 (⋆ 𝓛 (‵ (fobs γ ((Ar E).coded.code new)) ∷ ‵ (fbor κ (Borrowed (mem (Ar E)) rb ro γ)) ∷ ‵ (flft κ q) ∷ ‵ ((Cr E).own_val r (v ∷ [])) ∷ [])) (Post v)
+  exits passed r v new g0 g1 =
+      qed 𝓛 (‵ (fobs γ ((Ar E).coded.code new)) ∷ ‵ (fbor κ (Borrowed (mem (Ar E)) rb ro γ)) ∷ ‵ (flft κ q) ∷ ‵ ((Cr E).own_val r (v ∷ [])) ∷ []) ∵
+      suffices ! _ (ends_at 𝓛 (ended E) (stayed E) (spec E 𝓛) bound v r (new, (tt, tt)) (tt, (tt, tt))) $ says_both ! g0 g1 $
+      nothing ! $ move ! (3 ∷ 0 ∷ []) $ join ! $ frame ! $ feq_i ! (List Val) us0 (vptr rb ro ∷ []) passed $ fjoin3 ! $ nothing ! $ nothing ! $ fjoin ! $ move ! (1 ∷ 0 ∷ []) $ fjoin ! $ done !
+
+  abbrev Had : List (Item 𝓤)
+  Had = ‵ (fobs γ ((Ar E).coded.code d)) ∷ ‵ (fbor κ (Borrowed (mem (Ar E)) rb ro γ)) ∷ ‵ (flft κ q) ∷ []
+
+  walk : us0 ≡ vptr rb ro ∷ [] → Asks E d run → length run.places * sz E < 2 ^ 63 → run.places ≡ run_places (sz E) run.at (length run.places)
+      → ent 𝓤 (⋆ 𝓛 Had) (WpFn 𝓤 H C Λ (function E) (vptr rb ro ∷ mark ∷ []) Post)
+  walk passed asked small laid =
+      let n : ℕ = length d.cells - length run.places in let tail : List (Spot (el_x E)) = drop n d.cells in let xs : List (el_x E) = map (λ s. s.held) tail in
+      let count : length tail ≡ length run.places = length-drop n d.cells ∙ rest_long (length d.cells) (length run.places) asked.0.0 in
+      let long : length xs ≡ length run.places = length-map tail (λ (s : Spot (el_x E)). s.held) ∙ count in
+      let spread : tail ≡ spots (sz E) run.at xs = side_by_side (sz E) run.at tail (asked.0.1 ∙ laid ∙ ap (run_places (sz E) run.at) (sym count)) in
+      let new : (Ar E).Denot = record { mark = d.mark; cells = take n d.cells } in
+      let out : (Cr E).Denot = record { mark = record {}; at = run.at; slots = map Some xs } in
+      qed 𝓛 Had ∵ enter ! C Λ (function E) (vptr rb ro ∷ mark ∷ []) _ $ alloc_all ! (λ l. pass_all ! refl ((tt, tt), ((tt, (tt, tt)), tt)) $
+      opens ! tt (Ar E) {h = d} rb ro (λ vs. move ! (1 ∷ []) $ fsplit ! $ move ! (1 ∷ []) $
+      rewrite ! 0 (λ (ss : List (Spot (el_x E))). ‵ (spots_own (R E) ss)) (sym (take-append-drop n d.cells) ∙ ap (λ ss. take n d.cells ++ ss) spread) refl $
+      use1 𝓛 (‵ (spots_own (R E) (take n d.cells)) ⊛ ‵ (spots_own (R E) (spots (sz E) run.at xs))) (own_cut (R E) 𝓛 (take n d.cells) (spots (sz E) run.at xs)) $ split ! $ move ! (1 ∷ []) $
+      in_a_block ! run.at (λ p. spots_own (R E) (spots (sz E) p xs)) (run_null (R E) 𝓛 (sz E) xs (subst (λ k. 0 < k) (sym long) asked.1)) (λ b o e.
+      use1 𝓛 (‵ (slots (R E) b o (map Some xs))) (run_out E 𝓛 xs b o) $
+      flt_i ! (length (map Some xs) * sz E) (2 ^ 63) (subst (λ k. k * sz E < 2 ^ 63) (sym (length-map xs Some ∙ long)) small) $ fjoin ! $
+      rewrite ! 0 (λ (p : Ptr). ‵ (cells_own (R E) p (map Some xs))) (sym e) refl $
+      use0 𝓛 (‵ ((Mark E).own_val (tt, tt) (mark ∷ []))) (mark_made E 𝓛) $ fjoin ! $
+      -- [what the places own; the other cells; the mark; its cell; the open borrow; obs; auth]
+      move ! (1 ∷ 2 ∷ 3 ∷ 4 ∷ 5 ∷ 6 ∷ 0 ∷ []) $ move ! (1 ∷ 0 ∷ []) $ fjoin ! $ move ! (1 ∷ 0 ∷ []) $ closes ! tt (Ar E) new vs rb ro $
+      sets ! (agg ! (no_more !)) refl (tt, tt) $ sets ! (agg ! (and_then ! (get ! refl) (no_more !))) refl (tt, (tt, tt)) $
+      returns ! (look_at ! 0 refl) $ free_all ! refl $ keep ! (0 ∷ 1 ∷ 2 ∷ 3 ∷ []) $
+      by ! (exits passed out mark new refl (refl, map-map Some (λ (s : Spot (el_x E)). s.held) tail)))))
+
+  entry : Asks E d run → ent 𝓤 (on_entry 𝓛 (ended E).signature (κ, tt) (q, tt) (self, (run, tt)) (us0, (us1, tt))) (WpFn 𝓤 H C Λ (function E) (us0 ++ (us1 ++ [])) Post)
+  entry asked =
+      qed 𝓛 ((‵ (flft κ q) ⊛ ‵ ftrue) ∷ ‵ (owns (MutRef (named 0) κ (Ar E) ∷ Rn E ∷ []) (self, (run, tt)) (us0, (us1, tt))) ∷ []) ∵
+      split ! $ move ! (2 ∷ []) $
+      fsplit ! $
+      fsplit3 ! $ feq_l ! (λ e0.
+      move ! (2 ∷ []) $
+      fsplit ! $
+      fsplit ! $ run_mark_had ! E us1 (λ e1. fsplit ! $ flt_l ! (λ small. feq_l ! (λ laid.
+      keep ! (1 ∷ 2 ∷ 3 ∷ []) $
+      by ! (subst (λ (ws : List Val × List Val). ent 𝓤 (⋆ 𝓛 Had) (WpFn 𝓤 H C Λ (function E) (ws.0 ++ (ws.1 ++ [])) Post)) (λ j. (sym e0 j, sym e1 j)) (walk e0 asked small laid))))))
+
+meets : (E : El) {M : Type 1} {𝓤 : Ura M} (𝓛 : Logic 𝓤) (𝓣 : Tables 𝓤 𝓛.H)
+    → Meets 𝓛 (ended E).signature (WpFn 𝓤 𝓛.H 𝓣.C 𝓣.Λ (function E)) (closing 𝓛 (ended E) (spec E 𝓛))
+meets E {𝓤 = 𝓤} 𝓛 𝓣 =
+    walk_Meets 𝓛 (ended E) (stayed E) (Goes-ref 𝓛 1 0 tt (plain (λ _. Ar E)), (Goes-blank 𝓛 1 (plain (λ _. Rn E)) no (λ κs x f. tt), tt)) (spec E 𝓛) (WpFn 𝓤 𝓛.H 𝓣.C 𝓣.Λ (function E)) (WpFn-mono 𝓤 𝓛.H 𝓛.laws 𝓣 (function E))
+    (λ z. needs 𝓤 (Asks E z.0.3.0.now z.0.3.1.0) _ (entry E 𝓛 𝓣.C 𝓣.Λ z.0.0.0 z.0.1.0 z.0.3.0.ref_ptr.0 z.0.3.0.ref_ptr.1 z.0.3.0.ghost_name z.0.3.0.now z.0.3.1.0 z.0.4.0 z.0.4.1.0))
+
+pub release_spec : {M : Type 1} → stated.statement M
+unfolding tables_of
+release_spec 𝓤 𝓛 𝓜 𝓡 wired X LX y =
+    let E : El = record { row = X; laws = LX } in
+    let 𝓣 : Tables 𝓤 𝓛.H = tables_of 𝓤 𝓛.H 𝓜 (tables 𝓤 𝓛.H 𝓜 𝓡 𝓡.env) in
+    let k = #self (args E) in
+    spared 𝓛 (ended E).signature (𝓡.run (𝓡.env k)) (run_framed 𝓤 𝓛.H 𝓜 𝓡 (𝓡.env k)) 1 (X.lives, tt) (closing 𝓛 (ended E) (spec E 𝓛))
+    (entered 𝓤 𝓛.H (triple_of 𝓛 (ended E).signature (closing 𝓛 (ended E) (spec E 𝓛))) 𝓣.C 𝓣.Λ k (function E) (code.unfolded 𝓤 𝓛.H 𝓜 𝓡 wired (X, tt)) (meets E 𝓛 𝓣))
+    ((y.0.0, y.0.1, tt, y.0.3, y.0.4), y.1)

@@ -1,0 +1,33 @@
+use Rattle.std.proofs.Common.{Some, sym, subst}
+use Rattle.raw_nodes.specs.Raw.{raw_of, Plants}
+use Rattle.raw_nodes.specs.declared.rows.RawRows.{RawRows}
+use Rattle.raw_nodes.proofs.Stored.{number_is}
+use Rattle.raw_nodes.proofs.Changing.{link_found, no_payload, plant_raw, plants}
+use Rattle.raw_nodes.proofs.rows.RawRows.plant.Goals as goal
+
+pub follow-dead-requires : goal.follow-dead-requires
+follow-dead-requires g c = link_found c.args.self.now c.dead_cell.new.self c.requires.raw c.in-Ok.link c.in-Ok.ensures.ok
+
+pub set_row-requires : goal.set_row-requires
+set_row-requires g c =
+    (c.follow-dead.result.now, c.follow-dead.ensures, no_payload c.args.self.now c.dead_cell.new.self c.requires.raw c.in-Ok.link c.in-Ok.ensures.ok c.follow-dead.result.now c.follow-dead.ensures)
+
+pub returns-in-Ok-clause-raw : goal.returns-in-Ok-clause-raw
+returns-in-Ok-clause-raw g c =
+    plant_raw c.args.self.now c.dead_cell.new.self c.requires.raw c.in-Ok.link c.in-Ok.ensures.ok c.follow-dead.result.now c.follow-dead.ensures c.args.payload
+    c.requires.empty c.set_row.new.arena c.set_row.ensures c.max-self.result c.max-self.ensures
+
+pub returns-in-Ok-clause-ok : goal.returns-in-Ok-clause-ok
+returns-in-Ok-clause-ok g c =
+    let now : RawRows g.row.T.Denot =
+    record {
+      heap = record { arena = c.set_row.new.arena; blocks = c.dead_cell.new.self.heap.blocks; links = c.dead_cell.new.self.heap.links; alloc = c.dead_cell.new.self.heap.alloc };
+      free = c.follow-dead.result.now.next;
+      root = Some c.in-Ok.link;
+      len = 1;
+      most = c.max-self.result;
+    } in
+    subst (λ p. Plants (raw_of c.args.self.now) (raw_of now) p c.args.payload)
+    (sym (number_is c.dead_cell.new.self.heap.arena.cells c.in-Ok.ensures.ok.heap.numbered c.in-Ok.link.ptr c.follow-dead.result.now c.follow-dead.ensures))
+    (plants c.args.self.now c.dead_cell.new.self c.requires.raw c.in-Ok.link c.in-Ok.ensures.ok c.follow-dead.result.now c.follow-dead.ensures c.args.payload
+    c.requires.empty c.set_row.new.arena c.set_row.ensures c.max-self.result c.max-self.ensures)
