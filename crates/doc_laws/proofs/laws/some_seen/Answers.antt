@@ -1,0 +1,5 @@
+use Rattle.doc_laws.proofs.Found as from
+use Rattle.doc_laws.proofs.laws.some_seen.Goals as goal
+
+pub returns : goal.returns
+returns c = from.found_seen
