@@ -6,7 +6,7 @@ use Rattle.std.proofs.lemmas.List.{append_cancel_left}
 use Rattle.gcx_model.specs.Values.{is_digit, is_numeral}
 use Rattle.xq_lex.specs.declared.sign.Sign.{Sign}
 use Rattle.xq_lex.specs.Sign.{begins, sign_chars, sign_at, opens_comment}
-use Rattle.xq_lex.specs.Names.{is_name, name_at, parts_at}
+use Rattle.xq_lex.specs.Names.{is_query_name, name_at, parts_at}
 use Rattle.xq_lex.specs.Numbers.{minus_chars, fraction_chars, number_chars, is_number}
 use Rattle.xq_lex.specs.Strings.{Part, is_quote, parts_chars, AreParts, HasString}
 use Rattle.xq_lex.specs.Form.{Form, name, variable, number, string, sign, form_chars, IsForm, BeginsWith, BeginsWithNone}
@@ -30,7 +30,7 @@ kind_here text f r k e a = sym (kind_is f r a.good) ∙ (ap kind_at (sym a.chars
 
 -- ---- Names
 
-name_short : (text chars rest other more : List ℕ) → text ≡ chars ++ rest → name_at text ≡ chars → is_name other more ≡ true → text ≡ other ++ more → length rest ≤ length more
+name_short : (text chars rest other more : List ℕ) → text ≡ chars ++ rest → name_at text ≡ chars → is_query_name other more ≡ true → text ≡ other ++ more → length rest ≤ length more
 name_short text chars rest other more e found good h =
     let same : chars ≡ other ++ parts_at more = sym found ∙ (ap name_at h ∙ name_at-append other more good) in
     omega (arith, ap length e, ap length h, ap length same, length-append chars rest, length-append other more, length-append other (parts_at more))
@@ -49,19 +49,9 @@ name_begins text d ds found = (h.rest, record { chars = h.front; good = h.good; 
     no_longer (string q ps) more b = let k : of_name ≡ of_string = same_kind text _ (string q ps) _ more this b in cc (k)
     no_longer (sign s) more b = let k : of_name ≡ of_sign = same_kind text _ (sign s) _ more this b in cc (k)
 
-found_nothing : (cs rest : List ℕ) → is_name cs rest ≡ true → name_at (cs ++ rest) ≡ [] → ⊥
+found_nothing : (cs rest : List ℕ) → is_query_name cs rest ≡ true → name_at (cs ++ rest) ≡ [] → ⊥
 found_nothing [] rest good e = false≢true good
 found_nothing (c ∷ cs) rest good e = let k : (c ∷ cs) ++ parts_at rest ≡ [] = sym (name_at-append (c ∷ cs) rest good) ∙ e in cc (k)
-
-pub no_name : (text : List ℕ) → kind_at text ≡ of_name → name_at text ≡ [] → BeginsWithNone text
-no_name text kind none f rest e g = by f (record { chars = e; good = g; })
-  where
-    by : (f : Form) → Begins text f rest → ⊥
-    by (name cs) b = found_nothing cs rest b.good (ap name_at (sym b.chars) ∙ none)
-    by (variable cs) b = let k : of_variable ≡ of_name = kind_here text (variable cs) rest of_name kind b in cc (k)
-    by (number m w fr) b = let k : of_number ≡ of_name = kind_here text (number m w fr) rest of_name kind b in cc (k)
-    by (string q ps) b = let k : of_string ≡ of_name = kind_here text (string q ps) rest of_name kind b in cc (k)
-    by (sign s) b = let k : of_sign ≡ of_name = kind_here text (sign s) rest of_name kind b in cc (k)
 
 -- ---- Variables
 

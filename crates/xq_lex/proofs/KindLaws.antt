@@ -8,10 +8,11 @@ use Rattle.gcx_model.specs.Values.{is_digit, is_numeral}
 use Rattle.xq_lex.specs.declared.sign.Sign.{Sign}
 use Rattle.xq_lex.specs.declared.sign.Sign.TheVariants.{ParenOpen, ParenClose, BraceOpen, BraceClose, Comma, Slash, SlashSlash, Axis, Star, Eq, Ne, Lt, Le, Gt, Ge, EndTag, EmptyEnd}
 use Rattle.xq_lex.specs.Sign.{sign_chars}
-use Rattle.xq_lex.specs.Names.{may_begin, may_go_on, is_pair, is_name, are_parts}
+use Rattle.xq_lex.specs.Names.{may_begin, is_pair, is_query_name}
 use Rattle.xq_lex.specs.Numbers.{number_chars, is_number, fraction_chars}
 use Rattle.xq_lex.specs.Strings.{Part, is_quote, parts_chars}
 use Rattle.xq_lex.specs.Form.{Form, name, variable, number, string, sign, form_chars, IsForm}
+use Rattle.xq_lex.proofs.NameLaws.{IsParted, name_parts}
 use Rattle.xq_lex.specs.Found.{Kind, of_nothing, of_variable, of_string, of_number, of_name, of_sign, kind_at, kind_of_form}
 
 -- a start of a name is a colon or stands at least as high as `A`
@@ -104,13 +105,6 @@ sign_kind Ge rest = refl
 sign_kind EndTag rest = refl
 sign_kind EmptyEnd rest = refl
 
-pub no_pair : (b p : Bool) → (b && not p) ≡ true → p ≡ false
-no_pair b p e = by p (and_parts b (not p) e).1
-  where
-    by : (p : Bool) → not p ≡ true → p ≡ false
-    by true h = sym h
-    by false h = refl
-
 pub variable_kind : (cs : List ℕ) → kind_at (36 ∷ cs) ≡ of_variable
 unfolding kind_at
 variable_kind cs = refl
@@ -122,9 +116,7 @@ minus_kind cs = refl
 pub kind_is : (f : Form) (rest : List ℕ) → IsForm f rest → kind_at (form_chars f rest) ≡ kind_of_form f
 kind_is (name []) rest good = cc (good)
 kind_is (name (c ∷ cs)) rest good =
-    let both : (may_begin c ≡ true) × (are_parts (c ∷ cs) rest ≡ true) = and_parts (may_begin c) (are_parts (c ∷ cs) rest) good in
-    let first : (may_go_on c && not (is_pair (c ∷ (cs ++ rest)))) ≡ true = (and_parts (may_go_on c && not (is_pair (c ∷ (cs ++ rest)))) (are_parts cs rest) both.1).0 in
-    name_kind c (cs ++ rest) both.0 (no_pair (may_go_on c) (is_pair (c ∷ (cs ++ rest))) first)
+    let parted : IsParted c cs rest = name_parts c cs rest good in name_kind c (cs ++ rest) parted.begins parted.no_pair
 kind_is (variable chars) rest good = variable_kind (chars ++ rest)
 kind_is (number true whole fraction) rest good = minus_kind _
 kind_is (number false [] fraction) rest good = cc (good)

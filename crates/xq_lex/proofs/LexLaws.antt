@@ -10,7 +10,7 @@ use Rattle.xq_lex.specs.declared.token.TokKind.{TokKind}
 use Rattle.xq_lex.specs.declared.lexer.Step.{Step}
 use Rattle.xq_lex.specs.Gap.{HasGap}
 use Rattle.xq_lex.specs.Form.{BeginsWith}
-use Rattle.xq_lex.specs.Lex.{Reads, ReadsAll, LexesAs, StopsAt, IsNotTaken, HasWideNumber, IsTextWith, LexFault}
+use Rattle.xq_lex.specs.Lex.{Reads, ReadsAll, LexesAs, StopsAt, IsNoToken, HasWideNumber, IsTextWith, LexFault}
 use Rattle.xq_lex.specs.Answer.{UnlessMemory, IsLexeme, IsRefusal}
 use Rattle.xq_lex.specs.Steps.{IsNext, IsStopAt, IsStop, IsStopped}
 use Rattle.xq_lex.proofs.Encoding.{split_size}
@@ -34,7 +34,6 @@ next_is place text gap count kind from to within g e h l = record {
     gap = g;
     begins = subst (λ (x : List ℕ). BeginsWith (drop gap text) l.form x) (drop-drop count gap text) l.begins;
     in_range = l.in_range;
-    taken = l.taken;
     kind = l.kind_is;
     from = first;
     to = ap (λ (x : List ℕ). to + length (encode_utf8_all x)) (sym (drop-drop count gap text)) ∙ (gap_size count (drop gap text) from to h ∙ first);
@@ -94,7 +93,7 @@ stopped text tokens count place at P r s = record {
 }
 
 pub stops_to : (text : List ℕ) (tokens : List Tok) (count place : ℕ) (fault : QueryFault) → ReadsTo text tokens count place → IsStop place (drop count text) fault → IsStopped text fault
-stops_to text tokens count place (Lex at) r s = stopped text tokens count place at IsNotTaken r s
+stops_to text tokens count place (Lex at) r s = stopped text tokens count place at IsNoToken r s
 stops_to text tokens count place (IntegerWide at) r s = stopped text tokens count place at HasWideNumber r s
 stops_to text tokens count place (Utf8 at) r s = absurd s
 stops_to text tokens count place (Syntax at) r s = absurd s

@@ -4,27 +4,27 @@ use Rattle.std.specs.List.{list_all}
 use Rattle.std.specs.Str.{encode_utf8_all}
 use Rattle.std.proofs.Math.Seq.{drop-append_seam, take-append_seam}
 use Rattle.std.proofs.lemmas.Bool.{and_parts, false≢true, true≢false}
-use Rattle.gcx_base.specs.Name.{is_plain_name}
+use Rattle.gcx_model.specs.Attributes.{is_name}
 use Rattle.gcx_model.specs.Values.{is_digit, is_numeral}
 use Rattle.xq_lex.specs.declared.sign.Sign.{Sign}
 use Rattle.xq_lex.specs.declared.sign.Sign.TheVariants.{ParenOpen, ParenClose, BraceOpen, BraceClose, Comma, Slash, SlashSlash, Axis, Star, Eq, Ne, Lt, Le, Gt, Ge, EndTag, EmptyEnd}
 use Rattle.xq_lex.specs.declared.token.TokKind.{TokKind}
 use Rattle.xq_lex.specs.declared.token.TokKind.TheVariants as kinds
 use Rattle.xq_lex.specs.Sign.{begins, sign_chars, sign_at}
-use Rattle.xq_lex.specs.Names.{is_name, name_at}
+use Rattle.xq_lex.specs.Names.{name_at}
 use Rattle.xq_lex.specs.Numbers.{minus_chars, fraction_chars, number_chars, is_number, is_wide, units_of, digits_at, fraction_at}
 use Rattle.xq_lex.specs.Strings.{Part, plain, doubled, reference, is_quote, part_chars, parts_chars, parts_value, AreParts, HasString}
-use Rattle.xq_lex.specs.Form.{Form, name, variable, number, string, sign, form_chars, IsForm, BeginsWith, BeginsWithNone, kind_of, is_too_wide, is_taken}
-use Rattle.xq_lex.specs.Lex.{IsNoToken, HasOtherName, IsNotTaken, HasWideNumber}
+use Rattle.xq_lex.specs.Form.{Form, name, variable, number, string, sign, form_chars, IsForm, BeginsWith, BeginsWithNone, kind_of, is_too_wide}
+use Rattle.xq_lex.specs.Lex.{IsNoToken, HasWideNumber}
 use Rattle.gcx_model.specs.declared.fault.QueryFault.{QueryFault}
 use Rattle.gcx_model.specs.declared.fault.QueryFault.TheVariants.{Utf8, Lex, Syntax, UnknownVar, TagMismatch, DescendantNotLast, IntegerWide, TooLarge, Memory}
-use Rattle.xq_lex.specs.Answer.{IsLexeme, IsRefusedName, IsRefusal}
+use Rattle.xq_lex.specs.Answer.{IsLexeme}
 use Rattle.xq_lex.specs.Reading.{HasValue, BeginsWithNoString}
 use Rattle.xq_lex.specs.Found.{Kind, of_nothing, of_variable, of_string, of_number, of_name, of_sign, kind_at, number_from, unsigned_at}
-use Rattle.xq_lex.proofs.NameLaws.{HasName, name_front}
+use Rattle.xq_lex.proofs.NameLaws.{name_some, found_named}
 use Rattle.xq_lex.proofs.NumberLaws.{digits_front}
 use Rattle.xq_lex.proofs.KindLaws.{variable_kind, string_kind}
-use Rattle.xq_lex.proofs.FormLaws.{name_begins, no_name, variable_begins, no_variable, BeginsNumber, number_begins, no_number, number_parts, sign_begins, no_sign, string_begins, no_string}
+use Rattle.xq_lex.proofs.FormLaws.{name_begins, variable_begins, no_variable, BeginsNumber, number_begins, no_number, number_parts, sign_begins, no_sign, string_begins, no_string}
 
 -- ---- A token's characters stand in front of the rest.
 
@@ -79,15 +79,14 @@ suffix text front rest count e h =
     let same : count ≡ length front = omega (arith, ap length e, length-append front rest) in
     ap (λ n. drop n text) same ∙ (ap (λ (x : List ℕ). drop (length front) x) e ∙ drop-append_seam front rest)
 
-pub lexeme_of : (text : List ℕ) (f : Form) (rest : List ℕ) (kind : TokKind) (count : ℕ) → BeginsWith text f rest → is_too_wide f ≡ false → is_taken f ≡ true → kind ≡ kind_of f →
+pub lexeme_of : (text : List ℕ) (f : Form) (rest : List ℕ) (kind : TokKind) (count : ℕ) → BeginsWith text f rest → is_too_wide f ≡ false → kind ≡ kind_of f →
     count + length rest ≡ length text → IsLexeme text kind count
-lexeme_of text f rest kind count b narrow taken is e =
+lexeme_of text f rest kind count b narrow is e =
     let front : text ≡ form_chars f [] ++ rest = b.chars ∙ form_front f rest in
     record {
       form = f;
       begins = subst (λ (x : List ℕ). BeginsWith text f x) (sym (suffix text (form_chars f []) rest count front e)) b;
       in_range = narrow;
-      taken = taken;
       kind_is = is;
       some = omega (arith, form_some f rest b.good, ap length front, length-append (form_chars f []) rest);
       within = omega arith;
@@ -98,56 +97,41 @@ some_text c cs e = cc (e)
 
 -- ---- Names
 
-plain_some : {X : Type 0} (n : List ℕ) → is_plain_name (encode_utf8_all n) ≡ true → n ≡ [] → X
-plain_some n e none = absurd (false≢true (ap (λ (x : List ℕ). is_plain_name (encode_utf8_all x)) (sym none) ∙ e))
-
 count_left : (text front rest : List ℕ) → text ≡ front ++ rest → length front + length rest ≡ length text
 count_left text front rest e = omega (arith, ap length e, length-append front rest)
 
-pub name_lexeme : (text n : List ℕ) (bytes : List ℕ) → name_at text ≡ n → bytes ≡ encode_utf8_all n → is_plain_name (encode_utf8_all n) ≡ true → IsLexeme text (kinds.Name bytes) (length n)
-name_lexeme text [] bytes e is taken = plain_some [] taken refl
-name_lexeme text (d ∷ ds) bytes e is taken =
+pub name_lexeme : (text n : List ℕ) (bytes : List ℕ) → kind_at text ≡ of_name → name_at text ≡ n → bytes ≡ encode_utf8_all n → IsLexeme text (kinds.Name bytes) (length n)
+name_lexeme text [] bytes kind e is = absurd (name_some text kind e)
+name_lexeme text (d ∷ ds) bytes kind e is =
     let b : (rest : List ℕ) × BeginsWith text (name (d ∷ ds)) rest = name_begins text d ds e in
-    lexeme_of text (name (d ∷ ds)) b.0 (kinds.Name bytes) (length (d ∷ ds)) b.1 refl taken (ap kinds.Name is) (count_left text (d ∷ ds) b.0 b.1.chars)
+    lexeme_of text (name (d ∷ ds)) b.0 (kinds.Name bytes) (length (d ∷ ds)) b.1 refl (ap kinds.Name is) (count_left text (d ∷ ds) b.0 b.1.chars)
+
+-- the name that stands here is one of XML
+pub named : (text n : List ℕ) → kind_at text ≡ of_name → name_at text ≡ n → is_name n ≡ true
+named text [] kind e = absurd (name_some text kind e)
+named text (d ∷ ds) kind e = found_named text d ds e
 
 kind_some : (text : List ℕ) (k : Kind) → kind_at text ≡ k → (k ≡ of_nothing → ⊥) → text ≢ []
 unfolding kind_at
 kind_some [] k e some h = some (sym e)
 kind_some (c ∷ cs) k e some h = cc (h)
 
-pub name_other : (text n : List ℕ) → kind_at text ≡ of_name → name_at text ≡ n → is_plain_name (encode_utf8_all n) ≡ false → IsNotTaken text
-name_other text [] kind e other = inl (kind_some text of_name kind (λ h. cc (h)), no_name text kind e)
-name_other text (d ∷ ds) kind e other =
-    let b : (rest : List ℕ) × BeginsWith text (name (d ∷ ds)) rest = name_begins text d ds e in
-    inr (record { form = name (d ∷ ds); rest = b.0; begins = b.1; other = other; })
-
 -- ---- Variables
 
-pub variable_lexeme : (cs n : List ℕ) (bytes : List ℕ) → name_at cs ≡ n → bytes ≡ encode_utf8_all n → is_plain_name (encode_utf8_all n) ≡ true → IsLexeme (36 ∷ cs) (kinds.Var bytes) (length n + 1)
-variable_lexeme cs [] bytes e is taken = plain_some [] taken refl
-variable_lexeme cs (d ∷ ds) bytes e is taken =
+pub variable_lexeme : (cs n : List ℕ) (bytes : List ℕ) → name_at cs ≡ n → (length n == 0) ≡ false → bytes ≡ encode_utf8_all n → IsLexeme (36 ∷ cs) (kinds.Var bytes) (length n + 1)
+variable_lexeme cs [] bytes e some is = absurd (true≢false some)
+variable_lexeme cs (d ∷ ds) bytes e some is =
     let b : (rest : List ℕ) × BeginsWith (36 ∷ cs) (variable (d ∷ ds)) rest = variable_begins cs d ds e in
-    lexeme_of (36 ∷ cs) (variable (d ∷ ds)) b.0 (kinds.Var bytes) (length (d ∷ ds) + 1) b.1 refl taken (ap kinds.Var is)
+    lexeme_of (36 ∷ cs) (variable (d ∷ ds)) b.0 (kinds.Var bytes) (length (d ∷ ds) + 1) b.1 refl (ap kinds.Var is)
     (omega (arith, count_left (36 ∷ cs) (36 ∷ d ∷ ds) b.0 b.1.chars))
 
-pub variable_other : (cs n : List ℕ) → name_at cs ≡ n → is_plain_name (encode_utf8_all n) ≡ false → IsNotTaken (36 ∷ cs)
-variable_other cs [] e other = inl (some_text 36 cs, no_variable cs (variable_kind cs) e)
-variable_other cs (d ∷ ds) e other =
-    let b : (rest : List ℕ) × BeginsWith (36 ∷ cs) (variable (d ∷ ds)) rest = variable_begins cs d ds e in
-    inr (record { form = variable (d ∷ ds); rest = b.0; begins = b.1; other = other; })
+pub variable_named : (cs n : List ℕ) → name_at cs ≡ n → (length n == 0) ≡ false → is_name n ≡ true
+variable_named cs [] e some = absurd (true≢false some)
+variable_named cs (d ∷ ds) e some = found_named cs d ds e
 
--- ---- Faults of names
-
-pub refused_name : (place : ℕ) (bytes text : List ℕ) (fault : QueryFault) → IsRefusedName place bytes fault → (is_plain_name bytes ≡ false → IsNotTaken text) → IsRefusal place text fault
-refused_name place bytes text (Lex at) h f = (h.0, f h.1)
-refused_name place bytes text (IntegerWide at) h f = absurd h
-refused_name place bytes text (Utf8 at) h f = absurd h
-refused_name place bytes text (Syntax at) h f = absurd h
-refused_name place bytes text (UnknownVar at) h f = absurd h
-refused_name place bytes text (TagMismatch at) h f = absurd h
-refused_name place bytes text (DescendantNotLast at) h f = absurd h
-refused_name place bytes text (TooLarge what limit) h f = absurd h
-refused_name place bytes text Memory h f = tt
+pub no_variable_here : (cs n : List ℕ) → name_at cs ≡ n → (length n == 0) ≡ true → IsNoToken (36 ∷ cs)
+no_variable_here cs [] e none = (some_text 36 cs, no_variable cs (variable_kind cs) e)
+no_variable_here cs (d ∷ ds) e none = absurd (false≢true none)
 
 -- ---- Numbers
 
@@ -205,7 +189,7 @@ number_is minus text whole behind fraction rest units r narrow is = by (reads_nu
   where
     by : (tail : List ℕ) × TheNumber minus text whole fraction tail → IsLexeme (minus_chars minus ++ text) (kinds.Number units) (length (minus_chars minus) + (length text - length rest))
     by (tail, n) =
-        lexeme_of (minus_chars minus ++ text) (number minus whole fraction) tail (kinds.Number units) (length (minus_chars minus) + (length text - length rest)) n.begins narrow refl (ap kinds.Number is)
+        lexeme_of (minus_chars minus ++ text) (number minus whole fraction) tail (kinds.Number units) (length (minus_chars minus) + (length text - length rest)) n.begins narrow (ap kinds.Number is)
         (number_count minus text whole behind fraction rest tail r n.chars)
 
 pub number_is_wide : (minus : Bool) (text whole behind fraction rest : List ℕ) → ReadsNumber text whole behind fraction rest → is_wide minus whole fraction ≡ true → HasWideNumber (minus_chars minus ++ text)
@@ -219,26 +203,26 @@ no_digits_from minus text [] is e = ap (λ (x : List ℕ). number_from minus x (
 no_digits_from minus text (d ∷ ds) is e = absurd (omega arith)
 
 pub number_is_not : (minus : Bool) (text whole : List ℕ) → (minus ≡ false → begins 45 text ≡ false) → kind_at (minus_chars minus ++ text) ≡ of_number → whole ≡ digits_at text → length whole ≡ 0 →
-    IsNotTaken (minus_chars minus ++ text)
+    IsNoToken (minus_chars minus ++ text)
 number_is_not minus text whole unsigned kind is none =
-    inl (kind_some (minus_chars minus ++ text) of_number kind (λ h. cc (h)), no_number minus text unsigned kind (no_digits_from minus text whole is none))
+    (kind_some (minus_chars minus ++ text) of_number kind (λ h. cc (h)), no_number minus text unsigned kind (no_digits_from minus text whole is none))
 
 -- ---- Signs
 
 pub sign_is : (text : List ℕ) (s : Sign) → sign_at text ≡ Some s → IsLexeme text (kinds.Sign s) (length (sign_chars s))
 sign_is text s e =
     let b : (rest : List ℕ) × BeginsWith text (sign s) rest = sign_begins text s e in
-    lexeme_of text (sign s) b.0 (kinds.Sign s) (length (sign_chars s)) b.1 refl refl refl (count_left text (sign_chars s) b.0 b.1.chars)
+    lexeme_of text (sign s) b.0 (kinds.Sign s) (length (sign_chars s)) b.1 refl refl (count_left text (sign_chars s) b.0 b.1.chars)
 
-pub sign_is_not : (text : List ℕ) → kind_at text ≡ of_sign → sign_at text ≡ None → IsNotTaken text
-sign_is_not text kind e = inl (kind_some text of_sign kind (λ h. cc (h)), no_sign text kind e)
+pub sign_is_not : (text : List ℕ) → kind_at text ≡ of_sign → sign_at text ≡ None → IsNoToken text
+sign_is_not text kind e = (kind_some text of_sign kind (λ h. cc (h)), no_sign text kind e)
 
 -- ---- Strings
 
 pub string_is : (q : ℕ) (cs bytes : List ℕ) (count : ℕ) → is_quote q ≡ true → HasValue q cs bytes count → IsLexeme (q ∷ cs) (kinds.Str bytes) (count + 1)
 string_is q cs bytes count quote h =
-    lexeme_of (q ∷ cs) (string q h.parts) (drop count cs) (kinds.Str bytes) (count + 1) (string_begins q cs h.parts (drop count cs) quote h.string) refl refl (ap kinds.Str h.value)
+    lexeme_of (q ∷ cs) (string q h.parts) (drop count cs) (kinds.Str bytes) (count + 1) (string_begins q cs h.parts (drop count cs) quote h.string) refl (ap kinds.Str h.value)
     (omega (arith, length-drop count cs, h.within))
 
-pub string_is_not : (q : ℕ) (cs : List ℕ) → is_quote q ≡ true → BeginsWithNoString q cs → IsNotTaken (q ∷ cs)
-string_is_not q cs quote none = inl (some_text q cs, no_string q cs (string_kind q cs quote) none)
+pub string_is_not : (q : ℕ) (cs : List ℕ) → is_quote q ≡ true → BeginsWithNoString q cs → IsNoToken (q ∷ cs)
+string_is_not q cs quote none = (some_text q cs, no_string q cs (string_kind q cs quote) none)

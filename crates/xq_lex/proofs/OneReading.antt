@@ -15,10 +15,10 @@ use Rattle.xq_lex.specs.declared.token.TokKind.{TokKind}
 use Rattle.xq_lex.specs.Sign.{begins, sign_chars, sign_at, opens_comment}
 use Rattle.xq_lex.specs.Numbers.{minus_chars, fraction_chars, number_chars, is_number}
 use Rattle.xq_lex.specs.Strings.{Part, is_quote, parts_chars, AreParts, HasString}
-use Rattle.xq_lex.specs.Form.{Form, name, variable, number, string, sign, form_chars, IsForm, BeginsWith, BeginsWithNone, kind_of, is_too_wide, is_taken}
+use Rattle.xq_lex.specs.Form.{Form, name, variable, number, string, sign, form_chars, IsForm, BeginsWith, BeginsWithNone, kind_of, is_too_wide}
 use Rattle.xq_lex.specs.Found.{Kind, of_variable, of_string, of_number, of_name, of_sign, kind_at, kind_of_form, unsigned_at}
 use Rattle.xq_lex.specs.Gap.{HasGap}
-use Rattle.xq_lex.specs.Lex.{Reads, ReadsAll, LexesAs, StopsAt, IsNoToken, HasOtherName, IsNotTaken, HasWideNumber, IsTextWith, Lexes, LexFault}
+use Rattle.xq_lex.specs.Lex.{Reads, ReadsAll, LexesAs, StopsAt, IsNoToken, HasWideNumber, IsTextWith, Lexes, LexFault}
 use Rattle.xq_lex.proofs.NumberLaws.{LongerNumber, number_longer}
 use Rattle.xq_lex.proofs.SignLaws.{Longer, IsLonger, sign_longer}
 use Rattle.xq_lex.proofs.StringLaws.{SameParts, string_same}
@@ -195,22 +195,19 @@ gap_ends_all total rest g t more a =
     let none : a.behind_gap ≡ [] = one_gap rest a.behind_gap [] a.gap g in
     begins_nothing a.form more (subst (λ (x : List ℕ). BeginsWith x a.form more) none a.begins)
 
-untaken : (text : List ℕ) (f : Form) (r : List ℕ) → IsNotTaken text → BeginsWith text f r → is_too_wide f ≡ false → is_taken f ≡ true → ⊥
-untaken text f r (inl none) b narrow taken = none.1 f r b.chars b.good
-untaken text f r (inr other) b narrow taken =
-    let same : SameForm f other.form r other.rest = begins_same text f other.form r other.rest b other.begins in
-    true≢false (sym taken ∙ (ap is_taken same.form ∙ other.other))
+no_token : (text : List ℕ) (f : Form) (r : List ℕ) → IsNoToken text → BeginsWith text f r → is_too_wide f ≡ false → ⊥
+no_token text f r none b narrow = none.1 f r b.chars b.good
 
-too_wide : (text : List ℕ) (f : Form) (r : List ℕ) → HasWideNumber text → BeginsWith text f r → is_too_wide f ≡ false → is_taken f ≡ true → ⊥
-too_wide text f r other b narrow taken =
+too_wide : (text : List ℕ) (f : Form) (r : List ℕ) → HasWideNumber text → BeginsWith text f r → is_too_wide f ≡ false → ⊥
+too_wide text f r other b narrow =
     let same : SameForm f other.form r other.rest = begins_same text f other.form r other.rest b other.begins in
     true≢false (sym other.wide ∙ (ap is_too_wide (sym same.form) ∙ narrow))
 
-stop_ends : (P : List ℕ → Type 0) → ((text : List ℕ) (f : Form) (r : List ℕ) → P text → BeginsWith text f r → is_too_wide f ≡ false → is_taken f ≡ true → ⊥) →
+stop_ends : (P : List ℕ → Type 0) → ((text : List ℕ) (f : Form) (r : List ℕ) → P text → BeginsWith text f r → is_too_wide f ≡ false → ⊥) →
     (total : ℕ) (rest behind : List ℕ) → HasGap rest behind → P behind → (t : Tok) (more : List ℕ) → Reads total rest t more → ⊥
 stop_ends P refuses total rest behind g p t more a =
     let same : a.behind_gap ≡ behind = one_gap rest a.behind_gap behind a.gap g in
-    refuses behind a.form more p (subst (λ (x : List ℕ). BeginsWith x a.form more) same a.begins) a.in_range a.taken
+    refuses behind a.form more p (subst (λ (x : List ℕ). BeginsWith x a.form more) same a.begins) a.in_range
 
 -- ---- Characters
 
@@ -218,14 +215,13 @@ pub lexes_once : (text : List ℕ) (ts us : List Tok) → LexesAs text ts → Le
 lexes_once text ts us a b =
     (fronts_same (length (encode_utf8_all text)) ts us text a.rest b.rest a.reads (gap_ends_all _ a.rest a.gap) b.reads (gap_ends_all _ b.rest b.gap)).tokens
 
-not_taken_some : (text : List ℕ) → IsNotTaken text → text ≢ []
-not_taken_some text (inl none) e = none.0 e
-not_taken_some text (inr other) e = begins_nothing other.form other.rest (subst (λ (x : List ℕ). BeginsWith x other.form other.rest) e other.begins)
+no_token_some : (text : List ℕ) → IsNoToken text → text ≢ []
+no_token_some text none = none.0
 
 wide_some : (text : List ℕ) → HasWideNumber text → text ≢ []
 wide_some text wide e = begins_nothing wide.form wide.rest (subst (λ (x : List ℕ). BeginsWith x wide.form wide.rest) e wide.begins)
 
-lexes_or_stops : (P : List ℕ → Type 0) → ((text : List ℕ) (f : Form) (r : List ℕ) → P text → BeginsWith text f r → is_too_wide f ≡ false → is_taken f ≡ true → ⊥) → ((text : List ℕ) → P text → text ≢ []) →
+lexes_or_stops : (P : List ℕ → Type 0) → ((text : List ℕ) (f : Form) (r : List ℕ) → P text → BeginsWith text f r → is_too_wide f ≡ false → ⊥) → ((text : List ℕ) → P text → text ≢ []) →
     (text : List ℕ) (ts : List Tok) (at : ℕ) → LexesAs text ts → StopsAt at P text → ⊥
 lexes_or_stops P refuses some text ts at a b =
     let same : SameFront ts b.tokens a.rest b.rest =
@@ -236,8 +232,8 @@ record SameStop (at at' : ℕ) (behind behind' : List ℕ) : Type 0 where
   place : at ≡ at'
   text : behind ≡ behind'
 
-stops_once : (P Q : List ℕ → Type 0) → ((text : List ℕ) (f : Form) (r : List ℕ) → P text → BeginsWith text f r → is_too_wide f ≡ false → is_taken f ≡ true → ⊥) →
-    ((text : List ℕ) (f : Form) (r : List ℕ) → Q text → BeginsWith text f r → is_too_wide f ≡ false → is_taken f ≡ true → ⊥) →
+stops_once : (P Q : List ℕ → Type 0) → ((text : List ℕ) (f : Form) (r : List ℕ) → P text → BeginsWith text f r → is_too_wide f ≡ false → ⊥) →
+    ((text : List ℕ) (f : Form) (r : List ℕ) → Q text → BeginsWith text f r → is_too_wide f ≡ false → ⊥) →
     (text : List ℕ) (at at' : ℕ) (a : StopsAt at P text) (b : StopsAt at' Q text) → SameStop at at' a.behind_gap b.behind_gap
 stops_once P Q p q text at at' a b =
     let same : SameFront a.tokens b.tokens a.rest b.rest =
@@ -248,23 +244,13 @@ stops_once P Q p q text at at' a b =
       text = gap;
     }
 
-wide_is_number : (f : Form) → is_too_wide f ≡ true → is_taken f ≡ true
-wide_is_number (name c) e = absurd (false≢true e)
-wide_is_number (variable c) e = absurd (false≢true e)
-wide_is_number (number m w f) e = refl
-wide_is_number (string q ps) e = refl
-wide_is_number (sign t) e = refl
+none_or_wide : (text : List ℕ) → IsNoToken text → HasWideNumber text → ⊥
+none_or_wide text none w = none.1 w.form w.rest w.begins.chars w.begins.good
 
-untaken_or_wide : (text : List ℕ) → IsNotTaken text → HasWideNumber text → ⊥
-untaken_or_wide text (inl none) w = none.1 w.form w.rest w.begins.chars w.begins.good
-untaken_or_wide text (inr other) w =
-    let same : SameForm other.form w.form other.rest w.rest = begins_same text other.form w.form other.rest w.rest other.begins w.begins in
-    true≢false (sym (wide_is_number w.form w.wide) ∙ (ap is_taken (sym same.form) ∙ other.other))
-
-both_stop : (text : List ℕ) (at at' : ℕ) → StopsAt at IsNotTaken text → StopsAt at' HasWideNumber text → ⊥
+both_stop : (text : List ℕ) (at at' : ℕ) → StopsAt at IsNoToken text → StopsAt at' HasWideNumber text → ⊥
 both_stop text at at' a b =
-    let same : SameStop at at' a.behind_gap b.behind_gap = stops_once IsNotTaken HasWideNumber untaken too_wide text at at' a b in
-    untaken_or_wide b.behind_gap (subst IsNotTaken same.text a.stops) b.stops
+    let same : SameStop at at' a.behind_gap b.behind_gap = stops_once IsNoToken HasWideNumber no_token too_wide text at at' a b in
+    none_or_wide b.behind_gap (subst IsNoToken same.text a.stops) b.stops
 
 -- ---- Bytes
 
@@ -281,7 +267,7 @@ valid_once bytes m n a b = sym (utf8_valid_len-IsValidUpTo bytes m a) ∙ utf8_v
 pub tokens_or_fault : (bytes : List ℕ) (ts : List Tok) (fault : QueryFault) → Lexes bytes ts → LexFault bytes fault → ⊥
 tokens_or_fault bytes ts (TooLarge what limit) a f = omega (arith, a.short, f.2)
 tokens_or_fault bytes ts (Utf8 at) a f = not_utf8 bytes at f.1 a.utf8
-tokens_or_fault bytes ts (Lex at) a f = lexes_or_stops IsNotTaken untaken not_taken_some (chars bytes) ts at a.holds f.holds
+tokens_or_fault bytes ts (Lex at) a f = lexes_or_stops IsNoToken no_token no_token_some (chars bytes) ts at a.holds f.holds
 tokens_or_fault bytes ts (IntegerWide at) a f = lexes_or_stops HasWideNumber too_wide wide_some (chars bytes) ts at a.holds f.holds
 tokens_or_fault bytes ts (Syntax at) a f = f
 tokens_or_fault bytes ts (UnknownVar at) a f = f
@@ -311,7 +297,7 @@ fault_once bytes (Utf8 at) (DescendantNotLast at2) p q = absurd q
 fault_once bytes (Utf8 at) (Memory) p q = absurd q
 fault_once bytes (Lex at) (TooLarge what2 limit2) p q = absurd (omega (arith, q.2, p.short))
 fault_once bytes (Lex at) (Utf8 at2) p q = absurd (not_utf8 bytes at2 q.1 p.utf8)
-fault_once bytes (Lex at) (Lex at2) p q = ap Lex (stops_once IsNotTaken IsNotTaken untaken untaken (chars bytes) at at2 p.holds q.holds).place
+fault_once bytes (Lex at) (Lex at2) p q = ap Lex (stops_once IsNoToken IsNoToken no_token no_token (chars bytes) at at2 p.holds q.holds).place
 fault_once bytes (Lex at) (IntegerWide at2) p q = absurd (both_stop (chars bytes) at at2 p.holds q.holds)
 fault_once bytes (Lex at) (Syntax at2) p q = absurd q
 fault_once bytes (Lex at) (UnknownVar at2) p q = absurd q

@@ -1,11 +1,10 @@
 -- What is answered of the token at the front of a text.
 use Rattle.std.specs.Prelude.{◌≡◌, ◌<◌, ◌≤◌, ℕ, false, true, List, length, drop, Result, Ok, Err}
-use Rattle.gcx_base.specs.Name.{is_plain_name}
 use Rattle.gcx_model.specs.declared.fault.QueryFault.{QueryFault}
 use Rattle.gcx_model.specs.declared.fault.QueryFault.TheVariants.{Utf8, Lex, Syntax, UnknownVar, TagMismatch, DescendantNotLast, IntegerWide, TooLarge, Memory}
 use Rattle.xq_lex.specs.declared.token.TokKind.{TokKind}
-use Rattle.xq_lex.specs.Form.{Form, BeginsWith, kind_of, is_too_wide, is_taken}
-use Rattle.xq_lex.specs.Lex.{IsNotTaken, HasWideNumber}
+use Rattle.xq_lex.specs.Form.{Form, BeginsWith, kind_of, is_too_wide}
+use Rattle.xq_lex.specs.Lex.{IsNoToken, HasWideNumber}
 
 -- P holds of the fault, unless it is want of memory
 abbrev pub UnlessMemory : (QueryFault → Type 0) → QueryFault → Type 0
@@ -24,26 +23,13 @@ pub record IsLexeme (text : List ℕ) (kind : TokKind) (count : ℕ) : Type 0 wh
   pub form : Form
   pub begins : BeginsWith text form (drop count text)
   pub in_range : is_too_wide form ≡ false
-  pub taken : is_taken form ≡ true
   pub kind_is : kind ≡ kind_of form
   pub some : 0 < count
   pub within : count ≤ length text
 
--- why these bytes are no name that is taken so far, where the token stands at this byte
-abbrev pub IsRefusedName : (place : ℕ) → (bytes : List ℕ) → QueryFault → Type 0
-IsRefusedName place bytes (Lex at) = (at ≡ place) × (is_plain_name bytes ≡ false)
-IsRefusedName place bytes (IntegerWide at) = ⊥
-IsRefusedName place bytes (Utf8 at) = ⊥
-IsRefusedName place bytes (Syntax at) = ⊥
-IsRefusedName place bytes (UnknownVar at) = ⊥
-IsRefusedName place bytes (TagMismatch at) = ⊥
-IsRefusedName place bytes (DescendantNotLast at) = ⊥
-IsRefusedName place bytes (TooLarge what limit) = ⊥
-IsRefusedName place bytes Memory = Unit {0}
-
 -- why it begins with none, where the text stands at this byte
 abbrev pub IsRefusal : (place : ℕ) → List ℕ → QueryFault → Type 0
-IsRefusal place text (Lex at) = (at ≡ place) × IsNotTaken text
+IsRefusal place text (Lex at) = (at ≡ place) × IsNoToken text
 IsRefusal place text (IntegerWide at) = (at ≡ place) × HasWideNumber text
 IsRefusal place text (Utf8 at) = ⊥
 IsRefusal place text (Syntax at) = ⊥

@@ -1,12 +1,11 @@
 -- Tokens of a query as they are written, and the longest one at the front of a text (this project's language).
 use Rattle.std.specs.Prelude.{◌≡◌, ◌≤◌, ℕ, Bool, true, false, List, [], ◌∷◌, ◌++◌, length}
 use Rattle.std.specs.Str.{encode_utf8_all}
-use Rattle.gcx_base.specs.Name.{is_plain_name}
 use Rattle.xq_lex.specs.declared.sign.Sign.{Sign}
 use Rattle.xq_lex.specs.declared.token.TokKind.{TokKind}
 use Rattle.xq_lex.specs.declared.token.TokKind.TheVariants as kinds
 use Rattle.xq_lex.specs.Sign.{sign_chars, begins, opens_comment}
-use Rattle.xq_lex.specs.Names.{is_name}
+use Rattle.xq_lex.specs.Names.{is_query_name}
 use Rattle.xq_lex.specs.Numbers.{number_chars, is_number, is_wide, units_of}
 use Rattle.xq_lex.specs.Strings.{Part, is_quote, parts_chars, parts_value, AreParts}
 
@@ -27,8 +26,8 @@ form_chars (sign s) rest = sign_chars s ++ rest
 
 -- It is a token where `rest` follows: a string doesn't end before another delimiter, and `(:` is no sign.
 abbrev pub IsForm : Form → (rest : List ℕ) → Type 0
-IsForm (name chars) rest = is_name chars rest ≡ true
-IsForm (variable chars) rest = is_name chars rest ≡ true
+IsForm (name chars) rest = is_query_name chars rest ≡ true
+IsForm (variable chars) rest = is_query_name chars rest ≡ true
 IsForm (number minus whole fraction) rest = is_number whole fraction ≡ true
 IsForm (string quote parts) rest = (is_quote quote ≡ true) × AreParts quote parts × (begins quote rest ≡ false)
 IsForm (sign s) rest = opens_comment (sign_chars s ++ rest) ≡ false
@@ -58,11 +57,3 @@ is_too_wide (variable chars) = false
 is_too_wide (number minus whole fraction) = is_wide minus whole fraction
 is_too_wide (string quote parts) = false
 is_too_wide (sign s) = false
-
--- Whether its name is one that is taken so far: a plain one.
-abbrev pub is_taken : Form → Bool
-is_taken (name chars) = is_plain_name (encode_utf8_all chars)
-is_taken (variable chars) = is_plain_name (encode_utf8_all chars)
-is_taken (number minus whole fraction) = true
-is_taken (string quote parts) = true
-is_taken (sign s) = true

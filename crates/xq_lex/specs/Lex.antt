@@ -7,7 +7,7 @@ use Rattle.gcx_model.specs.declared.fault.What.{What}
 use Rattle.gcx_model.specs.declared.fault.What.TheVariants.{Text}
 use Rattle.xq_lex.specs.declared.token.Tok.{Tok}
 use Rattle.xq_lex.specs.Gap.{HasGap}
-use Rattle.xq_lex.specs.Form.{Form, BeginsWith, BeginsWithNone, form_chars, kind_of, is_too_wide, is_taken}
+use Rattle.xq_lex.specs.Form.{Form, BeginsWith, BeginsWithNone, form_chars, kind_of, is_too_wide}
 
 -- In a text of `total` bytes, of which `text` is what is left: a gap, this token, and then `rest`.
 pub record Reads (total : ℕ) (text : List ℕ) (token : Tok) (rest : List ℕ) : Type 0 where
@@ -16,7 +16,6 @@ pub record Reads (total : ℕ) (text : List ℕ) (token : Tok) (rest : List ℕ)
   pub gap : HasGap text behind_gap
   pub begins : BeginsWith behind_gap form rest
   pub in_range : is_too_wide form ≡ false
-  pub taken : is_taken form ≡ true
   pub kind : token.kind ≡ kind_of form
   pub from : token.from + length (encode_utf8_all behind_gap) ≡ total
   pub to : token.to + length (encode_utf8_all rest) ≡ total
@@ -46,17 +45,6 @@ pub record StopsAt (at : ℕ) (P : List ℕ → Type 0) (text : List ℕ) : Type
 abbrev pub IsNoToken : List ℕ → Type 0
 IsNoToken text = (text ≢ []) × BeginsWithNone text
 
--- So far a name has to be a plain one: a token with another name isn't taken. (This record, `is_taken` and the field `taken`
--- go once every name is.)
-pub record HasOtherName (text : List ℕ) : Type 0 where
-  pub form : Form
-  pub rest : List ℕ
-  pub begins : BeginsWith text form rest
-  pub other : is_taken form ≡ false
-
-abbrev pub IsNotTaken : List ℕ → Type 0
-IsNotTaken text = IsNoToken text ⊎ HasOtherName text
-
 -- it begins with a number out of range
 pub record HasWideNumber (text : List ℕ) : Type 0 where
   pub form : Form
@@ -78,7 +66,7 @@ Lexes bytes tokens = IsTextWith (λ text. LexesAs text tokens) bytes
 abbrev pub LexFault : (bytes : List ℕ) → QueryFault → Type 0
 LexFault bytes (TooLarge what limit) = (what ≡ Text) × (limit ≡ 1048576) × (1048576 < length bytes)
 LexFault bytes (Utf8 at) = (length bytes ≤ 1048576) × IsValidUpTo bytes at
-LexFault bytes (Lex at) = IsTextWith (StopsAt at IsNotTaken) bytes
+LexFault bytes (Lex at) = IsTextWith (StopsAt at IsNoToken) bytes
 LexFault bytes (IntegerWide at) = IsTextWith (StopsAt at HasWideNumber) bytes
 LexFault bytes (Syntax at) = ⊥
 LexFault bytes (UnknownVar at) = ⊥

@@ -5,7 +5,7 @@ use Rattle.gcx_model.specs.declared.fault.QueryFault.{QueryFault}
 use Rattle.gcx_model.specs.declared.fault.QueryFault.TheVariants.{Utf8, Lex, Syntax, UnknownVar, TagMismatch, DescendantNotLast, IntegerWide, TooLarge, Memory}
 use Rattle.xq_lex.specs.declared.lexer.Step.{Step}
 use Rattle.xq_lex.specs.Gap.{HasGap}
-use Rattle.xq_lex.specs.Lex.{Reads, StopsAt, IsNotTaken, HasWideNumber}
+use Rattle.xq_lex.specs.Lex.{Reads, StopsAt, IsNoToken, HasWideNumber}
 
 -- the next token, and how many characters it and the gap before it have
 pub record IsNext (place : ℕ) (text : List ℕ) (step : Step) : Type 0 where
@@ -21,7 +21,7 @@ pub record IsStopAt (place : ℕ) (text : List ℕ) (at : ℕ) (P : List ℕ →
   pub stops : P behind
 
 abbrev pub IsStop : (place : ℕ) → List ℕ → QueryFault → Type 0
-IsStop place text (Lex at) = IsStopAt place text at IsNotTaken
+IsStop place text (Lex at) = IsStopAt place text at IsNoToken
 IsStop place text (IntegerWide at) = IsStopAt place text at HasWideNumber
 IsStop place text (Utf8 at) = ⊥
 IsStop place text (Syntax at) = ⊥
@@ -33,7 +33,7 @@ IsStop place text Memory = Unit {0}
 
 -- why the characters have no tokens
 abbrev pub IsStopped : List ℕ → QueryFault → Type 0
-IsStopped text (Lex at) = StopsAt at IsNotTaken text
+IsStopped text (Lex at) = StopsAt at IsNoToken text
 IsStopped text (IntegerWide at) = StopsAt at HasWideNumber text
 IsStopped text (Utf8 at) = ⊥
 IsStopped text (Syntax at) = ⊥

@@ -29,7 +29,10 @@ fn variable_at(alloc: Global, behind: &[char], place: u64) -> Result<Lexeme, Que
     ensures err { IfErr result (IsRefusal place (36 ∷ behind.now)) }
 {
     let chars = name_at(behind);
-    let name = name_of(alloc, chars, place)?;
+    if chars.is_empty() {
+        return Err(QueryFault::Lex(place));
+    }
+    let name = name_of(alloc, chars)?;
     Ok(Lexeme {
         kind: TokKind::Var(name),
         count: chars.len() + 1,
@@ -42,7 +45,7 @@ fn named_at(alloc: Global, text: &[char], place: u64) -> Result<Lexeme, QueryFau
     ensures err { IfErr result (IsRefusal place text.now) }
 {
     let chars = name_at(text);
-    let name = name_of(alloc, chars, place)?;
+    let name = name_of(alloc, chars)?;
     Ok(Lexeme {
         kind: TokKind::Name(name),
         count: chars.len(),

@@ -90,9 +90,7 @@ fn chars_of(alloc: Global, text: &str) -> Result<Vec<char>, Memory>
 /// at the first byte of the first bad sequence; else `Lex` exactly where no token begins at a
 /// character, also where a comment or a string that begins there isn't one, or `IntegerWide` exactly
 /// where a number that begins there is out of range: the digits before the point, with the sign,
-/// outside 64 bits, or more than 18 behind it. Of these two the first in the query comes. So far a
-/// name has to be a plain one, of ASCII letters, digits, `_`, `-` and `.`; any other is `Lex` where
-/// its token begins.
+/// outside 64 bits, or more than 18 behind it. Of these two the first in the query comes.
 pub fn lex(alloc: Global, text: &[u8]) -> Result<Tokens, QueryFault>
     ensures ok { IfOk result (Lexes text.now) }
     ensures in_order { IfOk result (AreInOrder text.now 0) }

@@ -1,14 +1,12 @@
 //! Names and variables.
-ghost use Rattle.std.specs.Prelude.{◌≡◌, ◌&&◌, ◌∷◌, true, not, string_bytes, IfOk, IfErr};
+ghost use Rattle.std.specs.Prelude.{◌≡◌, ◌&&◌, ◌∷◌, true, not, string_bytes, IfOk};
 ghost use Rattle.std.specs.Str.{encode_utf8_all};
-ghost use Rattle.gcx_base.specs.Name.{is_plain_name};
+ghost use Rattle.gcx_model.specs.Attributes.{is_name};
 ghost use Rattle.xq_lex.specs.Sign.{begins};
 ghost use Rattle.xq_lex.specs.Names.{is_pair, may_begin, may_go_on, name_at, parts_at};
-ghost use Rattle.xq_lex.specs.Answer.{IsRefusedName};
 
 use crate::sign::begins_with;
 use gcx_base::{Memory, Name, is_name_char, is_name_start};
-use gcx_model::QueryFault;
 use std::alloc::Global;
 
 #[tactic(auto, unfolding(crate::specs::Names::may_begin))]
@@ -75,15 +73,14 @@ pub(crate) fn text_of(alloc: Global, chars: &[char]) -> Result<String, Memory>
     Ok(text)
 }
 
-/// The name of these characters, of which the token stands at `place`.
-pub(crate) fn name_of(alloc: Global, chars: &[char], place: u64) -> Result<Name, QueryFault>
-    ensures name { IfOk result (λ name. name ≡ encode_utf8_all chars.now) }
-    ensures taken { IfOk result (λ _. is_plain_name (encode_utf8_all chars.now) ≡ true) }
-    ensures refused { IfErr result (IsRefusedName place (encode_utf8_all chars.now)) }
+/// The name of these characters.
+pub(crate) fn name_of(alloc: Global, chars: &[char]) -> Result<Name, Memory>
+    requires { is_name chars.now ≡ true }
+    ensures { IfOk result (λ name. name ≡ encode_utf8_all chars.now) }
 {
     let text = text_of(alloc, chars)?;
     match Name::from_bytes(alloc, text.as_bytes())? {
         Some(name) => Ok(name),
-        None => Err(QueryFault::Lex(place)),
+        None => unreachable!(),
     }
 }

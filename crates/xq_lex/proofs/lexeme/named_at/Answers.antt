@@ -1,14 +1,9 @@
 use Rattle.std.proofs.Common.{sym}
-use Rattle.std.specs.Str.{encode_utf8_all}
-use Rattle.std.proofs.lemmas.Result.{err_from_is_err_and}
-use Rattle.xq_lex.proofs.LexemeLaws.{refused_name, name_lexeme, name_other}
+use Rattle.xq_lex.proofs.LexemeLaws.{name_lexeme, named}
 use Rattle.xq_lex.proofs.lexeme.named_at.Goals as goal
 
-pub returns-in_err-name-clause-err : goal.returns-in_err-name-clause-err
-returns-in_err-name-clause-err c =
-    let p = err_from_is_err_and c.from_residual.result c.from_residual.ensures.1 in
-    rw (p.1, p.2) (refused_name c.args.place (encode_utf8_all c.name_at-chars.result.now) c.args.text.now c.in_err-name.field-0.0 c.in_err-name.ensures.refused
-      (λ h. name_other c.args.text.now c.name_at-chars.result.now c.requires (sym c.name_at-chars.ensures) h))
+pub name_of-requires : goal.name_of-requires
+name_of-requires c = named c.args.text.now c.name_at-chars.result.now c.requires (sym c.name_at-chars.ensures)
 
 pub returns-clause-ok : goal.returns-clause-ok
-returns-clause-ok c = name_lexeme c.args.text.now c.name_at-chars.result.now c.in_ok-name.name (sym c.name_at-chars.ensures) c.in_ok-name.ensures.name c.in_ok-name.ensures.taken
+returns-clause-ok c = name_lexeme c.args.text.now c.name_at-chars.result.now c.in_ok-name.name c.requires (sym c.name_at-chars.ensures) c.in_ok-name.ensures

@@ -1,14 +1,13 @@
-use Rattle.std.proofs.Common.{sym, ◌∷◌}
-use Rattle.std.specs.Str.{encode_utf8_all}
-use Rattle.std.proofs.lemmas.Result.{err_from_is_err_and}
-use Rattle.xq_lex.proofs.LexemeLaws.{refused_name, variable_lexeme, variable_other}
+use Rattle.std.proofs.Common.{refl, sym, ◌∷◌}
+use Rattle.xq_lex.proofs.LexemeLaws.{variable_lexeme, variable_named, no_variable_here}
 use Rattle.xq_lex.proofs.lexeme.variable_at.Goals as goal
 
-pub returns-in_err-name-clause-err : goal.returns-in_err-name-clause-err
-returns-in_err-name-clause-err c =
-    let p = err_from_is_err_and c.from_residual.result c.from_residual.ensures.1 in
-    rw (p.1, p.2) (refused_name c.args.place (encode_utf8_all c.name_at-chars.result.now) (36 ∷ c.args.behind.now) c.in_err-name.field-0.0 c.in_err-name.ensures.refused
-      (λ h. variable_other c.args.behind.now c.name_at-chars.result.now (sym c.name_at-chars.ensures) h))
+pub returns-then-is_empty-clause-err : goal.returns-then-is_empty-clause-err
+returns-then-is_empty-clause-err c = (refl, no_variable_here c.args.behind.now c.name_at-chars.result.now (sym c.name_at-chars.ensures) (sym c.if-is_empty.ensures))
+
+pub name_of-requires : goal.name_of-requires
+name_of-requires c = variable_named c.args.behind.now c.name_at-chars.result.now (sym c.name_at-chars.ensures) (sym c.if-is_empty.ensures)
 
 pub returns-clause-ok : goal.returns-clause-ok
-returns-clause-ok c = variable_lexeme c.args.behind.now c.name_at-chars.result.now c.in_ok-name.name (sym c.name_at-chars.ensures) c.in_ok-name.ensures.name c.in_ok-name.ensures.taken
+returns-clause-ok c =
+    variable_lexeme c.args.behind.now c.name_at-chars.result.now c.in_ok-name.name (sym c.name_at-chars.ensures) (sym c.if-is_empty.ensures) c.in_ok-name.ensures
