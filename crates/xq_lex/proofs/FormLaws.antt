@@ -36,12 +36,14 @@ name_short text chars rest other more e found good h =
     omega (arith, ap length e, ap length h, ap length same, length-append chars rest, length-append other more, length-append other (parts_at more))
 
 pub name_begins : (text : List ℕ) (d : ℕ) (ds : List ℕ) → name_at text ≡ d ∷ ds → (rest : List ℕ) × BeginsWith text (name (d ∷ ds)) rest
-name_begins text d ds found = (h.rest, record { chars = h.front; good = h.good; longest = λ other more e g. no_longer other more (record { chars = e; good = g; }); })
+name_begins text d ds found = (h.rest, record { chars = h.front; good = h.good; longest = λ other more e g. no_longer other more (record { chars = e; good = g }) })
   where
     h : HasName text (d ∷ ds)
     h = name_front text d ds found
+
     this : Begins text (name (d ∷ ds)) h.rest
-    this = record { chars = h.front; good = h.good; }
+    this = record { chars = h.front; good = h.good }
+
     no_longer : (other : Form) (more : List ℕ) → Begins text other more → length h.rest ≤ length more
     no_longer (name cs) more b = name_short text (d ∷ ds) h.rest cs more h.front found b.good b.chars
     no_longer (variable cs) more b = let k : of_name ≡ of_variable = same_kind text _ (variable cs) _ more this b in cc (k)
@@ -59,14 +61,17 @@ pub tails : (c d : ℕ) (x y : List ℕ) → c ∷ x ≡ d ∷ y → x ≡ y
 tails c d x y e = cc (e)
 
 pub variable_begins : (cs : List ℕ) (d : ℕ) (ds : List ℕ) → name_at cs ≡ d ∷ ds → (rest : List ℕ) × BeginsWith (36 ∷ cs) (variable (d ∷ ds)) rest
-variable_begins cs d ds found = (h.rest, record { chars = front; good = h.good; longest = λ other more e g. no_longer other more (record { chars = e; good = g; }); })
+variable_begins cs d ds found = (h.rest, record { chars = front; good = h.good; longest = λ other more e g. no_longer other more (record { chars = e; good = g }) })
   where
     h : HasName cs (d ∷ ds)
     h = name_front cs d ds found
+
     front : 36 ∷ cs ≡ 36 ∷ ((d ∷ ds) ++ h.rest)
     front = ap (λ x. 36 ∷ x) h.front
+
     this : Begins (36 ∷ cs) (variable (d ∷ ds)) h.rest
-    this = record { chars = front; good = h.good; }
+    this = record { chars = front; good = h.good }
+
     no_longer : (other : Form) (more : List ℕ) → Begins (36 ∷ cs) other more → length h.rest ≤ length more
     no_longer (name xs) more b = let k : of_variable ≡ of_name = same_kind (36 ∷ cs) _ (name xs) _ more this b in cc (k)
     no_longer (variable xs) more b = name_short cs (d ∷ ds) h.rest xs more h.front found b.good (tails 36 36 cs (xs ++ more) b.chars)
@@ -75,7 +80,7 @@ variable_begins cs d ds found = (h.rest, record { chars = front; good = h.good; 
     no_longer (sign s) more b = let k : of_variable ≡ of_sign = same_kind (36 ∷ cs) _ (sign s) _ more this b in cc (k)
 
 pub no_variable : (cs : List ℕ) → kind_at (36 ∷ cs) ≡ of_variable → name_at cs ≡ [] → BeginsWithNone (36 ∷ cs)
-no_variable cs kind none f rest e g = by f (record { chars = e; good = g; })
+no_variable cs kind none f rest e g = by f (record { chars = e; good = g })
   where
     by : (f : Form) → Begins (36 ∷ cs) f rest → ⊥
     by (name xs) b = let k : of_name ≡ of_variable = kind_here (36 ∷ cs) (name xs) rest of_variable kind b in cc (k)
@@ -139,19 +144,24 @@ number_begins minus text form found = record {
   is = h.is;
   digits = h.chars;
   good = h.good;
-  begins = record { chars = front; good = h.good; longest = λ other more e g. no_longer other more (record { chars = e; good = g; }); };
+  begins = record { chars = front; good = h.good; longest = λ other more e g. no_longer other more (record { chars = e; good = g }) };
 }
   where
     h : HasNumber text minus form
     h = unsigned_front minus text form found
+
     full : List ℕ
     full = minus_chars minus ++ text
+
     front : minus_chars minus ++ text ≡ number_chars minus h.whole h.fraction ++ h.rest
     front = ap (λ (x : List ℕ). minus_chars minus ++ x) h.chars ∙ sym (regroup minus h.whole h.fraction h.rest)
+
     this : Begins (minus_chars minus ++ text) (number minus h.whole h.fraction) h.rest
-    this = record { chars = front; good = h.good; }
+    this = record { chars = front; good = h.good }
+
     same : unsigned_at minus text ≡ Some (number minus h.whole h.fraction)
     same = found ∙ ap (λ (x : Form). Some x) h.is
+
     no_longer : (other : Form) (more : List ℕ) → Begins (minus_chars minus ++ text) other more → length h.rest ≤ length more
     no_longer (name xs) more b = let k : of_number ≡ of_name = same_kind (minus_chars minus ++ text) _ (name xs) _ more this b in cc (k)
     no_longer (variable xs) more b = let k : of_number ≡ of_variable = same_kind (minus_chars minus ++ text) _ (variable xs) _ more this b in cc (k)
@@ -177,7 +187,7 @@ none_of false false text w f rest unsigned none good e =
     none_longer false w f rest (subst (λ (o : Option Form). LongerNumber false w f rest o) (ap (unsigned_at false) (sym same) ∙ none) (number_longer false w f rest good))
 
 pub no_number : (minus : Bool) (text : List ℕ) → (minus ≡ false → begins 45 text ≡ false) → kind_at (minus_chars minus ++ text) ≡ of_number → unsigned_at minus text ≡ None → BeginsWithNone (minus_chars minus ++ text)
-no_number minus text unsigned kind none form rest e g = by form (record { chars = e; good = g; })
+no_number minus text unsigned kind none form rest e g = by form (record { chars = e; good = g })
   where
     by : (f : Form) → Begins (minus_chars minus ++ text) f rest → ⊥
     by (name xs) b = let k : of_name ≡ of_number = kind_here (minus_chars minus ++ text) (name xs) rest of_number kind b in cc (k)
@@ -195,14 +205,17 @@ longer_short text s t rest more e found h good =
     omega (arith, l.short, ap length same)
 
 pub sign_begins : (text : List ℕ) (s : Sign) → sign_at text ≡ Some s → (rest : List ℕ) × BeginsWith text (sign s) rest
-sign_begins text s found = (h.rest, record { chars = h.chars; good = good; longest = λ other more e g. no_longer other more (record { chars = e; good = g; }); })
+sign_begins text s found = (h.rest, record { chars = h.chars; good = good; longest = λ other more e g. no_longer other more (record { chars = e; good = g }) })
   where
     h : HasSign text s
     h = sign_front text s found
+
     good : opens_comment (sign_chars s ++ h.rest) ≡ false
     good = ap opens_comment (sym h.chars) ∙ h.good
+
     this : Begins text (sign s) h.rest
-    this = record { chars = h.chars; good = good; }
+    this = record { chars = h.chars; good = good }
+
     no_longer : (other : Form) (more : List ℕ) → Begins text other more → length h.rest ≤ length more
     no_longer (name xs) more b = let k : of_sign ≡ of_name = same_kind text _ (name xs) _ more this b in cc (k)
     no_longer (variable xs) more b = let k : of_sign ≡ of_variable = same_kind text _ (variable xs) _ more this b in cc (k)
@@ -211,7 +224,7 @@ sign_begins text s found = (h.rest, record { chars = h.chars; good = good; longe
     no_longer (sign t) more b = longer_short text s t h.rest more h.chars found b.chars b.good
 
 pub no_sign : (text : List ℕ) → kind_at text ≡ of_sign → sign_at text ≡ None → BeginsWithNone text
-no_sign text kind none form rest e g = by form (record { chars = e; good = g; })
+no_sign text kind none form rest e g = by form (record { chars = e; good = g })
   where
     by : (f : Form) → Begins text f rest → ⊥
     by (name xs) b = let k : of_name ≡ of_sign = kind_here text (name xs) rest of_sign kind b in cc (k)
@@ -229,17 +242,20 @@ pub string_of : (q p : ℕ) (cs : List ℕ) (ps : List Part) (rest : List ℕ) �
 string_of q p cs ps rest e good single = by q (heads q p _ _ e) e
   where
     by : (q : ℕ) → q ≡ p → q ∷ cs ≡ p ∷ parts_chars p ps (p ∷ rest) → HasString q cs ps rest
-    by q same e = subst (λ (x : ℕ). HasString x cs ps rest) (sym same) (record { good = good; chars = tails q p _ _ e; single = single; })
+    by q same e = subst (λ (x : ℕ). HasString x cs ps rest) (sym same) (record { good = good; chars = tails q p _ _ e; single = single })
 
 pub string_begins : (q : ℕ) (cs : List ℕ) (ps : List Part) (rest : List ℕ) → is_quote q ≡ true → HasString q cs ps rest → BeginsWith (q ∷ cs) (string q ps) rest
-string_begins q cs ps rest quote h = record { chars = front; good = good; longest = λ other more e g. no_longer other more (record { chars = e; good = g; }); }
+string_begins q cs ps rest quote h = record { chars = front; good = good; longest = λ other more e g. no_longer other more (record { chars = e; good = g }) }
   where
     front : q ∷ cs ≡ q ∷ parts_chars q ps (q ∷ rest)
     front = ap (λ x. q ∷ x) h.chars
+
     good : IsForm (string q ps) rest
     good = (quote, h.good, h.single)
+
     this : Begins (q ∷ cs) (string q ps) rest
-    this = record { chars = front; good = good; }
+    this = record { chars = front; good = good }
+
     no_longer : (other : Form) (more : List ℕ) → Begins (q ∷ cs) other more → length rest ≤ length more
     no_longer (name xs) more b = let k : of_string ≡ of_name = same_kind (q ∷ cs) _ (name xs) _ more this b in cc (k)
     no_longer (variable xs) more b = let k : of_string ≡ of_variable = same_kind (q ∷ cs) _ (variable xs) _ more this b in cc (k)
@@ -250,7 +266,7 @@ string_begins q cs ps rest quote h = record { chars = front; good = good; longes
     no_longer (sign s) more b = let k : of_string ≡ of_sign = same_kind (q ∷ cs) _ (sign s) _ more this b in cc (k)
 
 pub no_string : (q : ℕ) (cs : List ℕ) → kind_at (q ∷ cs) ≡ of_string → ((ps : List Part) (rest : List ℕ) → HasString q cs ps rest → ⊥) → BeginsWithNone (q ∷ cs)
-no_string q cs kind none form rest e g = by form (record { chars = e; good = g; })
+no_string q cs kind none form rest e g = by form (record { chars = e; good = g })
   where
     by : (f : Form) → Begins (q ∷ cs) f rest → ⊥
     by (name xs) b = let k : of_name ≡ of_string = kind_here (q ∷ cs) (name xs) rest of_string kind b in cc (k)

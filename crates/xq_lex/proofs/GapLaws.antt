@@ -125,7 +125,7 @@ pub comment_found : (text rest : List ℕ) → behind_comment 0 None text ≡ So
 comment_found text rest e = by (found text 0 None rest tt e)
   where
     by : Closes zero text rest → IsComment (40 ∷ 58 ∷ text) rest
-    by (inner, (inside, h)) = record { inner = inner; good = inside; chars = ap (λ (x : List ℕ). 40 ∷ 58 ∷ x) h; }
+    by (inner, (inside, h)) = record { inner = inner; good = inside; chars = ap (λ (x : List ℕ). 40 ∷ 58 ∷ x) h }
 
 tails : (c d : ℕ) (x y : List ℕ) → c ∷ x ≡ d ∷ y → x ≡ y
 tails c d x y e = cc (e)
@@ -168,27 +168,28 @@ pub more_gap : (text middle rest : List ℕ) → HasGapPart text middle → HasG
 more_gap text middle rest p g = by p.part
   where
     by : IsWhite text middle ⊎ IsComment text middle → HasGap text rest
-    by (inl w) = record { gap = white w.c g.gap; good = (w.good, g.good); chars = w.chars ∙ ap (λ (x : List ℕ). w.c ∷ x) g.chars; whole = g.whole; }
-    by (inr c) = record { gap = comment c.inner g.gap; good = (c.good, g.good); chars = c.chars ∙ ap (λ (x : List ℕ). 40 ∷ 58 ∷ closed_chars c.inner x) g.chars; whole = g.whole; }
+    by (inl w) = record { gap = white w.c g.gap; good = (w.good, g.good); chars = w.chars ∙ ap (λ (x : List ℕ). w.c ∷ x) g.chars; whole = g.whole }
+    by (inr c) = record { gap = comment c.inner g.gap; good = (c.good, g.good); chars = c.chars ∙ ap (λ (x : List ℕ). 40 ∷ 58 ∷ closed_chars c.inner x) g.chars; whole = g.whole }
 
 pub no_gap : (text : List ℕ) → EndsGap text → HasGap text text
-no_gap text e = record { gap = empty; good = tt; chars = refl; whole = e; }
+no_gap text e = record { gap = empty; good = tt; chars = refl; whole = e }
 
 -- ---- What is read of a gap.
 
 pub white_part : (c : ℕ) (text : List ℕ) → 0 < length text → get_or text 0 c ≡ c → is_white c ≡ true → HasGapPart text (drop 1 text)
 white_part c [] h e w = absurd (omega arith)
-white_part c (d ∷ ds) h e w = record { shorter = omega arith; part = inl (record { c = d; good = subst (λ (x : ℕ). is_white x ≡ true) (sym e) w; chars = refl; }); }
+white_part c (d ∷ ds) h e w = record { shorter = omega arith; part = inl (record { c = d; good = subst (λ (x : ℕ). is_white x ≡ true) (sym e) w; chars = refl }) }
 
 pub comment_part : (text inner : List ℕ) (len : ℕ) → text ≡ 40 ∷ 58 ∷ inner → len ≤ length inner → behind_comment 0 None inner ≡ Some (drop len inner) →
     (len + 2 ≤ length text) × HasGapPart text (drop (len + 2) text)
 comment_part text inner len e h found =
-    let left : drop (len + 2) text ≡ drop len inner = ap (λ (x : List ℕ). drop (len + 2) x) e ∙ (ap (λ n. drop n (40 ∷ 58 ∷ inner)) two ∙ refl) in
-    (omega (arith, ap length e),
-    record {
-      shorter = omega (arith, ap length e, ap length left, length-drop len inner);
-      part = inr (subst (λ (x : List ℕ). IsComment text x) (sym left) (subst (λ (x : List ℕ). IsComment x (drop len inner)) (sym e) (comment_found inner (drop len inner) found)));
-    })
+    let left : drop (len + 2) text ≡ drop len inner = ap (λ (x : List ℕ). drop (len + 2) x) e ∙ (ap (λ n. drop n (40 ∷ 58 ∷ inner)) two ∙ refl) in (
+      omega (arith, ap length e),
+      record {
+        shorter = omega (arith, ap length e, ap length left, length-drop len inner);
+        part = inr (subst (λ (x : List ℕ). IsComment text x) (sym left) (subst (λ (x : List ℕ). IsComment x (drop len inner)) (sym e) (comment_found inner (drop len inner) found)));
+      },
+    )
   where
     two : len + 2 ≡ suc (suc len)
     two = omega arith
@@ -197,7 +198,7 @@ no_white_no_comment : (text : List ℕ) → opens_comment text ≡ false → (in
 no_white_no_comment text none inner rest good e = true≢false (ap opens_comment (sym e) ∙ none)
 
 pub gap_ends : (text : List ℕ) → begins_white text ≡ false → opens_comment text ≡ false → EndsGap text
-gap_ends text w o = record { no_white = w; no_comment = no_white_no_comment text o; }
+gap_ends text w o = record { no_white = w; no_comment = no_white_no_comment text o }
 
 pub unclosed : (text inner : List ℕ) → text ≡ 40 ∷ 58 ∷ inner → behind_comment 0 None inner ≡ None → EndsGap text
 unclosed text inner e none = record {

@@ -46,8 +46,8 @@ next_is place text gap count kind from to within g e h l = record {
     first = gap_size gap text place from e
 
 pub stop_is : (place : ℕ) (text : List ℕ) (gap from : ℕ) (fault : QueryFault) → HasGap text (drop gap text) → from ≡ place + length (encode_utf8_all (take gap text)) → IsRefusal from (drop gap text) fault → IsStop place text fault
-stop_is place text gap from (Lex at) g e r = record { behind = drop gap text; gap = g; place_is = gap_size gap text place at (r.0 ∙ e); stops = r.1; }
-stop_is place text gap from (IntegerWide at) g e r = record { behind = drop gap text; gap = g; place_is = gap_size gap text place at (r.0 ∙ e); stops = r.1; }
+stop_is place text gap from (Lex at) g e r = record { behind = drop gap text; gap = g; place_is = gap_size gap text place at (r.0 ∙ e); stops = r.1 }
+stop_is place text gap from (IntegerWide at) g e r = record { behind = drop gap text; gap = g; place_is = gap_size gap text place at (r.0 ∙ e); stops = r.1 }
 stop_is place text gap from (Utf8 at) g e r = absurd r
 stop_is place text gap from (Syntax at) g e r = absurd r
 stop_is place text gap from (UnknownVar at) g e r = absurd r
@@ -63,15 +63,15 @@ pub record ReadsTo (text : List ℕ) (tokens : List Tok) (count place : ℕ) : T
   pub place_is : place + length (encode_utf8_all (drop count text)) ≡ length (encode_utf8_all text)
 
 pub reads_nothing : (text : List ℕ) → ReadsTo text [] 0 0
-reads_nothing text = record { reads = refl; within = omega arith; place_is = omega arith; }
+reads_nothing text = record { reads = refl; within = omega arith; place_is = omega arith }
 
 pub reads_next : (text : List ℕ) (tokens : List Tok) (count place : ℕ) (step : Step) → ReadsTo text tokens count place → IsNext place (drop count text) step → ReadsTo text (tokens ++ step.token ∷ []) (count + step.count) step.token.to
 reads_next text tokens count place step r n =
     let left : drop step.count (drop count text) ≡ drop (count + step.count) text = drop-drop step.count count text in
     let total : place + length (encode_utf8_all (drop count text)) ≡ length (encode_utf8_all text) = r.place_is in
     let here : Reads (length (encode_utf8_all text)) (drop count text) step.token (drop (count + step.count) text) =
-        subst (λ (x : List ℕ). Reads (length (encode_utf8_all text)) (drop count text) step.token x) left
-        (subst (λ (x : ℕ). Reads x (drop count text) step.token (drop step.count (drop count text))) total n.reads) in
+    subst (λ (x : List ℕ). Reads (length (encode_utf8_all text)) (drop count text) step.token x) left
+    (subst (λ (x : ℕ). Reads x (drop count text) step.token (drop step.count (drop count text))) total n.reads) in
     record {
       reads = reads_on (length (encode_utf8_all text)) text tokens step.token (drop count text) (drop (count + step.count) text) r.reads here;
       within = omega (arith, n.within, r.within, length-drop count text);
@@ -79,7 +79,7 @@ reads_next text tokens count place step r n =
     }
 
 pub lexes_to : (text : List ℕ) (tokens : List Tok) (count place : ℕ) → ReadsTo text tokens count place → HasGap (drop count text) [] → LexesAs text tokens
-lexes_to text tokens count place r g = record { rest = drop count text; reads = r.reads; gap = g; }
+lexes_to text tokens count place r g = record { rest = drop count text; reads = r.reads; gap = g }
 
 stopped : (text : List ℕ) (tokens : List Tok) (count place at : ℕ) (P : List ℕ → Type 0) → ReadsTo text tokens count place → IsStopAt place (drop count text) at P → StopsAt at P text
 stopped text tokens count place at P r s = record {
@@ -105,8 +105,8 @@ stops_to text tokens count place Memory r s = tt
 
 -- of the characters and of the bytes
 pub fault_of : (bytes : List ℕ) (fault : QueryFault) → length bytes ≤ 1048576 → IsUtf8 bytes → IsStopped (chars bytes) fault → UnlessMemory (LexFault bytes) fault
-fault_of bytes (Lex at) h u s = record { short = h; utf8 = u; holds = s; }
-fault_of bytes (IntegerWide at) h u s = record { short = h; utf8 = u; holds = s; }
+fault_of bytes (Lex at) h u s = record { short = h; utf8 = u; holds = s }
+fault_of bytes (IntegerWide at) h u s = record { short = h; utf8 = u; holds = s }
 fault_of bytes (Utf8 at) h u s = absurd s
 fault_of bytes (Syntax at) h u s = absurd s
 fault_of bytes (UnknownVar at) h u s = absurd s

@@ -118,20 +118,20 @@ kind_some (c ∷ cs) k e some h = cc (h)
 
 -- ---- Variables
 
-pub variable_lexeme : (cs n : List ℕ) (bytes : List ℕ) → name_at cs ≡ n → (length n == 0) ≡ false → bytes ≡ encode_utf8_all n → IsLexeme (36 ∷ cs) (kinds.Var bytes) (length n + 1)
-variable_lexeme cs [] bytes e some is = absurd (true≢false some)
+pub variable_lexeme : (cs n : List ℕ) (bytes : List ℕ) → name_at cs ≡ n → 0 < length n → bytes ≡ encode_utf8_all n → IsLexeme (36 ∷ cs) (kinds.Var bytes) (length n + 1)
+variable_lexeme cs [] bytes e some is = absurd (omega arith)
 variable_lexeme cs (d ∷ ds) bytes e some is =
     let b : (rest : List ℕ) × BeginsWith (36 ∷ cs) (variable (d ∷ ds)) rest = variable_begins cs d ds e in
     lexeme_of (36 ∷ cs) (variable (d ∷ ds)) b.0 (kinds.Var bytes) (length (d ∷ ds) + 1) b.1 refl (ap kinds.Var is)
     (omega (arith, count_left (36 ∷ cs) (36 ∷ d ∷ ds) b.0 b.1.chars))
 
-pub variable_named : (cs n : List ℕ) → name_at cs ≡ n → (length n == 0) ≡ false → is_name n ≡ true
-variable_named cs [] e some = absurd (true≢false some)
+pub variable_named : (cs n : List ℕ) → name_at cs ≡ n → 0 < length n → is_name n ≡ true
+variable_named cs [] e some = absurd (omega arith)
 variable_named cs (d ∷ ds) e some = found_named cs d ds e
 
-pub no_variable_here : (cs n : List ℕ) → name_at cs ≡ n → (length n == 0) ≡ true → IsNoToken (36 ∷ cs)
+pub no_variable_here : (cs n : List ℕ) → name_at cs ≡ n → length n ≡ 0 → IsNoToken (36 ∷ cs)
 no_variable_here cs [] e none = (some_text 36 cs, no_variable cs (variable_kind cs) e)
-no_variable_here cs (d ∷ ds) e none = absurd (false≢true none)
+no_variable_here cs (d ∷ ds) e none = absurd (omega arith)
 
 -- ---- Numbers
 
@@ -143,13 +143,13 @@ pub record ReadsNumber (text whole behind fraction rest : List ℕ) : Type 0 whe
   pub fraction_is : fraction ≡ fraction_at behind
   pub rest_is : behind ≡ fraction_chars fraction ++ rest
 
-nonzero : (n : ℕ) → (n == 0) ≡ false → 0 < n
+pub nonzero : (n : ℕ) → (n == 0) ≡ false → 0 < n
 nonzero zero e = cc (e)
 nonzero (suc n) e = omega arith
 
 pub reads_of : (text whole behind fraction rest : List ℕ) → whole ≡ digits_at text → behind ≡ drop (length (digits_at text)) text → (length whole == 0) ≡ false → fraction ≡ fraction_at behind →
     behind ≡ fraction_chars fraction ++ rest → ReadsNumber text whole behind fraction rest
-reads_of text whole behind fraction rest w b some f r = record { whole_is = w; behind_is = b; some = nonzero (length whole) some; fraction_is = f; rest_is = r; }
+reads_of text whole behind fraction rest w b some f r = record { whole_is = w; behind_is = b; some = nonzero (length whole) some; fraction_is = f; rest_is = r }
 
 from_some : (minus : Bool) (digits behind : List ℕ) → 0 < length digits → number_from minus digits behind ≡ Some (number minus digits (fraction_at behind))
 from_some minus [] behind h = absurd (omega arith)
@@ -167,10 +167,11 @@ pub record TheNumber (minus : Bool) (text whole fraction rest : List ℕ) : Type
 
 the_number : (minus : Bool) (text whole fraction : List ℕ) → BeginsNumber text minus (number minus whole fraction) → (rest : List ℕ) × TheNumber minus text whole fraction rest
 the_number minus text whole fraction b =
-    let parts : (whole ≡ b.whole) × (fraction ≡ b.fraction) = number_parts minus whole fraction b.whole b.fraction (ap (λ (f : Form). Some f) b.is) in
-    (b.rest,
-     subst (λ (x : List ℕ). TheNumber minus text x fraction b.rest) (sym parts.0)
-     (subst (λ (x : List ℕ). TheNumber minus text b.whole x b.rest) (sym parts.1) (record { begins = b.begins; chars = b.digits; })))
+    let parts : (whole ≡ b.whole) × (fraction ≡ b.fraction) = number_parts minus whole fraction b.whole b.fraction (ap (λ (f : Form). Some f) b.is) in (
+      b.rest,
+      subst (λ (x : List ℕ). TheNumber minus text x fraction b.rest) (sym parts.0)
+          (subst (λ (x : List ℕ). TheNumber minus text b.whole x b.rest) (sym parts.1) (record { begins = b.begins; chars = b.digits })),
+    )
 
 reads_number : (minus : Bool) (text whole behind fraction rest : List ℕ) → ReadsNumber text whole behind fraction rest → (tail : List ℕ) × TheNumber minus text whole fraction tail
 reads_number minus text whole behind fraction rest r =
@@ -180,8 +181,18 @@ number_count : (minus : Bool) (text whole behind fraction rest tail : List ℕ) 
     length (minus_chars minus) + (length text - length rest) + length tail ≡ length (minus_chars minus ++ text)
 number_count minus text whole behind fraction rest tail r e =
     let front : text ≡ digits_at text ++ behind = (digits_front text).chars ∙ ap (λ (x : List ℕ). digits_at text ++ x) (sym r.behind_is) in
-    omega (arith, length-append (minus_chars minus) text, ap length e, length-append whole (fraction_chars fraction ++ tail), length-append (fraction_chars fraction) tail,
-      ap length front, length-append (digits_at text) behind, ap length r.whole_is, ap length r.rest_is, length-append (fraction_chars fraction) rest)
+    omega (
+      arith,
+      length-append (minus_chars minus) text,
+      ap length e,
+      length-append whole (fraction_chars fraction ++ tail),
+      length-append (fraction_chars fraction) tail,
+      ap length front,
+      length-append (digits_at text) behind,
+      ap length r.whole_is,
+      ap length r.rest_is,
+      length-append (fraction_chars fraction) rest,
+    )
 
 pub number_is : (minus : Bool) (text whole behind fraction rest : List ℕ) (units : ℤ) → ReadsNumber text whole behind fraction rest → is_wide minus whole fraction ≡ false → units ≡ units_of minus whole fraction →
     IsLexeme (minus_chars minus ++ text) (kinds.Number units) (length (minus_chars minus) + (length text - length rest))
@@ -196,7 +207,7 @@ pub number_is_wide : (minus : Bool) (text whole behind fraction rest : List ℕ)
 number_is_wide minus text whole behind fraction rest r wide = by (reads_number minus text whole behind fraction rest r)
   where
     by : (tail : List ℕ) × TheNumber minus text whole fraction tail → HasWideNumber (minus_chars minus ++ text)
-    by (tail, n) = record { form = number minus whole fraction; rest = tail; begins = n.begins; wide = wide; }
+    by (tail, n) = record { form = number minus whole fraction; rest = tail; begins = n.begins; wide = wide }
 
 no_digits_from : (minus : Bool) (text whole : List ℕ) → whole ≡ digits_at text → length whole ≡ 0 → unsigned_at minus text ≡ None
 no_digits_from minus text [] is e = ap (λ (x : List ℕ). number_from minus x (drop (length (digits_at text)) text)) (sym is)

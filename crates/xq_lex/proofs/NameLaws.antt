@@ -96,10 +96,10 @@ parts_step c cs true e f = record {
   chars = ap (λ x. c ∷ x) f.chars;
   good = and_from (may_go c (parts_at cs ++ f.rest)) (are_parts (parts_at cs) f.rest) (subst (λ (x : List ℕ). may_go c x ≡ true) f.chars e) f.good;
 }
-parts_step c cs false e f = record { rest = c ∷ cs; chars = refl; good = refl; }
+parts_step c cs false e f = record { rest = c ∷ cs; chars = refl; good = refl }
 
 pub parts_front : (text : List ℕ) → IsFront text (parts_at text)
-parts_front [] = record { rest = []; chars = refl; good = refl; }
+parts_front [] = record { rest = []; chars = refl; good = refl }
 parts_front (c ∷ cs) = parts_step c cs (may_go c cs) refl (parts_front cs)
 
 -- what is found is a name, and begins the text
@@ -112,7 +112,7 @@ name_found : (c : ℕ) (cs : List ℕ) (d : ℕ) (ds found : List ℕ) → may_b
 name_found c cs d ds found starts f e =
     let g : IsFront (c ∷ cs) (d ∷ ds) = subst (λ (x : List ℕ). IsFront (c ∷ cs) x) e f in
     let same : c ≡ d = cc (g.chars) in
-    record { rest = g.rest; front = g.chars; good = name_from d ds g.rest (subst (λ (x : ℕ). may_begin x ≡ true) same starts) g.good; }
+    record { rest = g.rest; front = g.chars; good = name_from d ds g.rest (subst (λ (x : ℕ). may_begin x ≡ true) same starts) g.good }
 
 name_step : (c : ℕ) (cs : List ℕ) (d : ℕ) (ds : List ℕ) (b : Bool) → may_begin c ≡ b → cond b (parts_at (c ∷ cs)) [] ≡ d ∷ ds → HasName (c ∷ cs) (d ∷ ds)
 name_step c cs d ds true starts e = name_found c cs d ds (parts_at (c ∷ cs)) starts (parts_front (c ∷ cs)) e
@@ -135,7 +135,7 @@ found_named text d ds e = let h : HasName text (d ∷ ds) = name_front text d ds
 
 -- and its bytes are those of one
 pub name_bytes : (chars : List ℕ) → is_name chars ≡ true → IsNameBytes (encode_utf8_all chars)
-name_bytes chars name = record { chars = chars; name = name; parts = refl; }
+name_bytes chars name = record { chars = chars; name = name; parts = refl }
 
 name_case : (a b d e : Bool) → cond a of_variable (cond b of_string (cond d of_number (cond e of_name of_sign))) ≡ of_name → e ≡ true
 name_case true b d e k = cc (k)

@@ -17,11 +17,11 @@ pub record HasDigits (text digits rest : List ℕ) : Type 0 where
 
 digits_step : (c : ℕ) (cs : List ℕ) (b : Bool) → is_digit c ≡ b → HasDigits cs (digits_at cs) (drop (length (digits_at cs)) cs) →
     let found = cond b (c ∷ digits_at cs) [] in HasDigits (c ∷ cs) found (drop (length found) (c ∷ cs))
-digits_step c cs true e h = record { chars = ap (λ x. c ∷ x) h.chars; good = and_from (is_digit c) (list_all is_digit (digits_at cs)) e h.good; }
-digits_step c cs false e h = record { chars = refl; good = refl; }
+digits_step c cs true e h = record { chars = ap (λ x. c ∷ x) h.chars; good = and_from (is_digit c) (list_all is_digit (digits_at cs)) e h.good }
+digits_step c cs false e h = record { chars = refl; good = refl }
 
 pub digits_front : (text : List ℕ) → HasDigits text (digits_at text) (drop (length (digits_at text)) text)
-digits_front [] = record { chars = refl; good = refl; }
+digits_front [] = record { chars = refl; good = refl }
 digits_front (c ∷ cs) = digits_step c cs (is_digit c) refl (digits_front cs)
 
 -- all digits are found, and then more
@@ -38,15 +38,15 @@ pub record HasFraction (text fraction : List ℕ) : Type 0 where
   pub good : list_all is_digit fraction ≡ true
 
 point_step : (c : ℕ) (cs found : List ℕ) → c ≡ 46 → HasDigits cs found (drop (length found) cs) → HasFraction (c ∷ cs) found
-point_step c cs [] e h = record { rest = c ∷ cs; chars = refl; good = refl; }
-point_step c cs (d ∷ ds) e h = record { rest = drop (length (d ∷ ds)) cs; chars = ap (λ (x : ℕ). x ∷ cs) e ∙ ap (λ x. 46 ∷ x) h.chars; good = h.good; }
+point_step c cs [] e h = record { rest = c ∷ cs; chars = refl; good = refl }
+point_step c cs (d ∷ ds) e h = record { rest = drop (length (d ∷ ds)) cs; chars = ap (λ (x : ℕ). x ∷ cs) e ∙ ap (λ x. 46 ∷ x) h.chars; good = h.good }
 
 fraction_step : (c : ℕ) (cs : List ℕ) (b : Bool) → (c == 46) ≡ b → HasFraction (c ∷ cs) (cond b (digits_at cs) [])
 fraction_step c cs true e = point_step c cs (digits_at cs) (eqb-true c 46 e) (digits_front cs)
-fraction_step c cs false e = record { rest = c ∷ cs; chars = refl; good = refl; }
+fraction_step c cs false e = record { rest = c ∷ cs; chars = refl; good = refl }
 
 pub fraction_front : (text : List ℕ) → HasFraction text (fraction_at text)
-fraction_front [] = record { rest = []; chars = refl; good = refl; }
+fraction_front [] = record { rest = []; chars = refl; good = refl }
 fraction_front (c ∷ cs) = fraction_step c cs (c == 46) refl
 
 -- The number that is found begins the text.
@@ -105,7 +105,7 @@ longer_whole : (minus : Bool) (d : ℕ) (ds more rest behind fraction : List ℕ
 longer_whole minus d ds more rest behind fraction h f =
     let chars : (d ∷ ds) ++ rest ≡ (d ∷ (ds ++ more)) ++ (fraction_chars fraction ++ f.rest) = h.chars ∙ ap (λ (x : List ℕ). (d ∷ (ds ++ more)) ++ x) f.chars in
     let count : length ds + length rest ≡ length ds + length more + (length (fraction_chars fraction) + length f.rest) =
-        omega (arith, ap length chars, length-append ds rest, length-append (ds ++ more) (fraction_chars fraction ++ f.rest), length-append ds more, length-append (fraction_chars fraction) f.rest) in
+    omega (arith, ap length chars, length-append ds rest, length-append (ds ++ more) (fraction_chars fraction ++ f.rest), length-append ds more, length-append (fraction_chars fraction) f.rest) in
     record {
       whole' = d ∷ (ds ++ more);
       fraction' = fraction;
@@ -115,9 +115,9 @@ longer_whole minus d ds more rest behind fraction h f =
       good = and_from (is_numeral (d ∷ (ds ++ more))) (list_all is_digit fraction) (numeral d (ds ++ more) h.good) f.good;
       short = omega arith;
       same = λ e.
-        let none : length more ≡ 0 = omega arith in
-        let none' : length (fraction_chars fraction) ≡ 0 = omega arith in
-        ap (λ (x : List ℕ). number minus (d ∷ x) []) (sym (nothing_more ds more none)) ∙ ap (λ (x : List ℕ). number minus (d ∷ (ds ++ more)) x) (sym (no_fraction_chars fraction none'));
+          let none : length more ≡ 0 = omega arith in
+          let none' : length (fraction_chars fraction) ≡ 0 = omega arith in
+          ap (λ (x : List ℕ). number minus (d ∷ x) []) (sym (nothing_more ds more none)) ∙ ap (λ (x : List ℕ). number minus (d ∷ (ds ++ more)) x) (sym (no_fraction_chars fraction none'));
     }
 
 -- with one
@@ -160,7 +160,7 @@ number_longer minus (d ∷ ds) (f ∷ fs) rest good =
     (subst (λ (x : List ℕ). LongerNumber minus (d ∷ ds) (f ∷ fs) rest (Some (number minus (d ∷ ds) (fraction_at x)))) (sym left)
     (subst (λ (x : List ℕ). LongerNumber minus (d ∷ ds) (f ∷ fs) rest (Some (number minus (d ∷ ds) x))) (sym fraction)
     (longer_fraction minus d ds f fs (digits_at rest) rest (drop (length (digits_at rest)) rest)
-      (and_from (is_numeral (d ∷ ds)) (list_all is_digit (f ∷ (fs ++ digits_at rest))) both.0 all) (digits_front rest).chars)))
+    (and_from (is_numeral (d ∷ ds)) (list_all is_digit (f ∷ (fs ++ digits_at rest))) both.0 all) (digits_front rest).chars)))
 
 -- the digits are as many as were counted
 pub counted_digits : (text : List ℕ) (len : ℕ) → len ≡ length (digits_at text) → take len text ≡ digits_at text

@@ -99,24 +99,24 @@ signs_same text t u r s a b = record {
 names_same : (text c d r s : List ℕ) → BeginsWith text (name c) r → BeginsWith text (name d) s → SameForm (name c) (name d) r s
 names_same text c d r s a b =
     let same : (c ≡ d) × (r ≡ s) = append_same c d r s (sym a.chars ∙ b.chars) (as_long text (name c) (name d) r s a b) in
-    record { form = ap name same.0; rest = same.1; }
+    record { form = ap name same.0; rest = same.1 }
 
 variables_same : (text c d r s : List ℕ) → BeginsWith text (variable c) r → BeginsWith text (variable d) s → SameForm (variable c) (variable d) r s
 variables_same text c d r s a b =
     let same : (c ≡ d) × (r ≡ s) = append_same c d r s (tails 36 36 (c ++ r) (d ++ s) (sym a.chars ∙ b.chars)) (as_long text (variable c) (variable d) r s a b) in
-    record { form = ap variable same.0; rest = same.1; }
+    record { form = ap variable same.0; rest = same.1 }
 
 strings_same : (text : List ℕ) (p q : ℕ) (ps qs : List Part) (r s : List ℕ) → BeginsWith text (string p ps) r → BeginsWith text (string q qs) s → SameForm (string p ps) (string q qs) r s
 strings_same text p q ps qs r s a b =
     let all : p ∷ parts_chars p ps (p ∷ r) ≡ q ∷ parts_chars q qs (q ∷ s) = sym a.chars ∙ b.chars in
     let quote : p ≡ q = heads p q _ _ all in
-    let own : HasString p (parts_chars p ps (p ∷ r)) ps r = record { good = a.good.1; chars = refl; single = a.good.2; } in
+    let own : HasString p (parts_chars p ps (p ∷ r)) ps r = record { good = a.good.1; chars = refl; single = a.good.2 } in
     let other : HasString p (parts_chars p ps (p ∷ r)) qs s = string_of p q (parts_chars p ps (p ∷ r)) qs s all b.good.1 b.good.2 in
     let same : SameParts ps qs (p ∷ r) (p ∷ s) = string_same p (parts_chars p ps (p ∷ r)) ps qs r s a.good.0 own other in
-    record { form = (λ i. string (quote i) (same.parts i)); rest = tails p p r s same.rest; }
+    record { form = (λ i. string (quote i) (same.parts i)); rest = tails p p r s same.rest }
 
 as_begins : (text : List ℕ) (f : Form) (r : List ℕ) → BeginsWith text f r → Begins text f r
-as_begins text f r a = record { chars = a.chars; good = a.good; }
+as_begins text f r a = record { chars = a.chars; good = a.good }
 
 pub begins_same : (text : List ℕ) (f g : Form) (r s : List ℕ) → BeginsWith text f r → BeginsWith text g s → SameForm f g r s
 begins_same text (name c) (name d) r s a b = names_same text c d r s a b
@@ -148,7 +148,7 @@ begins_same text (sign t) (sign u) r s a b = signs_same text t u r s a b
 -- ---- Tokens
 
 tok_same : (t u : Tok) → t.kind ≡ u.kind → t.from ≡ u.from → t.to ≡ u.to → t ≡ u
-tok_same t u k f e = λ i. record { kind = k i; from = f i; to = e i; }
+tok_same t u k f e = λ i. record { kind = k i; from = f i; to = e i }
 
 sum_same : (a b n total : ℕ) → a + n ≡ total → b + n ≡ total → a ≡ b
 sum_same a b n total p q = omega arith
@@ -163,8 +163,8 @@ reads_same total text t u r s a b =
     let form : SameForm a.form b.form r s = begins_same b.behind_gap a.form b.form r s (subst (λ (x : List ℕ). BeginsWith x a.form r) gap a.begins) b.begins in
     record {
       token = tok_same t u (a.kind ∙ (ap kind_of form.form ∙ sym b.kind))
-        (sum_same t.from u.from (length (encode_utf8_all b.behind_gap)) total (ap (λ (x : List ℕ). t.from + length (encode_utf8_all x)) (sym gap) ∙ a.from) b.from)
-        (sum_same t.to u.to (length (encode_utf8_all s)) total (ap (λ (x : List ℕ). t.to + length (encode_utf8_all x)) (sym form.rest) ∙ a.to) b.to);
+          (sum_same t.from u.from (length (encode_utf8_all b.behind_gap)) total (ap (λ (x : List ℕ). t.from + length (encode_utf8_all x)) (sym gap) ∙ a.from) b.from)
+          (sum_same t.to u.to (length (encode_utf8_all s)) total (ap (λ (x : List ℕ). t.to + length (encode_utf8_all x)) (sym form.rest) ∙ a.to) b.to);
       rest = form.rest;
     }
 
@@ -173,7 +173,7 @@ pub record SameFront (ts us : List Tok) (r s : List ℕ) : Type 0 where
   pub rest : r ≡ s
 
 fronts_same : (total : ℕ) (ts us : List Tok) (text r s : List ℕ) → ReadsAll total text ts r → ((t : Tok) (more : List ℕ) → Reads total r t more → ⊥) → ReadsAll total text us s → ((t : Tok) (more : List ℕ) → Reads total s t more → ⊥) → SameFront ts us r s
-fronts_same total [] [] text r s a p b q = record { tokens = refl; rest = sym a ∙ b; }
+fronts_same total [] [] text r s a p b q = record { tokens = refl; rest = sym a ∙ b }
 fronts_same total [] (u ∷ us) text r s a p (middle, (one, b)) q = absurd (p u middle (subst (λ (x : List ℕ). Reads total x u middle) a one))
 fronts_same total (t ∷ ts) [] text r s (middle, (one, a)) p b q = absurd (q t middle (subst (λ (x : List ℕ). Reads total x t middle) b one))
 fronts_same total (t ∷ ts) (u ∷ us) text r s (m, (one, a)) p (n, (two, b)) q =
@@ -181,7 +181,7 @@ fronts_same total (t ∷ ts) (u ∷ us) text r s (m, (one, a)) p (n, (two, b)) q
     let more : SameFront ts us r s = fronts_same total ts us n r s (subst (λ (x : List ℕ). ReadsAll total x ts r) first.rest a) p b q in
     let token : t ≡ u = first.token in
     let tokens : ts ≡ us = more.tokens in
-    record { tokens = cc (token, tokens); rest = more.rest; }
+    record { tokens = cc (token, tokens); rest = more.rest }
 
 -- ---- What ends the tokens
 
@@ -225,7 +225,7 @@ lexes_or_stops : (P : List ℕ → Type 0) → ((text : List ℕ) (f : Form) (r 
     (text : List ℕ) (ts : List Tok) (at : ℕ) → LexesAs text ts → StopsAt at P text → ⊥
 lexes_or_stops P refuses some text ts at a b =
     let same : SameFront ts b.tokens a.rest b.rest =
-        fronts_same (length (encode_utf8_all text)) ts b.tokens text a.rest b.rest a.reads (gap_ends_all _ a.rest a.gap) b.reads (stop_ends P refuses _ b.rest b.behind_gap b.gap b.stops) in
+    fronts_same (length (encode_utf8_all text)) ts b.tokens text a.rest b.rest a.reads (gap_ends_all _ a.rest a.gap) b.reads (stop_ends P refuses _ b.rest b.behind_gap b.gap b.stops) in
     some b.behind_gap b.stops (one_gap b.rest b.behind_gap [] b.gap (subst (λ (x : List ℕ). HasGap x []) same.rest a.gap))
 
 record SameStop (at at' : ℕ) (behind behind' : List ℕ) : Type 0 where
@@ -237,7 +237,7 @@ stops_once : (P Q : List ℕ → Type 0) → ((text : List ℕ) (f : Form) (r : 
     (text : List ℕ) (at at' : ℕ) (a : StopsAt at P text) (b : StopsAt at' Q text) → SameStop at at' a.behind_gap b.behind_gap
 stops_once P Q p q text at at' a b =
     let same : SameFront a.tokens b.tokens a.rest b.rest =
-        fronts_same (length (encode_utf8_all text)) a.tokens b.tokens text a.rest b.rest a.reads (stop_ends P p _ a.rest a.behind_gap a.gap a.stops) b.reads (stop_ends Q q _ b.rest b.behind_gap b.gap b.stops) in
+    fronts_same (length (encode_utf8_all text)) a.tokens b.tokens text a.rest b.rest a.reads (stop_ends P p _ a.rest a.behind_gap a.gap a.stops) b.reads (stop_ends Q q _ b.rest b.behind_gap b.gap b.stops) in
     let gap : a.behind_gap ≡ b.behind_gap = one_gap b.rest a.behind_gap b.behind_gap (subst (λ (x : List ℕ). HasGap x a.behind_gap) same.rest a.gap) b.gap in
     record {
       place = sum_same at at' (length (encode_utf8_all b.behind_gap)) (length (encode_utf8_all text)) (ap (λ (x : List ℕ). at + length (encode_utf8_all x)) (sym gap) ∙ a.place) b.place;

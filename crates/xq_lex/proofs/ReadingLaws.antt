@@ -5,7 +5,7 @@ use Rattle.std.specs.Str.{encode_utf8_all}
 use Rattle.std.proofs.lemmas.Bool.{true≢false, false≢true}
 use Rattle.std.proofs.lemmas.List.{drop-drop, take-append-drop, append_cancel_left}
 use Rattle.gcx_base.specs.Characters.{is_char}
-use Rattle.doc_chars.specs.Reference.{Refers, lt, GoesOn, NeverRefers}
+use Rattle.doc_chars.specs.Reference.{Refers, lt, BeginsReference, NeverRefers}
 use Rattle.xq_lex.specs.Sign.{begins}
 use Rattle.xq_lex.specs.Strings.{Part, plain, doubled, reference, is_quote, part_chars, IsPart, part_value, parts_chars, AreParts, parts_value, BeginsWithNoPart, HasString}
 use Rattle.xq_lex.specs.Reading.{HasReference, BeginsWithNoReference, HasPart, ReadsValue, HasValue, BeginsWithNoString}
@@ -15,11 +15,11 @@ use Rattle.xq_lex.proofs.Encoding.{take_more, encode_more}
 
 -- ---- References
 
-pub starts : GoesOn []
-starts = record { next = 108; more = 116 ∷ 59 ∷ []; c = 60; refers = lt refl refl; }
+pub starts : BeginsReference []
+starts = record { next = 108; more = 116 ∷ 59 ∷ []; c = 60; refers = lt refl refl }
 
 -- what goes on hasn't ended before
-goes_none : (read t r : List ℕ) (c : ℕ) → GoesOn read → read ≡ t ++ r → Refers t c → ⊥
+goes_none : (read t r : List ℕ) (c : ℕ) → BeginsReference read → read ≡ t ++ r → Refers t c → ⊥
 goes_none read t r c g e h =
     let whole : (read ++ g.next ∷ g.more) ++ [] ≡ t ++ (r ++ g.next ∷ g.more) = append-nil (read ++ g.next ∷ g.more) ∙ (ap (λ (x : List ℕ). x ++ g.next ∷ g.more) e ∙ append_assoc t r (g.next ∷ g.more)) in
     let same : read ++ g.next ∷ g.more ≡ t = (reference_same (read ++ g.next ∷ g.more) t g.c c [] (r ++ g.next ∷ g.more) g.refers h whole).0 in
@@ -46,7 +46,7 @@ nested (x ∷ a) [] r s e = longer (x ∷ a) refl
 nested (x ∷ a) (y ∷ b) r s e = with_head x y a b (heads x y _ _ e) (nested a b r s (tails x y _ _ e))
 
 -- the text is what was read, then a character, with which no reference begins any more
-pub never : (text read : List ℕ) (c : ℕ) (rest : List ℕ) → text ≡ read ++ c ∷ rest → GoesOn read → NeverRefers (read ++ c ∷ []) → BeginsWithNoReference text
+pub never : (text read : List ℕ) (c : ℕ) (rest : List ℕ) → text ≡ read ++ c ∷ rest → BeginsReference read → NeverRefers (read ++ c ∷ []) → BeginsWithNoReference text
 never text read c rest e g bad t r v h same = by (nested read t (c ∷ rest) r (sym e ∙ same))
   where
     -- the reference is longer than what was read
@@ -56,28 +56,29 @@ never text read c rest e g bad t r v h same = by (nested read t (c ∷ rest) r (
         let first : c ≡ d = sym (heads d c (m ++ r) rest n) in
         let here : t ≡ (read ++ c ∷ []) ++ m = k ∙ (ap (λ (x : ℕ). read ++ x ∷ m) (sym first) ∙ sym (append_assoc read (c ∷ []) m)) in
         bad m v (subst (λ (x : List ℕ). Refers x v) here h)
+
     by : Nested read t → ⊥
     by (longer m k) = goes_none read t m v g k h
     by (shorter m k) = behind m k (append_cancel_left read (m ++ r) (c ∷ rest) (sym (append_assoc read m r) ∙ (ap (λ (x : List ℕ). x ++ r) (sym k) ∙ (sym same ∙ e))))
 
 -- all was read, and a reference goes on
-pub never_ended : (text : List ℕ) → GoesOn text → BeginsWithNoReference text
+pub never_ended : (text : List ℕ) → BeginsReference text → BeginsWithNoReference text
 never_ended text g t r v h same = goes_none text t r v g same h
 
 from_drop : (text : List ℕ) (i c : ℕ) → i < length text → c ≡ get_or text i c → text ≡ take i text ++ c ∷ drop (i + 1) text
 from_drop text i c h e =
     sym (take-append-drop (i + 1) text) ∙ (ap (λ (x : List ℕ). x ++ drop (i + 1) text) (take_more text i c h e) ∙ append_assoc (take i text) (c ∷ []) (drop (i + 1) text))
 
-pub never_at : (text : List ℕ) (i c : ℕ) → i < length text → c ≡ get_or text i c → GoesOn (take i text) → NeverRefers (take i text ++ c ∷ []) → BeginsWithNoReference text
+pub never_at : (text : List ℕ) (i c : ℕ) → i < length text → c ≡ get_or text i c → BeginsReference (take i text) → NeverRefers (take i text ++ c ∷ []) → BeginsWithNoReference text
 never_at text i c h e g bad = never text (take i text) c (drop (i + 1) text) (from_drop text i c h e) g bad
 
 pub done_at : (text : List ℕ) (i c v : ℕ) → i < length text → c ≡ get_or text i c → Refers (take i text ++ c ∷ []) v → HasReference text v (i + 1)
-done_at text i c v h e r = record { refers = subst (λ (x : List ℕ). Refers x v) (sym (take_more text i c h e)) r; within = omega arith; }
+done_at text i c v h e r = record { refers = subst (λ (x : List ℕ). Refers x v) (sym (take_more text i c h e)) r; within = omega arith }
 
 -- ---- Parts
 
 pub plain_part : (q c : ℕ) (text rest : List ℕ) → text ≡ c ∷ rest → is_char c ≡ true → (c == q) ≡ false → (c == 38) ≡ false → HasPart q text c 1
-plain_part q c text rest e good n a = subst (λ (x : List ℕ). HasPart q x c 1) (sym e) (record { part = plain c; good = (good, n, a); chars = refl; value_is = refl; some = omega arith; within = omega arith; })
+plain_part q c text rest e good n a = subst (λ (x : List ℕ). HasPart q x c 1) (sym e) (record { part = plain c; good = (good, n, a); chars = refl; value_is = refl; some = omega arith; within = omega arith })
 
 begins_is : (q : ℕ) (rest : List ℕ) → begins q rest ≡ true → (more : List ℕ) × (rest ≡ q ∷ more)
 begins_is q [] e = cc (e)
@@ -87,7 +88,7 @@ pub doubled_part : (q c : ℕ) (text rest : List ℕ) → text ≡ c ∷ rest �
 doubled_part q c text rest e same b =
     let more : (more : List ℕ) × (rest ≡ q ∷ more) = begins_is q rest b in
     let all : text ≡ q ∷ q ∷ more.0 = e ∙ (ap (λ (x : ℕ). x ∷ rest) (eqb-true c q same) ∙ ap (λ (x : List ℕ). q ∷ x) more.1) in
-    subst (λ (x : List ℕ). HasPart q x q 2) (sym all) (record { part = doubled; good = tt; chars = refl; value_is = refl; some = omega arith; within = omega arith; })
+    subst (λ (x : List ℕ). HasPart q x q 2) (sym all) (record { part = doubled; good = tt; chars = refl; value_is = refl; some = omega arith; within = omega arith })
 
 pub reference_part : (q c v n : ℕ) (text rest : List ℕ) → text ≡ c ∷ rest → (c == 38) ≡ true → HasReference rest v n → HasPart q text v (n + 1)
 reference_part q c v n text rest e same r =
@@ -129,20 +130,20 @@ no_part_other q c text rest e n a bad (reference t v) more g h = differ c 38 res
 -- ---- Strings
 
 pub reads_none : (q : ℕ) (text : List ℕ) (bytes : List ℕ) → bytes ≡ [] → ReadsValue q text bytes 0
-reads_none q text bytes e = record { parts = []; good = tt; chars = refl; value = e; within = omega arith; }
+reads_none q text bytes e = record { parts = []; good = tt; chars = refl; value = e; within = omega arith }
 
 pub reads_on : (q : ℕ) (text old bytes : List ℕ) (count value n : ℕ) → ReadsValue q text old count → HasPart q (drop count text) value n → bytes ≡ old ++ encode_utf8 value → ReadsValue q text bytes (count + n)
 reads_on q text old bytes count value n r p e =
     let here : drop count text ≡ part_chars q p.part (drop (count + n) text) = p.chars ∙ ap (λ (x : List ℕ). part_chars q p.part x) (drop-drop n count text) in
     let more : ReadsParts q text (r.parts ++ p.part ∷ []) (drop (count + n) text) =
-        reads_more q text r.parts p.part (drop count text) (drop (count + n) text) (record { good = r.good; chars = r.chars; }) p.good here in
+    reads_more q text r.parts p.part (drop count text) (drop (count + n) text) (record { good = r.good; chars = r.chars }) p.good here in
     record {
       parts = r.parts ++ p.part ∷ [];
       good = more.good;
       chars = more.chars;
       value = e ∙ (ap (λ (x : List ℕ). x ++ encode_utf8 value) r.value
-        ∙ (sym (encode_more (parts_value q r.parts) value)
-        ∙ ap encode_utf8_all (ap (λ (x : ℕ). parts_value q r.parts ++ x ∷ []) (sym p.value_is) ∙ sym (value-append q r.parts p.part))));
+          ∙ (sym (encode_more (parts_value q r.parts) value)
+          ∙ ap encode_utf8_all (ap (λ (x : ℕ). parts_value q r.parts ++ x ∷ []) (sym p.value_is) ∙ sym (value-append q r.parts p.part))));
       within = omega (arith, p.within, r.within, length-drop count text);
     }
 

@@ -70,13 +70,13 @@ decimal_value (d ∷ ds) c n =
     cond-false (d == 120) (number 16 ds) (number 10 (d ∷ ds)) (other d 120 10 digit refl) ∙ n.value
 
 body_of : (text : List ℕ) (c : ℕ) → Refers text c → HasBody text c
-body_of text c (lt e v) = record { body = 108 ∷ 116 ∷ []; is = e; free = refl; value = sym v; }
-body_of text c (gt e v) = record { body = 103 ∷ 116 ∷ []; is = e; free = refl; value = sym v; }
-body_of text c (amp e v) = record { body = 97 ∷ 109 ∷ 112 ∷ []; is = e; free = refl; value = sym v; }
-body_of text c (apos e v) = record { body = 97 ∷ 112 ∷ 111 ∷ 115 ∷ []; is = e; free = refl; value = sym v; }
-body_of text c (quot e v) = record { body = 113 ∷ 117 ∷ 111 ∷ 116 ∷ []; is = e; free = refl; value = sym v; }
-body_of text c (decimal ds n e) = record { body = 35 ∷ ds; is = e; free = digits_free 10 ds refl n.are; value = decimal_value ds c n; }
-body_of text c (hexadecimal ds n e) = record { body = 35 ∷ 120 ∷ ds; is = e; free = digits_free 16 ds refl n.are; value = n.value; }
+body_of text c (lt e v) = record { body = 108 ∷ 116 ∷ []; is = e; free = refl; value = sym v }
+body_of text c (gt e v) = record { body = 103 ∷ 116 ∷ []; is = e; free = refl; value = sym v }
+body_of text c (amp e v) = record { body = 97 ∷ 109 ∷ 112 ∷ []; is = e; free = refl; value = sym v }
+body_of text c (apos e v) = record { body = 97 ∷ 112 ∷ 111 ∷ 115 ∷ []; is = e; free = refl; value = sym v }
+body_of text c (quot e v) = record { body = 113 ∷ 117 ∷ 111 ∷ 116 ∷ []; is = e; free = refl; value = sym v }
+body_of text c (decimal ds n e) = record { body = 35 ∷ ds; is = e; free = digits_free 10 ds refl n.are; value = decimal_value ds c n }
+body_of text c (hexadecimal ds n e) = record { body = 35 ∷ 120 ∷ ds; is = e; free = digits_free 16 ds refl n.are; value = n.value }
 
 whole : (s body r : List ℕ) → s ≡ body ++ 59 ∷ [] → s ++ r ≡ body ++ 59 ∷ r
 whole s body r e = ap (λ (x : List ℕ). x ++ r) e ∙ append_assoc body (59 ∷ []) r

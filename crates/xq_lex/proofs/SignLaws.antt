@@ -22,7 +22,7 @@ begins_with c (d ∷ ds) e = (ds, ap (λ (x : ℕ). x ∷ ds) (eqb-true d c e))
 one : (c d : ℕ) (cs : List ℕ) (s : Sign) → (c == d) ≡ true → sign_chars s ≡ d ∷ [] → opens_comment (d ∷ cs) ≡ false → HasSign (c ∷ cs) s
 one c d cs s e is good =
     let same : c ≡ d = eqb-true c d e in
-    record { rest = cs; chars = ap (λ (x : ℕ). x ∷ cs) same ∙ ap (λ (x : List ℕ). x ++ cs) (sym is); good = subst (λ (x : ℕ). opens_comment (x ∷ cs) ≡ false) (sym same) good; }
+    record { rest = cs; chars = ap (λ (x : ℕ). x ∷ cs) same ∙ ap (λ (x : List ℕ). x ++ cs) (sym is); good = subst (λ (x : ℕ). opens_comment (x ∷ cs) ≡ false) (sym same) good }
 
 two : (c d e : ℕ) (cs : List ℕ) (s : Sign) → c ≡ d → begins e cs ≡ true → sign_chars s ≡ d ∷ e ∷ [] → opens_comment (d ∷ cs) ≡ false → HasSign (c ∷ cs) s
 two c d e cs s same next is good =
@@ -38,16 +38,16 @@ slash_front c cs e =
     cond_both (begins 47 cs) SlashSlash (cond (begins 62 cs) EmptyEnd Slash) (λ s. HasSign (c ∷ cs) s)
     (λ h. two c 47 47 cs SlashSlash (eqb-true c 47 e) h refl refl)
     (λ _. cond_both (begins 62 cs) EmptyEnd Slash (λ s. HasSign (c ∷ cs) s)
-      (λ h. two c 47 62 cs EmptyEnd (eqb-true c 47 e) h refl refl)
-      (λ _. one c 47 cs Slash e refl refl))
+    (λ h. two c 47 62 cs EmptyEnd (eqb-true c 47 e) h refl refl)
+    (λ _. one c 47 cs Slash e refl refl))
 
 less_front : (c : ℕ) (cs : List ℕ) → (c == 60) ≡ true → HasSign (c ∷ cs) (less_at cs)
 less_front c cs e =
     cond_both (begins 61 cs) Le (cond (begins 47 cs) EndTag Lt) (λ s. HasSign (c ∷ cs) s)
     (λ h. two c 60 61 cs Le (eqb-true c 60 e) h refl refl)
     (λ _. cond_both (begins 47 cs) EndTag Lt (λ s. HasSign (c ∷ cs) s)
-      (λ h. two c 60 47 cs EndTag (eqb-true c 60 e) h refl refl)
-      (λ _. one c 60 cs Lt e refl refl))
+    (λ h. two c 60 47 cs EndTag (eqb-true c 60 e) h refl refl)
+    (λ _. one c 60 cs Lt e refl refl))
 
 paren : (c : ℕ) (cs : List ℕ) → ((c == 40) && not (begins 58 cs)) ≡ true → HasSign (c ∷ cs) ParenOpen
 paren c cs e =
@@ -95,7 +95,7 @@ IsLonger text None s rest = ⊥
 IsLonger text (Some found) s rest = Longer text found s rest
 
 it : (s : Sign) (rest : List ℕ) → Longer (sign_chars s ++ rest) s s rest
-it s rest = record { tail = rest; chars = refl; short = omega arith; same = λ _. refl; }
+it s rest = record { tail = rest; chars = refl; short = omega arith; same = λ _. refl }
 
 -- a sign of one character behind which another might stand
 more : (c e : ℕ) (s t : Sign) (rest : List ℕ) → begins e rest ≡ true → sign_chars t ≡ c ∷ e ∷ [] → Longer (c ∷ rest) t s rest
@@ -113,14 +113,14 @@ longer_slash rest =
     cond_both (begins 47 rest) SlashSlash (cond (begins 62 rest) EmptyEnd Slash) (λ s. Longer (47 ∷ rest) s Slash rest)
     (λ h. more 47 47 Slash SlashSlash rest h refl)
     (λ _. cond_both (begins 62 rest) EmptyEnd Slash (λ s. Longer (47 ∷ rest) s Slash rest)
-      (λ h. more 47 62 Slash EmptyEnd rest h refl) (λ _. it Slash rest))
+    (λ h. more 47 62 Slash EmptyEnd rest h refl) (λ _. it Slash rest))
 
 longer_less : (rest : List ℕ) → Longer (60 ∷ rest) (less_at rest) Lt rest
 longer_less rest =
     cond_both (begins 61 rest) Le (cond (begins 47 rest) EndTag Lt) (λ s. Longer (60 ∷ rest) s Lt rest)
     (λ h. more 60 61 Lt Le rest h refl)
     (λ _. cond_both (begins 47 rest) EndTag Lt (λ s. Longer (60 ∷ rest) s Lt rest)
-      (λ h. more 60 47 Lt EndTag rest h refl) (λ _. it Lt rest))
+    (λ h. more 60 47 Lt EndTag rest h refl) (λ _. it Lt rest))
 
 longer_greater : (rest : List ℕ) → IsLonger (62 ∷ rest) (cond (begins 61 rest) (Some Ge) (Some Gt)) Gt rest
 longer_greater rest =

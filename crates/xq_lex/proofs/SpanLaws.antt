@@ -12,6 +12,8 @@ use Rattle.xq_lex.specs.Gap.{Inside, nothing, char, nested, closed_chars, Gap, e
 use Rattle.xq_lex.specs.Lex.{Reads, ReadsAll, LexesAs, IsTextWith, Lexes, LexFault, HasOnlyTokens, HasOnlyFault, HasSpan, AreInOrder}
 use Rattle.xq_lex.specs.Answer.{UnlessMemory}
 use Rattle.xq_lex.proofs.LexemeLaws.{form_front, form_some}
+use Rattle.xq_lex.specs.Steps.{IsStopped}
+use Rattle.xq_lex.proofs.LexLaws.{fault_of}
 use Rattle.xq_lex.proofs.OneReading.{tokens_once, tokens_or_fault, fault_once}
 
 closed_front : (inner : Inside) (x rest : List ℕ) → closed_chars inner (x ++ rest) ≡ closed_chars inner x ++ rest
@@ -36,7 +38,7 @@ size-append a b = ap length (encodes-append a b) ∙ length-append (encode_utf8_
 part_bytes : (a f r : List ℕ) (from to : ℕ) → from ≡ size a → to ≡ size a + size f → slice_range (encode_utf8_all (a ++ (f ++ r))) from to ≡ encode_utf8_all f
 part_bytes a f r from to e h =
     let all : encode_utf8_all (a ++ (f ++ r)) ≡ encode_utf8_all a ++ (encode_utf8_all f ++ encode_utf8_all r) =
-        encodes-append a (f ++ r) ∙ ap (λ (x : List ℕ). encode_utf8_all a ++ x) (encodes-append f r) in
+    encodes-append a (f ++ r) ∙ ap (λ (x : List ℕ). encode_utf8_all a ++ x) (encodes-append f r) in
     let count : to - from ≡ size f = omega arith in
     (λ i. take (count i) (drop (e i) (all i)))
     ∙ (ap (λ (x : List ℕ). take (size f) x) (drop-append_seam (encode_utf8_all a) (encode_utf8_all f ++ encode_utf8_all r))
@@ -67,16 +69,22 @@ stands whole before text rest t e r = record {
   where
     gap : List ℕ
     gap = gap_chars r.gap.gap []
+
     form : List ℕ
     form = form_chars r.form []
+
     behind : r.behind_gap ≡ form ++ rest
     behind = r.begins.chars ∙ form_front r.form rest
+
     parts : whole ≡ (before ++ gap) ++ (form ++ rest)
     parts = e ∙ (ap (λ (x : List ℕ). before ++ x) (r.gap.chars ∙ (gap_front r.gap.gap r.behind_gap ∙ ap (λ (x : List ℕ). gap ++ x) behind)) ∙ sym (append_assoc before gap (form ++ rest)))
+
     total : size whole ≡ size (before ++ gap) + (size form + size rest)
     total = ap size parts ∙ (size-append (before ++ gap) (form ++ rest) ∙ ap (λ n. size (before ++ gap) + n) (size-append form rest))
+
     from : t.from ≡ size (before ++ gap)
     from = omega (arith, r.from, total, ap size behind, size-append form rest)
+
     to : t.to ≡ size (before ++ gap) + size form
     to = omega (arith, r.to, total)
 
@@ -91,10 +99,10 @@ tokens_in_order bytes ts l =
     subst (λ (x : List ℕ). AreInOrder x 0 ts) (encodes-chars bytes l.utf8) (in_order (chars bytes) [] (chars bytes) l.holds.rest ts refl l.holds.reads)
 
 pub only_tokens : (bytes : List ℕ) (ts : List Tok) → Lexes bytes ts → HasOnlyTokens bytes ts
-only_tokens bytes ts l = record { once = λ others o. tokens_once bytes others ts o l; no_fault = λ fault f. tokens_or_fault bytes ts fault l f; }
+only_tokens bytes ts l = record { once = λ others o. tokens_once bytes others ts o l; no_fault = λ fault f. tokens_or_fault bytes ts fault l f }
 
 pub only_fault : (bytes : List ℕ) (fault : QueryFault) → LexFault bytes fault → HasOnlyFault bytes fault
-only_fault bytes fault f = record { once = λ other o. fault_once bytes other fault o f; no_tokens = λ ts l. tokens_or_fault bytes ts fault l f; }
+only_fault bytes fault f = record { once = λ other o. fault_once bytes other fault o f; no_tokens = λ ts l. tokens_or_fault bytes ts fault l f }
 
 pub only_unless : (bytes : List ℕ) (fault : QueryFault) → UnlessMemory (LexFault bytes) fault → UnlessMemory (HasOnlyFault bytes) fault
 only_unless bytes (TooLarge what limit) f = only_fault bytes (TooLarge what limit) f
@@ -106,3 +114,10 @@ only_unless bytes (UnknownVar at) f = absurd f
 only_unless bytes (TagMismatch at) f = absurd f
 only_unless bytes (DescendantNotLast at) f = absurd f
 only_unless bytes Memory f = tt
+
+-- of the bytes, where these are their characters
+pub lexes_bytes : (bytes cs : List ℕ) (ts : List Tok) → length bytes ≤ 1048576 → IsUtf8 bytes → cs ≡ chars bytes → LexesAs cs ts → Lexes bytes ts
+lexes_bytes bytes cs ts h u e l = record { short = h; utf8 = u; holds = subst (λ (x : List ℕ). LexesAs x ts) e l }
+
+pub only_stopped : (bytes cs : List ℕ) (fault : QueryFault) → length bytes ≤ 1048576 → IsUtf8 bytes → cs ≡ chars bytes → IsStopped cs fault → UnlessMemory (HasOnlyFault bytes) fault
+only_stopped bytes cs fault h u e s = only_unless bytes fault (fault_of bytes fault h u (subst (λ (x : List ℕ). IsStopped x fault) e s))

@@ -24,17 +24,17 @@ pub record SamePart (p s : Part) (x y : List ℕ) : Type 0 where
   pub rest : x ≡ y
 
 part_same : (q : ℕ) (p s : Part) (x y : List ℕ) → is_quote q ≡ true → IsPart q p → IsPart q s → part_chars q p x ≡ part_chars q s y → SamePart p s x y
-part_same q (plain c) (plain d) x y h g k e = record { part = ap plain (heads c d x y e); rest = tails c d x y e; }
+part_same q (plain c) (plain d) x y h g k e = record { part = ap plain (heads c d x y e); rest = tails c d x y e }
 part_same q (plain c) doubled x y h g k e = differ c q x (q ∷ y) g.1 e
 part_same q (plain c) (reference t d) x y h g k e = differ c 38 x (t ++ y) g.2 e
 part_same q doubled (plain d) x y h g k e = differ d q y (q ∷ x) k.1 (sym e)
-part_same q doubled doubled x y h g k e = record { part = refl; rest = tails q q x y (tails q q (q ∷ x) (q ∷ y) e); }
+part_same q doubled doubled x y h g k e = record { part = refl; rest = tails q q x y (tails q q (q ∷ x) (q ∷ y) e) }
 part_same q doubled (reference t d) x y h g k e = not_ampersand q (q ∷ x) (t ++ y) h e
 part_same q (reference t c) (plain d) x y h g k e = differ d 38 y (t ++ x) k.2 (sym e)
 part_same q (reference t c) doubled x y h g k e = not_ampersand q (q ∷ y) (t ++ x) h (sym e)
 part_same q (reference t c) (reference s d) x y h g k e =
     let same : (t ≡ s) × (c ≡ d) × (x ≡ y) = reference_same t s c d x y g k (tails 38 38 (t ++ x) (s ++ y) e) in
-    record { part = cc (same.0, same.1); rest = same.2; }
+    record { part = cc (same.0, same.1); rest = same.2 }
 
 -- a single delimiter begins no part
 delimiter : {X : Type 0} (q : ℕ) (p : Part) (x rest : List ℕ) → is_quote q ≡ true → IsPart q p → begins q rest ≡ false → part_chars q p x ≡ q ∷ rest → X
@@ -51,7 +51,7 @@ pub record SameParts (ps ss : List Part) (x y : List ℕ) : Type 0 where
 -- parts that go on to no part are all that a string of the text has
 pub parts_only : (q : ℕ) (ps ss : List Part) (x rest : List ℕ) → is_quote q ≡ true → AreParts q ps → BeginsWithNoPart q x → AreParts q ss → begins q rest ≡ false →
     parts_chars q ps x ≡ parts_chars q ss (q ∷ rest) → SameParts ps ss x (q ∷ rest)
-parts_only q [] [] x rest h g n k b e = record { parts = refl; rest = e; }
+parts_only q [] [] x rest h g n k b e = record { parts = refl; rest = e }
 parts_only q [] (s ∷ ss) x rest h g n k b e = absurd (n s (parts_chars q ss (q ∷ rest)) k.0 e)
 parts_only q (p ∷ ps) [] x rest h g n k b e = delimiter q p (parts_chars q ps x) rest h g.0 b e
 parts_only q (p ∷ ps) (s ∷ ss) x rest h g n k b e =
@@ -59,7 +59,7 @@ parts_only q (p ∷ ps) (s ∷ ss) x rest h g n k b e =
     let more : SameParts ps ss x (q ∷ rest) = parts_only q ps ss x rest h g.1 n k.1 b one.rest in
     let first : p ≡ s = one.part in
     let others : ps ≡ ss = more.parts in
-    record { parts = cc (first, others); rest = more.rest; }
+    record { parts = cc (first, others); rest = more.rest }
 
 pub no_part : (q : ℕ) (rest : List ℕ) → is_quote q ≡ true → begins q rest ≡ false → BeginsWithNoPart q (q ∷ rest)
 no_part q rest h b p x g e = delimiter q p x rest h g b (sym e)

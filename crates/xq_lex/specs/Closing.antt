@@ -26,9 +26,9 @@ abbrev pub behind_comment : (depth : ℕ) (before : Option ℕ) → List ℕ →
 behind_comment depth before [] = None
 behind_comment depth before (c ∷ cs) =
     if is_char c then
-      if opens before c then behind_comment (suc depth) None cs
-      else if closes before c then closing depth cs (λ d. behind_comment d None cs)
-      else behind_comment depth (Some c) cs
+    if opens before c then behind_comment (suc depth) None cs
+    else if closes before c then closing depth cs (λ d. behind_comment d None cs)
+    else behind_comment depth (Some c) cs
     else None
 
 -- a character of white space or a comment, and then `rest`

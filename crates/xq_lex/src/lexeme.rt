@@ -106,7 +106,13 @@ fn sign_len(sign: Sign) -> usize
     ensures { result ≡ length (sign_chars sign) }
 {
     match sign {
-        Sign::SlashSlash | Sign::Axis | Sign::Ne | Sign::Le | Sign::Ge | Sign::EndTag | Sign::EmptyEnd => 2,
+        Sign::SlashSlash
+        | Sign::Axis
+        | Sign::Ne
+        | Sign::Le
+        | Sign::Ge
+        | Sign::EndTag
+        | Sign::EmptyEnd => 2,
         _ => 1,
     }
 }

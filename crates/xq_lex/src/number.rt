@@ -105,7 +105,8 @@ pub(crate) fn units_of(minus: bool, whole: &[char], fraction: &[char]) -> Option
     if number > most_of(minus) || fraction.len() > PLACES {
         return None;
     }
-    let size = u128::from(number) * 10u128.pow(PLACES as u32) + u128::from(fraction_units(fraction));
+    let size = u128::from(number) * 10u128.pow(PLACES as u32)
+        + u128::from(fraction_units(fraction));
     let size = size as i128;
     Some(if minus { -size } else { size })
 }

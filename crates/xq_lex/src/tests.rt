@@ -39,7 +39,7 @@ fn told(alloc: Global, text: &[u8]) -> Result<String, AllocError> {
 
 #[test]
 fn names_and_signs(rt: HostRuntime) -> Result<(), Fail> {
-    let table: [(&[u8], &str); 24] = [
+    let table: [(&[u8], &str); 26] = [
         (b"", ""),
         (b" \t\r\n", ""),
         (b"/a/b", "Slash[0-1]name a[1-2]Slash[2-3]name b[3-4]"),
@@ -65,6 +65,8 @@ fn names_and_signs(rt: HostRuntime) -> Result<(), Fail> {
         (b"a \x01", "Lex(2)"),
         (b"a\xEF\xBF\xBE", "Lex(1)"),
         (b"a\xFF", "Utf8(1)"),
+        (b"/a\xFF/b", "Utf8(2)"),
+        (b"<a/>", "Lt[0-1]name a[1-2]EmptyEnd[2-4]"),
         (b"; \xC3", "Utf8(2)"),
         (b"\"\xED\xA0\x80", "Utf8(1)"),
     ];
@@ -76,18 +78,37 @@ fn names_and_signs(rt: HostRuntime) -> Result<(), Fail> {
 
 #[test]
 fn numbers(rt: HostRuntime) -> Result<(), Fail> {
-    let table: [(&[u8], &str); 19] = [
+    let table: [(&[u8], &str); 23] = [
+        (b"-1", "number -1000000000000000000[0-2]"),
+        (b"1.5", "number 1500000000000000000[0-3]"),
+        (b"--1", "Lex(0)"),
+        (b"1-", "Lex(1)"),
         (b"-0", "number 0[0-2]"),
-        (b"3-4", "number 3000000000000000000[0-1]number -4000000000000000000[1-3]"),
+        (
+            b"3-4",
+            "number 3000000000000000000[0-1]number -4000000000000000000[1-3]",
+        ),
         (b"3.25", "number 3250000000000000000[0-4]"),
-        (b"00000000000000000000000000001", "number 1000000000000000000[0-29]"),
+        (
+            b"00000000000000000000000000001",
+            "number 1000000000000000000[0-29]",
+        ),
         (b"0.123456789012345678", "number 123456789012345678[0-20]"),
         (b"0.1234567890123456789", "IntegerWide(0)"),
         (b"1.0000000000000000000", "IntegerWide(0)"),
-        (b"9223372036854775807", "number 9223372036854775807000000000000000000[0-19]"),
+        (
+            b"9223372036854775807",
+            "number 9223372036854775807000000000000000000[0-19]",
+        ),
         (b"9223372036854775808", "IntegerWide(0)"),
-        (b"-9223372036854775808", "number -9223372036854775808000000000000000000[0-20]"),
-        (b"-9223372036854775808.5", "number -9223372036854775808500000000000000000[0-22]"),
+        (
+            b"-9223372036854775808",
+            "number -9223372036854775808000000000000000000[0-20]",
+        ),
+        (
+            b"-9223372036854775808.5",
+            "number -9223372036854775808500000000000000000[0-22]",
+        ),
         (b" -9223372036854775809", "IntegerWide(1)"),
         (b"99999999999999999999999999", "IntegerWide(0)"),
         (b"- 3", "Lex(0)"),
@@ -135,15 +156,17 @@ fn strings(rt: HostRuntime) -> Result<(), Fail> {
 
 #[test]
 fn comments(rt: HostRuntime) -> Result<(), Fail> {
-    let table: [(&[u8], &str); 16] = [
+    let table: [(&[u8], &str); 18] = [
         (b"(: a :)b", "name b[7-8]"),
+        (b"(:(:):)", "Lex(0)"),
+        (b"(:(:):):)a", "name a[9-10]"),
         (b"a(::)b", "name a[0-1]name b[5-6]"),
         (b"(:(: :):)", ""),
         (b"(:::)", ""),
         (b"((:(:)", "Lex(1)"),
         (b"(:\xC3\xA9:)a", "name a[6-7]"),
         (b"(: ( : ) :)a", "name a[11-12]"),
-        (b"( :", "Lex(2)"),
+        (b"( :", "ParenOpen[0-1]name :[2-3]"),
         (b"(:)", "Lex(0)"),
         (b"(:(:)", "Lex(0)"),
         (b"(:(: :)", "Lex(0)"),
@@ -169,22 +192,52 @@ fn a_query_has_a_limit(rt: HostRuntime) -> Result<(), Fail> {
     Ok(())
 }
 
-/// So far names are plain: ASCII without a colon, of at most 1,024 bytes.
 #[test]
-fn other_names_are_refused_where_they_begin(rt: HostRuntime) -> Result<(), Fail> {
-    let alloc = rt.alloc();
-    let table: [(&[u8], &str); 6] = [
-        (b"a \xC3\xA9", "Lex(2)"),
-        (b"a \xC3\xA9.b", "Lex(2)"),
-        (b"$a:b", "Lex(0)"),
-        (b"a:b", "Lex(0)"),
-        (b"a :::b", "Lex(4)"),
-        (b"\xEF\xBB\xBFa", "Lex(0)"),
+fn a_name_may_have_any_script_and_single_colons(rt: HostRuntime) -> Result<(), Fail> {
+    let table: [(&[u8], &str); 22] = [
+        (b"a:b", "name a:b[0-3]"),
+        (b"a:", "name a:[0-2]"),
+        (b":a", "name :a[0-2]"),
+        (b"::a", "Axis[0-2]name a[2-3]"),
+        (b"a:::b", "name a[0-1]Axis[1-3]name :b[3-5]"),
+        (b"a:b::c:d", "name a:b[0-3]Axis[3-5]name c:d[5-8]"),
+        (b":::", "Axis[0-2]name :[2-3]"),
+        (b"$a:b", "var a:b[0-4]"),
+        (b"$a::b", "var a[0-2]Axis[2-4]name b[4-5]"),
+        (b"$::a", "Lex(0)"),
+        (b"(:a", "Lex(0)"),
+        (b"( :a", "ParenOpen[0-1]name :a[2-4]"),
+        (b"a1-.2", "name a1-.2[0-5]"),
+        (
+            b"\xCE\xBB\xCF\x8C\xCE\xB3\xCE\xBF\xCF\x82/a",
+            "name \u{3BB}\u{3CC}\u{3B3}\u{3BF}\u{3C2}[0-10]Slash[10-11]name a[11-12]",
+        ),
+        (b"$\xE4\xB8\x80", "var \u{4E00}[0-4]"),
+        (b"\xF0\x90\x80\x80b", "name \u{10000}b[0-5]"),
+        (b"\xEF\xBB\xBFa", "name \u{FEFF}a[0-4]"),
+        (b"a \xC3\xA9.b", "name a[0-1]name \u{E9}.b[2-6]"),
+        (b"\xC3\x97", "Lex(0)"),
+        (b"a\xC2\xB7", "name a\u{B7}[0-3]"),
+        (b"\xC2\xB7", "Lex(0)"),
+        (b"a\xC3\x97b", "Lex(1)"),
     ];
     for (text, want) in table {
-        assert_eq!(rt; told(alloc, text)?.as_str(), want, "{text:?}");
+        assert_eq!(rt; told(rt.alloc(), text)?.as_str(), want, "{text:?}");
     }
-    let long = vec![in alloc; b'a'; 1025]?;
-    assert_eq!(rt; told(alloc, &long)?.as_str(), "Lex(0)");
+    Ok(())
+}
+
+#[test]
+fn a_name_has_no_limit_of_its_own(rt: HostRuntime) -> Result<(), Fail> {
+    let alloc = rt.alloc();
+    let long = vec![in alloc; b'a'; 5_000]?;
+    match lex(alloc, &long) {
+        Ok(tokens) => {
+            let places = tokens.items().first().map(|token| (token.from, token.to));
+            assert_eq!(rt; places, Some((0, 5_000)));
+            assert_eq!(rt; tokens.items().len(), 1);
+        }
+        Err(fault) => assert!(rt; false, "{fault:?}"),
+    }
     Ok(())
 }

@@ -1,6 +1,6 @@
 use Rattle.std.proofs.Common.{rules, arith, ◌≡◌, take, length, ap, ◌∙◌, subst}
 use Rattle.std.proofs.Math.Seq.{take-length}
-use Rattle.doc_chars.specs.Reference.{GoesOn}
+use Rattle.doc_chars.specs.Reference.{BeginsReference}
 use Rattle.xq_lex.proofs.ReadingLaws.{starts, done_at, never_at, never_ended}
 use Rattle.xq_lex.proofs.string.reference_at.Goals as goal
 
@@ -16,4 +16,4 @@ returns-in-Bad c = never_at c.args.text.now c.loop-i.i c.index-text-i.result (se
 pub returns : goal.returns
 returns c =
     let all : c.loop-i.i ≡ length c.args.text.now = omega arith in
-    never_ended c.args.text.now (subst GoesOn (ap (λ n. take n c.args.text.now) all ∙ take-length c.args.text.now) c.loop-i.invariant.0)
+    never_ended c.args.text.now (subst BeginsReference (ap (λ n. take n c.args.text.now) all ∙ take-length c.args.text.now) c.loop-i.invariant.0)
