@@ -5,7 +5,7 @@ use Rattle.std.specs.Str.{encode_utf8_all}
 use Rattle.std.proofs.lemmas.Bool.{and_parts, and_from, or_from, cond-true, cond-false, true≢false, false≢true, not_from_false}
 use Rattle.std.proofs.Math.Seq.{take-append_seam}
 use Rattle.gcx_base.specs.Characters.{is_start_char, is_part_char}
-use Rattle.gcx_model.specs.Attributes.{is_name, IsNameBytes}
+use Rattle.gcx_base.specs.Name.{is_name, IsNameBytes}
 use Rattle.gcx_model.specs.Values.{is_digit}
 use Rattle.xq_lex.specs.Strings.{is_quote}
 use Rattle.xq_lex.specs.Found.{Kind, of_nothing, of_variable, of_string, of_number, of_name, of_sign, kind_at}

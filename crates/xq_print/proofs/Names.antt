@@ -1,0 +1,1 @@
+-- A name is UTF-8.
