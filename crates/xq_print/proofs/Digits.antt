@@ -1,8 +1,10 @@
 -- The digits behind a point, without the zeros at their end.
-use Rattle.std.proofs.Common.{ℕ, zero, suc, ◌≡◌, ◌≢◌, ◌+◌, ◌-◌, ◌*◌, ◌/◌, ◌%◌, ◌^◌, ◌<◌, ◌≤◌, ◌==◌, ◌⊎◌, Bool, true, false, List, [], ◌∷◌, ◌++◌, refl, sym, ap, ◌∙◌, subst, arith, length}
+use Rattle.std.proofs.Common.{ℕ, zero, suc, ◌≡◌, ◌≢◌, ◌+◌, ◌-◌, ◌*◌, ◌/◌, ◌%◌, ◌^◌, ◌<◌, ◌≤◌, ◌==◌, ◌⊎◌, Bool, true, false, List, [], ◌∷◌, ◌++◌, refl, sym, ap, ◌∙◌, subst, arith, length, append_assoc, append-nil}
 use Rattle.std.proofs.Math.Nat.{pow-suc, one-le-pow, mul-add-div_right, mul-add-mod_self_right, div-lt_iff_lt-mul, div-eq_of_lt, mod-eq_of_lt, mod-lt}
 use Rattle.std.proofs.lemmas.Nat.{pow-add, div-add-mod'}
 use Rattle.std.proofs.lemmas.Bool.{ne_eqb}
+use Rattle.std.specs.Char.{encode_utf8}
+use Rattle.std.proofs.lemmas.Str.{encode_ascii}
 use Rattle.xq_print.specs.Literals.{places, kept_before, without_zeros, with_point, fraction_text}
 
 -- ---- Places above the last ones tell nothing of them.
@@ -94,3 +96,53 @@ some_fraction n positive small = point_before (without_zeros (places 18 n)) (dig
 
 pub no_fraction : fraction_text 0 ≡ []
 no_fraction = ap with_point (no_digits 18)
+
+-- ---- What the code puts.
+
+some_places : (left rest : ℕ) → 0 < rest → rest < 10 ^ left → 0 < left
+some_places zero rest positive small = absurd (omega arith)
+some_places (suc k) rest positive small = omega arith
+
+-- the place of the next digit
+pub record IsPlace (left rest unit : ℕ) : Type 0 where
+  pub is_suc : left ≡ suc (left - 1)
+  pub positive : 0 < unit
+  pub digit : rest / unit < 10
+  pub below : rest % unit < 10 ^ (left - 1)
+  pub first : without_zeros (places left rest) ≡ (48 + rest / unit) ∷ without_zeros (places (left - 1) (rest % unit))
+
+pub place_at : (left rest unit : ℕ) → 0 < rest → rest < 10 ^ left → unit ≡ 10 ^ (left - 1) → IsPlace left rest unit
+place_at left rest unit positive small e = subst (λ (x : ℕ). IsPlace left rest x) (sym e) (record {
+  is_suc = next;
+  positive = one-le-pow (left - 1) 10 (omega arith);
+  digit = top_digit (left - 1) rest below_next;
+  below = mod-lt rest (one-le-pow (left - 1) 10 (omega arith));
+  first = ap (λ (x : ℕ). without_zeros (places x rest)) next ∙ first_digit (left - 1) rest positive below_next;
+})
+  where
+    next : left ≡ suc (left - 1)
+    next = let some : 0 < left = some_places left rest positive small in omega arith
+    below_next : rest < 10 ^ suc (left - 1)
+    below_next = subst (λ (x : ℕ). rest < 10 ^ x) next small
+
+pub next_place : (before now final : List ℕ) (left rest unit d : ℕ) → IsPlace left rest unit → d ≡ 48 + rest / unit → now ≡ before ++ encode_utf8 d →
+    before ++ without_zeros (places left rest) ≡ final → now ++ without_zeros (places (left - 1) (rest % unit)) ≡ final
+next_place before now final left rest unit d p digit put whole =
+    let byte : encode_utf8 d ≡ (48 + rest / unit) ∷ [] = ap encode_utf8 digit ∙ encode_ascii (48 + rest / unit) (omega (arith, p.digit)) in
+    ap (λ (x : List ℕ). x ++ without_zeros (places (left - 1) (rest % unit))) (put ∙ ap (λ (x : List ℕ). before ++ x) byte)
+    ∙ (append_assoc before ((48 + rest / unit) ∷ []) (without_zeros (places (left - 1) (rest % unit)))
+    ∙ (ap (λ (x : List ℕ). before ++ x) (sym p.first) ∙ whole))
+
+pub last_place : (out final : List ℕ) (left rest : ℕ) → rest ≤ 0 → out ++ without_zeros (places left rest) ≡ final → out ≡ final
+last_place out final left rest none whole =
+    let zero_left : rest ≡ 0 = omega arith in
+    sym (append-nil out) ∙ (ap (λ (x : List ℕ). out ++ x) (sym (ap (λ (x : ℕ). without_zeros (places left x)) zero_left ∙ no_digits left)) ∙ whole)
+
+pub point_put : (old between new : List ℕ) (n : ℕ) → 0 < n → n < 10 ^ 18 → between ≡ old ++ 46 ∷ [] → new ≡ between ++ without_zeros (places 18 n) → new ≡ old ++ fraction_text n
+point_put old between new n positive small point put =
+    put ∙ (ap (λ (x : List ℕ). x ++ without_zeros (places 18 n)) point
+    ∙ (append_assoc old (46 ∷ []) (without_zeros (places 18 n)) ∙ ap (λ (x : List ℕ). old ++ x) (sym (some_fraction n positive small))))
+
+pub nothing_put : (old : List ℕ) (n : ℕ) → n ≤ 0 → old ≡ old ++ fraction_text n
+nothing_put old n none =
+    let zero_left : n ≡ 0 = omega arith in sym (ap (λ (x : List ℕ). old ++ x) (ap fraction_text zero_left ∙ no_fraction) ∙ append-nil old)

@@ -1,5 +1,5 @@
 -- Texts that are joined, one behind the other.
-use Rattle.std.proofs.Common.{ℕ, zero, suc, ◌≡◌, ◌+◌, ◌<◌, Bool, true, false, cond, List, [], ◌∷◌, ◌++◌, map, flat_map, length, take, get_or, refl, sym, ap, ◌∙◌, arith, append_assoc, append-nil, add-one}
+use Rattle.std.proofs.Common.{ℕ, zero, suc, ◌≡◌, ◌+◌, ◌<◌, ◌≤◌, Bool, true, false, cond, List, [], ◌∷◌, ◌++◌, map, flat_map, length, take, get_or, refl, sym, ap, ◌∙◌, arith, append_assoc, append-nil, add-one}
 use Rattle.std.proofs.lemmas.List.{map-append}
 use Rattle.std.proofs.lemmas.Grind.{flat_map-append}
 use Rattle.xq_print.specs.Printed.{joined}
@@ -52,3 +52,18 @@ one_joined text between old xs i x out now later j h e put = record {
       ∙ ap (joined between) (sym (map-append text (take i xs) (x ∷ [])) ∙ ap (map text) (sym (take_more xs i x h e)))))));
   later_is = sym (ap is_later (take_more xs i x h e) ∙ later_more (take i xs) x);
 }
+
+take_all : {A : Type 0} (xs : List A) (i : ℕ) → length xs ≤ i → take i xs ≡ xs
+take_all [] zero h = refl
+take_all [] (suc i) h = refl
+take_all (x ∷ xs) zero h = absurd (omega arith)
+take_all (x ∷ xs) (suc i) h = ap (λ ys. x ∷ ys) (take_all xs i (omega arith))
+
+-- behind the last one
+pub all_joined : {A : Type 0} (text : A → List ℕ) (between old : List ℕ) (xs : List A) (i : ℕ) (out : List ℕ) (later : Bool) →
+    IsJoined A text between old xs i out later → length xs ≤ i → out ≡ old ++ joined between (map text xs)
+all_joined text between old xs i out later j h = j.out_is ∙ ap (λ ys. old ++ joined between (map text ys)) (take_all xs i h)
+
+-- one behind the other
+pub after : (old a b x y : List ℕ) → a ≡ old ++ x → b ≡ a ++ y → b ≡ old ++ (x ++ y)
+after old a b x y e h = h ∙ (ap (λ (z : List ℕ). z ++ y) e ∙ append_assoc old x y)

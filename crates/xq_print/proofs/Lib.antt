@@ -3,3 +3,4 @@ pub mod Joining
 pub mod Names
 pub mod Lists
 pub mod Quoting
+pub mod Folds
