@@ -1,5 +1,5 @@
 -- The digits behind a point, without the zeros at their end.
-use Rattle.std.proofs.Common.{ℕ, zero, suc, ◌≡◌, ◌≢◌, ◌+◌, ◌-◌, ◌*◌, ◌/◌, ◌%◌, ◌^◌, ◌<◌, ◌≤◌, ◌==◌, ◌⊎◌, Bool, true, false, List, [], ◌∷◌, ◌++◌, refl, sym, ap, ◌∙◌, subst, arith, length, append_assoc, append-nil}
+use Rattle.std.proofs.Common.{ℕ, zero, suc, ◌≡◌, ◌+◌, ◌-◌, ◌*◌, ◌/◌, ◌%◌, ◌^◌, ◌<◌, ◌≤◌, ◌==◌, false, List, [], ◌∷◌, ◌++◌, refl, sym, ap, ◌∙◌, subst, arith, append_assoc, append-nil}
 use Rattle.std.proofs.Math.Nat.{pow-suc, one-le-pow, mul-add-div_right, mul-add-mod_self_right, div-lt_iff_lt-mul, div-eq_of_lt, mod-eq_of_lt, mod-lt}
 use Rattle.std.proofs.lemmas.Nat.{pow-add, div-add-mod'}
 use Rattle.std.proofs.lemmas.Bool.{ne_eqb}
@@ -14,7 +14,7 @@ higher k m q s =
     let power : 10 ^ (suc k + m) ≡ 10 ^ m * 10 * 10 ^ k = by_power in
     let parts : q * 10 ^ (suc k + m) + s ≡ (q * 10 ^ m * 10) * 10 ^ k + s = omega (arith, ap (λ (x : ℕ). q * x) power) in
     let whole : (q * 10 ^ (suc k + m) + s) / 10 ^ k ≡ q * 10 ^ m * 10 + s / 10 ^ k =
-        ap (λ (x : ℕ). x / 10 ^ k) parts ∙ mul-add-div_right (one-le-pow k 10 (omega arith)) (q * 10 ^ m * 10) s in
+    ap (λ (x : ℕ). x / 10 ^ k) parts ∙ mul-add-div_right (one-le-pow k 10 (omega arith)) (q * 10 ^ m * 10) s in
     ap (λ (x : ℕ). x % 10) whole ∙ mul-add-mod_self_right (q * 10 ^ m) 10 (s / 10 ^ k)
   where
     by_power : 10 ^ (suc k + m) ≡ 10 ^ m * 10 * 10 ^ k
@@ -25,7 +25,7 @@ unfolding places
 places_of zero m q s = refl
 places_of (suc k) m q s =
     let more : places k (q * 10 ^ (suc k + m) + s) ≡ places k s =
-        ap (λ (n : ℕ). places k (q * 10 ^ n + s)) (omega arith) ∙ places_of k (suc m) q s in
+    ap (λ (n : ℕ). places k (q * 10 ^ n + s)) (omega arith) ∙ places_of k (suc m) q s in
     (λ i. (48 + higher k m q s i) ∷ more i)
 
 -- the lower places of a number are those of its remainder
@@ -61,6 +61,7 @@ first_by k n some positive small =
   where
     digit : n / 10 ^ k % 10 ≡ n / 10 ^ k
     digit = mod-eq_of_lt (top_digit k n small)
+
     by : (d : ℕ) → n / 10 ^ k ≡ d → kept_before (48 + n / 10 ^ k) (without_zeros (places k (n % 10 ^ k))) ≡ (48 + n / 10 ^ k) ∷ without_zeros (places k (n % 10 ^ k))
     by zero e =
         let whole : n / 10 ^ k * 10 ^ k + n % 10 ^ k ≡ n = div-add-mod' n (10 ^ k) in
@@ -122,6 +123,7 @@ place_at left rest unit positive small e = subst (λ (x : ℕ). IsPlace left res
   where
     next : left ≡ suc (left - 1)
     next = let some : 0 < left = some_places left rest positive small in omega arith
+
     below_next : rest < 10 ^ suc (left - 1)
     below_next = subst (λ (x : ℕ). rest < 10 ^ x) next small
 

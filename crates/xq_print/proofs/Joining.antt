@@ -37,16 +37,16 @@ pub record IsJoined (A : Type 0) (text : A → List ℕ) (between old : List ℕ
   pub later_is : later ≡ is_later (take i xs)
 
 pub none_joined : {A : Type 0} (text : A → List ℕ) (between old : List ℕ) (xs : List A) → IsJoined A text between old xs 0 old false
-none_joined text between old xs = record { out_is = sym (append-nil old); later_is = refl; }
+none_joined text between old xs = record { out_is = sym (append-nil old); later_is = refl }
 
 pub one_joined : {A : Type 0} (text : A → List ℕ) (between old : List ℕ) (xs : List A) (i : ℕ) (x : A) (out now : List ℕ) (later : Bool) →
     IsJoined A text between old xs i out later → i < length xs → x ≡ get_or xs i x → now ≡ out ++ (cond later between [] ++ text x) → IsJoined A text between old xs (i + 1) now true
 one_joined text between old xs i x out now later j h e put = record {
   out_is =
-    put
-    ∙ ((λ k. j.out_is k ++ (cond (j.later_is k) between [] ++ text x))
-    ∙ (append_assoc old (joined between (map text (take i xs))) (cond (is_later (take i xs)) between [] ++ text x)
-    ∙ ap (λ (y : List ℕ). old ++ y)
+      put
+      ∙ ((λ k. j.out_is k ++ (cond (j.later_is k) between [] ++ text x))
+      ∙ (append_assoc old (joined between (map text (take i xs))) (cond (is_later (take i xs)) between [] ++ text x)
+      ∙ ap (λ (y : List ℕ). old ++ y)
       (ap (λ b. joined between (map text (take i xs)) ++ (cond b between [] ++ text x)) (sym (later_map text (take i xs)))
       ∙ (sym (joined_more between (map text (take i xs)) (text x))
       ∙ ap (joined between) (sym (map-append text (take i xs) (x ∷ [])) ∙ ap (map text) (sym (take_more xs i x h e)))))));

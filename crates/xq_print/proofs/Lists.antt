@@ -1,5 +1,5 @@
 -- The texts of lists of members, which hold one another.
-use Rattle.std.proofs.Common.{ℕ, suc, ◌≡◌, ◌≤◌, ◌==◌, Bool, true, false, not, cond, List, [], ◌∷◌, ◌++◌, map, length, refl, sym, ap, ◌∙◌, subst, arith, append_assoc, append-nil}
+use Rattle.std.proofs.Common.{ℕ, ◌≡◌, ◌≤◌, ◌==◌, Bool, true, false, not, cond, List, [], ◌∷◌, ◌++◌, map, length, refl, sym, ap, ◌∙◌, arith, append_assoc, append-nil}
 use Rattle.std.specs.Prelude.{codes}
 use Rattle.std.proofs.lemmas.Bool.{ne_eqb}
 use Rattle.gcx_model.specs.Written.{start_tag, end_tag}
@@ -62,9 +62,9 @@ pub elem_put : (name : List ℕ) (es : List Expr) (empty : Bool) (old a b c d no
     now ≡ old ++ (start_tag name ++ (body_text (expr_texts (exprs_of (map expr_tree es))) ++ end_tag name))
 elem_put name es empty old a b c d now filled p q r s t =
     let body : d ≡ a ++ body_text (expr_texts (exprs_of (map expr_tree es))) =
-        after a b d (cond (not empty) (codes "{") []) (joined (codes ", ") (expr_texts (exprs_of (map expr_tree es))) ++ cond (not empty) (codes "}") []) q
-          (after b c d (joined (codes ", ") (expr_texts (exprs_of (map expr_tree es)))) (cond (not empty) (codes "}") []) r s)
-        ∙ ap (λ (x : List ℕ). a ++ x) (body_put (expr_texts (exprs_of (map expr_tree es))) (not empty) (is_filled es empty filled)) in
+    after a b d (cond (not empty) (codes "{") []) (joined (codes ", ") (expr_texts (exprs_of (map expr_tree es))) ++ cond (not empty) (codes "}") []) q
+    (after b c d (joined (codes ", ") (expr_texts (exprs_of (map expr_tree es)))) (cond (not empty) (codes "}") []) r s)
+    ∙ ap (λ (x : List ℕ). a ++ x) (body_put (expr_texts (exprs_of (map expr_tree es))) (not empty) (is_filled es empty filled)) in
     after old a now (start_tag name) (body_text (expr_texts (exprs_of (map expr_tree es))) ++ end_tag name) p
     (after a d now (body_text (expr_texts (exprs_of (map expr_tree es)))) (end_tag name) body t)
 

@@ -13,12 +13,7 @@ fn text(alloc: Global, bytes: &[u8]) -> Result<Text, Fail> {
 }
 
 /// A path of one step.
-fn path(
-    alloc: Global,
-    start: Option<&[u8]>,
-    axis: Axis,
-    test: Test,
-) -> Result<PathExpr, Fail> {
+fn path(alloc: Global, start: Option<&[u8]>, axis: Axis, test: Test) -> Result<PathExpr, Fail> {
     let start = match start {
         Some(bytes) => Some(name(alloc, bytes)?),
         None => None,
@@ -78,7 +73,10 @@ fn a_branch_is_printed_with_its_comparison(rt: HostRuntime) -> Result<(), Fail> 
         other: Box::new(alloc, Expr::Empty)?,
     };
     let query = vec![in alloc; branch]?;
-    assert_eq!(rt; printed(alloc, query)?.as_str(), "if (/a = -3.14) then () else ()");
+    assert_eq!(rt;
+        printed(alloc, query)?.as_str(),
+        "if (/a = -3.14) then () else ()"
+    );
     Ok(())
 }
 
@@ -132,8 +130,14 @@ fn numbers_have_no_zeros_at_their_end(rt: HostRuntime) -> Result<(), Fail> {
         (1_050_000_000_000_000_000, "1.05"),
         (1, "0.000000000000000001"),
         (-123_456_789_012_345_678, "-0.123456789012345678"),
-        (9_223_372_036_854_775_807_000_000_000_000_000_000, "9223372036854775807"),
-        (-9_223_372_036_854_775_808_999_999_999_999_999_990, "-9223372036854775808.99999999999999999"),
+        (
+            9_223_372_036_854_775_807_000_000_000_000_000_000,
+            "9223372036854775807",
+        ),
+        (
+            -9_223_372_036_854_775_808_999_999_999_999_999_990,
+            "-9223372036854775808.99999999999999999",
+        ),
     ];
     for (units, want) in table {
         let mut out = String::new(alloc);

@@ -1,4 +1,4 @@
-use Rattle.std.proofs.Common.{◌≡◌, ◌++◌, ap, ◌∙◌}
+use Rattle.std.proofs.Common.{◌++◌, ap, ◌∙◌}
 use Rattle.std.specs.Prelude.{codes}
 use Rattle.gcx_model.specs.Query.{query_trees, exprs_of}
 use Rattle.xq_print.specs.Printed.{expr_texts, joined}

@@ -15,12 +15,12 @@ nonzero_rem-rest c = (place_at c.loop-rest.left c.loop-rest.rest c.pow-unit.resu
 pub loop-rest-preserved : goal.loop-rest-preserved
 loop-rest-preserved c =
     let place : IsPlace c.loop-rest.left c.loop-rest.rest c.pow-unit.result =
-        place_at c.loop-rest.left c.loop-rest.rest c.pow-unit.result c.loop-rest-test.true c.loop-rest.invariant.small c.pow-unit.ensures in
+    place_at c.loop-rest.left c.loop-rest.rest c.pow-unit.result c.loop-rest-test.true c.loop-rest.invariant.small c.pow-unit.ensures in
     record {
       small = place.below;
       few = omega (arith, c.loop-rest.invariant.few);
       put = next_place (string_bytes c.loop-rest.out) (string_bytes c.push.new.self) (string_bytes c.args.out.now ++ without_zeros (places 18 c.args.fraction))
-        c.loop-rest.left c.loop-rest.rest c.pow-unit.result c.digit_char.result place c.digit_char.ensures c.in_ok-push.ensures.bytes c.loop-rest.invariant.put;
+          c.loop-rest.left c.loop-rest.rest c.pow-unit.result c.digit_char.result place c.digit_char.ensures c.in_ok-push.ensures.bytes c.loop-rest.invariant.put;
     }
 
 pub returns : goal.returns
