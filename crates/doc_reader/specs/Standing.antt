@@ -26,7 +26,7 @@ abbrev pub given_end : Said → Token
 given_end t = EndOfDocument
 
 -- what contracts see of a reader: with the machine's state, whose tokens are those that weren't given, the bytes of a character that
--- a piece cut, how many bytes the characters read take, how many bytes were fed before a refusal, and the refusal
+-- a piece cut, how many bytes the characters read take, how many bytes were fed of those that may be, and the refusal
 pub record Held : Type 0 where
   pub limits : Limits
   pub state : State
@@ -101,12 +101,14 @@ pub record IsReading (h : Held) (lim : Limits) (b : List ℕ) (given : List Toke
   pub chars : List ℕ
   pub stream : StandsFor h.carry b chars
   pub place : h.place ≡ size chars
+  pub count : h.count ≡ length b
   pub within : length b ≤ lim.bytes
   pub clean : Clean lim chars
   pub short : length h.state.run ≤ lim.text
   pub before : List Said
   pub given_are : given ≡ map given_token before
   pub front : Fronts chars (with_given before h.state)
+  pub no_end : h.end_waits ≡ false
 
 -- These first characters of the bytes make no fault, and the tokens given and waiting are those of their whole tags.
 pub record HasRead (h : Held) (lim : Limits) (b chars : List ℕ) (given : List Token) : Type 0 where
@@ -120,6 +122,7 @@ pub record HasRead (h : Held) (lim : Limits) (b chars : List ℕ) (given : List 
   pub state : State
   pub tokens_are : state.tokens ≡ before ++ h.state.tokens
   pub front : Fronts chars state
+  pub no_end : h.end_waits ≡ false
 
 -- They are the most characters without a fault, whatever bytes follow.
 pub record HasStopped (h : Held) (lim : Limits) (b : List ℕ) (given : List Token) : Type 0 where
@@ -140,7 +143,7 @@ GoesOnBy (Some f) h lim b given = HasStopped h lim b given
 -- what an open reader goes on from; after finish nothing goes on
 abbrev pub GoesOn : Bool → Held → Limits → List ℕ → List Token → Type 0
 GoesOn false h lim b given = GoesOnBy h.refused h lim b given
-GoesOn true h lim b given = h.state.tokens ≡ h.state.tokens
+GoesOn true h lim b given = Unit {0}
 
 -- The reader with these limits was fed exactly these bytes, in whatever pieces, and gave these tokens.
 pub record Stands (h : Held) (lim : Limits) (b : List ℕ) (ended : Bool) (given : List Token) : Type 0 where

@@ -1,7 +1,8 @@
-ghost use Rattle.std.specs.Prelude.{◌≡◌, ◌≤◌, ◌++◌, [], ℕ, List, Bool, false, true, OnOk};
+ghost use Rattle.std.specs.Prelude.{◌≡◌, ◌+◌, ◌≤◌, ◌++◌, [], ℕ, List, Bool, false, true, Option, None, OnOk, IsNone};
+ghost use Rattle.doc_reader.specs.Piece.{fault_of};
 
 use crate::machine::{Machine, has_whole, new_machine, next_whole};
-use crate::machine::{Stop, read_text};
+use crate::piece::read_split;
 use crate::token::Token;
 use doc_chars::{CharFault, Chars};
 use gcx_base::Limits;
@@ -17,7 +18,7 @@ pub struct Reader {
     limits: Limits,
     /// How many bytes the characters take that the machine read.
     place: u64,
-    /// How many bytes were fed before a refusal.
+    /// How many bytes were fed, of those that may be.
     count: u64,
     refused: Option<DocFault>,
     finished: bool,
@@ -37,8 +38,19 @@ impl Model for Reader {
     ghost invariant = { IsSound };
 }
 
+/// What isn't a character of a document.
+fn char_fault(fault: CharFault) -> DocFault
+    ensures { result ≡ fault_of fault }
+{
+    match fault {
+        CharFault::Utf8(place) => DocFault::Utf8(place),
+        CharFault::Char(place) => DocFault::Syntax(place),
+    }
+}
+
 impl Reader {
-    ghost use Rattle.doc_reader.specs.Standing.{Stands, IsOpen, IsDone, IsRefused, Answers, Takes, taken, Keeps, Accepted, waiting, answer_of};
+    ghost use Rattle.doc_reader.specs.Standing.{Stands, IsReading, IsOpen, IsDone, IsRefused, Answers, Takes, taken, Keeps, Accepted, waiting, answer_of};
+    ghost use Rattle.doc_reader.specs.Piece.{Took, Ends, IsSame};
 
     /// A reader that has read nothing. The limits are at most 1,000 elements and 1,099,511,627,776 bytes.
     pub fn new(alloc: Global, limits: Limits) -> Reader
@@ -72,9 +84,7 @@ impl Reader {
         ensures open { IsOpen self.new }
         ensures again { IsRefused self.old → self.new ≡ self.old }
     {
-        if self.refused.is_none() {
-            self.refused = self.take(piece).err();
-        }
+        self.take(piece);
         self.answer()
     }
 
@@ -113,16 +123,101 @@ impl Reader {
         ensures refused { IsRefused self.old → answer_of self.new ≡ answer_of self.old }
         ensures same { IsRefused self.old → waiting self.new ≡ waiting self.old }
     {
-        if !self.finished {
-            self.finished = true;
-            if self.refused.is_none() {
-                self.refused = self.end().err();
-                self.end_waits = self.refused.is_none();
-            }
-        }
+        self.end();
         self.answer()
     }
-}
 
-#[cfg(test)]
-mod tests;
+    fn answer(&self) -> Result<(), DocFault>
+        ensures { result ≡ answer_of self.now }
+    {
+        match self.refused {
+            Some(fault) => Err(fault),
+            None => Ok(()),
+        }
+    }
+
+    /// Reads a piece, unless there was a refusal.
+    fn take(&mut self, piece: &[u8])
+        requires { IsOpen self.old }
+        ensures stands { (lim : Limits) (b : List ℕ) (given : List Token) → Stands self.old lim b false given
+            → Stands self.new lim (b ++ piece.now) false given }
+        ensures open { IsOpen self.new }
+        ensures again { IsRefused self.old → self.new ≡ self.old }
+    {
+        if self.refused.is_some() {
+            return;
+        }
+        if let Err(fault) = self.read_allowed(piece) {
+            self.refused = Some(fault);
+        }
+    }
+
+    /// Reads the bytes that may be, and refuses one too many.
+    fn read_allowed(&mut self, piece: &[u8]) -> Result<(), DocFault>
+        ensures took { (b : List ℕ) (given : List Token) → IsReading self.old self.old.limits b given
+            → Took result self.new self.old.limits (b ++ piece.now) given }
+        ensures same { IsSame self.old self.new }
+    {
+        let room = (self.limits.bytes - self.count) as usize;
+        if piece.len() <= room {
+            return self.read_piece(piece);
+        }
+        self.read_piece(&piece[..room])?;
+        Err(DocFault::TooLong(self.limits.bytes))
+    }
+
+    /// Reads a piece whose bytes all may be.
+    fn read_piece(&mut self, piece: &[u8]) -> Result<(), DocFault>
+        requires { self.old.count + length piece.now ≤ self.old.limits.bytes }
+        ensures took { (b : List ℕ) (given : List Token) → IsReading self.old self.old.limits b given
+            → Took result self.new self.old.limits (b ++ piece.now) given }
+        ensures same { IsSame self.old self.new }
+    {
+        let split = self.chars.split(piece);
+        self.count += piece.len() as u64;
+        let place = read_split(&mut self.machine, self.limits, self.place, split, piece)?;
+        match split.fault {
+            Some(fault) => Err(char_fault(fault)),
+            None => {
+                self.place = place;
+                Ok(())
+            }
+        }
+    }
+
+    /// What the end of the input shows.
+    fn last(&self) -> Result<(), DocFault>
+        ensures { Ends result self.now }
+    {
+        if let Err(fault) = self.chars.finish() {
+            return Err(char_fault(fault));
+        }
+        if has_whole(&self.machine) {
+            Ok(())
+        } else {
+            Err(DocFault::Truncated(self.count))
+        }
+    }
+
+    /// Ends the input, unless it ended before.
+    fn end(&mut self)
+        ensures stands { (lim : Limits) (b : List ℕ) (ended : Bool) (given : List Token) → Stands self.old lim b ended given
+            → Stands self.new lim b true given }
+        ensures done { IsDone self.new }
+        ensures again { IsDone self.old → self.new ≡ self.old }
+        ensures refused { IsRefused self.old → answer_of self.new ≡ answer_of self.old }
+        ensures same { IsRefused self.old → waiting self.new ≡ waiting self.old }
+    {
+        if self.finished {
+            return;
+        }
+        self.finished = true;
+        if self.refused.is_some() {
+            return;
+        }
+        match self.last() {
+            Ok(()) => self.end_waits = true,
+            Err(fault) => self.refused = Some(fault),
+        }
+    }
+}

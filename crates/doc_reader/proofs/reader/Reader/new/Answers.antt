@@ -1,6 +1,0 @@
-use Rattle.std.proofs.Common.{refl}
-use Rattle.doc_reader.proofs.Standings.{stands_new}
-use Rattle.doc_reader.proofs.reader.Reader.new.Goals as goal
-
-pub returns-clause-stands : goal.returns-clause-stands
-returns-clause-stands c = stands_new _ c.args.limits c.new_machine.ensures refl refl refl refl c.requires.bytes
