@@ -2,12 +2,8 @@
 use Rattle.std.proofs.Common.{ℕ, ◌≡◌, List, [], ◌∷◌, ◌++◌, length, take, reverse, refl, ap, ◌∙◌, append_assoc, arith}
 use Rattle.std.specs.Prelude.{nat_lt}
 use Rattle.std.proofs.lemmas.List.{length-reverse}
-use Rattle.doc_reader.specs.declared.token.Token.{Token}
-use Rattle.doc_reader.specs.Machine.{is_inside}
+use Rattle.gcx_model.specs.Fronts.{is_inside}
 use Rattle.doc_reader.specs.OpenNames.{names_of}
-
-pub joined : (a b c : List Token) → (a ++ b) ++ c ≡ a ++ (b ++ c)
-joined a b c = append_assoc a b c
 
 as_many : (starts bytes : List ℕ) → length (names_of starts bytes) ≡ length starts
 as_many [] bytes = refl

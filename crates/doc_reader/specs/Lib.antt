@@ -1,7 +1,4 @@
-pub mod Machine
 pub mod OpenNames
-pub mod Judging
-pub mod Front
-pub mod Reading
-pub mod Standing
-pub mod Inside
+pub mod Machine
+pub mod Sound
+pub mod Judged

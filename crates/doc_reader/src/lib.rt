@@ -1,14 +1,13 @@
 //! The reader of documents: bytes in pieces of any size in, tokens out.
 #![tactic(auto)]
 
-mod judge;
+mod event;
 mod machine;
+mod mode;
 mod open_names;
-mod read;
-mod reader;
+mod referring;
 mod run;
-mod tags;
+mod stop;
 mod token;
 
-pub use reader::Reader;
 pub use token::Token;

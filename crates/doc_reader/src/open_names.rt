@@ -1,5 +1,5 @@
 ghost use Rattle.std.specs.Prelude.{◌≡◌, ◌+◌, ◌<◌, ◌^◌, [], ◌∷◌, length, drop, slice_get, reverse, IsSome, OnOk};
-ghost use Rattle.doc_reader.specs.Machine.{is_inside};
+ghost use Rattle.gcx_model.specs.Fronts.{is_inside};
 ghost use Rattle.doc_reader.specs.OpenNames.{expected_at, IsBelow, WithoutFirst};
 
 use gcx_base::Memory;
