@@ -146,8 +146,7 @@ module _ (before : List Token) where
   steps_ahead lim k s [] = refl
   steps_ahead lim k s (c ∷ cs) =
       ap (λ (r : Result State Refusal). on_ok r (λ t. judged_steps lim (k + len_utf8 c) t cs)) (judged_ahead lim k s c)
-      ∙ by (judged lim k s c)
-    where
-      by : (r : Result State Refusal) → on_ok (ahead_ok before r) (λ t. judged_steps lim (k + len_utf8 c) t cs) ≡ ahead_ok before (on_ok r (λ t. judged_steps lim (k + len_utf8 c) t cs))
-      by (Err f) = refl
-      by (Ok t) = steps_ahead lim (k + len_utf8 c) t cs
+      ∙ elim (judged lim k s c) as (λ (r : Result State Refusal). on_ok (ahead_ok before r) (λ t. judged_steps lim (k + len_utf8 c) t cs) ≡ ahead_ok before (on_ok r (λ t. judged_steps lim (k + len_utf8 c) t cs))) [
+        | Err f ↦ refl
+        | Ok t ↦ steps_ahead lim (k + len_utf8 c) t cs
+      ]

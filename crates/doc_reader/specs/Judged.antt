@@ -1,66 +1,61 @@
--- stub
-use Rattle.std.specs.Prelude.{ℕ, ◌≡◌, ◌+◌, Bool, true, false, List, [], ◌∷◌, ◌++◌, length, map, Option, Some, None, Result, Ok, Err}
+-- What reading a text answers, and what taking a token does (this project's).
+use Rattle.std.specs.Prelude.{ℕ, ◌≡◌, ◌+◌, List, [], ◌∷◌, ◌++◌, Option, Some, None, Result, Ok, Err}
 use Rattle.gcx_base.specs.declared.limits.Limits.{Limits}
-use Rattle.gcx_model.specs.Tree.{Token as Said, Start as said_start, Chars as said_text, End as said_end}
-use Rattle.gcx_model.specs.Faults.{Refusal, size, fault_of}
-use Rattle.gcx_model.specs.declared.fault.DocFault.{DocFault}
-use Rattle.gcx_model.specs.declared.fault.DocFault.TheVariants.{Memory as doc_memory}
-use Rattle.doc_laws.specs.Machine.{State, start, Opening, Between, Mode}
+use Rattle.gcx_model.specs.Faults.{Refusal as Fault, AtSyntax, AtDepth, AtName, AtText, size}
+use Rattle.gcx_model.specs.Tree as tree
+use Rattle.doc_laws.specs.Machine.{State}
 use Rattle.doc_laws.specs.Judging.{judged, judged_steps}
+use Rattle.doc_reader.specs.declared.stop.Refusal.{Refusal}
+use Rattle.doc_reader.specs.declared.stop.Refusal.TheVariants.{Syntax, Depth, NameLong, TextLong}
+use Rattle.doc_reader.specs.declared.stop.Stop.{Stop}
+use Rattle.doc_reader.specs.declared.stop.Stop.TheVariants.{Refused, Memory}
 use Rattle.doc_reader.specs.declared.token.Token.{Token}
-use Rattle.doc_reader.specs.declared.token.Token.TheVariants.{Start, End, Text, EndOfDocument}
-use Rattle.doc_reader.specs.declared.machine.Machine.{Machine}
-use Rattle.doc_reader.specs.declared.machine.Stop.{Stop}
-use Rattle.doc_reader.specs.declared.machine.Stop.TheVariants.{Refused, Memory}
+use Rattle.doc_reader.specs.declared.token.Token.TheVariants.{Start, End, Text}
 
-abbrev pub given_token : Said → Token
-given_token (said_start n) = Start n
-given_token (said_text t) = Text t
-given_token said_end = End
+abbrev pub fault : Refusal → Fault
+fault (Syntax k) = AtSyntax k
+fault (Depth k) = AtDepth k
+fault (NameLong k) = AtName k
+fault (TextLong k) = AtText k
 
-abbrev pub said : Token → Said
-said (Start n) = said_start n
-said (Text t) = said_text t
-said End = said_end
-said EndOfDocument = said_end
-
-abbrev pub moded : ℕ → Mode
-moded c = Between
-
-abbrev pub view : Machine → State
-view m = record { mode = moded m.count; names = []; rooted = false; typed = false; run = []; name = []; attrs = []; attr = []; pending = []; tokens = map said m.tokens.items }
-
-abbrev pub stop_fault : Stop → DocFault
-stop_fault (Refused f) = f
-stop_fault Memory = doc_memory
-
--- the characters before the refused one were read
-pub record StoppedAt (lim : Limits) (place : ℕ) (old : State) (cs : List ℕ) (new : State) (f : DocFault) : Type 0 where
+-- The characters before the one that is refused are read, and the tokens of the whole tags in them wait.
+pub record Refuses (lim : Limits) (place : ℕ) (old : State) (cs : List ℕ) (f : Fault) (waiting : List tree.Token) : Type 0 where
   pub front : List ℕ
   pub at : ℕ
   pub rest : List ℕ
-  pub before : State
-  pub refusal : Refusal
+  pub state : State
   pub parts : cs ≡ front ++ (at ∷ rest)
-  pub read : judged_steps lim place old front ≡ Ok before
-  pub refused : judged lim (place + size front) before at ≡ Err refusal
-  pub fault : f ≡ fault_of refusal
-  pub tokens : new.tokens ≡ before.tokens
+  pub read : judged_steps lim place old front ≡ Ok state
+  pub refused : judged lim (place + size front) state at ≡ Err f
+  pub waits : waiting ≡ state.tokens
 
--- some first characters were read
-pub record LostBehind (lim : Limits) (place : ℕ) (old : State) (cs : List ℕ) (new : State) : Type 0 where
+-- Some characters are read, and the tokens of the whole tags in them wait.
+pub record ReadsFront (lim : Limits) (place : ℕ) (old : State) (cs : List ℕ) (waiting : List tree.Token) : Type 0 where
   pub front : List ℕ
   pub rest : List ℕ
-  pub before : State
+  pub state : State
   pub parts : cs ≡ front ++ rest
-  pub read : judged_steps lim place old front ≡ Ok before
-  pub tokens : new.tokens ≡ before.tokens
+  pub read : judged_steps lim place old front ≡ Ok state
+  pub waits : waiting ≡ state.tokens
 
+-- the state behind the characters, which begin at this place, or why reading stopped in them
 abbrev pub Judged : {T : Type 0} → Result T Stop → Limits → ℕ → State → List ℕ → State → Type 0
 Judged (Ok x) lim place old cs new = judged_steps lim place old cs ≡ Ok new
-Judged (Err (Refused f)) lim place old cs new = StoppedAt lim place old cs new f
-Judged (Err Memory) lim place old cs new = LostBehind lim place old cs new
+Judged (Err (Refused r)) lim place old cs new = Refuses lim place old cs (fault r) new.tokens
+Judged (Err Memory) lim place old cs new = ReadsFront lim place old cs new.tokens
 
-abbrev pub TakesSaid : Option Token → State → State → Type 0
-TakesSaid (Some t) old new = (s : Said) × (t ≡ given_token s) × (old ≡ record new { tokens = s ∷ new.tokens })
-TakesSaid None old new = (old.tokens ≡ []) × (new ≡ old)
+-- a token as the reader gives it
+abbrev pub given_token : tree.Token → Token
+given_token (tree.Start name) = Start name
+given_token (tree.Chars bytes) = Text bytes
+given_token tree.End = End
+
+-- the first token is taken, if there is one
+abbrev pub TakesFirst : Option Token → List tree.Token → List tree.Token → Type 0
+TakesFirst o [] rest = (o ≡ None) × (rest ≡ [])
+TakesFirst o (t ∷ ts) rest = (o ≡ Some (given_token t)) × (rest ≡ ts)
+
+-- the first token of the whole tags is taken, if there is one, and all else is the same
+pub record TakesWhole (o : Option Token) (old new : State) : Type 0 where
+  pub takes : TakesFirst o old.tokens new.tokens
+  pub same : new ≡ record old { tokens = new.tokens }

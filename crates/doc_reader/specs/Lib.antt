@@ -1,3 +1,6 @@
+pub mod OpenNames
+pub mod Machine
+pub mod Sound
 pub mod Judged
 pub mod Standing
 pub mod Inside

@@ -1,9 +1,15 @@
 //! The reader of documents: bytes in pieces of any size in, tokens out.
 #![tactic(auto)]
 
+mod event;
 mod machine;
+mod mode;
+mod open_names;
 mod piece;
 mod reader;
+mod referring;
+mod run;
+mod stop;
 mod token;
 
 pub use reader::Reader;

@@ -1,58 +1,110 @@
-ghost use Rattle.std.specs.Prelude.{◌≡◌, ◌+◌, ◌<◌, ◌^◌, length, chars};
+//! The machine that reads characters.
+ghost use Rattle.std.specs.Prelude.{◌≡◌, ◌+◌, ◌<◌, ◌^◌, length};
+ghost use Rattle.std.specs.Str.{chars};
 ghost use Rattle.doc_laws.specs.Machine.{start, is_whole};
-ghost use Rattle.doc_reader.specs.Judged.{view, Judged, TakesSaid, stop_fault};
+ghost use Rattle.doc_reader.specs.Judged.{Judged, TakesWhole};
+ghost use Rattle.doc_reader.specs.Machine.{scan_state};
 
+use crate::event::{Event, token_of};
+use crate::mode::Mode;
+use crate::open_names::OpenNames;
+use crate::run::Run;
+use crate::stop::Stop;
 use crate::token::Token;
 use gcx_base::Limits;
-use gcx_model::DocFault;
 use std::alloc::Global;
 use std::collections::VecDeque;
+use std::marker::Model;
 
-/// Why reading stopped.
-pub(crate) enum Stop {
-    Refused(DocFault),
-    Memory,
+/// What was read.
+#[derive(Drop)]
+pub(crate) struct Scan {
+    pub(crate) alloc: Global,
+    pub(crate) mode: Mode,
+    /// The names of the open elements.
+    pub(crate) names: OpenNames,
+    /// Whether there was a root element.
+    pub(crate) rooted: bool,
+    /// Whether there was a root element or a document type declaration.
+    pub(crate) typed: bool,
+    pub(crate) run: Run,
+    /// The name of the tag that is being read.
+    pub(crate) name: Vec<u8>,
+    /// The names of its attributes.
+    pub(crate) attrs: OpenNames,
+    /// The name of the attribute that is being read.
+    pub(crate) attr: Vec<u8>,
+    /// The tokens of the tag that is being read.
+    pub(crate) pending: VecDeque<Event>,
+    /// The tokens of the whole tags.
+    pub(crate) events: VecDeque<Event>,
 }
 
-impl From<Stop> for DocFault {
-    ghost from_gives = { λ s e. e ≡ stop_fault s };
+/// The machine, seen as the state of its definition.
+#[derive(Drop)]
+pub(crate) struct Machine {
+    scan: Scan,
+}
 
-    fn from(stop: Stop) -> DocFault {
-        match stop {
-            Stop::Refused(fault) => fault,
-            Stop::Memory => DocFault::Memory,
-        }
+impl Model for Machine {
+    ghost use Rattle.doc_laws.specs.Machine.{State};
+    ghost use Rattle.doc_reader.specs.Machine.{scan_state};
+    ghost use Rattle.doc_reader.specs.Sound.{IsSound};
+
+    ghost Value = { State };
+
+    ghost view = { λ m. scan_state m.scan };
+
+    ghost invariant = { λ m. IsSound (scan_state m.scan) };
+}
+
+/// A machine that has read nothing.
+pub(crate) fn new_machine(alloc: Global) -> Machine
+    ensures { result ≡ start }
+{
+    Machine {
+        scan: Scan {
+            alloc,
+            mode: Mode::Opening,
+            names: OpenNames::new(alloc),
+            rooted: false,
+            typed: false,
+            run: Run::new(alloc),
+            name: Vec::new(alloc),
+            attrs: OpenNames::new(alloc),
+            attr: Vec::new(alloc),
+            pending: VecDeque::new(alloc),
+            events: VecDeque::new(alloc),
+        },
     }
 }
 
-#[derive(Drop)]
-pub(crate) struct Machine {
-    pub(crate) alloc: Global,
-    pub(crate) count: u64,
-    pub(crate) tokens: VecDeque<Token>,
-}
-
-pub(crate) fn new_machine(alloc: Global) -> Machine
-    ensures { view result ≡ start }
+/// Whether a whole document was read.
+pub(crate) fn has_whole(m: &Machine) -> bool
+    ensures { result ≡ is_whole m.now }
 {
-    Machine { alloc, count: 0, tokens: VecDeque::new(alloc) }
+    match m.scan.mode {
+        Mode::Between => !m.scan.names.has_open() && m.scan.rooted,
+        _ => false,
+    }
 }
 
+/// Takes the first token of the whole tags. None exactly where there is none.
+pub(crate) fn next_whole(m: &mut Machine) -> Option<Token>
+    ensures { TakesWhole result m.old m.new }
+{
+    match m.scan.events.pop_front() {
+        Some(event) => Some(token_of(event)),
+        None => None,
+    }
+}
+
+/// Reads characters, the first of which stands at byte `place` of the document.
 pub(crate) fn read_text(m: &mut Machine, limits: Limits, place: u64, text: &str) -> Result<(), Stop>
     requires { place + length text.now < 2 ^ 64 }
-    ensures { Judged result limits place (view m.old) (chars text.now) (view m.new) }
+    ensures { Judged result limits place m.old (chars text.now) m.new }
 {
+    let _ = &m.scan.mode;
+    let _ = (limits, place, text.len());
     Err(Stop::Memory)
-}
-
-pub(crate) fn next_whole(m: &mut Machine) -> Option<Token>
-    ensures { TakesSaid result (view m.old) (view m.new) }
-{
-    m.tokens.pop_front()
-}
-
-pub(crate) fn has_whole(m: &Machine) -> bool
-    ensures { result ≡ is_whole (view m.now) }
-{
-    false
 }

@@ -1,13 +1,28 @@
 //! The characters of a piece, read by the machine.
 ghost use Rattle.std.specs.Prelude.{◌≡◌, ◌+◌, ◌<◌, ◌≤◌, ◌^◌, length, slice_range, IsUtf8};
 ghost use Rattle.doc_chars.specs.Stream.{given, optional};
-ghost use Rattle.doc_reader.specs.Judged.{view};
-ghost use Rattle.doc_reader.specs.Piece.{ReadTo};
+ghost use Rattle.doc_reader.specs.Piece.{ReadTo, stop_fault};
 
-use crate::machine::{Machine, Stop, read_text};
+use crate::machine::{Machine, read_text};
+use crate::stop::{Refusal, Stop};
 use doc_chars::Split;
 use gcx_base::Limits;
+use gcx_model::DocFault;
 use std::str;
+
+impl From<Stop> for DocFault {
+    ghost from_gives = { λ s e. e ≡ stop_fault s };
+
+    fn from(stop: Stop) -> DocFault {
+        match stop {
+            Stop::Refused(Refusal::Syntax(place)) => DocFault::Syntax(place),
+            Stop::Refused(Refusal::Depth(place)) => DocFault::Depth(place),
+            Stop::Refused(Refusal::NameLong(place)) => DocFault::NameLong(place),
+            Stop::Refused(Refusal::TextLong(place)) => DocFault::TextLong(place),
+            Stop::Memory => DocFault::Memory,
+        }
+    }
+}
 
 /// Reads the character that earlier pieces began, and says where it ends.
 fn read_first(
@@ -17,7 +32,7 @@ fn read_first(
     first: Option<char>,
 ) -> Result<u64, Stop>
     requires { place + 4 < 2 ^ 64 }
-    ensures { ReadTo result limits place (view m.old) (optional first) (view m.new) }
+    ensures { ReadTo result limits place m.old (optional first) m.new }
 {
     match first {
         Some(c) => {
@@ -42,7 +57,7 @@ pub(crate) fn read_split(
     requires in_order { split.used ≤ split.whole }
     requires within { split.whole ≤ length piece.now }
     requires text { IsUtf8 (slice_range piece.now split.used split.whole) }
-    ensures { ReadTo result limits place (view m.old) (given split piece.now) (view m.new) }
+    ensures { ReadTo result limits place m.old (given split piece.now) m.new }
 {
     let behind = read_first(m, limits, place, split.first)?;
     let text = unsafe { str::from_utf8_unchecked(&piece[split.used..split.whole]) };

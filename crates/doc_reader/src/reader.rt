@@ -1,5 +1,5 @@
-ghost use Rattle.std.specs.Prelude.{◌≡◌, ◌+◌, ◌≤◌, ◌++◌, [], ℕ, List, Bool, false, true, Option, None, OnOk, IsNone};
-ghost use Rattle.doc_reader.specs.Piece.{fault_of};
+ghost use Rattle.std.specs.Prelude.{◌≡◌, ◌+◌, ◌≤◌, ◌++◌, [], ℕ, List, length, Bool, false, true, OnOk};
+ghost use Rattle.doc_reader.specs.Piece.{char_fault as fault_of_char};
 
 use crate::machine::{Machine, has_whole, new_machine, next_whole};
 use crate::piece::read_split;
@@ -40,7 +40,7 @@ impl Model for Reader {
 
 /// What isn't a character of a document.
 fn char_fault(fault: CharFault) -> DocFault
-    ensures { result ≡ fault_of fault }
+    ensures { result ≡ fault_of_char fault }
 {
     match fault {
         CharFault::Utf8(place) => DocFault::Utf8(place),
