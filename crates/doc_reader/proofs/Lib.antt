@@ -1,2 +1,5 @@
 pub mod Lists
 pub mod Ahead
+pub mod Ties
+pub mod Readings
+pub mod Givings

@@ -103,10 +103,9 @@ pub record IsReading (h : Held) (lim : Limits) (b : List ℕ) (given : List Toke
   pub before : List Said
   pub given_are : given ≡ map given_token before
   pub front : Fronts chars (with_given before h.state)
-  pub no_end : h.end_waits ≡ false
 
--- These first characters of the bytes make no fault, and the tokens given and waiting are those of their whole tags.
-pub record HasRead (h : Held) (lim : Limits) (b chars : List ℕ) (given : List Token) : Type 0 where
+-- These first characters of the bytes make no fault, and the tokens given and those that wait are those of their whole tags.
+pub record HasRead (waits : List Said) (lim : Limits) (b chars : List ℕ) (given : List Token) : Type 0 where
   pub rest : List ℕ
   pub scalars_are : scalars chars ≡ true
   pub parts : b ≡ encodes chars ++ rest
@@ -115,29 +114,28 @@ pub record HasRead (h : Held) (lim : Limits) (b chars : List ℕ) (given : List 
   pub before : List Said
   pub given_are : given ≡ map given_token before
   pub state : State
-  pub tokens_are : state.tokens ≡ before ++ h.state.tokens
+  pub tokens_are : state.tokens ≡ before ++ waits
   pub front : Fronts chars state
-  pub no_end : h.end_waits ≡ false
 
 -- They are the most characters without a fault, whatever bytes follow.
-pub record HasStopped (h : Held) (lim : Limits) (b : List ℕ) (given : List Token) : Type 0 where
+pub record HasStopped (waits : List Said) (lim : Limits) (b : List ℕ) (given : List Token) : Type 0 where
   pub chars : List ℕ
-  pub read : HasRead h lim b chars given
+  pub read : HasRead waits lim b chars given
   pub longest : (more : List ℕ) → IsLongest lim (b ++ more) chars
 
 -- Memory ran out behind some of the characters.
-pub record HasLost (h : Held) (lim : Limits) (b : List ℕ) (given : List Token) : Type 0 where
+pub record HasLost (waits : List Said) (lim : Limits) (b : List ℕ) (given : List Token) : Type 0 where
   pub chars : List ℕ
-  pub read : HasRead h lim b chars given
+  pub read : HasRead waits lim b chars given
 
 abbrev pub GoesOnBy : Option DocFault → Held → Limits → List ℕ → List Token → Type 0
 GoesOnBy None h lim b given = IsReading h lim b given
-GoesOnBy (Some Memory) h lim b given = HasLost h lim b given
-GoesOnBy (Some f) h lim b given = HasStopped h lim b given
+GoesOnBy (Some Memory) h lim b given = HasLost h.state.tokens lim b given
+GoesOnBy (Some f) h lim b given = HasStopped h.state.tokens lim b given
 
 -- what an open reader goes on from; after finish nothing goes on
 abbrev pub GoesOn : Bool → Held → Limits → List ℕ → List Token → Type 0
-GoesOn false h lim b given = GoesOnBy h.refused h lim b given
+GoesOn false h lim b given = (h.end_waits ≡ false) × GoesOnBy h.refused h lim b given
 GoesOn true h lim b given = Unit {0}
 
 -- The reader with these limits was fed exactly these bytes, in whatever pieces, and gave these tokens.
