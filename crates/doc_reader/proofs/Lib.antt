@@ -3,3 +3,4 @@ pub mod Ahead
 pub mod Ties
 pub mod Readings
 pub mod Givings
+pub mod Judgings

@@ -1,6 +1,7 @@
 //! The characters of a piece, read by the machine.
-ghost use Rattle.std.specs.Prelude.{◌≡◌, ◌+◌, ◌<◌, ◌≤◌, ◌^◌, length, slice_range, IsUtf8};
+ghost use Rattle.std.specs.Prelude.{◌≡◌, ◌+◌, ◌<◌, ◌≤◌, ◌^◌, ◌∷◌, [], length, slice_range, IsUtf8, IfOk};
 ghost use Rattle.doc_chars.specs.Stream.{given, optional};
+ghost use Rattle.doc_reader.specs.Judged.{Judged};
 ghost use Rattle.doc_reader.specs.Piece.{ReadTo, stop_fault};
 
 use crate::machine::{Machine, read_text};
@@ -24,6 +25,15 @@ impl From<Stop> for DocFault {
     }
 }
 
+/// Reads one character.
+fn read_char(m: &mut Machine, limits: Limits, place: u64, c: char) -> Result<(), Stop>
+    requires { place + 4 < 2 ^ 64 }
+    ensures { Judged result limits place m.old (c ∷ []) m.new }
+{
+    let mut bytes = [0; 4];
+    read_text(m, limits, place, c.encode_utf8(&mut bytes))
+}
+
 /// Reads the character that earlier pieces began, and says where it ends.
 fn read_first(
     m: &mut Machine,
@@ -32,14 +42,13 @@ fn read_first(
     first: Option<char>,
 ) -> Result<u64, Stop>
     requires { place + 4 < 2 ^ 64 }
-    ensures { ReadTo result limits place m.old (optional first) m.new }
+    ensures read { ReadTo result limits place m.old (optional first) m.new }
+    ensures near { IfOk result (λ at. at ≤ place + 4) }
 {
     match first {
         Some(c) => {
-            let mut bytes = [0; 4];
-            let text = c.encode_utf8(&mut bytes);
-            read_text(m, limits, place, text)?;
-            Ok(place + text.len() as u64)
+            read_char(m, limits, place, c)?;
+            Ok(place + c.len_utf8() as u64)
         }
         None => Ok(place),
     }
