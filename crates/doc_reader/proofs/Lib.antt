@@ -4,3 +4,4 @@ pub mod Ties
 pub mod Readings
 pub mod Givings
 pub mod Judgings
+pub mod Counts

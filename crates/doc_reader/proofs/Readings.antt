@@ -182,10 +182,6 @@ module _ (old new : Held) (lim : Limits) (b piece : List ℕ) (given : List Toke
 
 -- ---- what a part of the reader answers then
 
-abbrev pub split_answer : Option CharFault → Result (Unit {0}) DocFault
-split_answer None = Ok tt
-split_answer (Some f) = Err (char_fault f)
-
 abbrev Refused : Held → Limits → List ℕ → List Token → DocFault → Type 0
 Refused h lim b given f = HasStopped h.state.tokens lim b given × FaultIs lim b false (Some f)
 
@@ -264,7 +260,9 @@ pub took_stop : (old new : Held) (lim : Limits) (b piece : List ℕ) (given : Li
 took_stop old new lim b piece given ds Lost r within p j = (lost_at old new lim b piece given ds r within p j, tt)
 took_stop old new lim b piece given ds (Stopped m) r within p j = took_refusal new lim (b ++ piece) given (fault m) (refuses_at old new lim b piece given ds r within (fault m) p j)
 
--- a piece whose characters all are read
-pub took_split : (old new : Held) (lim : Limits) (b piece : List ℕ) (given : List Token) (ds : List ℕ) (o : Option CharFault) (r : IsReading old lim b given) → length (b ++ piece) ≤ lim.bytes → GoesOn o new.carry (b ++ piece) (r.chars ++ ds) → judged_steps lim old.place old.state ds ≡ Ok new.state → (o ≡ None → new.place ≡ old.place + size ds) → new.count ≡ old.count + length piece → Took {T = Unit {0}} (split_answer o) new lim (b ++ piece) given
-took_split old new lim b piece given ds None r within g j place count = took_ok new lim (b ++ piece) given (reads_on old new lim b piece given ds r within g j (place refl) count)
-took_split old new lim b piece given ds (Some f) r within g j place count = took_char new lim (b ++ piece) given f (breaks_at old new lim b piece given ds r within f g j)
+-- all characters of a piece are read, and what stands behind them is no Char, or nothing
+pub took_breaks : (old new : Held) (lim : Limits) (b piece : List ℕ) (given : List Token) (ds : List ℕ) (f : CharFault) (r : IsReading old lim b given) → length (b ++ piece) ≤ lim.bytes → Breaks (b ++ piece) (r.chars ++ ds) f → judged_steps lim old.place old.state ds ≡ Ok new.state → Took {T = Unit {0}} (Err (char_fault f)) new lim (b ++ piece) given
+took_breaks old new lim b piece given ds f r within w j = took_char new lim (b ++ piece) given f (breaks_at old new lim b piece given ds r within f w j)
+
+pub took_reads : (old new : Held) (lim : Limits) (b piece : List ℕ) (given : List Token) (ds : List ℕ) (r : IsReading old lim b given) → length (b ++ piece) ≤ lim.bytes → StandsFor new.carry (b ++ piece) (r.chars ++ ds) → judged_steps lim old.place old.state ds ≡ Ok new.state → new.place ≡ old.place + size ds → new.count ≡ old.count + length piece → Took {T = Unit {0}} (Ok tt) new lim (b ++ piece) given
+took_reads old new lim b piece given ds r within g j place count = took_ok new lim (b ++ piece) given (reads_on old new lim b piece given ds r within g j place count)
