@@ -5,3 +5,4 @@ pub mod Readings
 pub mod Givings
 pub mod Judgings
 pub mod Counts
+pub mod Standings

@@ -195,7 +195,7 @@ took_refusal h lim b given (AtDepth k) q = q
 took_refusal h lim b given (AtName k) q = q
 took_refusal h lim b given (AtText k) q = q
 
-no_fault_yet : (h : Held) (lim : Limits) (b : List ℕ) (given : List Token) → IsReading h lim b given → FaultIs lim b false None
+pub no_fault_yet : (h : Held) (lim : Limits) (b : List ℕ) (given : List Token) → IsReading h lim b given → FaultIs lim b false None
 no_fault_yet h lim b given r = within_limit r.within (none_stands lim b h.carry.bytes (with_given r.before h.state) (kept_of h lim b given r))
 
 pub took_ok : (h : Held) (lim : Limits) (b : List ℕ) (given : List Token) → IsReading h lim b given → Took {T = Unit {0}} (Ok tt) h lim b given
