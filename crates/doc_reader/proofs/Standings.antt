@@ -1,6 +1,7 @@
 -- What a reader stands for, from call to call.
 use Rattle.std.proofs.Common.{ℕ, ◌≡◌, ◌+◌, ◌-◌, ◌<◌, ◌≤◌, ◌⊎◌, inl, inr, Bool, true, false, List, [], ◌∷◌, ◌++◌, length, map, Option, Some, None, Result, Ok, Err, refl, sym, ap, ◌∙◌, subst, append_assoc, append-nil, arith, length-append}
 use Rattle.std.specs.Prelude.{OnOk}
+use Rattle.std.specs.Option.{is_some}
 use Rattle.std.proofs.lemmas.Bool.{false≢true, true≢false}
 use lib.Utf8.{scalars, encodes}
 use Rattle.gcx_base.specs.declared.limits.Limits.{Limits}
@@ -30,6 +31,14 @@ some_none f e = cc
 -- the bytes have a fault, so the document doesn't end
 pub no_document : (lim : Limits) (b : List ℕ) (f : DocFault) (ended : Bool) → FaultIs lim b ended (Some f) → ended ≡ true → FaultIs lim b true None → ⊥
 no_document lim b f ended h e k = some_none f (fault_one lim b true (Some f) None (subst (λ o. FaultIs lim b o (Some f)) e h) k)
+
+pub was_refused : (o : Option DocFault) → is_some o ≡ true → o ≡ None → ⊥
+was_refused None e n = false≢true e
+was_refused (Some f) e n = some_none f n
+
+pub not_refused : (o : Option DocFault) → is_some o ≡ false → o ≡ None
+not_refused None e = refl
+not_refused (Some f) e = absurd (true≢false e)
 
 -- ---- what waits, by what the reader goes on from
 
@@ -97,13 +106,19 @@ pub reading_of : (h : Held) (lim : Limits) (b : List ℕ) (given : List Token) �
 reading_of h lim b given e s = subst (λ o. GoesOnBy o h lim b given) e s.goes_on.1
 
 -- behind a piece
-pub stands_read : (old new : Held) (lim : Limits) (b more : List ℕ) (given : List Token) → old.refused ≡ None → IsSame old new → Took {T = Unit {0}} (Ok tt) new lim (b ++ more) given → Stands old lim b false given → Stands new lim (b ++ more) false given
-stands_read old new lim b more given e m q s =
+took_at : (old new : Held) (lim : Limits) (b more : List ℕ) (given : List Token) (r : Result (Unit {0}) DocFault) → old.refused ≡ None → (IsReading old old.limits b given → Took r new old.limits (b ++ more) given) → Stands old lim b false given → Took r new lim (b ++ more) given
+took_at old new lim b more given r e q s =
+    subst (λ (l : Limits). Took r new l (b ++ more) given) s.limits (q (subst (λ (l : Limits). IsReading old l b given) (sym s.limits) (reading_of old lim b given e s)))
+
+pub stands_read : (old new : Held) (lim : Limits) (b more : List ℕ) (given : List Token) → old.refused ≡ None → IsSame old new → (IsReading old old.limits b given → Took {T = Unit {0}} (Ok tt) new old.limits (b ++ more) given) → Stands old lim b false given → Stands new lim (b ++ more) false given
+stands_read old new lim b more given e m took s =
     let none = m.refused ∙ e in
+    let q = took_at old new lim b more given (Ok tt) e took s in
     stands_open new lim (b ++ more) given (m.limits ∙ s.limits) (m.finished ∙ s.finished) (m.end_waits ∙ s.goes_on.0) (subst (λ o. GoesOnBy o new lim (b ++ more) given) (sym none) q.0) (subst (λ o. IsFault o lim (b ++ more) false) (sym none) q.1)
 
-pub stands_refused : (old new : Held) (lim : Limits) (b more : List ℕ) (given : List Token) (f : DocFault) → IsSame old new → Took {T = Unit {0}} (Err f) new lim (b ++ more) given → Stands old lim b false given → Stands (record new { refused = Some f }) lim (b ++ more) false given
-stands_refused old new lim b more given f m q s =
+pub stands_refused : (old new : Held) (lim : Limits) (b more : List ℕ) (given : List Token) (f : DocFault) → old.refused ≡ None → IsSame old new → (IsReading old old.limits b given → Took {T = Unit {0}} (Err f) new old.limits (b ++ more) given) → Stands old lim b false given → Stands (record new { refused = Some f }) lim (b ++ more) false given
+stands_refused old new lim b more given f e m took s =
+    let q = took_at old new lim b more given (Err f) e took s in
     stands_open (record new { refused = Some f }) lim (b ++ more) given (m.limits ∙ s.limits) (m.finished ∙ s.finished) (m.end_waits ∙ s.goes_on.0) (kept_by f new (record new { refused = Some f }) lim (b ++ more) given refl q.0) q.1
 
 -- a piece behind a refusal
