@@ -21,7 +21,7 @@ use Rattle.doc_reader.specs.declared.token.Token.{Token}
 use Rattle.doc_reader.specs.declared.token.Token.TheVariants.{EndOfDocument}
 use Rattle.doc_reader.proofs.Readings.{kept_of, all_read}
 
-map-append : (a b : List Said) → map given_token (a ++ b) ≡ map given_token a ++ map given_token b
+pub map-append : (a b : List Said) → map given_token (a ++ b) ≡ map given_token a ++ map given_token b
 map-append [] b = refl
 map-append (t ∷ a) b = ap (λ l. given_token t ∷ l) (map-append a b)
 

@@ -15,14 +15,14 @@ use Rattle.doc_laws.specs.Machine.{State, start, is_whole}
 use Rattle.doc_laws.specs.States.{Fronts}
 use Rattle.doc_laws.proofs.Faults.{start_reads}
 use Rattle.doc_laws.proofs.LastTag.{longest_so_far}
-use Rattle.doc_laws.proofs.Pieces.{fault_stays, end_cut, end_short, end_whole, size_is, stands_place}
+use Rattle.doc_laws.proofs.Pieces.{Stands as Kept, fault_stays, end_cut, end_short, end_whole, size_is, stands_place}
 use Rattle.doc_laws.proofs.Unique.{fault_one}
-use Rattle.doc_reader.specs.Judged.{given_token}
+use Rattle.doc_reader.specs.Judged.{given_token, TakesFirst}
 use Rattle.doc_reader.specs.Standing.{Held, end_token, waiting, with_given, answer_by, answer_of, Gives, GivesMore, GivesBy, IsFault, Answers, IsReading, HasRead, HasStopped, HasLost, GoesOnBy, GoesOn, Stands, IsRefused}
 use Rattle.doc_reader.specs.Piece.{Took, IsSame, Ends}
 use Rattle.doc_reader.specs.declared.token.Token.{Token}
 use Rattle.doc_reader.specs.declared.token.Token.TheVariants.{EndOfDocument}
-use Rattle.doc_reader.proofs.Givings.{gives_open, gives_whole, gives_more}
+use Rattle.doc_reader.proofs.Givings.{map-append, gives_open, gives_whole, gives_more}
 use Rattle.doc_reader.proofs.Readings.{kept_of, all_read, took_more, no_fault_yet}
 
 some_none : (f : DocFault) → Some f ≡ None → ⊥
@@ -39,6 +39,12 @@ was_refused (Some f) e n = some_none f n
 pub not_refused : (o : Option DocFault) → is_some o ≡ false → o ≡ None
 not_refused None e = refl
 not_refused (Some f) e = absurd (true≢false e)
+
+-- a fault that comes at the end alone
+abbrev SaysEnd : DocFault → Type 0
+SaysEnd (Utf8 n) = Unit {0}
+SaysEnd (Truncated n) = Unit {0}
+SaysEnd other = ⊥
 
 -- ---- what waits, by what the reader goes on from
 
@@ -130,3 +136,171 @@ stands_still h lim b more given n s =
     by : (o : Option DocFault) → (o ≡ None → ⊥) → GoesOnBy o h lim b given → IsFault o lim b false → GoesOnBy o h lim (b ++ more) given × IsFault o lim (b ++ more) false
     by None n q k = absurd (n refl)
     by (Some f) n q k = took_more h lim b more given f (q, k)
+
+-- ---- a token is taken
+
+pub first_taken : (o : Option Token) (ts rest : List Said) (t : Token) → TakesFirst o ts rest → o ≡ Some t → (s : Said) × (ts ≡ s ∷ rest) × (t ≡ given_token s)
+first_taken o [] rest t h e = let no : ⊥ = none_some t (sym h.0 ∙ e) in absurd no
+  where
+    none_some : (t : Token) → None ≡ Some t → ⊥
+    none_some t e = cc
+first_taken o (s ∷ ts) rest t h e = (s, ap (λ l. s ∷ l) (sym h.1), same t (given_token s) (sym e ∙ h.0))
+  where
+    same : (t u : Token) → Some t ≡ Some u → t ≡ u
+    same t u e = cc
+
+pub none_taken : (o : Option Token) (ts rest : List Said) → TakesFirst o ts rest → o ≡ None → (ts ≡ []) × (rest ≡ [])
+none_taken o [] rest h e = (refl, h.1)
+none_taken o (s ∷ ts) rest h e = absurd (some_no (given_token s) (sym h.0 ∙ e))
+  where
+    some_no : (t : Token) → Some t ≡ None → ⊥
+    some_no t e = cc
+
+-- a reader whose first token was taken
+abbrev pub popped : Held → List Said → Held
+popped h rest = record h { state = record h.state { tokens = rest } }
+
+module _ (h : Held) (s : Said) (rest : List Said) (first : h.state.tokens ≡ s ∷ rest) (lim : Limits) (b : List ℕ) (given : List Token) where
+  given_more : (before : List Said) → given ≡ map given_token before → given ++ (given_token s ∷ []) ≡ map given_token (before ++ (s ∷ []))
+  given_more before e = ap (λ l. l ++ (given_token s ∷ [])) e ∙ sym (map-append before (s ∷ []))
+
+  read_popped : (chars : List ℕ) → HasRead h.state.tokens lim b chars given → HasRead rest lim b chars (given ++ (given_token s ∷ []))
+  read_popped chars r = record {
+    rest = r.rest;
+    scalars_are = r.scalars_are;
+    parts = r.parts;
+    within = r.within;
+    clean = r.clean;
+    before = r.before ++ (s ∷ []);
+    given_are = given_more r.before r.given_are;
+    state = r.state;
+    tokens_are = r.tokens_are ∙ ap (λ l. r.before ++ l) first ∙ sym (append_assoc r.before (s ∷ []) rest);
+    front = r.front;
+  }
+
+  reading_popped : IsReading h lim b given → IsReading (popped h rest) lim b (given ++ (given_token s ∷ []))
+  reading_popped r = record {
+    chars = r.chars;
+    stream = r.stream;
+    place = r.place;
+    count = r.count;
+    within = r.within;
+    clean = r.clean;
+    short = r.short;
+    before = r.before ++ (s ∷ []);
+    given_are = given_more r.before r.given_are;
+    front = subst (λ l. Fronts r.chars (record h.state { tokens = l })) (ap (λ l. r.before ++ l) first ∙ sym (append_assoc r.before (s ∷ []) rest)) r.front;
+  }
+
+  stopped_popped : HasStopped h.state.tokens lim b given → HasStopped rest lim b (given ++ (given_token s ∷ []))
+  stopped_popped q = record { chars = q.chars; read = read_popped q.chars q.read; longest = q.longest }
+
+  goes_popped : (o : Option DocFault) → GoesOnBy o h lim b given → GoesOnBy o (popped h rest) lim b (given ++ (given_token s ∷ []))
+  goes_popped None q = reading_popped q
+  goes_popped (Some Memory) q = record { chars = q.chars; read = read_popped q.chars q.read }
+  goes_popped (Some (Utf8 n)) q = stopped_popped q
+  goes_popped (Some (Syntax n)) q = stopped_popped q
+  goes_popped (Some (Truncated n)) q = stopped_popped q
+  goes_popped (Some (Depth n)) q = stopped_popped q
+  goes_popped (Some (NameLong n)) q = stopped_popped q
+  goes_popped (Some (TextLong n)) q = stopped_popped q
+  goes_popped (Some (TooLong n)) q = stopped_popped q
+
+  on_popped : (ended : Bool) → GoesOn ended h lim b given → GoesOn ended (popped h rest) lim b (given ++ (given_token s ∷ []))
+  on_popped true q = tt
+  on_popped false q = (q.0, goes_popped h.refused q.1)
+
+  pub stands_popped : (ended : Bool) → Stands h lim b ended given → Stands (popped h rest) lim b ended (given ++ (given_token s ∷ []))
+  stands_popped ended q = record {
+    limits = q.limits;
+    finished = q.finished;
+    fault = q.fault;
+    gives = subst (GivesBy h.refused lim b ended) (ap (λ l. given ++ (map given_token l ++ end_token h.end_waits)) first ∙ sym (append_assoc given (given_token s ∷ []) (map given_token rest ++ end_token h.end_waits))) q.gives;
+    goes_on = on_popped ended q.goes_on;
+  }
+
+-- the end of the document is taken
+pub stands_told : (h : Held) (lim : Limits) (b : List ℕ) (ended : Bool) (given : List Token) → h.state.tokens ≡ [] → h.end_waits ≡ true → Stands h lim b ended given → Stands (record h { end_waits = false }) lim b ended (given ++ (EndOfDocument ∷ []))
+stands_told h lim b false given e w q = absurd (true≢false (sym w ∙ q.goes_on.0))
+stands_told h lim b true given e w q = record {
+  limits = q.limits;
+  finished = q.finished;
+  fault = q.fault;
+  gives = subst (GivesBy h.refused lim b true) ((λ i. given ++ (map given_token (e i) ++ end_token (w i))) ∙ sym (append-nil (given ++ (EndOfDocument ∷ []))) ∙ ap (λ l. (given ++ (EndOfDocument ∷ [])) ++ (map given_token l ++ [])) (sym e)) q.gives;
+  goes_on = tt;
+}
+
+-- ---- the end of the input
+
+ended_is : (h : Held) (lim : Limits) (b : List ℕ) (ended : Bool) (given : List Token) → Stands h lim b ended given → h.finished ≡ false → ended ≡ false
+ended_is h lim b ended given s e = sym s.finished ∙ e
+
+-- behind a refusal
+pub stands_end_refused : (h : Held) (lim : Limits) (b : List ℕ) (given : List Token) → IsRefused h → Stands h lim b false given → Stands (record h { finished = true }) lim b true given
+stands_end_refused h lim b given n s =
+    let q = by h.refused n s.goes_on.1 s.fault in
+    record {
+      limits = s.limits;
+      finished = refl;
+      fault = q.0;
+      gives = subst (λ (w : Bool). GivesBy h.refused lim b true (given ++ (map given_token h.state.tokens ++ end_token w))) (sym s.goes_on.0) q.1;
+      goes_on = tt;
+    }
+  where
+    stays : (f : DocFault) → FaultIs lim b false (Some f) → FaultIs lim b true (Some f)
+    stays f k = subst (λ l. FaultIs lim l true (Some f)) (append-nil b) (fault_stays lim b [] true f k)
+
+    stopped : (f : DocFault) → HasStopped h.state.tokens lim b given → FaultIs lim b false (Some f) → FaultIs lim b true (Some f) × Gives lim b true (given ++ (map given_token h.state.tokens ++ []))
+    stopped f q k = (stays f k, gives_stopped h.state.tokens lim b true given f q (stays f k))
+
+    by : (o : Option DocFault) → (o ≡ None → ⊥) → GoesOnBy o h lim b given → IsFault o lim b false → IsFault o lim b true × GivesBy o lim b true (given ++ (map given_token h.state.tokens ++ []))
+    by None n q k = absurd (n refl)
+    by (Some Memory) n q k = (tt, gives_more h.state.tokens lim b q.chars true given q.read)
+    by (Some (Utf8 m)) n q k = stopped (Utf8 m) q k
+    by (Some (Syntax m)) n q k = stopped (Syntax m) q k
+    by (Some (Truncated m)) n q k = stopped (Truncated m) q k
+    by (Some (Depth m)) n q k = stopped (Depth m) q k
+    by (Some (NameLong m)) n q k = stopped (NameLong m) q k
+    by (Some (TextLong m)) n q k = stopped (TextLong m) q k
+    by (Some (TooLong m)) n q k = stopped (TooLong m) q k
+
+-- with a whole document
+pub stands_end_whole : (h : Held) (lim : Limits) (b : List ℕ) (given : List Token) → h.refused ≡ None → h.carry.bytes ≡ [] → is_whole h.state ≡ true → Stands h lim b false given → Stands (record h { finished = true; end_waits = true }) lim b true given
+stands_end_whole h lim b given e none w s =
+    let r = reading_of h lim b given e s in
+    let state = with_given r.before h.state in
+    let kept : Kept lim b [] state = subst (λ l. Kept lim b l state) none (kept_of h lim b given r) in
+    let fault : FaultIs lim b true None = within_limit r.within (end_whole lim b state kept w).0 in
+    let gives = gives_whole h.state.tokens lim b r.chars true given (all_read h lim b given r) (longest_so_far lim b h.carry.bytes state (kept_of h lim b given r) r.within) refl fault in
+    record {
+      limits = s.limits;
+      finished = refl;
+      fault = subst (λ o. IsFault o lim b true) (sym e) fault;
+      gives = subst (λ o. GivesBy o lim b true (given ++ (map given_token h.state.tokens ++ (EndOfDocument ∷ [])))) (sym e) gives;
+      goes_on = tt;
+    }
+
+-- inside a character, or too soon
+pub stands_end_short : (h : Held) (lim : Limits) (b : List ℕ) (given : List Token) (f : DocFault) → h.refused ≡ None → Ends {T = Unit {0}} (Err f) h → Stands h lim b false given → Stands (record h { finished = true; refused = Some f }) lim b true given
+stands_end_short h lim b given f e ends s =
+    let r = reading_of h lim b given e s in
+    let state = with_given r.before h.state in
+    let kept = kept_of h lim b given r in
+    let q = elim ends as (λ _. FaultIs lim b true (Some f) × SaysEnd f) [
+      | inl c ↦
+          let place : size r.chars ≡ h.carry.seen - length h.carry.bytes = omega (arith, stands_place lim b h.carry.bytes state kept, r.stream.seen) in
+          let is : Utf8 (size r.chars) ≡ f = ap Utf8 place ∙ sym c.1 in
+          (subst (λ g. FaultIs lim b true (Some g)) is (within_limit r.within (end_cut lim b h.carry.bytes state kept (λ n. let z : length h.carry.bytes ≡ 0 = ap length n in let some = c.0 in absurd (omega (arith, z, some))))), subst SaysEnd is tt)
+      | inr c ↦
+          let is : Truncated (length b) ≡ f = ap Truncated (sym r.count) ∙ sym c.2 in
+          (subst (λ g. FaultIs lim b true (Some g)) is (within_limit r.within (end_short lim b state (subst (λ l. Kept lim b l state) c.0 kept) c.1)), subst SaysEnd is tt)
+    ] in
+    let gives = gives_open h.state.tokens lim b r.chars true given (all_read h lim b given r) (longest_so_far lim b h.carry.bytes state kept r.within) (no_document lim b f true q.0) in
+    let at : Gives lim b true (given ++ waiting h) = subst (λ (w : Bool). Gives lim b true (given ++ (map given_token h.state.tokens ++ end_token w))) (sym s.goes_on.0) gives in
+    let both = by f q.1 q.0 at in
+    record { limits = s.limits; finished = refl; fault = both.0; gives = both.1; goes_on = tt }
+  where
+    by : (f : DocFault) → SaysEnd f → FaultIs lim b true (Some f) → Gives lim b true (given ++ waiting h) → IsFault (Some f) lim b true × GivesBy (Some f) lim b true (given ++ waiting h)
+    by (Utf8 m) w k g = (k, g)
+    by (Truncated m) w k g = (k, g)
+    by other w k g = absurd w
