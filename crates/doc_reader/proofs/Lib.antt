@@ -6,3 +6,4 @@ pub mod Givings
 pub mod Judgings
 pub mod Counts
 pub mod Standings
+pub mod Accepting

@@ -232,7 +232,7 @@ stands_told h lim b true given e w q = record {
 
 -- ---- the end of the input
 
-ended_is : (h : Held) (lim : Limits) (b : List ℕ) (ended : Bool) (given : List Token) → Stands h lim b ended given → h.finished ≡ false → ended ≡ false
+pub ended_is : (h : Held) (lim : Limits) (b : List ℕ) (ended : Bool) (given : List Token) → Stands h lim b ended given → h.finished ≡ false → ended ≡ false
 ended_is h lim b ended given s e = sym s.finished ∙ e
 
 -- behind a refusal
