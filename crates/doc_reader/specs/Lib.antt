@@ -1,4 +1,5 @@
 pub mod OpenNames
 pub mod Machine
+pub mod Steps
 pub mod Sound
 pub mod Judged

@@ -5,6 +5,8 @@ ghost use Rattle.doc_laws.specs.Machine.{start, is_whole};
 ghost use Rattle.doc_reader.specs.Judged.{Judged, TakesWhole};
 ghost use Rattle.doc_reader.specs.Machine.{scan_state};
 
+mod markup;
+
 use crate::event::{Event, token_of};
 use crate::mode::Mode;
 use crate::open_names::OpenNames;
