@@ -5,7 +5,10 @@ ghost use Rattle.doc_laws.specs.Machine.{start, is_whole};
 ghost use Rattle.doc_reader.specs.Judged.{Judged, TakesWhole};
 ghost use Rattle.doc_reader.specs.Machine.{scan_state};
 
+mod end_tag;
 mod markup;
+mod tag;
+mod text;
 
 use crate::event::{Event, token_of};
 use crate::mode::Mode;
