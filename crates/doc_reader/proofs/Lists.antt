@@ -8,7 +8,8 @@ use Rattle.std.proofs.lemmas.Bool.{true≢false, false≢true, cases_lt}
 use Rattle.std.proofs.lemmas.Slice.Eq.{bytes_eq-Decides, IsBytesEq, compares_Decides}
 use Rattle.gcx_model.specs.Attributes.{same, is_fresh}
 use Rattle.gcx_model.specs.Fronts.{is_inside}
-use Rattle.doc_laws.specs.Machine.{behind}
+use lib.Utf8.{encode}
+use Rattle.doc_laws.specs.Machine.{State, behind, on_end, to_end_name}
 use Rattle.doc_reader.specs.OpenNames.{names_of}
 
 as_many : (starts bytes : List ℕ) → length (names_of starts bytes) ≡ length starts
@@ -52,10 +53,10 @@ before_name bytes s e h =
     ]
 
 -- the last of the first k + 1 names
-pub last_name : (starts bytes : List ℕ) (k e : ℕ) → k < length starts → e ≤ length bytes → names_of (reverse (take (k + 1) starts)) (take e bytes) ≡ slice_range bytes (min (get_or starts k 0) e) e ∷ names_of (reverse (take k starts)) (take (min (get_or starts k 0) e) bytes)
-last_name starts bytes k e l h =
-    let s = get_or starts k 0 in
-    ap (λ t. names_of (reverse t) (take e bytes)) (take_more starts k 0 l)
+pub last_name : (starts bytes : List ℕ) (k e d : ℕ) → k < length starts → e ≤ length bytes → names_of (reverse (take (k + 1) starts)) (take e bytes) ≡ slice_range bytes (min (get_or starts k d) e) e ∷ names_of (reverse (take k starts)) (take (min (get_or starts k d) e) bytes)
+last_name starts bytes k e d l h =
+    let s = get_or starts k d in
+    ap (λ t. names_of (reverse t) (take e bytes)) (take_more starts k d l)
     ∙ ap (λ t. names_of t (take e bytes)) (reverse-append (take k starts) (s ∷ []))
     ∙ ap (λ n. n ∷ names_of (reverse (take k starts)) (take s (take e bytes))) (name_at bytes s e h)
     ∙ ap (λ b. slice_range bytes (min s e) e ∷ names_of (reverse (take k starts)) b) (before_name bytes s e h)
@@ -78,11 +79,11 @@ fresh_on m n ns e = ap (λ b. not b && is_fresh m ns) (by (same m n) refl)
     by false f = refl
 
 -- one name of the search, from the last on
-pub looked : (name starts bytes : List ℕ) (k e s : ℕ) → 0 < k → k ≤ length starts → e ≤ length bytes → s ≡ min (get_or starts (k - 1) 0) e → is_fresh name (names_of (reverse (take k starts)) (take e bytes)) ≡ is_fresh name (slice_range bytes s e ∷ names_of (reverse (take (k - 1) starts)) (take s bytes))
-looked name starts bytes k e s p l h is =
+pub looked : (name starts bytes : List ℕ) (k e d s : ℕ) → 0 < k → k ≤ length starts → e ≤ length bytes → s ≡ min (get_or starts (k - 1) d) e → is_fresh name (names_of (reverse (take k starts)) (take e bytes)) ≡ is_fresh name (slice_range bytes s e ∷ names_of (reverse (take (k - 1) starts)) (take s bytes))
+looked name starts bytes k e d s p l h is =
     let next : k ≡ (k - 1) + 1 = omega arith in
     ap (λ j. is_fresh name (names_of (reverse (take j starts)) (take e bytes))) next
-    ∙ ap (is_fresh name) (last_name starts bytes (k - 1) e (omega arith) h)
+    ∙ ap (is_fresh name) (last_name starts bytes (k - 1) e d (omega arith) h)
     ∙ ap (λ m. is_fresh name (slice_range bytes m e ∷ names_of (reverse (take (k - 1) starts)) (take m bytes))) (sym is)
 
 -- bytes that don't begin a list
@@ -106,3 +107,8 @@ is_behind (x ∷ xs) (y ∷ ys) h =
       | true ↦ λ h. is_behind xs ys h
       | false ↦ λ h. absurd (false≢true h)
     ] h
+
+-- inside the innermost element's name
+pub inside_name : (s : State) (left : List ℕ) (c : ℕ) → 0 < length left → on_end s left c ≡ to_end_name s (behind (encode c) left)
+inside_name s [] c h = absurd (omega arith)
+inside_name s (x ∷ left) c h = refl

@@ -3,3 +3,5 @@ pub mod Machine
 pub mod Steps
 pub mod Sound
 pub mod Judged
+pub mod Limited
+pub mod Reading

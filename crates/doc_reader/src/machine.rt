@@ -7,6 +7,9 @@ ghost use Rattle.doc_reader.specs.Machine.{scan_state};
 
 mod end_tag;
 mod markup;
+mod judge;
+mod read;
+mod step;
 mod tag;
 mod text;
 
