@@ -8,8 +8,9 @@ use Rattle.std.proofs.lemmas.Str.{encodes-append}
 use Rattle.std.proofs.lemmas.List.Folds.{list_all-append}
 use lib.Utf8.{encode, encodes}
 use Rattle.gcx_base.specs.Characters.{is_char, is_white, is_start_char, is_part_char}
+use Rattle.gcx_base.specs.Name.{is_name, IsNameBytes}
 use Rattle.gcx_base.specs.declared.limits.Limits.{Limits}
-use Rattle.gcx_model.specs.Attributes.{is_name, IsNameBytes, is_text_char, is_value_char, is_quote, is_fresh}
+use Rattle.gcx_model.specs.Attributes.{is_text_char, is_value_char, is_quote, is_fresh}
 use Rattle.gcx_model.specs.Markup.{is_doc_char, is_literal_char}
 use Rattle.gcx_model.specs.Grammar.{may_open}
 use Rattle.gcx_model.specs.Fronts.{is_inside}
@@ -205,3 +206,22 @@ judged_is lim place s t c deep e d = ap (judged_by lim place s c) e ∙ limited_
 
 pub judged_keeps : (lim : Limits) (place : ℕ) (s t : State) (c : ℕ) (f : Refusal) → IsSound s → step s c ≡ Some t → judged lim place s c ≡ Err f → t.tokens ≡ s.tokens
 judged_keeps lim place s t c f h e g = refused_keeps lim place s t c f h e (sym (ap (judged_by lim place s c) e) ∙ g)
+
+judged_step : (lim : Limits) (place : ℕ) (s t : State) (c : ℕ) → judged lim place s c ≡ Ok t → step s c ≡ Some t
+judged_step lim place s t c e = by (step s c) e
+  where
+    err_not : (f : Refusal) → Err f ≡ Ok t → ⊥
+    err_not f e = cc
+
+    within : (a b d : Bool) (f g h : Refusal) (u : State) → cond a (Err f) (cond b (Err g) (cond d (Err h) (Ok u))) ≡ Ok t → u ≡ t
+    within true b d f g h u e = absurd (err_not f e)
+    within false true d f g h u e = absurd (err_not g e)
+    within false false true f g h u e = absurd (err_not h e)
+    within false false false f g h u e = cc
+
+    by : (o : Option State) → judged_by lim place s c o ≡ Ok t → o ≡ Some t
+    by None e = absurd (err_not _ e)
+    by (Some u) e = ap Some (within (nat_lt lim.text (length u.run)) (is_deep lim s c) (nat_lt lim.name (length (naming_by u.mode u))) _ _ _ u e)
+
+pub judged_sound : (lim : Limits) (place : ℕ) (s t : State) (c : ℕ) → IsSound s → judged lim place s c ≡ Ok t → IsSound t
+judged_sound lim place s t c h e = (step_good s t c h (judged_step lim place s t c e)).0

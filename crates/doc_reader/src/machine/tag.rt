@@ -1,7 +1,7 @@
 //! Start tags.
 ghost use Rattle.std.specs.Prelude.{◌≡◌, ◌+◌, ◌≤◌, ◌++◌, [], map, IfOk};
 ghost use Rattle.std.specs.VecDeque.{deque_len, deque_capacity};
-ghost use Rattle.gcx_model.specs.Attributes.{IsNameBytes};
+ghost use Rattle.gcx_base.specs.Name.{IsNameBytes};
 ghost use Rattle.gcx_model.specs.Fronts.{text_of};
 ghost use Rattle.doc_laws.specs.Machine.{InValue, InValueReference, begun, opened, emptied, valued, on_less, on_start, on_tag, on_start_space, on_attribute_name, on_named, on_equals, on_value, on_slash, on_referred, refer};
 ghost use Rattle.doc_reader.specs.Machine.{scan_state, event_token, referring_of};
