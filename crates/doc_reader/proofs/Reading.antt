@@ -6,7 +6,7 @@ use Rattle.std.specs.List.{list_all}
 use Rattle.std.specs.Str.{chars, IsUtf8, IsAscii, IsCharBoundary}
 use Rattle.std.proofs.lemmas.Bool.{false≢true, cases_lt}
 use Rattle.std.proofs.lemmas.List.{take-append-drop}
-use Rattle.std.proofs.lemmas.Str.{chars-nil, chars-append, chars-IsAscii, IsUtf8-from_ascii, IsCharBoundary-start, IsCharBoundary-from_take, encodes-IsAscii, len_utf8_ascii, length-encode, chars_past_char}
+use Rattle.std.proofs.lemmas.Str.{chars-nil, chars-append, chars-IsAscii, IsUtf8-from_ascii, IsCharBoundary-start, IsCharBoundary-from_take, encodes-IsAscii, len_utf8_ascii, length-encode, chars_past_char, IsUtf8-past_char}
 use lib.Utf8.{encode, encodes}
 use Rattle.gcx_base.specs.declared.limits.Limits.{Limits}
 use Rattle.gcx_model.specs.Attributes.{is_text_char}
@@ -17,7 +17,10 @@ use Rattle.doc_laws.specs.Judging.{judged, judged_steps, on_ok}
 use Rattle.doc_laws.proofs.Texts.{text_judged}
 use Rattle.doc_laws.proofs.Unique.{judged_append}
 use Rattle.doc_laws.proofs.Pieces.{size_is}
-use Rattle.doc_reader.specs.Judged.{Refuses, ReadsFront}
+use Rattle.doc_reader.specs.declared.stop.Stop.{Stop}
+use Rattle.doc_reader.specs.declared.stop.Stop.TheVariants.{Refused, Memory}
+use Rattle.doc_reader.specs.Judged.{fault, Refuses, ReadsFront, Judged}
+use Rattle.doc_reader.specs.Limited.{JudgedOne}
 use Rattle.doc_reader.specs.Sound.{IsSoundIn, IsSound}
 use Rattle.doc_reader.specs.Reading.{is_plain_byte, IsPlainFront, IsFirst, Moves, Reached}
 use Rattle.doc_reader.proofs.Sound.{judged_sound}
@@ -101,6 +104,7 @@ pub first_is : (c : ℕ) (rest text : List ℕ) → IsUtf8 text → text ≡ enc
 first_is c rest text u e = record {
   first = chars_past_char text rest c u e;
   size_is = ap length e ∙ length-append (encode c) rest ∙ ap (λ n. n + length rest) (length-encode c);
+  utf8 = IsUtf8-past_char text rest c u e;
 }
 
 -- ---- characters one after another
@@ -155,3 +159,8 @@ reached_front lim place old text at s t rest r k = record { front = r.front; res
 
 pub reached_all : (lim : Limits) (place : ℕ) (old : State) (text : List ℕ) (at : ℕ) (s : State) (rest : List ℕ) → Reached lim place old text at s rest → rest ≡ [] → judged_steps lim place old (chars text) ≡ Ok s
 reached_all lim place old text at s rest r e = ap (judged_steps lim place old) (r.parts ∙ ap (λ l. r.front ++ l) (ap chars e ∙ chars-nil) ∙ append-nil r.front) ∙ r.read
+
+-- a character where reading stops
+pub reached_stop : (lim : Limits) (place : ℕ) (old : State) (text : List ℕ) (at : ℕ) (s t : State) (c : ℕ) (rest after : List ℕ) (stop : Stop) → Reached lim place old text at s rest → IsFirst c after rest → JudgedOne {T = Unit {0}} (Err stop) lim at s c t → Judged {T = Unit {0}} (Err stop) lim place old (chars text) t
+reached_stop lim place old text at s t c rest after (Refused f) r i j = reached_refused lim place old text at s t c rest after (fault f) r i j.0 j.1
+reached_stop lim place old text at s t c rest after Memory r i j = reached_front lim place old text at s t rest r j

@@ -2,7 +2,7 @@
 use Rattle.std.specs.Prelude.{ℕ, ◌≡◌, ◌+◌, ◌<◌, ◌≤◌, Bool, true, ◌&&◌, nat_lt, List, [], ◌∷◌, ◌++◌, length, take, drop, Ok}
 use Rattle.std.specs.Char.{len_utf8}
 use Rattle.std.specs.List.{list_all}
-use Rattle.std.specs.Str.{chars, IsCharBoundary}
+use Rattle.std.specs.Str.{chars, IsUtf8, IsCharBoundary}
 use Rattle.gcx_base.specs.declared.limits.Limits.{Limits}
 use Rattle.gcx_model.specs.Attributes.{is_text_char}
 use Rattle.gcx_model.specs.Faults.{size}
@@ -24,6 +24,7 @@ pub record IsPlainFront (n most : ℕ) (bytes : List ℕ) : Type 0 where
 pub record IsFirst (c : ℕ) (rest text : List ℕ) : Type 0 where
   pub first : chars text ≡ c ∷ chars rest
   pub size_is : length text ≡ len_utf8 c + length rest
+  pub utf8 : IsUtf8 rest
 
 -- The first n bytes are characters, which are read, from whatever place on.
 pub record Moves (lim : Limits) (old : State) (text : List ℕ) (n : ℕ) (new : State) : Type 0 where
