@@ -1,18 +1,18 @@
 -- Characters read one after another, and text as a whole.
-use Rattle.std.proofs.Common.{ℕ, zero, suc, ◌≡◌, ◌+◌, ◌-◌, ◌<◌, ◌≤◌, inl, inr, Bool, true, false, ◌&&◌, List, [], ◌∷◌, ◌++◌, length, take, drop, get_or, Result, Ok, Err, refl, sym, ap, ◌∙◌, subst, append_assoc, append-nil, arith, length-append, length-drop, length-take, ltb-true}
+use Rattle.std.proofs.Common.{ℕ, zero, suc, ◌≡◌, ◌+◌, ◌-◌, ◌<◌, ◌≤◌, Bool, true, false, ◌&&◌, List, [], ◌∷◌, ◌++◌, length, take, drop, Ok, Err, refl, sym, ap, ◌∙◌, subst, append_assoc, append-nil, arith, length-append, length-drop, length-take, ltb-true}
 use Rattle.std.specs.Prelude.{nat_lt}
 use Rattle.std.specs.Char.{len_utf8}
 use Rattle.std.specs.List.{list_all}
 use Rattle.std.specs.Str.{chars, IsUtf8, IsAscii, IsCharBoundary}
-use Rattle.std.proofs.lemmas.Bool.{false≢true, cases_lt}
+use Rattle.std.proofs.lemmas.Bool.{false≢true}
 use Rattle.std.proofs.lemmas.List.{take-append-drop}
-use Rattle.std.proofs.lemmas.Str.{chars-nil, chars-append, chars-IsAscii, IsUtf8-from_ascii, IsCharBoundary-start, IsCharBoundary-from_take, encodes-IsAscii, len_utf8_ascii, length-encode, chars_past_char, IsUtf8-past_char}
+use Rattle.std.proofs.lemmas.Str.{chars-nil, chars-append, chars-IsAscii, IsUtf8-from_ascii, IsCharBoundary-start, IsCharBoundary-from_take, encodes-IsAscii, length-encode, chars_past_char, IsUtf8-past_char}
 use lib.Utf8.{encode, encodes}
 use Rattle.gcx_base.specs.declared.limits.Limits.{Limits}
 use Rattle.gcx_model.specs.Attributes.{is_text_char}
 use Rattle.gcx_model.specs.Faults.{Refusal, size}
 use Rattle.gcx_model.specs.Fronts.{is_inside}
-use Rattle.doc_laws.specs.Machine.{Mode, Opening, Between, State, is_between}
+use Rattle.doc_laws.specs.Machine.{Mode, Between, State, is_between}
 use Rattle.doc_laws.specs.Judging.{judged, judged_steps, on_ok}
 use Rattle.doc_laws.proofs.Texts.{text_judged}
 use Rattle.doc_laws.proofs.Unique.{judged_append}

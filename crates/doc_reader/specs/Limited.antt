@@ -1,5 +1,5 @@
 -- The limits of a step (this project's).
-use Rattle.std.specs.Prelude.{ℕ, ◌≡◌, ◌+◌, List, length, nat_lt, Option, Some, None, Result, Ok, Err, if◌then◌else◌}
+use Rattle.std.specs.Prelude.{ℕ, ◌≡◌, length, nat_lt, Option, Some, None, Result, Ok, Err, if◌then◌else◌}
 use Rattle.gcx_base.specs.declared.limits.Limits.{Limits}
 use Rattle.gcx_model.specs.Faults.{Refusal as Fault, AtDepth, AtName, AtText}
 use Rattle.doc_laws.specs.Machine.{State}

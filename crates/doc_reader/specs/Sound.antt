@@ -1,5 +1,5 @@
 -- What holds of each state that the machine is in (this project's).
-use Rattle.std.specs.Prelude.{ℕ, ◌≡◌, List, []}
+use Rattle.std.specs.Prelude.{◌≡◌, []}
 use Rattle.gcx_base.specs.Name.{IsNameBytes}
 use Rattle.doc_laws.specs.Machine.{State, Mode, StartName, StartSpace, AttributeName, AttributeSpace, Equals, InValue, InValueReference, ValueEnd, Slash}
 

@@ -83,7 +83,11 @@ pub(crate) fn comment_end(c: char) -> Option<Mode>
 pub(crate) fn question(c: char) -> Option<Mode>
     ensures { (s : State) → turned s result ≡ on_question s c }
 {
-    if is_name_start(c) { Some(Mode::Target) } else { None }
+    if is_name_start(c) {
+        Some(Mode::Target)
+    } else {
+        None
+    }
 }
 
 /// In the name of a processing instruction.
@@ -124,7 +128,11 @@ pub(crate) fn note(c: char) -> Option<Mode>
 pub(crate) fn note_mark(c: char) -> Option<Mode>
     ensures { (s : State) → turned s result ≡ on_note s 1 c }
 {
-    if c == '>' { Some(Mode::Between) } else { note(c) }
+    if c == '>' {
+        Some(Mode::Between)
+    } else {
+        note(c)
+    }
 }
 
 /// Behind so many characters of `OCTYPE`.

@@ -8,8 +8,8 @@ ghost use Rattle.doc_reader.specs.Steps.{Taken, Stepped};
 use super::Scan;
 use super::end_tag::{end_name, ended};
 use super::markup::{
-    bang, bang_dash, comment, comment_dash, comment_end, doc, doc_literal, doc_space, doc_word, note,
-    note_mark, question, section_word, target, target_mark,
+    bang, bang_dash, comment, comment_dash, comment_end, doc, doc_literal, doc_space, doc_word,
+    note, note_mark, question, section_word, target, target_mark,
 };
 use super::tag::{
     attribute_name, equals, in_value, in_value_reference, less, named, slash, start_name,

@@ -246,7 +246,12 @@ pub(crate) fn in_value(m: &mut Scan, quote: char, c: char) -> Result<bool, Memor
 }
 
 /// In a reference in a value.
-pub(crate) fn in_value_reference(m: &mut Scan, quote: char, referring: Referring, c: char) -> Result<bool, Memory>
+pub(crate) fn in_value_reference(
+    m: &mut Scan,
+    quote: char,
+    referring: Referring,
+    c: char,
+) -> Result<bool, Memory>
     ensures { Stepped result (scan_state m.old) (on_referred (scan_state m.old) (InValueReference quote) (InValue quote) (refer (referring_of referring) c)) (scan_state m.new) }
 {
     match referring.and(c) {

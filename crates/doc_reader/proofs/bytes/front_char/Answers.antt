@@ -1,5 +1,4 @@
-use Rattle.std.proofs.Common.{ap, ◌∙◌, sym, subst, take, length, List, ℕ, false, ◌≡◌, None}
-use Rattle.std.specs.Cmp.Lexicographic.{pointwise}
+use Rattle.std.proofs.Common.{◌∙◌, sym, subst, List, ℕ, ◌≡◌, None}
 use Rattle.doc_laws.specs.Machine.{behind}
 use Rattle.doc_reader.proofs.Lists.{not_behind}
 use Rattle.doc_reader.proofs.bytes.front_char.Goals as goal

@@ -1,6 +1,6 @@
 use Rattle.std.proofs.Common.{ap, ◌∙◌, sym, subst, drop, length, length-drop, arith, Option}
 use lib.Utf8.{encode}
-use Rattle.doc_laws.specs.Machine.{State, innermost, behind, to_end_name, on_end}
+use Rattle.doc_laws.specs.Machine.{State, innermost, behind, to_end_name}
 use Rattle.doc_reader.specs.Machine.{scan_state}
 use Rattle.doc_reader.specs.Steps.{Taken}
 use Rattle.doc_reader.proofs.Lists.{inside_name}

@@ -1,6 +1,5 @@
-use Rattle.std.proofs.Common.{sym, ap, ◌∙◌, subst, Option, Some, None, Err, Ok, ◌≡◌}
+use Rattle.std.proofs.Common.{◌∙◌, subst, Option}
 use Rattle.doc_laws.specs.Machine.{step}
-use Rattle.doc_laws.specs.Judging.{judged}
 use Rattle.doc_reader.specs.declared.stop.Refusal.{Refusal}
 use Rattle.doc_reader.specs.Judged.{fault}
 use Rattle.doc_reader.specs.Machine.{scan_state}

@@ -1,5 +1,4 @@
 use Rattle.std.proofs.Common.{sym, ap, ◌∙◌, subst, take, List, ℕ, ◌≡◌, ◌-◌, ◌++◌, length}
-use Rattle.doc_laws.specs.Machine.{State}
 use Rattle.doc_reader.specs.Machine.{scan_state}
 use Rattle.doc_reader.specs.Reading.{IsPlainFront}
 use Rattle.doc_reader.proofs.Reading.{plain_boundary, moves_none, moves_text}

@@ -1,9 +1,8 @@
-use Rattle.std.proofs.Common.{sym, ap, ◌∙◌, subst, drop, length, List, ℕ, ◌≡◌, ◌+◌, ◌-◌, arith, rules, Err}
+use Rattle.std.proofs.Common.{sym, ap, ◌∙◌, subst, drop, length, List, ℕ, ◌+◌, ◌-◌}
 use Rattle.std.proofs.lemmas.Result.{err_from_is_err_and}
-use Rattle.doc_reader.specs.Judged.{Judged}
 use Rattle.doc_reader.specs.Machine.{scan_state}
-use Rattle.doc_reader.specs.Reading.{Reached, IsFirst}
-use Rattle.doc_reader.proofs.Reading.{reached_start, reached_moves, reached_first, reached_stop, reached_all}
+use Rattle.doc_reader.specs.Reading.{IsFirst}
+use Rattle.doc_reader.proofs.Reading.{reached_moves, reached_first, reached_stop, reached_all}
 use Rattle.doc_reader.proofs.machine.read.read.Goals as goal
 
 pub returns-in_err-judge-in-Some-clause-judged : goal.returns-in_err-judge-in-Some-clause-judged

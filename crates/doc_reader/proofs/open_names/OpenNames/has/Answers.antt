@@ -1,4 +1,4 @@
-use Rattle.std.proofs.Common.{ap, ◌∙◌, sym, subst, take, drop, length, reverse, List, ℕ, Bool, true, false, not, ◌≡◌, ◌+◌, ◌-◌, ◌<◌, ◌≤◌, min, get_or, arith, rules}
+use Rattle.std.proofs.Common.{ap, ◌∙◌, sym, take, reverse, List, ℕ, false, not, ◌≡◌, ◌-◌, min, get_or, arith, rules}
 use Rattle.std.specs.Prelude.{slice_range}
 use Rattle.std.proofs.lemmas.Slice.Eq.{slice_eq-Decides}
 use Rattle.std.proofs.lemmas.Bool.Decides.{Decides-eqb}
