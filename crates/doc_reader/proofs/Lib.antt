@@ -7,3 +7,5 @@ pub mod Judgings
 pub mod Counts
 pub mod Standings
 pub mod Accepting
+pub mod Sound
+pub mod Reading

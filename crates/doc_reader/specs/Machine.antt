@@ -1,5 +1,5 @@
 -- What the fields of the code stand for in the machine's definition (this project's).
-use Rattle.std.specs.Prelude.{ℕ, List, [], ◌∷◌, ◌++◌, map, drop, take}
+use Rattle.std.specs.Prelude.{ℕ, List, [], ◌∷◌, map, drop}
 use Rattle.gcx_model.specs.Markup.{cdata_word, doc_word}
 use Rattle.gcx_model.specs.Tree.{Token, Start, Chars, End}
 use Rattle.doc_laws.specs.Machine as laws

@@ -1,6 +1,6 @@
 -- What holds of each state that the machine is in (this project's).
-use Rattle.std.specs.Prelude.{ℕ, ◌≡◌, List, []}
-use Rattle.gcx_model.specs.Attributes.{IsNameBytes}
+use Rattle.std.specs.Prelude.{◌≡◌, []}
+use Rattle.gcx_base.specs.Name.{IsNameBytes}
 use Rattle.doc_laws.specs.Machine.{State, Mode, StartName, StartSpace, AttributeName, AttributeSpace, Equals, InValue, InValueReference, ValueEnd, Slash}
 
 -- The name of a tag or of an attribute that was begun is one, and no run is read in a tag outside its values.

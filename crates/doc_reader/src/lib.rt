@@ -1,6 +1,7 @@
 //! The reader of documents: bytes in pieces of any size in, tokens out.
 #![tactic(auto)]
 
+mod bytes;
 mod event;
 mod machine;
 mod mode;

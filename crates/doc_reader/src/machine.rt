@@ -5,6 +5,15 @@ ghost use Rattle.doc_laws.specs.Machine.{start, is_whole};
 ghost use Rattle.doc_reader.specs.Judged.{Judged, TakesWhole};
 ghost use Rattle.doc_reader.specs.Machine.{scan_state};
 
+mod end_tag;
+mod judge;
+mod markup;
+mod read;
+mod step;
+mod tag;
+mod text;
+
+use self::read::read;
 use crate::event::{Event, token_of};
 use crate::mode::Mode;
 use crate::open_names::OpenNames;
@@ -104,7 +113,12 @@ pub(crate) fn read_text(m: &mut Machine, limits: Limits, place: u64, text: &str)
     requires { place + length text.now < 2 ^ 64 }
     ensures { Judged result limits place m.old (chars text.now) m.new }
 {
-    let _ = &m.scan.mode;
-    let _ = (limits, place, text.len());
-    Err(Stop::Memory)
+    match read(&mut m.scan, limits, place, text) {
+        Ok(()) => Ok(()),
+        Err(stop) => {
+            // Only the tokens are wanted of it then.
+            m.scan.mode = Mode::Between;
+            Err(stop)
+        }
+    }
 }
