@@ -1,8 +1,11 @@
 pub mod Lists
-pub mod Moves
-pub mod Laws
-pub mod Within
-pub mod Fronts
-pub mod Theorems
-pub mod Texts
+pub mod Ahead
+pub mod Ties
+pub mod Readings
+pub mod Givings
+pub mod Judgings
+pub mod Counts
 pub mod Standings
+pub mod Accepting
+pub mod Sound
+pub mod Reading

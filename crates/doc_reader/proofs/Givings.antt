@@ -1,0 +1,74 @@
+-- The tokens given and those that wait are those seen in the bytes.
+use Rattle.std.proofs.Common.{ℕ, ◌≡◌, ◌+◌, ◌<◌, ◌≤◌, Bool, true, false, List, [], ◌∷◌, ◌++◌, length, map, Option, Some, None, refl, sym, ap, ◌∙◌, subst, append_assoc, append-nil, arith, length-append}
+use Rattle.std.proofs.lemmas.Bool.{false≢true}
+use lib.Utf8.{scalars, encodes}
+use Rattle.gcx_base.specs.declared.limits.Limits.{Limits}
+use Rattle.gcx_model.specs.Document.{Nodes, tokens}
+use Rattle.gcx_model.specs.Tree.{Token as Said, End as said_end}
+use Rattle.gcx_model.specs.Grammar.{SpellsDocument}
+use Rattle.gcx_model.specs.Faults.{Clean, FaultIs, FaultWithin, none_yet, none_whole, by_character, by_sequence, by_cut, by_end, within_limit, before_limit, past_limit}
+use Rattle.gcx_model.specs.Seen.{IsLongest, SeenIs, DocumentEnds, closes, stays_open}
+use Rattle.gcx_model.specs.declared.fault.DocFault.{DocFault}
+use Rattle.doc_laws.specs.Machine.{State}
+use Rattle.doc_laws.specs.States.{Fronts, state_of}
+use Rattle.doc_laws.proofs.Seen.{fronts_after}
+use Rattle.doc_laws.proofs.Found.{found_seen}
+use Rattle.doc_laws.proofs.Unique.{fault_one, clean_reads}
+use Rattle.doc_laws.proofs.LastTag.{longest_is, longest_so_far, state_seen}
+use Rattle.doc_reader.specs.Judged.{given_token}
+use Rattle.doc_reader.specs.Standing.{Held, end_token, waiting, given_end, with_given, Gives, GivesMore, IsReading, HasRead, HasStopped, HasLost}
+use Rattle.doc_reader.specs.declared.token.Token.{Token}
+use Rattle.doc_reader.specs.declared.token.Token.TheVariants.{EndOfDocument}
+use Rattle.doc_reader.proofs.Readings.{kept_of, all_read}
+
+pub map-append : (a b : List Said) → map given_token (a ++ b) ≡ map given_token a ++ map given_token b
+map-append [] b = refl
+map-append (t ∷ a) b = ap (λ l. given_token t ∷ l) (map-append a b)
+
+-- given and waiting, with what stands behind
+pub waits_are : (waits : List Said) (last : List Token) (given : List Token) (before : List Said) → given ≡ map given_token before → given ++ (map given_token waits ++ last) ≡ map given_token (before ++ waits) ++ last
+waits_are waits last given before e =
+    ap (λ l. l ++ (map given_token waits ++ last)) e ∙ sym (append_assoc (map given_token before) (map given_token waits) last) ∙ ap (λ l. l ++ last) (sym (map-append before waits))
+
+module _ (waits : List Said) (lim : Limits) (b chars : List ℕ) (ended : Bool) (given : List Token) (r : HasRead waits lim b chars given) where
+  tokens_read : (last : List Token) → given ++ (map given_token waits ++ last) ≡ map given_token r.state.tokens ++ last
+  tokens_read last = waits_are waits last given r.before r.given_are ∙ ap (λ l. map given_token l ++ last) (sym r.tokens_are)
+
+  -- no character more is read, and the document doesn't end
+  pub gives_open : IsLongest lim b chars → (ended ≡ true → FaultIs lim b true None → ⊥) → Gives lim b ended (given ++ (map given_token waits ++ []))
+  gives_open l h = record {
+    said = r.state.tokens;
+    seen = record { chars = chars; longest = l; tags = r.state.tokens; seen = state_seen chars r.state r.front; ends = []; document_ends = stays_open h refl; tokens_are = sym (append-nil r.state.tokens) };
+    tokens_are = tokens_read [];
+  }
+
+  -- the document ends
+  pub gives_whole : IsLongest lim b chars → ended ≡ true → FaultIs lim b true None → Gives lim b ended (given ++ (map given_token waits ++ (EndOfDocument ∷ [])))
+  gives_whole l e h = record {
+    said = r.state.tokens ++ (said_end ∷ []);
+    seen = record { chars = chars; longest = l; tags = r.state.tokens; seen = state_seen chars r.state r.front; ends = said_end ∷ []; document_ends = closes e h refl; tokens_are = refl };
+    tokens_are = tokens_read (EndOfDocument ∷ []);
+  }
+
+  -- more characters may be read
+  pub gives_more : GivesMore lim b ended (given ++ (map given_token waits ++ []))
+  gives_more =
+      let f = found_seen lim b ended in
+      let seen = f.1 in
+      let longer = longest_is lim b seen.chars chars r.rest seen.longest r.scalars_are r.parts r.within r.clean in
+      let s = seen.seen in
+      let all : Fronts seen.chars (state_of s.frames s.content s.piece) = record { frames = s.frames; content = s.content; piece = s.piece; good = s.opens.good; spelled = s.opens.spelled; state = refl } in
+      let after = fronts_after chars longer.0 r.state (state_of s.frames s.content s.piece) r.front (subst (λ l. Fronts l (state_of s.frames s.content s.piece)) longer.1 all) in
+      let rest = map given_token after.more ++ map given_end seen.ends in
+      record {
+        rest = rest;
+        gives = record {
+          said = f.0;
+          seen = seen;
+          tokens_are =
+              ap (λ l. l ++ rest) (tokens_read [] ∙ append-nil (map given_token r.state.tokens))
+              ∙ sym (append_assoc (map given_token r.state.tokens) (map given_token after.more) (map given_end seen.ends))
+              ∙ ap (λ l. l ++ map given_end seen.ends) (sym (map-append r.state.tokens after.more))
+              ∙ ap (λ l. map given_token l ++ map given_end seen.ends) (sym after.tokens_are ∙ sym s.tokens_are);
+        };
+      }

@@ -1,0 +1,166 @@
+-- Characters read one after another, and text as a whole.
+use Rattle.std.proofs.Common.{ℕ, zero, suc, ◌≡◌, ◌+◌, ◌-◌, ◌<◌, ◌≤◌, Bool, true, false, ◌&&◌, List, [], ◌∷◌, ◌++◌, length, take, drop, Ok, Err, refl, sym, ap, ◌∙◌, subst, append_assoc, append-nil, arith, length-append, length-drop, length-take, ltb-true}
+use Rattle.std.specs.Prelude.{nat_lt}
+use Rattle.std.specs.Char.{len_utf8}
+use Rattle.std.specs.List.{list_all}
+use Rattle.std.specs.Str.{chars, IsUtf8, IsAscii, IsCharBoundary}
+use Rattle.std.proofs.lemmas.Bool.{false≢true}
+use Rattle.std.proofs.lemmas.List.{take-append-drop}
+use Rattle.std.proofs.lemmas.Str.{chars-nil, chars-append, chars-IsAscii, IsUtf8-from_ascii, IsCharBoundary-start, IsCharBoundary-from_take, encodes-IsAscii, length-encode, chars_past_char, IsUtf8-past_char}
+use lib.Utf8.{encode, encodes}
+use Rattle.gcx_base.specs.declared.limits.Limits.{Limits}
+use Rattle.gcx_model.specs.Attributes.{is_text_char}
+use Rattle.gcx_model.specs.Faults.{Refusal, size}
+use Rattle.gcx_model.specs.Fronts.{is_inside}
+use Rattle.doc_laws.specs.Machine.{Mode, Between, State, is_between}
+use Rattle.doc_laws.specs.Judging.{judged, judged_steps, on_ok}
+use Rattle.doc_laws.proofs.Texts.{text_judged}
+use Rattle.doc_laws.proofs.Unique.{judged_append}
+use Rattle.doc_laws.proofs.Pieces.{size_is}
+use Rattle.doc_reader.specs.declared.stop.Stop.{Stop}
+use Rattle.doc_reader.specs.declared.stop.Stop.TheVariants.{Refused, Memory}
+use Rattle.doc_reader.specs.Judged.{fault, Refuses, ReadsFront, Judged}
+use Rattle.doc_reader.specs.Limited.{JudgedOne}
+use Rattle.doc_reader.specs.Sound.{IsSoundIn, IsSound}
+use Rattle.doc_reader.specs.Reading.{is_plain_byte, IsPlainFront, IsFirst, Moves, Reached}
+use Rattle.doc_reader.proofs.Sound.{judged_sound}
+
+and_both : (a b : Bool) → a && b ≡ true → (a ≡ true) × (b ≡ true)
+and_both true b e = (refl, e)
+and_both false b e = absurd (false≢true e)
+
+true_and : (a b : Bool) → a ≡ true → b ≡ true → a && b ≡ true
+true_and true b e f = f
+true_and false b e f = absurd (false≢true e)
+
+-- ---- plain bytes
+
+plain_below : (b : ℕ) → is_plain_byte b ≡ true → b < 128
+plain_below b h = ltb-true b 128 (and_both (is_text_char b) (nat_lt b 128) h).1
+
+plain_ascii : (bs : List ℕ) → list_all is_plain_byte bs ≡ true → IsAscii bs
+plain_ascii [] h i = omega arith
+plain_ascii (b ∷ bs) h zero = plain_below b (and_both (is_plain_byte b) (list_all is_plain_byte bs) h).0
+plain_ascii (b ∷ bs) h (suc i) = plain_ascii bs (and_both (is_plain_byte b) (list_all is_plain_byte bs) h).1 i
+
+plain_text : (bs : List ℕ) → list_all is_plain_byte bs ≡ true → list_all is_text_char bs ≡ true
+plain_text [] h = refl
+plain_text (b ∷ bs) h =
+    let both = and_both (is_plain_byte b) (list_all is_plain_byte bs) h in
+    true_and (is_text_char b) (list_all is_text_char bs) (and_both (is_text_char b) (nat_lt b 128) both.0).0 (plain_text bs both.1)
+
+plain_size : (bs : List ℕ) → list_all is_plain_byte bs ≡ true → size bs ≡ length bs
+plain_size bs h = size_is bs ∙ ap length (encodes-IsAscii bs (plain_ascii bs h))
+
+plain_utf8 : (bs : List ℕ) → list_all is_plain_byte bs ≡ true → IsUtf8 bs
+plain_utf8 bs h = IsUtf8-from_ascii bs (plain_ascii bs h)
+
+pub plain_boundary : (text : List ℕ) (n most : ℕ) → IsUtf8 text → IsPlainFront n most text → IsCharBoundary text n
+plain_boundary text n most u f = IsCharBoundary-from_take text n u f.within (plain_utf8 (take n text) f.plain)
+
+plain_chars : (text : List ℕ) (n most : ℕ) → IsPlainFront n most text → chars text ≡ take n text ++ chars (drop n text)
+plain_chars text n most f =
+    ap chars (sym (take-append-drop n text))
+    ∙ chars-append (take n text) (drop n text) (plain_utf8 (take n text) f.plain)
+    ∙ ap (λ l. l ++ chars (drop n text)) (chars-IsAscii (take n text) (plain_ascii (take n text) f.plain))
+
+between_is : (m : Mode) → is_between m ≡ true → m ≡ Between
+between_is Between e = refl
+between_is other e = absurd (false≢true e)
+
+-- text that has room is read
+plain_read : (lim : Limits) (s : State) (bs : List ℕ) → is_between s.mode && is_inside s.names ≡ true → list_all is_plain_byte bs ≡ true → length bs ≤ lim.text - length s.run → (place : ℕ) → judged_steps lim place s bs ≡ Ok (record s { run = s.run ++ bs })
+plain_read lim s [] i h l place = ap (λ r. Ok (record s { run = r })) (sym (append-nil s.run))
+plain_read lim s (b ∷ bs) i h l place =
+    let both = and_both (is_between s.mode) (is_inside s.names) i in
+    let mode : s.mode ≡ Between = between_is s.mode both.0 in
+    let bytes : encodes (b ∷ bs) ≡ b ∷ bs = encodes-IsAscii (b ∷ bs) (plain_ascii (b ∷ bs) h) in
+    let room : length s.run + length (encodes (b ∷ bs)) ≤ lim.text = omega (arith, ap length bytes) in
+    ap (λ m. judged_steps lim place (record s { mode = m }) (b ∷ bs)) mode
+    ∙ text_judged lim place s (b ∷ bs) both.1 (plain_text (b ∷ bs) h) room
+    ∙ ap (λ l. Ok (record s { mode = Between; run = s.run ++ l })) bytes
+    ∙ ap (λ m. Ok (record s { mode = m; run = s.run ++ (b ∷ bs) })) (sym mode)
+
+pub moves_none : (lim : Limits) (s : State) (text : List ℕ) → IsUtf8 text → Moves lim s text 0 s
+moves_none lim s text u = record { front = []; parts = refl; size_is = refl; boundary = IsCharBoundary-start text u; read = λ place. refl; sound = λ h. h }
+
+pub moves_text : (lim : Limits) (s t : State) (text : List ℕ) (n most : ℕ) → IsUtf8 text → is_between s.mode && is_inside s.names ≡ true → IsPlainFront n most text → most ≡ lim.text - length s.run → t ≡ record s { run = s.run ++ take n text } → Moves lim s text n t
+moves_text lim s t text n most u i f e is =
+    let few : length (take n text) ≡ n = omega (arith, length-take n text, f.within) in
+    record {
+      front = take n text;
+      parts = plain_chars text n most f;
+      size_is = plain_size (take n text) f.plain ∙ few;
+      boundary = plain_boundary text n most u f;
+      read = λ place. plain_read lim s (take n text) i f.plain (omega (arith, f.few)) place ∙ ap Ok (sym is);
+      sound = λ h. subst IsSound (sym is) (ap_sound (between_is s.mode (and_both (is_between s.mode) (is_inside s.names) i).0));
+    }
+  where
+    ap_sound : s.mode ≡ Between → IsSound (record s { run = s.run ++ take n text })
+    ap_sound m = subst (λ k. IsSoundIn k (record s { run = s.run ++ take n text })) (sym m) tt
+
+-- the first character of a text
+pub first_is : (c : ℕ) (rest text : List ℕ) → IsUtf8 text → text ≡ encode c ++ rest → IsFirst c rest text
+first_is c rest text u e = record {
+  first = chars_past_char text rest c u e;
+  size_is = ap length e ∙ length-append (encode c) rest ∙ ap (λ n. n + length rest) (length-encode c);
+  utf8 = IsUtf8-past_char text rest c u e;
+}
+
+-- ---- characters one after another
+
+size_append : (xs ys : List ℕ) → size (xs ++ ys) ≡ size xs + size ys
+size_append [] ys = omega arith
+size_append (x ∷ xs) ys = omega (arith, size_append xs ys)
+
+judged_on : (lim : Limits) (place : ℕ) (s t u : State) (a b : List ℕ) → judged_steps lim place s a ≡ Ok t → judged_steps lim (place + size a) t b ≡ Ok u → judged_steps lim place s (a ++ b) ≡ Ok u
+judged_on lim place s t u a b e f = judged_append lim place s a b ∙ ap (λ r. on_ok r (λ v. judged_steps lim (place + size a) v b)) e ∙ f
+
+pub reached_start : (lim : Limits) (place : ℕ) (s : State) (text : List ℕ) → IsSound s → Reached lim place s text place s text
+reached_start lim place s text h = record { front = []; parts = refl; read = refl; at_is = omega arith; room = refl; sound = h }
+
+pub reached_moves : (lim : Limits) (place : ℕ) (old : State) (text : List ℕ) (at : ℕ) (s t : State) (rest : List ℕ) (n : ℕ) → Reached lim place old text at s rest → Moves lim s rest n t → Reached lim place old text (at + n) t (drop n rest)
+reached_moves lim place old text at s t rest n r m = record {
+  front = r.front ++ m.front;
+  parts = r.parts ∙ ap (λ l. r.front ++ l) m.parts ∙ sym (append_assoc r.front m.front (chars (drop n rest)));
+  read = judged_on lim place old s t r.front m.front r.read (m.read (place + size r.front));
+  at_is = omega (arith, r.at_is, m.size_is, size_append r.front m.front);
+  room = let within = m.boundary.0 in omega (arith, r.room, length-drop n rest);
+  sound = m.sound r.sound;
+}
+
+judged_one : (lim : Limits) (place : ℕ) (s t : State) (c : ℕ) → judged lim place s c ≡ Ok t → judged_steps lim place s (c ∷ []) ≡ Ok t
+judged_one lim place s t c e = ap (λ r. on_ok r (λ v. judged_steps lim (place + len_utf8 c) v [])) e
+
+pub reached_first : (lim : Limits) (place : ℕ) (old : State) (text : List ℕ) (at next : ℕ) (s t : State) (c : ℕ) (rest after : List ℕ) → Reached lim place old text at s rest → IsFirst c after rest → judged lim at s c ≡ Ok t → next ≡ at + (length rest - length after) → Reached lim place old text next t after
+reached_first lim place old text at next s t c rest after r f e is = record {
+  front = r.front ++ (c ∷ []);
+  parts = r.parts ∙ ap (λ l. r.front ++ l) f.first ∙ sym (append_assoc r.front (c ∷ []) (chars after));
+  read = judged_on lim place old s t r.front (c ∷ []) r.read (judged_one lim (place + size r.front) s t c (ap (λ k. judged lim k s c) (sym r.at_is) ∙ e));
+  at_is = let one : size (c ∷ []) ≡ len_utf8 c = omega arith in omega (arith, is, r.at_is, f.size_is, size_append r.front (c ∷ []), one);
+  room = omega (arith, is, r.room, f.size_is);
+  sound = judged_sound lim at s t c r.sound e;
+}
+
+pub reached_refused : (lim : Limits) (place : ℕ) (old : State) (text : List ℕ) (at : ℕ) (s t : State) (c : ℕ) (rest after : List ℕ) (f : Refusal) → Reached lim place old text at s rest → IsFirst c after rest → judged lim at s c ≡ Err f → t.tokens ≡ s.tokens → Refuses lim place old (chars text) f t.tokens
+reached_refused lim place old text at s t c rest after f r i e k = record {
+  front = r.front;
+  at = c;
+  rest = chars after;
+  state = s;
+  parts = r.parts ∙ ap (λ l. r.front ++ l) i.first;
+  read = r.read;
+  refused = ap (λ k. judged lim k s c) (sym r.at_is) ∙ e;
+  waits = k;
+}
+
+pub reached_front : (lim : Limits) (place : ℕ) (old : State) (text : List ℕ) (at : ℕ) (s t : State) (rest : List ℕ) → Reached lim place old text at s rest → t.tokens ≡ s.tokens → ReadsFront lim place old (chars text) t.tokens
+reached_front lim place old text at s t rest r k = record { front = r.front; rest = chars rest; state = s; parts = r.parts; read = r.read; waits = k }
+
+pub reached_all : (lim : Limits) (place : ℕ) (old : State) (text : List ℕ) (at : ℕ) (s : State) (rest : List ℕ) → Reached lim place old text at s rest → rest ≡ [] → judged_steps lim place old (chars text) ≡ Ok s
+reached_all lim place old text at s rest r e = ap (judged_steps lim place old) (r.parts ∙ ap (λ l. r.front ++ l) (ap chars e ∙ chars-nil) ∙ append-nil r.front) ∙ r.read
+
+-- a character where reading stops
+pub reached_stop : (lim : Limits) (place : ℕ) (old : State) (text : List ℕ) (at : ℕ) (s t : State) (c : ℕ) (rest after : List ℕ) (stop : Stop) → Reached lim place old text at s rest → IsFirst c after rest → JudgedOne {T = Unit {0}} (Err stop) lim at s c t → Judged {T = Unit {0}} (Err stop) lim place old (chars text) t
+reached_stop lim place old text at s t c rest after (Refused f) r i j = reached_refused lim place old text at s t c rest after (fault f) r i j.0 j.1
+reached_stop lim place old text at s t c rest after Memory r i j = reached_front lim place old text at s t rest r j
