@@ -1,0 +1,15 @@
+pub mod NameLaws
+pub mod SignLaws
+pub mod NumberLaws
+pub mod KindLaws
+pub mod ReferenceLaws
+pub mod StringLaws
+pub mod FormLaws
+pub mod GapLaws
+pub mod DigitLaws
+pub mod Encoding
+pub mod LexemeLaws
+pub mod ReadingLaws
+pub mod LexLaws
+pub mod OneReading
+pub mod SpanLaws

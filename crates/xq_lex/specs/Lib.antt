@@ -1,0 +1,12 @@
+pub mod Sign
+pub mod Names
+pub mod Numbers
+pub mod Strings
+pub mod Gap
+pub mod Closing
+pub mod Form
+pub mod Lex
+pub mod Answer
+pub mod Reading
+pub mod Steps
+pub mod Found
