@@ -4,4 +4,5 @@ pub mod Steps
 pub mod Sound
 pub mod Judged
 pub mod Limited
+pub mod Spans
 pub mod Reading

@@ -9,6 +9,7 @@ mod end_tag;
 mod judge;
 mod markup;
 mod read;
+mod span;
 mod step;
 mod tag;
 mod text;
