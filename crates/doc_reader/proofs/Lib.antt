@@ -1,4 +1,5 @@
 pub mod Lists
 pub mod Sound
 pub mod Reading
+pub mod Names
 pub mod Spans

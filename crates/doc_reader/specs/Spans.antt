@@ -1,7 +1,7 @@
 -- Characters that are read as a whole (this project's).
-use Rattle.std.specs.Prelude.{ℕ, ◌≡◌, ◌≤◌, ◌-◌, ◌==◌, Bool, true, not, ◌&&◌, nat_lt, List, [], ◌∷◌, ◌++◌, length, take}
+use Rattle.std.specs.Prelude.{ℕ, ◌≡◌, ◌≤◌, ◌-◌, ◌==◌, Bool, true, not, ◌&&◌, ◌||◌, nat_lt, List, [], ◌∷◌, ◌++◌, length, take}
 use Rattle.std.specs.List.{list_all}
-use Rattle.gcx_base.specs.Characters.{is_char, is_part_char}
+use Rattle.gcx_base.specs.Characters.{between, is_char, is_part_char}
 use Rattle.gcx_base.specs.declared.limits.Limits.{Limits}
 use Rattle.gcx_model.specs.Attributes.{is_text_char, is_value_char}
 use Rattle.gcx_model.specs.Fronts.{is_inside}
@@ -19,6 +19,10 @@ stands AttributeName c = is_part_char c
 stands Comment c = is_char c && not (c == 45)
 stands Note c = is_char c && not (c == 63)
 stands Section c = is_char c && not (c == 93)
+
+-- the members of NameChar below #x80
+abbrev pub is_short_part : ℕ → Bool
+is_short_part b = (b == 45) || ((b == 46) || (between 48 57 b || ((b == 58) || (between 65 90 b || ((b == 95) || between 97 122 b)))))
 
 -- those that take one byte
 abbrev pub in_span : Span → ℕ → Bool

@@ -1,13 +1,13 @@
 //! Characters that are read as a whole, as long as they are ASCII.
 ghost use Rattle.std.specs.Prelude.{◌≡◌, ◌≤◌, MatchOption, ⊤};
 ghost use Rattle.doc_reader.specs.Machine.{scan_state};
-ghost use Rattle.doc_reader.specs.Spans.{in_span, IsSpanFront, IsSameFront, Allows, spread};
+ghost use Rattle.doc_reader.specs.Spans.{is_short_part, in_span, IsSpanFront, IsSameFront, Allows, spread};
 ghost use Rattle.doc_reader.specs.Steps.{Becomes};
 
 use super::Scan;
 use super::text::is_text;
 use crate::mode::{Brackets, Mode};
-use gcx_base::{Limits, Memory, is_name_char, is_xml_char};
+use gcx_base::{Limits, Memory, is_xml_char};
 
 /// Where characters are read as a whole.
 #[derive(Clone, Copy, Debug)]
@@ -24,6 +24,7 @@ pub(crate) enum Span {
 
 impl Span {
     /// Whether a byte is a character that stands there, and after which more may stand.
+    #[tactic(auto, using(crate::proofs::Names::short_part))]
     fn holds(self, b: u8) -> bool
         ensures { result ≡ in_span self b }
     {
@@ -31,7 +32,7 @@ impl Span {
         let stands = match self {
             Span::Text => is_text(c),
             Span::Value(quote) => is_text(c) && c != quote,
-            Span::TagName | Span::AttributeName => is_name_char(c),
+            Span::TagName | Span::AttributeName => is_short_name_char(b),
             Span::Comment => is_xml_char(c) && c != '-',
             Span::Note => is_xml_char(c) && c != '?',
             Span::Section => is_xml_char(c) && c != ']',
@@ -51,6 +52,13 @@ impl Span {
         }
         end
     }
+}
+
+/// Whether an ASCII byte is a NameChar.
+fn is_short_name_char(b: u8) -> bool
+    ensures { result ≡ is_short_part b }
+{
+    matches!(b, b'-' | b'.' | b'0'..=b'9' | b':' | b'A'..=b'Z' | b'_' | b'a'..=b'z')
 }
 
 /// Where the machine stands in a span, and how many bytes it has room for.
