@@ -1,5 +1,6 @@
 //! Characters that are read as a whole, as long as they are ASCII.
-ghost use Rattle.std.specs.Prelude.{◌≡◌, ◌≤◌, MatchOption, ⊤};
+ghost use Rattle.std.specs.Prelude.{◌≡◌, ◌≤◌, length, take, true, MatchOption, ⊤};
+ghost use Rattle.std.specs.List.{list_all};
 ghost use Rattle.doc_reader.specs.Machine.{scan_state};
 ghost use Rattle.doc_reader.specs.Spans.{is_short_part, in_span, IsSpanFront, IsSameFront, Allows, spread};
 ghost use Rattle.doc_reader.specs.Steps.{Becomes};
@@ -8,6 +9,10 @@ use super::Scan;
 use super::text::is_text;
 use crate::mode::{Brackets, Mode};
 use gcx_base::{Limits, Memory, is_xml_char};
+use memchr::memchr2;
+
+/// How many bytes are looked at in one go for text.
+const WINDOW: usize = 256;
 
 /// Where characters are read as a whole.
 #[derive(Clone, Copy, Debug)]
@@ -45,6 +50,12 @@ impl Span {
         ensures { IsSpanFront result most self bytes.now }
     {
         let end = most.min(bytes.len());
+        if let Span::Text = self {
+            let n = text_front(&bytes[..end.min(WINDOW)]);
+            if n > 0 {
+                return n;
+            }
+        }
         for i in 0..end {
             if !self.holds(bytes[i]) {
                 return i;
@@ -52,6 +63,29 @@ impl Span {
         }
         end
     }
+}
+
+/// Whether all bytes are text, in one pass that doesn't stop early.
+fn are_text(bytes: &[u8]) -> bool
+    ensures { result ≡ list_all (in_span Span.Text) bytes.now }
+{
+    let mut all = true;
+    for b in bytes {
+        all &= Span::Text.holds(*b);
+    }
+    all
+}
+
+/// How many bytes stand before the first markup, if all of them are text; else none.
+fn text_front(bytes: &[u8]) -> usize
+    ensures within { result ≤ length bytes.now }
+    ensures text { list_all (in_span Span.Text) (take result bytes.now) ≡ true }
+{
+    let end = match memchr2(b'<', b'&', bytes) {
+        Some(k) => k,
+        None => bytes.len(),
+    };
+    if are_text(&bytes[..end]) { end } else { 0 }
 }
 
 /// Whether an ASCII byte is a NameChar.
