@@ -50,12 +50,21 @@ impl Span {
         ensures { IsSpanFront result most self bytes.now }
     {
         let end = most.min(bytes.len());
-        if let Span::Text = self {
-            let n = text_front(&bytes[..end.min(WINDOW)]);
-            if n > 0 {
-                return n;
+        match self {
+            Span::Text => {
+                let n = text_front(&bytes[..end.min(WINDOW)]);
+                if n > 0 { n } else { self.first_other(bytes, end) }
             }
+            Span::TagName | Span::AttributeName => name_front(bytes, end),
+            _ => self.first_other(bytes, end),
         }
+    }
+
+    /// Where the first of so many bytes stands that isn't such, or the end.
+    fn first_other(self, bytes: &[u8], end: usize) -> usize
+        requires { end ≤ length bytes.now }
+        ensures { IsSpanFront result end self bytes.now }
+    {
         for i in 0..end {
             if !self.holds(bytes[i]) {
                 return i;
@@ -63,6 +72,19 @@ impl Span {
         }
         end
     }
+}
+
+/// How many characters of a name stand in front among so many bytes.
+fn name_front(bytes: &[u8], end: usize) -> usize
+    requires { end ≤ length bytes.now }
+    ensures { IsSpanFront result end Span.TagName bytes.now }
+{
+    for i in 0..end {
+        if !Span::TagName.holds(bytes[i]) {
+            return i;
+        }
+    }
+    end
 }
 
 /// Whether all bytes are text, in one pass that doesn't stop early.
