@@ -18,7 +18,7 @@ pub use kind::Kind;
 pub use limits::Limits;
 pub use memory::Memory;
 pub use name::Name;
-pub use plain::is_plain;
+pub use plain::plain_name;
 pub use rel::Rel;
 pub use steps::{Axis, Step, Steps, Test};
 pub use text::Text;
@@ -57,7 +57,7 @@ mod tests {
                 }
                 None => assert!(rt; !named, "{bytes:?}"),
             }
-            assert_eq!(rt; is_plain(bytes), plain, "{bytes:?}");
+            assert_eq!(rt; plain_name(alloc, bytes)?.is_some(), plain, "{bytes:?}");
         }
         Ok(())
     }

@@ -53,7 +53,11 @@ impl Span {
         match self {
             Span::Text => {
                 let n = text_front(&bytes[..end.min(WINDOW)]);
-                if n > 0 { n } else { self.first_other(bytes, end) }
+                if n > 0 {
+                    n
+                } else {
+                    self.first_other(bytes, end)
+                }
             }
             Span::TagName | Span::AttributeName => name_front(bytes, end),
             _ => self.first_other(bytes, end),
