@@ -19,7 +19,7 @@ use Rattle.doc_reader.specs.Judged.{given_token}
 use Rattle.doc_reader.specs.Standing.{Held, end_token, waiting, given_end, with_given, Gives, GivesMore, IsReading, HasRead, HasStopped, HasLost}
 use Rattle.doc_reader.specs.declared.token.Token.{Token}
 use Rattle.doc_reader.specs.declared.token.Token.TheVariants.{EndOfDocument}
-use Rattle.doc_reader.proofs.Readings.{kept_of, all_read}
+use Rattle.doc_reader.proofs.Pieces.{kept_of, all_read}
 
 pub map-append : (a b : List Said) → map given_token (a ++ b) ≡ map given_token a ++ map given_token b
 map-append [] b = refl

@@ -1,7 +1,7 @@
 pub mod Lists
 pub mod Ahead
 pub mod Ties
-pub mod Readings
+pub mod Pieces
 pub mod Givings
 pub mod Judgings
 pub mod Counts

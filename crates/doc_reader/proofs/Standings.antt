@@ -23,7 +23,7 @@ use Rattle.doc_reader.specs.Piece.{Took, IsSame, Ends}
 use Rattle.doc_reader.specs.declared.token.Token.{Token}
 use Rattle.doc_reader.specs.declared.token.Token.TheVariants.{EndOfDocument}
 use Rattle.doc_reader.proofs.Givings.{map-append, gives_open, gives_whole, gives_more}
-use Rattle.doc_reader.proofs.Readings.{kept_of, all_read, took_more, no_fault_yet}
+use Rattle.doc_reader.proofs.Pieces.{kept_of, all_read, took_more, no_fault_yet}
 
 some_none : (f : DocFault) → Some f ≡ None → ⊥
 some_none f e = cc

@@ -35,12 +35,7 @@ fn read_char(m: &mut Machine, limits: Limits, place: u64, c: char) -> Result<(),
 }
 
 /// Reads the character that earlier pieces began, and says where it ends.
-fn read_first(
-    m: &mut Machine,
-    limits: Limits,
-    place: u64,
-    first: Option<char>,
-) -> Result<u64, Stop>
+fn read_first(m: &mut Machine, limits: Limits, place: u64, first: Option<char>) -> Result<u64, Stop>
     requires { place + 4 < 2 ^ 64 }
     ensures read { ReadTo result limits place m.old (optional first) m.new }
     ensures near { IfOk result (λ at. at ≤ place + 4) }

@@ -221,3 +221,6 @@ impl Reader {
         }
     }
 }
+
+#[cfg(test)]
+mod tests;

@@ -5,7 +5,7 @@ use Rattle.gcx_model.specs.declared.fault.DocFault.{DocFault}
 use Rattle.gcx_model.specs.declared.fault.DocFault.TheVariants.{TooLong}
 use Rattle.doc_reader.specs.Standing.{Held}
 use Rattle.doc_reader.specs.Piece.{Took}
-use Rattle.doc_reader.proofs.Readings.{took_more, took_past}
+use Rattle.doc_reader.proofs.Pieces.{took_more, took_past}
 use Rattle.doc_reader.proofs.reader.Reader.read_allowed.Goals as goal
 
 whole : (b piece : List ℕ) (n : ℕ) → (b ++ take n piece) ++ drop n piece ≡ b ++ piece

@@ -9,7 +9,7 @@ use Rattle.doc_reader.specs.Inside.{held}
 use Rattle.doc_reader.specs.Piece.{Took}
 use Rattle.doc_reader.specs.declared.token.Token.{Token}
 use Rattle.doc_reader.proofs.Counts.{in_order, given_size}
-use Rattle.doc_reader.proofs.Readings.{took_stop, took_breaks, took_reads}
+use Rattle.doc_reader.proofs.Pieces.{took_stop, took_breaks, took_reads}
 use Rattle.doc_reader.proofs.Ties.{parts_of}
 use Rattle.doc_reader.proofs.reader.Reader.read_piece.Goals as goal
 
