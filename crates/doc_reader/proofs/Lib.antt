@@ -9,3 +9,4 @@ pub mod Standings
 pub mod Accepting
 pub mod Sound
 pub mod Reading
+pub mod Spans

@@ -10,16 +10,6 @@ use Rattle.doc_laws.specs.Machine.{State}
 use Rattle.doc_laws.specs.Judging.{judged_steps}
 use Rattle.doc_reader.specs.Sound.{IsSound}
 
--- a byte that is a character of text by itself
-abbrev pub is_plain_byte : ℕ → Bool
-is_plain_byte b = is_text_char b && nat_lt b 128
-
--- the first n bytes are such, and at most so many
-pub record IsPlainFront (n most : ℕ) (bytes : List ℕ) : Type 0 where
-  pub within : n ≤ length bytes
-  pub few : n ≤ most
-  pub plain : list_all is_plain_byte (take n bytes) ≡ true
-
 -- c is the first character of the text, and the rest stands behind it
 pub record IsFirst (c : ℕ) (rest text : List ℕ) : Type 0 where
   pub first : chars text ≡ c ∷ chars rest
