@@ -18,7 +18,7 @@ use Rattle.doc_laws.proofs.Pieces.{Stands as Kept}
 use Rattle.doc_laws.proofs.Theorems.{whole_spells, not_whole, spells_one}
 use Rattle.doc_laws.proofs.Unique.{clean_reads}
 use Rattle.doc_reader.specs.Judged.{given_token}
-use Rattle.doc_reader.specs.Standing.{Held, waiting, given_end, Gives, GivesBy, IsFault, Stands, answer_by, answer_of, Accepted}
+use Rattle.doc_reader.specs.Standing.{Held, waiting, given_end, said_of, Gives, GivesBy, IsFault, Stands, answer_by, answer_of, Accepted}
 use Rattle.doc_reader.specs.declared.token.Token.{Token}
 use Rattle.doc_reader.specs.declared.token.Token.TheVariants.{EndOfDocument}
 
@@ -76,7 +76,7 @@ accepted lim b ts fault g =
     let d = whole_spells w.cs state r.1.front is_whole_ in
     let kept : Kept lim b [] state = record { chars = w.cs; decodes = w.decodes; reads = r.1 } in
     let all = seen_whole lim b w.cs state r.1.front (longest_so_far lim b [] state kept w.within) fault in
-    let said : g.said ≡ state.tokens ++ (said_end ∷ []) = seen_one lim b true g.said (state.tokens ++ (said_end ∷ [])) g.seen all in
+    let said : map said_of ts ≡ state.tokens ++ (said_end ∷ []) = seen_one lim b true (map said_of ts) (state.tokens ++ (said_end ∷ [])) g.seen all in
     let ends : g.seen.ends ≡ said_end ∷ [] = elim g.seen.document_ends as (λ _. g.seen.ends ≡ said_end ∷ []) [
       | closes e f is ↦ is
       | stays_open open_still is ↦ absurd (open_still refl fault)
