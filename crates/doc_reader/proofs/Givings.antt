@@ -1,25 +1,17 @@
 -- The tokens given and those that wait are those seen in the bytes.
-use Rattle.std.proofs.Common.{ℕ, ◌≡◌, ◌+◌, ◌<◌, ◌≤◌, Bool, true, false, List, [], ◌∷◌, ◌++◌, length, map, Option, Some, None, refl, sym, ap, ◌∙◌, subst, append_assoc, append-nil, arith, length-append}
-use Rattle.std.proofs.lemmas.Bool.{false≢true}
-use lib.Utf8.{scalars, encodes}
+use Rattle.std.proofs.Common.{ℕ, ◌≡◌, Bool, true, List, [], ◌∷◌, ◌++◌, map, None, refl, sym, ap, ◌∙◌, subst, append_assoc, append-nil}
 use Rattle.gcx_base.specs.declared.limits.Limits.{Limits}
-use Rattle.gcx_model.specs.Document.{Nodes, tokens}
 use Rattle.gcx_model.specs.Tree.{Token as Said, Start as said_start, Chars as said_text, End as said_end}
-use Rattle.gcx_model.specs.Grammar.{SpellsDocument}
-use Rattle.gcx_model.specs.Faults.{Clean, FaultIs, FaultWithin, none_yet, none_whole, by_character, by_sequence, by_cut, by_end, within_limit, before_limit, past_limit}
-use Rattle.gcx_model.specs.Seen.{IsLongest, SeenIs, DocumentEnds, closes, stays_open}
-use Rattle.gcx_model.specs.declared.fault.DocFault.{DocFault}
-use Rattle.doc_laws.specs.Machine.{State}
+use Rattle.gcx_model.specs.Faults.{FaultIs}
+use Rattle.gcx_model.specs.Seen.{IsLongest, DocumentEnds, closes, stays_open}
 use Rattle.doc_laws.specs.States.{Fronts, state_of}
 use Rattle.doc_laws.proofs.Seen.{fronts_after}
 use Rattle.doc_laws.proofs.Found.{found_seen}
-use Rattle.doc_laws.proofs.Unique.{fault_one, clean_reads}
-use Rattle.doc_laws.proofs.LastTag.{longest_is, longest_so_far, state_seen}
+use Rattle.doc_laws.proofs.LastTag.{longest_is, state_seen}
 use Rattle.doc_reader.specs.Judged.{given_token}
-use Rattle.doc_reader.specs.Standing.{Held, end_token, waiting, given_end, said_of, with_given, Gives, GivesMore, IsReading, HasRead, HasStopped, HasLost}
+use Rattle.doc_reader.specs.Standing.{given_end, said_of, Gives, GivesMore, HasRead}
 use Rattle.doc_reader.specs.declared.token.Token.{Token}
 use Rattle.doc_reader.specs.declared.token.Token.TheVariants.{EndOfDocument}
-use Rattle.doc_reader.proofs.Pieces.{kept_of, all_read}
 
 pub map-append : (a b : List Said) → map given_token (a ++ b) ≡ map given_token a ++ map given_token b
 map-append [] b = refl

@@ -1,7 +1,6 @@
 -- A piece more behind characters that were read without a fault.
-use Rattle.std.proofs.Common.{ℕ, ◌≡◌, ◌+◌, ◌-◌, ◌<◌, ◌≤◌, Bool, true, false, List, [], ◌∷◌, ◌++◌, length, take, drop, map, Option, Some, None, Result, Ok, Err, refl, sym, ap, ◌∙◌, subst, append_assoc, append-nil, arith, length-append, take_at}
+use Rattle.std.proofs.Common.{ℕ, ◌≡◌, ◌+◌, ◌<◌, ◌≤◌, true, false, List, [], ◌∷◌, ◌++◌, length, Some, None, Ok, Err, refl, sym, ap, ◌∙◌, subst, append_assoc, append-nil, arith, length-append, take_at}
 use Rattle.std.proofs.lemmas.Str.{encodes-append}
-use Rattle.std.proofs.lemmas.List.{take-append-drop}
 use lib.Utf8.{scalar, scalars, encode, encodes}
 use Rattle.gcx_base.specs.declared.limits.Limits.{Limits}
 use Rattle.gcx_model.specs.Tree.{Token as Said}
@@ -11,7 +10,7 @@ use Rattle.gcx_model.specs.Faults.{Refusal, AtSyntax, fault_of, size, AtDepth, A
 use Rattle.gcx_model.specs.Seen.{IsLongest}
 use Rattle.doc_chars.specs.declared.chars.CharFault.{CharFault}
 use Rattle.doc_chars.specs.declared.chars.CharFault.TheVariants.{Utf8 as not_utf8, Char as no_char}
-use Rattle.doc_chars.specs.Stream.{StandsFor, Breaks, GoesOn}
+use Rattle.doc_chars.specs.Stream.{StandsFor, Breaks}
 use Rattle.doc_laws.specs.Machine.{State}
 use Rattle.doc_laws.specs.Judging.{judged, judged_steps}
 use Rattle.doc_laws.proofs.Characters.{not_char_comes}
@@ -21,7 +20,7 @@ use Rattle.doc_laws.proofs.Tests.{true_and}
 use Rattle.doc_laws.proofs.Words.{scalars_front}
 use Rattle.doc_laws.proofs.LastTag.{longest_at_fault, longest_at_bad, longest_at_limit}
 use Rattle.doc_reader.specs.Judged.{Refuses, ReadsFront, Judged, fault}
-use Rattle.doc_reader.specs.Standing.{Held, with_given, IsReading, HasRead, HasStopped, HasLost, GoesOnBy, IsFault}
+use Rattle.doc_reader.specs.Standing.{Held, with_given, IsReading, HasRead, HasStopped, HasLost}
 use Rattle.doc_reader.specs.Piece.{Took, char_fault, stop_fault}
 use Rattle.doc_reader.specs.declared.stop.Stop.{Stop}
 use Rattle.doc_reader.specs.declared.stop.Stop.TheVariants.{Refused as Stopped, Memory as Lost}

@@ -1,27 +1,20 @@
 -- Characters read one after another, and text as a whole.
-use Rattle.std.proofs.Common.{ℕ, zero, suc, ◌≡◌, ◌+◌, ◌-◌, ◌<◌, ◌≤◌, Bool, true, false, ◌&&◌, List, [], ◌∷◌, ◌++◌, length, take, drop, Ok, Err, refl, sym, ap, ◌∙◌, subst, append_assoc, append-nil, arith, length-append, length-drop, length-take, ltb-true}
-use Rattle.std.specs.Prelude.{nat_lt}
+use Rattle.std.proofs.Common.{ℕ, ◌≡◌, ◌+◌, ◌-◌, Bool, true, false, ◌&&◌, List, [], ◌∷◌, ◌++◌, length, drop, Ok, Err, refl, sym, ap, ◌∙◌, append_assoc, append-nil, arith, length-append, length-drop}
 use Rattle.std.specs.Char.{len_utf8}
-use Rattle.std.specs.List.{list_all}
-use Rattle.std.specs.Str.{chars, IsUtf8, IsAscii, IsCharBoundary}
+use Rattle.std.specs.Str.{chars, IsUtf8}
 use Rattle.std.proofs.lemmas.Bool.{false≢true}
-use Rattle.std.proofs.lemmas.List.{take-append-drop}
-use Rattle.std.proofs.lemmas.Str.{chars-nil, chars-append, chars-IsAscii, IsUtf8-from_ascii, IsCharBoundary-start, IsCharBoundary-from_take, encodes-IsAscii, length-encode, chars_past_char, IsUtf8-past_char}
-use lib.Utf8.{encode, encodes}
+use Rattle.std.proofs.lemmas.Str.{chars-nil, length-encode, chars_past_char, IsUtf8-past_char}
+use lib.Utf8.{encode}
 use Rattle.gcx_base.specs.declared.limits.Limits.{Limits}
-use Rattle.gcx_model.specs.Attributes.{is_text_char}
 use Rattle.gcx_model.specs.Faults.{Refusal, size}
-use Rattle.gcx_model.specs.Fronts.{is_inside}
-use Rattle.doc_laws.specs.Machine.{Mode, Between, State, is_between}
+use Rattle.doc_laws.specs.Machine.{State}
 use Rattle.doc_laws.specs.Judging.{judged, judged_steps, on_ok}
-use Rattle.doc_laws.proofs.Texts.{text_judged}
 use Rattle.doc_laws.proofs.Unique.{judged_append}
-use Rattle.doc_laws.proofs.Pieces.{size_is}
 use Rattle.doc_reader.specs.declared.stop.Stop.{Stop}
 use Rattle.doc_reader.specs.declared.stop.Stop.TheVariants.{Refused, Memory}
 use Rattle.doc_reader.specs.Judged.{fault, Refuses, ReadsFront, Judged}
 use Rattle.doc_reader.specs.Limited.{JudgedOne}
-use Rattle.doc_reader.specs.Sound.{IsSoundIn, IsSound}
+use Rattle.doc_reader.specs.Sound.{IsSound}
 use Rattle.doc_reader.specs.Reading.{IsFirst, Moves, Reached}
 use Rattle.doc_reader.proofs.Sound.{judged_sound}
 

@@ -1,17 +1,16 @@
 -- Characters of a span and of an end tag's name are read as a whole.
-use Rattle.std.proofs.Common.{ℕ, zero, suc, ◌≡◌, ◌+◌, ◌-◌, ◌<◌, ◌≤◌, Bool, true, false, not, ◌&&◌, cond, eqb, List, [], ◌∷◌, ◌++◌, length, take, drop, Option, Some, Result, Ok, Err, refl, sym, ap, ◌∙◌, subst, append_assoc, append-nil, arith, length-append, length-take, length-drop, eq-eqb, ltb-true}
-use Rattle.std.specs.Prelude.{nat_lt, nat_eq}
+use Rattle.std.proofs.Common.{ℕ, zero, suc, ◌≡◌, ◌+◌, ◌-◌, ◌<◌, ◌≤◌, Bool, true, false, not, ◌&&◌, cond, eqb, List, [], ◌∷◌, ◌++◌, length, take, drop, Some, Result, Ok, Err, refl, sym, ap, ◌∙◌, subst, append_assoc, append-nil, arith, length-append, length-take, length-drop, eq-eqb, ltb-true}
+use Rattle.std.specs.Prelude.{nat_lt}
 use Rattle.std.specs.Char.{len_utf8}
 use Rattle.std.specs.List.{list_all}
 use Rattle.std.specs.Str.{chars, IsUtf8, IsAscii, IsCharBoundary}
 use Rattle.std.proofs.lemmas.Bool.{true≢false, false≢true, le-ltb}
 use Rattle.std.proofs.lemmas.List.{take-append-drop, drop-drop, take_all}
 use Rattle.std.proofs.lemmas.Str.{chars-append, chars-IsAscii, IsUtf8-from_ascii, IsCharBoundary-start, IsCharBoundary-from_take, encodes-IsAscii, encode_ascii}
-use lib.Utf8.{encode, encodes}
 use Rattle.gcx_base.specs.Characters.{is_char, is_start_char, is_part_char}
 use Rattle.gcx_base.specs.declared.limits.Limits.{Limits}
 use Rattle.gcx_model.specs.Attributes.{is_text_char, is_value_char}
-use Rattle.gcx_model.specs.Faults.{Refusal, size}
+use Rattle.gcx_model.specs.Faults.{Refusal}
 use Rattle.gcx_model.specs.Fronts.{is_inside}
 use Rattle.doc_laws.specs.Machine as laws
 use Rattle.doc_laws.specs.Machine.{Mode, State, on_mode, step}

@@ -1,5 +1,5 @@
 -- Characters that are read as a whole (this project's).
-use Rattle.std.specs.Prelude.{ℕ, ◌≡◌, ◌≤◌, ◌-◌, ◌==◌, Bool, true, not, ◌&&◌, nat_lt, List, [], ◌∷◌, ◌++◌, length, take}
+use Rattle.std.specs.Prelude.{ℕ, ◌≡◌, ◌≤◌, ◌-◌, ◌==◌, Bool, true, not, ◌&&◌, nat_lt, List, ◌++◌, length, take}
 use Rattle.std.specs.List.{list_all}
 use Rattle.gcx_base.specs.Characters.{is_char, is_part_char}
 use Rattle.gcx_base.specs.declared.limits.Limits.{Limits}

@@ -77,13 +77,22 @@ fn documents_have_their_tokens_and_faults(rt: HostRuntime) -> Result<(), Fail> {
     // XML 1.0, sections 2.1 to 2.8, 3.1, 4.1 and 4.6
     let table = [
         ("<a/>", "<a></>$"),
-        ("<a b=\"1\" c = 'x&amp;y' ></a >", "<a><b>[1]</><c>[x&y]</></>$"),
+        (
+            "<a b=\"1\" c = 'x&amp;y' ></a >",
+            "<a><b>[1]</><c>[x&y]</></>$",
+        ),
         ("<a>t<b/>u</a>", "<a>[t]<b></>[u]</>$"),
         ("<a> <b>\n</b>&#32;&#x9;</a>", "<a><b></></>$"),
         ("<a>x<!-- - -->y<?p q??>z</a>", "<a>[xyz]</>$"),
         ("<a><![CDATA[<x]]]></a>", "<a>[<x]]</>$"),
-        ("<a>&lt;&gt;&amp;&apos;&quot;&#65;&#x1F600;</a>", "<a>[<>&'\"A😀]</>$"),
-        ("\u{FEFF}<?xml version='1.0'?><!DOCTYPE a SYSTEM \">\"> <a/>\n", "<a></>$"),
+        (
+            "<a>&lt;&gt;&amp;&apos;&quot;&#65;&#x1F600;</a>",
+            "<a>[<>&'\"A😀]</>$",
+        ),
+        (
+            "\u{FEFF}<?xml version='1.0'?><!DOCTYPE a SYSTEM \">\"> <a/>\n",
+            "<a></>$",
+        ),
         ("<é ü='ß'>ñ</é>", "<é><ü>[ß]</>[ñ]</>$"),
         ("<a>x<b", "<a>.."),
         ("<a>x</a", "<a>.."),
@@ -100,8 +109,16 @@ fn documents_have_their_tokens_and_faults(rt: HostRuntime) -> Result<(), Fail> {
         ("<!DOCTYPE a><!DOCTYPE a>", "Syntax(14)"),
     ];
     for (text, expected) in table {
-        assert_eq!(rt; read_whole(alloc, Limits::full(), text)?.as_str(), expected, "{text}");
-        assert_eq!(rt; read_slowly(alloc, Limits::full(), text)?.as_str(), expected, "{text}");
+        assert_eq!(rt;
+            read_whole(alloc, Limits::full(), text)?.as_str(),
+            expected,
+            "{text}"
+        );
+        assert_eq!(rt;
+            read_slowly(alloc, Limits::full(), text)?.as_str(),
+            expected,
+            "{text}"
+        );
     }
     Ok(())
 }
@@ -122,8 +139,16 @@ fn limits_have_their_places(rt: HostRuntime) -> Result<(), Fail> {
         ("<éé/>", "NameLong(3)"),
     ];
     for (text, expected) in table {
-        assert_eq!(rt; read_whole(alloc, small(), text)?.as_str(), expected, "{text}");
-        assert_eq!(rt; read_slowly(alloc, small(), text)?.as_str(), expected, "{text}");
+        assert_eq!(rt;
+            read_whole(alloc, small(), text)?.as_str(),
+            expected,
+            "{text}"
+        );
+        assert_eq!(rt;
+            read_slowly(alloc, small(), text)?.as_str(),
+            expected,
+            "{text}"
+        );
     }
     Ok(())
 }

@@ -1,4 +1,4 @@
-use Rattle.std.proofs.Common.{refl, sym, ap, ◌∙◌, subst, take, drop, List, ℕ, ◌≡◌, ◌+◌, ◌-◌, ◌≤◌, length, arith}
+use Rattle.std.proofs.Common.{refl, ap, subst, take, drop, List, ℕ, ◌≡◌, ◌+◌, ◌-◌, ◌≤◌, length, arith}
 use Rattle.doc_laws.specs.Machine.{EndName, innermost}
 use Rattle.doc_reader.specs.Machine.{scan_state, mode_of}
 use Rattle.doc_reader.specs.Spans.{IsSameFront}

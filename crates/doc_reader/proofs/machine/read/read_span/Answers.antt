@@ -1,4 +1,4 @@
-use Rattle.std.proofs.Common.{sym, ap, ◌∙◌, subst, take, List, ℕ, ◌≡◌}
+use Rattle.std.proofs.Common.{ap, ◌∙◌, subst, List, ℕ}
 use Rattle.doc_reader.specs.Machine.{scan_state}
 use Rattle.doc_reader.specs.Spans.{IsSpanFront, spread}
 use Rattle.doc_reader.proofs.Spans.{span_moves, span_boundary, moves_none}
