@@ -1,4 +1,12 @@
 pub mod Lists
+pub mod Ahead
+pub mod Ties
+pub mod Pieces
+pub mod Givings
+pub mod Judgings
+pub mod Counts
+pub mod Standings
+pub mod Accepting
 pub mod Sound
 pub mod Reading
 pub mod Names

@@ -3,6 +3,9 @@ pub mod Machine
 pub mod Steps
 pub mod Sound
 pub mod Judged
+pub mod Standing
+pub mod Inside
+pub mod Piece
 pub mod Limited
 pub mod Spans
 pub mod Reading

@@ -6,9 +6,12 @@ mod event;
 mod machine;
 mod mode;
 mod open_names;
+mod piece;
+mod reader;
 mod referring;
 mod run;
 mod stop;
 mod token;
 
+pub use reader::Reader;
 pub use token::Token;
