@@ -1,15 +1,15 @@
 -- A whole document is the one that the bytes spell, and its tokens are those given and waiting.
-use Rattle.std.proofs.Common.{ℕ, ◌≡◌, ◌≤◌, ◌<◌, Bool, true, false, List, [], ◌∷◌, ◌++◌, length, map, Option, Some, None, Result, Ok, Err, refl, sym, ap, ◌∙◌, subst, append-nil, arith}
+use Rattle.std.proofs.Common.{ℕ, ◌≡◌, ◌≤◌, true, false, List, [], ◌∷◌, ◌++◌, length, map, Option, Some, None, Result, refl, sym, ap, ◌∙◌, subst, append-nil}
 use Rattle.std.specs.Prelude.{OnOk, chars}
 use Rattle.std.proofs.lemmas.Bool.{true≢false}
 use Rattle.std.proofs.lemmas.Str.{chars-encodes}
-use lib.Utf8.{scalars, encodes}
+use lib.Utf8.{encodes}
 use Rattle.gcx_base.specs.declared.limits.Limits.{Limits}
-use Rattle.gcx_model.specs.Document.{Nodes, tokens}
+use Rattle.gcx_model.specs.Document.{Nodes}
 use Rattle.gcx_model.specs.Tree.{Token as Said, End as said_end}
 use Rattle.gcx_model.specs.Grammar.{SpellsDocument}
 use Rattle.gcx_model.specs.Faults.{Decodes, Clean, FaultIs, within_limit, before_limit, past_limit, FaultWithin, by_character, by_sequence, by_cut, by_end, none_yet, none_whole, fault_of}
-use Rattle.gcx_model.specs.Seen.{SeenIs, DocumentEnds, closes, stays_open}
+use Rattle.gcx_model.specs.Seen.{closes, stays_open}
 use Rattle.gcx_model.specs.declared.fault.DocFault.{DocFault}
 use Rattle.doc_laws.specs.Machine.{State, is_whole}
 use Rattle.doc_laws.proofs.Documents.{spells_document}
@@ -18,9 +18,8 @@ use Rattle.doc_laws.proofs.Pieces.{Stands as Kept}
 use Rattle.doc_laws.proofs.Theorems.{whole_spells, not_whole, spells_one}
 use Rattle.doc_laws.proofs.Unique.{clean_reads}
 use Rattle.doc_reader.specs.Judged.{given_token}
-use Rattle.doc_reader.specs.Standing.{Held, waiting, given_end, Gives, GivesBy, IsFault, Stands, answer_by, answer_of, Accepted}
+use Rattle.doc_reader.specs.Standing.{Held, waiting, given_end, said_of, Gives, GivesBy, IsFault, Stands, answer_by, answer_of, Accepted}
 use Rattle.doc_reader.specs.declared.token.Token.{Token}
-use Rattle.doc_reader.specs.declared.token.Token.TheVariants.{EndOfDocument}
 
 -- what a document's bytes are
 record Whole (lim : Limits) (b : List ℕ) : Type 0 where
@@ -76,7 +75,7 @@ accepted lim b ts fault g =
     let d = whole_spells w.cs state r.1.front is_whole_ in
     let kept : Kept lim b [] state = record { chars = w.cs; decodes = w.decodes; reads = r.1 } in
     let all = seen_whole lim b w.cs state r.1.front (longest_so_far lim b [] state kept w.within) fault in
-    let said : g.said ≡ state.tokens ++ (said_end ∷ []) = seen_one lim b true g.said (state.tokens ++ (said_end ∷ [])) g.seen all in
+    let said : map said_of ts ≡ state.tokens ++ (said_end ∷ []) = seen_one lim b true (map said_of ts) (state.tokens ++ (said_end ∷ [])) g.seen all in
     let ends : g.seen.ends ≡ said_end ∷ [] = elim g.seen.document_ends as (λ _. g.seen.ends ≡ said_end ∷ []) [
       | closes e f is ↦ is
       | stays_open open_still is ↦ absurd (open_still refl fault)

@@ -1,29 +1,40 @@
 -- The tokens given and those that wait are those seen in the bytes.
-use Rattle.std.proofs.Common.{ℕ, ◌≡◌, ◌+◌, ◌<◌, ◌≤◌, Bool, true, false, List, [], ◌∷◌, ◌++◌, length, map, Option, Some, None, refl, sym, ap, ◌∙◌, subst, append_assoc, append-nil, arith, length-append}
-use Rattle.std.proofs.lemmas.Bool.{false≢true}
-use lib.Utf8.{scalars, encodes}
+use Rattle.std.proofs.Common.{ℕ, ◌≡◌, Bool, true, List, [], ◌∷◌, ◌++◌, map, None, refl, sym, ap, ◌∙◌, subst, append_assoc, append-nil}
 use Rattle.gcx_base.specs.declared.limits.Limits.{Limits}
-use Rattle.gcx_model.specs.Document.{Nodes, tokens}
-use Rattle.gcx_model.specs.Tree.{Token as Said, End as said_end}
-use Rattle.gcx_model.specs.Grammar.{SpellsDocument}
-use Rattle.gcx_model.specs.Faults.{Clean, FaultIs, FaultWithin, none_yet, none_whole, by_character, by_sequence, by_cut, by_end, within_limit, before_limit, past_limit}
-use Rattle.gcx_model.specs.Seen.{IsLongest, SeenIs, DocumentEnds, closes, stays_open}
-use Rattle.gcx_model.specs.declared.fault.DocFault.{DocFault}
-use Rattle.doc_laws.specs.Machine.{State}
+use Rattle.gcx_model.specs.Tree.{Token as Said, Start as said_start, Chars as said_text, End as said_end}
+use Rattle.gcx_model.specs.Faults.{FaultIs}
+use Rattle.gcx_model.specs.Seen.{IsLongest, DocumentEnds, closes, stays_open}
 use Rattle.doc_laws.specs.States.{Fronts, state_of}
 use Rattle.doc_laws.proofs.Seen.{fronts_after}
 use Rattle.doc_laws.proofs.Found.{found_seen}
-use Rattle.doc_laws.proofs.Unique.{fault_one, clean_reads}
-use Rattle.doc_laws.proofs.LastTag.{longest_is, longest_so_far, state_seen}
+use Rattle.doc_laws.proofs.LastTag.{longest_is, state_seen}
 use Rattle.doc_reader.specs.Judged.{given_token}
-use Rattle.doc_reader.specs.Standing.{Held, end_token, waiting, given_end, with_given, Gives, GivesMore, IsReading, HasRead, HasStopped, HasLost}
+use Rattle.doc_reader.specs.Standing.{given_end, said_of, Gives, GivesMore, HasRead}
 use Rattle.doc_reader.specs.declared.token.Token.{Token}
 use Rattle.doc_reader.specs.declared.token.Token.TheVariants.{EndOfDocument}
-use Rattle.doc_reader.proofs.Readings.{kept_of, all_read}
 
 pub map-append : (a b : List Said) → map given_token (a ++ b) ≡ map given_token a ++ map given_token b
 map-append [] b = refl
 map-append (t ∷ a) b = ap (λ l. given_token t ∷ l) (map-append a b)
+
+said-map : (tags : List Said) → map said_of (map given_token tags) ≡ tags
+said-map [] = refl
+said-map (said_start n ∷ tags) = ap (λ l. said_start n ∷ l) (said-map tags)
+said-map (said_text t ∷ tags) = ap (λ l. said_text t ∷ l) (said-map tags)
+said-map (said_end ∷ tags) = ap (λ l. said_end ∷ l) (said-map tags)
+
+said-append : (a b : List Token) → map said_of (a ++ b) ≡ map said_of a ++ map said_of b
+said-append [] b = refl
+said-append (t ∷ a) b = ap (λ l. said_of t ∷ l) (said-append a b)
+
+ends_are : (lim : Limits) (b : List ℕ) (ended : Bool) (ends : List Said) → DocumentEnds lim b ended ends → map said_of (map given_end ends) ≡ ends
+ends_are lim b ended ends (closes e f is) = ap (λ l. map said_of (map given_end l)) is ∙ sym is
+ends_are lim b ended ends (stays_open n is) = ap (λ l. map said_of (map given_end l)) is ∙ sym is
+
+-- what a reader gives is what is seen
+said_is : (lim : Limits) (b : List ℕ) (ended : Bool) (ts : List Token) (tags ends : List Said) → DocumentEnds lim b ended ends → ts ≡ map given_token tags ++ map given_end ends → map said_of ts ≡ tags ++ ends
+said_is lim b ended ts tags ends d e =
+    ap (map said_of) e ∙ said-append (map given_token tags) (map given_end ends) ∙ (λ i. said-map tags i ++ ends_are lim b ended ends d i)
 
 -- given and waiting, with what stands behind
 pub waits_are : (waits : List Said) (last : List Token) (given : List Token) (before : List Said) → given ≡ map given_token before → given ++ (map given_token waits ++ last) ≡ map given_token (before ++ waits) ++ last
@@ -37,16 +48,22 @@ module _ (waits : List Said) (lim : Limits) (b chars : List ℕ) (ended : Bool) 
   -- no character more is read, and the document doesn't end
   pub gives_open : IsLongest lim b chars → (ended ≡ true → FaultIs lim b true None → ⊥) → Gives lim b ended (given ++ (map given_token waits ++ []))
   gives_open l h = record {
-    said = r.state.tokens;
-    seen = record { chars = chars; longest = l; tags = r.state.tokens; seen = state_seen chars r.state r.front; ends = []; document_ends = stays_open h refl; tokens_are = sym (append-nil r.state.tokens) };
+    seen = record { chars = chars; longest = l; tags = r.state.tokens; seen = state_seen chars r.state r.front; ends = []; document_ends = stays_open h refl; tokens_are = said_is lim b ended _ r.state.tokens [] (stays_open h refl) (tokens_read []) };
     tokens_are = tokens_read [];
   }
 
   -- the document ends
   pub gives_whole : IsLongest lim b chars → ended ≡ true → FaultIs lim b true None → Gives lim b ended (given ++ (map given_token waits ++ (EndOfDocument ∷ [])))
   gives_whole l e h = record {
-    said = r.state.tokens ++ (said_end ∷ []);
-    seen = record { chars = chars; longest = l; tags = r.state.tokens; seen = state_seen chars r.state r.front; ends = said_end ∷ []; document_ends = closes e h refl; tokens_are = refl };
+    seen = record {
+      chars = chars;
+      longest = l;
+      tags = r.state.tokens;
+      seen = state_seen chars r.state r.front;
+      ends = said_end ∷ [];
+      document_ends = closes e h refl;
+      tokens_are = said_is lim b ended _ r.state.tokens (said_end ∷ []) (closes e h refl) (tokens_read (EndOfDocument ∷ []));
+    };
     tokens_are = tokens_read (EndOfDocument ∷ []);
   }
 
@@ -60,15 +77,24 @@ module _ (waits : List Said) (lim : Limits) (b chars : List ℕ) (ended : Bool) 
       let all : Fronts seen.chars (state_of s.frames s.content s.piece) = record { frames = s.frames; content = s.content; piece = s.piece; good = s.opens.good; spelled = s.opens.spelled; state = refl } in
       let after = fronts_after chars longer.0 r.state (state_of s.frames s.content s.piece) r.front (subst (λ l. Fronts l (state_of s.frames s.content s.piece)) longer.1 all) in
       let rest = map given_token after.more ++ map given_end seen.ends in
+      let all_given = given ++ (map given_token waits ++ []) in
+      let are : all_given ++ rest ≡ map given_token seen.tags ++ map given_end seen.ends =
+      ap (λ l. l ++ rest) (tokens_read [] ∙ append-nil (map given_token r.state.tokens))
+      ∙ sym (append_assoc (map given_token r.state.tokens) (map given_token after.more) (map given_end seen.ends))
+      ∙ ap (λ l. l ++ map given_end seen.ends) (sym (map-append r.state.tokens after.more))
+      ∙ ap (λ l. map given_token l ++ map given_end seen.ends) (sym after.tokens_are ∙ sym s.tokens_are) in
       record {
         rest = rest;
         gives = record {
-          said = f.0;
-          seen = seen;
-          tokens_are =
-              ap (λ l. l ++ rest) (tokens_read [] ∙ append-nil (map given_token r.state.tokens))
-              ∙ sym (append_assoc (map given_token r.state.tokens) (map given_token after.more) (map given_end seen.ends))
-              ∙ ap (λ l. l ++ map given_end seen.ends) (sym (map-append r.state.tokens after.more))
-              ∙ ap (λ l. map given_token l ++ map given_end seen.ends) (sym after.tokens_are ∙ sym s.tokens_are);
+          seen = record {
+            chars = seen.chars;
+            longest = seen.longest;
+            tags = seen.tags;
+            seen = seen.seen;
+            ends = seen.ends;
+            document_ends = seen.document_ends;
+            tokens_are = said_is lim b ended (all_given ++ rest) seen.tags seen.ends seen.document_ends are;
+          };
+          tokens_are = are;
         };
       }

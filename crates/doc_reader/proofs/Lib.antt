@@ -1,7 +1,7 @@
 pub mod Lists
 pub mod Ahead
 pub mod Ties
-pub mod Readings
+pub mod Pieces
 pub mod Givings
 pub mod Judgings
 pub mod Counts
@@ -9,3 +9,5 @@ pub mod Standings
 pub mod Accepting
 pub mod Sound
 pub mod Reading
+pub mod Names
+pub mod Spans

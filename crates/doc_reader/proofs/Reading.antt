@@ -1,28 +1,21 @@
 -- Characters read one after another, and text as a whole.
-use Rattle.std.proofs.Common.{ℕ, zero, suc, ◌≡◌, ◌+◌, ◌-◌, ◌<◌, ◌≤◌, Bool, true, false, ◌&&◌, List, [], ◌∷◌, ◌++◌, length, take, drop, Ok, Err, refl, sym, ap, ◌∙◌, subst, append_assoc, append-nil, arith, length-append, length-drop, length-take, ltb-true}
-use Rattle.std.specs.Prelude.{nat_lt}
+use Rattle.std.proofs.Common.{ℕ, ◌≡◌, ◌+◌, ◌-◌, Bool, true, false, ◌&&◌, List, [], ◌∷◌, ◌++◌, length, drop, Ok, Err, refl, sym, ap, ◌∙◌, append_assoc, append-nil, arith, length-append, length-drop}
 use Rattle.std.specs.Char.{len_utf8}
-use Rattle.std.specs.List.{list_all}
-use Rattle.std.specs.Str.{chars, IsUtf8, IsAscii, IsCharBoundary}
+use Rattle.std.specs.Str.{chars, IsUtf8}
 use Rattle.std.proofs.lemmas.Bool.{false≢true}
-use Rattle.std.proofs.lemmas.List.{take-append-drop}
-use Rattle.std.proofs.lemmas.Str.{chars-nil, chars-append, chars-IsAscii, IsUtf8-from_ascii, IsCharBoundary-start, IsCharBoundary-from_take, encodes-IsAscii, length-encode, chars_past_char, IsUtf8-past_char}
-use lib.Utf8.{encode, encodes}
+use Rattle.std.proofs.lemmas.Str.{chars-nil, length-encode, chars_past_char, IsUtf8-past_char}
+use lib.Utf8.{encode}
 use Rattle.gcx_base.specs.declared.limits.Limits.{Limits}
-use Rattle.gcx_model.specs.Attributes.{is_text_char}
 use Rattle.gcx_model.specs.Faults.{Refusal, size}
-use Rattle.gcx_model.specs.Fronts.{is_inside}
-use Rattle.doc_laws.specs.Machine.{Mode, Between, State, is_between}
+use Rattle.doc_laws.specs.Machine.{State}
 use Rattle.doc_laws.specs.Judging.{judged, judged_steps, on_ok}
-use Rattle.doc_laws.proofs.Texts.{text_judged}
 use Rattle.doc_laws.proofs.Unique.{judged_append}
-use Rattle.doc_laws.proofs.Pieces.{size_is}
 use Rattle.doc_reader.specs.declared.stop.Stop.{Stop}
 use Rattle.doc_reader.specs.declared.stop.Stop.TheVariants.{Refused, Memory}
 use Rattle.doc_reader.specs.Judged.{fault, Refuses, ReadsFront, Judged}
 use Rattle.doc_reader.specs.Limited.{JudgedOne}
-use Rattle.doc_reader.specs.Sound.{IsSoundIn, IsSound}
-use Rattle.doc_reader.specs.Reading.{is_plain_byte, IsPlainFront, IsFirst, Moves, Reached}
+use Rattle.doc_reader.specs.Sound.{IsSound}
+use Rattle.doc_reader.specs.Reading.{IsFirst, Moves, Reached}
 use Rattle.doc_reader.proofs.Sound.{judged_sound}
 
 and_both : (a b : Bool) → a && b ≡ true → (a ≡ true) × (b ≡ true)
@@ -32,72 +25,6 @@ and_both false b e = absurd (false≢true e)
 true_and : (a b : Bool) → a ≡ true → b ≡ true → a && b ≡ true
 true_and true b e f = f
 true_and false b e f = absurd (false≢true e)
-
--- ---- plain bytes
-
-plain_below : (b : ℕ) → is_plain_byte b ≡ true → b < 128
-plain_below b h = ltb-true b 128 (and_both (is_text_char b) (nat_lt b 128) h).1
-
-plain_ascii : (bs : List ℕ) → list_all is_plain_byte bs ≡ true → IsAscii bs
-plain_ascii [] h i = omega arith
-plain_ascii (b ∷ bs) h zero = plain_below b (and_both (is_plain_byte b) (list_all is_plain_byte bs) h).0
-plain_ascii (b ∷ bs) h (suc i) = plain_ascii bs (and_both (is_plain_byte b) (list_all is_plain_byte bs) h).1 i
-
-plain_text : (bs : List ℕ) → list_all is_plain_byte bs ≡ true → list_all is_text_char bs ≡ true
-plain_text [] h = refl
-plain_text (b ∷ bs) h =
-    let both = and_both (is_plain_byte b) (list_all is_plain_byte bs) h in
-    true_and (is_text_char b) (list_all is_text_char bs) (and_both (is_text_char b) (nat_lt b 128) both.0).0 (plain_text bs both.1)
-
-plain_size : (bs : List ℕ) → list_all is_plain_byte bs ≡ true → size bs ≡ length bs
-plain_size bs h = size_is bs ∙ ap length (encodes-IsAscii bs (plain_ascii bs h))
-
-plain_utf8 : (bs : List ℕ) → list_all is_plain_byte bs ≡ true → IsUtf8 bs
-plain_utf8 bs h = IsUtf8-from_ascii bs (plain_ascii bs h)
-
-pub plain_boundary : (text : List ℕ) (n most : ℕ) → IsUtf8 text → IsPlainFront n most text → IsCharBoundary text n
-plain_boundary text n most u f = IsCharBoundary-from_take text n u f.within (plain_utf8 (take n text) f.plain)
-
-plain_chars : (text : List ℕ) (n most : ℕ) → IsPlainFront n most text → chars text ≡ take n text ++ chars (drop n text)
-plain_chars text n most f =
-    ap chars (sym (take-append-drop n text))
-    ∙ chars-append (take n text) (drop n text) (plain_utf8 (take n text) f.plain)
-    ∙ ap (λ l. l ++ chars (drop n text)) (chars-IsAscii (take n text) (plain_ascii (take n text) f.plain))
-
-between_is : (m : Mode) → is_between m ≡ true → m ≡ Between
-between_is Between e = refl
-between_is other e = absurd (false≢true e)
-
--- text that has room is read
-plain_read : (lim : Limits) (s : State) (bs : List ℕ) → is_between s.mode && is_inside s.names ≡ true → list_all is_plain_byte bs ≡ true → length bs ≤ lim.text - length s.run → (place : ℕ) → judged_steps lim place s bs ≡ Ok (record s { run = s.run ++ bs })
-plain_read lim s [] i h l place = ap (λ r. Ok (record s { run = r })) (sym (append-nil s.run))
-plain_read lim s (b ∷ bs) i h l place =
-    let both = and_both (is_between s.mode) (is_inside s.names) i in
-    let mode : s.mode ≡ Between = between_is s.mode both.0 in
-    let bytes : encodes (b ∷ bs) ≡ b ∷ bs = encodes-IsAscii (b ∷ bs) (plain_ascii (b ∷ bs) h) in
-    let room : length s.run + length (encodes (b ∷ bs)) ≤ lim.text = omega (arith, ap length bytes) in
-    ap (λ m. judged_steps lim place (record s { mode = m }) (b ∷ bs)) mode
-    ∙ text_judged lim place s (b ∷ bs) both.1 (plain_text (b ∷ bs) h) room
-    ∙ ap (λ l. Ok (record s { mode = Between; run = s.run ++ l })) bytes
-    ∙ ap (λ m. Ok (record s { mode = m; run = s.run ++ (b ∷ bs) })) (sym mode)
-
-pub moves_none : (lim : Limits) (s : State) (text : List ℕ) → IsUtf8 text → Moves lim s text 0 s
-moves_none lim s text u = record { front = []; parts = refl; size_is = refl; boundary = IsCharBoundary-start text u; read = λ place. refl; sound = λ h. h }
-
-pub moves_text : (lim : Limits) (s t : State) (text : List ℕ) (n most : ℕ) → IsUtf8 text → is_between s.mode && is_inside s.names ≡ true → IsPlainFront n most text → most ≡ lim.text - length s.run → t ≡ record s { run = s.run ++ take n text } → Moves lim s text n t
-moves_text lim s t text n most u i f e is =
-    let few : length (take n text) ≡ n = omega (arith, length-take n text, f.within) in
-    record {
-      front = take n text;
-      parts = plain_chars text n most f;
-      size_is = plain_size (take n text) f.plain ∙ few;
-      boundary = plain_boundary text n most u f;
-      read = λ place. plain_read lim s (take n text) i f.plain (omega (arith, f.few)) place ∙ ap Ok (sym is);
-      sound = λ h. subst IsSound (sym is) (ap_sound (between_is s.mode (and_both (is_between s.mode) (is_inside s.names) i).0));
-    }
-  where
-    ap_sound : s.mode ≡ Between → IsSound (record s { run = s.run ++ take n text })
-    ap_sound m = subst (λ k. IsSoundIn k (record s { run = s.run ++ take n text })) (sym m) tt
 
 -- the first character of a text
 pub first_is : (c : ℕ) (rest text : List ℕ) → IsUtf8 text → text ≡ encode c ++ rest → IsFirst c rest text

@@ -1,9 +1,7 @@
 -- What a reader stands for, from call to call.
-use Rattle.std.proofs.Common.{ℕ, ◌≡◌, ◌+◌, ◌-◌, ◌<◌, ◌≤◌, ◌⊎◌, inl, inr, Bool, true, false, List, [], ◌∷◌, ◌++◌, length, map, Option, Some, None, Result, Ok, Err, refl, sym, ap, ◌∙◌, subst, append_assoc, append-nil, arith, length-append}
-use Rattle.std.specs.Prelude.{OnOk}
+use Rattle.std.proofs.Common.{ℕ, ◌≡◌, ◌-◌, ◌≤◌, inl, inr, Bool, true, false, List, [], ◌∷◌, ◌++◌, length, map, Option, Some, None, Result, Ok, Err, refl, sym, ap, ◌∙◌, subst, append_assoc, append-nil, arith}
 use Rattle.std.specs.Option.{is_some}
 use Rattle.std.proofs.lemmas.Bool.{false≢true, true≢false}
-use lib.Utf8.{scalars, encodes}
 use Rattle.gcx_base.specs.declared.limits.Limits.{Limits}
 use Rattle.gcx_model.specs.Tree.{Token as Said}
 use Rattle.gcx_model.specs.declared.fault.DocFault.{DocFault}
@@ -15,15 +13,15 @@ use Rattle.doc_laws.specs.Machine.{State, start, is_whole}
 use Rattle.doc_laws.specs.States.{Fronts}
 use Rattle.doc_laws.proofs.Faults.{start_reads}
 use Rattle.doc_laws.proofs.LastTag.{longest_so_far}
-use Rattle.doc_laws.proofs.Pieces.{Stands as Kept, fault_stays, end_cut, end_short, end_whole, size_is, stands_place}
+use Rattle.doc_laws.proofs.Pieces.{Stands as Kept, fault_stays, end_cut, end_short, end_whole, stands_place}
 use Rattle.doc_laws.proofs.Unique.{fault_one}
 use Rattle.doc_reader.specs.Judged.{given_token, TakesFirst}
-use Rattle.doc_reader.specs.Standing.{Held, end_token, waiting, with_given, answer_by, answer_of, Gives, GivesMore, GivesBy, IsFault, Answers, IsReading, HasRead, HasStopped, HasLost, GoesOnBy, GoesOn, Stands, IsRefused}
+use Rattle.doc_reader.specs.Standing.{Held, end_token, waiting, with_given, Gives, GivesBy, IsFault, IsReading, HasRead, HasStopped, HasLost, GoesOnBy, GoesOn, Stands, IsRefused}
 use Rattle.doc_reader.specs.Piece.{Took, IsSame, Ends}
 use Rattle.doc_reader.specs.declared.token.Token.{Token}
 use Rattle.doc_reader.specs.declared.token.Token.TheVariants.{EndOfDocument}
 use Rattle.doc_reader.proofs.Givings.{map-append, gives_open, gives_whole, gives_more}
-use Rattle.doc_reader.proofs.Readings.{kept_of, all_read, took_more, no_fault_yet}
+use Rattle.doc_reader.proofs.Pieces.{kept_of, all_read, took_more, no_fault_yet}
 
 some_none : (f : DocFault) → Some f ≡ None → ⊥
 some_none f e = cc

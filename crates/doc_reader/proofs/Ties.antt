@@ -1,11 +1,10 @@
 -- The characters of a stream and those of the faults are the same.
-use Rattle.std.proofs.Common.{ℕ, ◌≡◌, ◌+◌, Bool, true, List, [], ◌∷◌, ◌++◌, length, Option, Some, None, refl, sym, ap, ◌∙◌, arith}
-use Rattle.std.specs.Char.{len_utf8}
+use Rattle.std.proofs.Common.{ℕ, ◌≡◌, ◌+◌, true, List, [], ◌∷◌, ◌++◌, Option, Some, None, arith}
 use lib.Utf8.{scalars, encodes}
 use Rattle.gcx_model.specs.Faults as faults
 use Rattle.gcx_model.specs.Faults.{size}
 use Rattle.doc_chars.specs.declared.chars.CharFault.{CharFault}
-use Rattle.doc_chars.specs.Stream.{IsFront, IsNotUtf8, Carry, StandsFor, Breaks, GoesOn}
+use Rattle.doc_chars.specs.Stream.{IsFront, IsNotUtf8, Carry, StandsFor, GoesOn}
 use Rattle.doc_chars.proofs.Streams.{scalars_of}
 
 pub front_tie : (bs : List ℕ) → IsFront bs → faults.IsCharFront bs

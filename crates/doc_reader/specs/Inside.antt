@@ -1,5 +1,5 @@
 -- What contracts see of a reader, and what its fields keep.
-use Rattle.std.specs.Prelude.{ℕ, ◌≡◌, ◌+◌, ◌≤◌, length}
+use Rattle.std.specs.Prelude.{◌+◌, ◌≤◌, length}
 use Rattle.doc_reader.specs.Standing.{Held}
 use Rattle.doc_reader.specs.declared.reader.Reader.TheInside.{Inside}
 

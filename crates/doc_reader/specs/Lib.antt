@@ -7,4 +7,5 @@ pub mod Standing
 pub mod Inside
 pub mod Piece
 pub mod Limited
+pub mod Spans
 pub mod Reading

@@ -1,24 +1,12 @@
 -- Text read as a whole (this project's).
-use Rattle.std.specs.Prelude.{ℕ, ◌≡◌, ◌+◌, ◌≤◌, Bool, true, ◌&&◌, nat_lt, List, ◌∷◌, ◌++◌, length, take, drop, Ok}
+use Rattle.std.specs.Prelude.{ℕ, ◌≡◌, ◌+◌, List, ◌∷◌, ◌++◌, length, drop, Ok}
 use Rattle.std.specs.Char.{len_utf8}
-use Rattle.std.specs.List.{list_all}
 use Rattle.std.specs.Str.{chars, IsUtf8, IsCharBoundary}
 use Rattle.gcx_base.specs.declared.limits.Limits.{Limits}
-use Rattle.gcx_model.specs.Attributes.{is_text_char}
 use Rattle.gcx_model.specs.Faults.{size}
 use Rattle.doc_laws.specs.Machine.{State}
 use Rattle.doc_laws.specs.Judging.{judged_steps}
 use Rattle.doc_reader.specs.Sound.{IsSound}
-
--- a byte that is a character of text by itself
-abbrev pub is_plain_byte : ℕ → Bool
-is_plain_byte b = is_text_char b && nat_lt b 128
-
--- the first n bytes are such, and at most so many
-pub record IsPlainFront (n most : ℕ) (bytes : List ℕ) : Type 0 where
-  pub within : n ≤ length bytes
-  pub few : n ≤ most
-  pub plain : list_all is_plain_byte (take n bytes) ≡ true
 
 -- c is the first character of the text, and the rest stands behind it
 pub record IsFirst (c : ℕ) (rest text : List ℕ) : Type 0 where

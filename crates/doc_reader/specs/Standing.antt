@@ -3,7 +3,7 @@ use Rattle.std.specs.Prelude.{ℕ, ◌≡◌, ◌≤◌, Bool, true, false, List
 use lib.Utf8.{scalars, encodes}
 use Rattle.gcx_base.specs.declared.limits.Limits.{Limits}
 use Rattle.gcx_model.specs.Document.{Nodes, IsDocument, tokens}
-use Rattle.gcx_model.specs.Tree.{Token as Said}
+use Rattle.gcx_model.specs.Tree.{Token as Said, Start as said_start, Chars as said_text, End as said_end}
 use Rattle.gcx_model.specs.Grammar.{SpellsDocument}
 use Rattle.gcx_model.specs.Faults.{Clean, FaultIs, size}
 use Rattle.gcx_model.specs.Seen.{IsLongest, SeenIs}
@@ -14,7 +14,14 @@ use Rattle.doc_laws.specs.Machine.{State}
 use Rattle.doc_laws.specs.States.{Fronts}
 use Rattle.doc_reader.specs.Judged.{given_token}
 use Rattle.doc_reader.specs.declared.token.Token.{Token}
-use Rattle.doc_reader.specs.declared.token.Token.TheVariants.{EndOfDocument}
+use Rattle.doc_reader.specs.declared.token.Token.TheVariants.{Start, End, Text, EndOfDocument}
+
+-- a token that a reader gave, as the model's
+abbrev pub said_of : Token → Said
+said_of (Start n) = said_start n
+said_of (Text t) = said_text t
+said_of End = said_end
+said_of EndOfDocument = said_end
 
 -- the end of the document node, as a reader gives it
 abbrev pub given_end : Said → Token
@@ -59,10 +66,9 @@ answer_by (Some f) = Err f
 abbrev pub answer_of : Held → Result ⊤ DocFault
 answer_of h = answer_by h.refused
 
--- The tokens that a reader gives of bytes: those of the tags that are seen, and EndOfDocument as the end of the document node.
+-- The tokens that a reader gives of bytes are those that are seen: those of the tags, and EndOfDocument as the end of the document node.
 pub record Gives (lim : Limits) (b : List ℕ) (ended : Bool) (ts : List Token) : Type 0 where
-  pub said : List Said
-  pub seen : SeenIs lim b ended said
+  pub seen : SeenIs lim b ended (map said_of ts)
   pub tokens_are : ts ≡ map given_token seen.tags ++ map given_end seen.ends
 
 -- These tokens are the first of them.

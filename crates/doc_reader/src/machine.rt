@@ -9,6 +9,7 @@ mod end_tag;
 mod judge;
 mod markup;
 mod read;
+mod span;
 mod step;
 mod tag;
 mod text;
@@ -122,3 +123,6 @@ pub(crate) fn read_text(m: &mut Machine, limits: Limits, place: u64, text: &str)
         }
     }
 }
+
+#[cfg(test)]
+mod tests;

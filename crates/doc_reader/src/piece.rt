@@ -2,28 +2,13 @@
 ghost use Rattle.std.specs.Prelude.{◌≡◌, ◌+◌, ◌<◌, ◌≤◌, ◌^◌, ◌∷◌, [], length, slice_range, IsUtf8, IfOk};
 ghost use Rattle.doc_chars.specs.Stream.{given, optional};
 ghost use Rattle.doc_reader.specs.Judged.{Judged};
-ghost use Rattle.doc_reader.specs.Piece.{ReadTo, stop_fault};
+ghost use Rattle.doc_reader.specs.Piece.{ReadTo};
 
 use crate::machine::{Machine, read_text};
-use crate::stop::{Refusal, Stop};
+use crate::stop::Stop;
 use doc_chars::Split;
 use gcx_base::Limits;
-use gcx_model::DocFault;
 use std::str;
-
-impl From<Stop> for DocFault {
-    ghost from_gives = { λ s e. e ≡ stop_fault s };
-
-    fn from(stop: Stop) -> DocFault {
-        match stop {
-            Stop::Refused(Refusal::Syntax(place)) => DocFault::Syntax(place),
-            Stop::Refused(Refusal::Depth(place)) => DocFault::Depth(place),
-            Stop::Refused(Refusal::NameLong(place)) => DocFault::NameLong(place),
-            Stop::Refused(Refusal::TextLong(place)) => DocFault::TextLong(place),
-            Stop::Memory => DocFault::Memory,
-        }
-    }
-}
 
 /// Reads one character.
 fn read_char(m: &mut Machine, limits: Limits, place: u64, c: char) -> Result<(), Stop>
@@ -35,12 +20,7 @@ fn read_char(m: &mut Machine, limits: Limits, place: u64, c: char) -> Result<(),
 }
 
 /// Reads the character that earlier pieces began, and says where it ends.
-fn read_first(
-    m: &mut Machine,
-    limits: Limits,
-    place: u64,
-    first: Option<char>,
-) -> Result<u64, Stop>
+fn read_first(m: &mut Machine, limits: Limits, place: u64, first: Option<char>) -> Result<u64, Stop>
     requires { place + 4 < 2 ^ 64 }
     ensures read { ReadTo result limits place m.old (optional first) m.new }
     ensures near { IfOk result (λ at. at ≤ place + 4) }

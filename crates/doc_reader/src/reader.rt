@@ -78,7 +78,7 @@ impl Reader {
         requires { IsOpen self.old }
         ensures stands { (lim : Limits) (b : List ℕ) (given : List Token) → Stands self.old lim b false given
             → Stands self.new lim (b ++ piece.now) false given }
-        ensures answers { (lim : Limits) (b : List ℕ) (given : List Token) → Stands self.old lim b false given
+        ensures exact { (lim : Limits) (b : List ℕ) (given : List Token) → Stands self.old lim b false given
             → Answers result lim (b ++ piece.now) false }
         ensures answer { result ≡ answer_of self.new }
         ensures open { IsOpen self.new }
@@ -113,7 +113,7 @@ impl Reader {
     pub fn finish(&mut self) -> Result<(), DocFault>
         ensures stands { (lim : Limits) (b : List ℕ) (ended : Bool) (given : List Token) → Stands self.old lim b ended given
             → Stands self.new lim b true given }
-        ensures answers { (lim : Limits) (b : List ℕ) (ended : Bool) (given : List Token) → Stands self.old lim b ended given
+        ensures exact { (lim : Limits) (b : List ℕ) (ended : Bool) (given : List Token) → Stands self.old lim b ended given
             → Answers result lim b true }
         ensures document { (lim : Limits) (b : List ℕ) (ended : Bool) (given : List Token) → Stands self.old lim b ended given
             → OnOk result (Accepted b (given ++ waiting self.new)) }
@@ -221,3 +221,6 @@ impl Reader {
         }
     }
 }
+
+#[cfg(test)]
+mod tests;

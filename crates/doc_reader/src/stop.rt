@@ -1,8 +1,10 @@
 //! Why reading stops.
 ghost use Rattle.std.specs.Prelude.{◌≡◌};
 ghost use Rattle.doc_reader.specs.declared.stop.Stop.TheVariants.{Memory as out_of_memory};
+ghost use Rattle.doc_reader.specs.Piece.{stop_fault};
 
 use gcx_base::Memory;
+use gcx_model::DocFault;
 
 /// A fault that a character makes, and its place in bytes.
 #[derive(Clone, Copy, Debug)]
@@ -25,5 +27,19 @@ impl From<Memory> for Stop {
 
     fn from(_: Memory) -> Stop {
         Stop::Memory
+    }
+}
+
+impl From<Stop> for DocFault {
+    ghost from_gives = { λ s e. e ≡ stop_fault s };
+
+    fn from(stop: Stop) -> DocFault {
+        match stop {
+            Stop::Refused(Refusal::Syntax(place)) => DocFault::Syntax(place),
+            Stop::Refused(Refusal::Depth(place)) => DocFault::Depth(place),
+            Stop::Refused(Refusal::NameLong(place)) => DocFault::NameLong(place),
+            Stop::Refused(Refusal::TextLong(place)) => DocFault::TextLong(place),
+            Stop::Memory => DocFault::Memory,
+        }
     }
 }

@@ -1,62 +1,60 @@
-//! Characters, one after another; text is read as a whole.
-ghost use Rattle.std.specs.Prelude.{◌≡◌, ◌+◌, ◌<◌, ◌≤◌, ◌^◌, ◌&&◌, [], length, MatchOption, IfOk, OnErr};
+//! Characters, one after another, or as a whole.
+ghost use Rattle.std.specs.Prelude.{◌≡◌, ◌+◌, ◌<◌, ◌^◌, [], length, MatchOption, IfOk, OnErr};
 ghost use Rattle.std.specs.Str.{chars};
-ghost use Rattle.gcx_model.specs.Fronts.{is_inside};
-ghost use Rattle.doc_laws.specs.Machine.{is_between};
 ghost use Rattle.doc_reader.specs.Judged.{Judged};
 ghost use Rattle.doc_reader.specs.Machine.{scan_state};
-ghost use Rattle.doc_reader.specs.Reading.{is_plain_byte, IsPlainFront, Moves, IsFirst};
+ghost use Rattle.doc_reader.specs.Reading.{Moves, IsFirst};
 ghost use Rattle.doc_reader.specs.Sound.{IsSound};
 
 use super::Scan;
 use super::judge::judge;
+use super::span::{keep, same_front, span_at};
 use crate::mode::Mode;
 use crate::stop::Stop;
 use gcx_base::{Limits, Memory};
 
-/// Whether a byte is a character of text by itself: neither markup nor part of a longer one.
-fn is_plain(b: u8) -> bool
-    ensures { result ≡ is_plain_byte b }
+/// Reads characters of the innermost element's name, behind so many bytes of it, and says how many bytes they are.
+fn match_name(m: &mut Scan, limits: Limits, i: usize, rest: &str) -> usize
+    requires { m.old.mode ≡ Mode.EndName i }
+    ensures { Moves limits (scan_state m.old) rest.now result (scan_state m.new) }
 {
-    matches!(b, b'\t' | b'\n' | b'\r' | b' '..=b'%' | b'\''..=b';' | b'='..=b'\x7F')
-}
-
-/// How many of the first bytes, at most so many, are characters of text by themselves.
-fn plain_front(bytes: &[u8], most: usize) -> usize
-    ensures { IsPlainFront result most bytes.now }
-{
-    let end = most.min(bytes.len());
-    for i in 0..end {
-        if !is_plain(bytes[i]) {
-            return i;
-        }
+    if m.run.len() > limits.text as usize {
+        return 0;
     }
-    end
-}
-
-/// Whether text is read: between tags, inside an element.
-fn in_text(m: &Scan) -> bool
-    ensures { result ≡ is_between (scan_state m.now).mode && is_inside (scan_state m.now).names }
-{
-    match m.mode {
-        Mode::Between => m.names.has_open(),
-        _ => false,
+    let name = m.names.innermost();
+    if i > name.len() {
+        return 0;
     }
+    let n = same_front(&name[i..], rest.as_bytes());
+    m.mode = Mode::EndName(i + n);
+    n
 }
 
-/// Adds text at the front to the run, where text is read, as far as it has room, and says how many bytes.
-fn copy_text(m: &mut Scan, limits: Limits, rest: &str) -> Result<usize, Memory>
+/// Reads characters of a span, and says how many bytes they are.
+fn read_span(m: &mut Scan, limits: Limits, rest: &str) -> Result<usize, Memory>
     ensures moves { IfOk result (λ n. Moves limits (scan_state m.old) rest.now n (scan_state m.new)) }
     ensures tokens { OnErr result ((scan_state m.new).tokens ≡ (scan_state m.old).tokens) }
 {
-    if !in_text(m) {
-        return Ok(0);
+    match span_at(m, limits) {
+        Some((span, most)) => {
+            let n = span.front(rest.as_bytes(), most);
+            let (front, _) = rest.split_at(n);
+            keep(m, span, front)?;
+            Ok(n)
+        }
+        None => Ok(0),
     }
-    let room = (limits.text as usize).saturating_sub(m.run.len());
-    let n = plain_front(rest.as_bytes(), room);
-    let (front, _) = rest.split_at(n);
-    m.run.push_str(front)?;
-    Ok(n)
+}
+
+/// Reads what can be read as a whole at the front, and says how many bytes it is.
+fn read_front(m: &mut Scan, limits: Limits, rest: &str) -> Result<usize, Memory>
+    ensures moves { IfOk result (λ n. Moves limits (scan_state m.old) rest.now n (scan_state m.new)) }
+    ensures tokens { OnErr result ((scan_state m.new).tokens ≡ (scan_state m.old).tokens) }
+{
+    match m.mode {
+        Mode::EndName(i) => Ok(match_name(m, limits, i, rest)),
+        _ => read_span(m, limits, rest),
+    }
 }
 
 /// The first character, and what stands behind it.
@@ -78,7 +76,7 @@ pub(crate) fn read(m: &mut Scan, limits: Limits, place: u64, text: &str) -> Resu
     let mut at = place;
     let mut rest = text;
     loop {
-        let n = copy_text(m, limits, rest)?;
+        let n = read_front(m, limits, rest)?;
         let (_, behind) = rest.split_at(n);
         at += n as u64;
         match first_char(behind) {

@@ -1,4 +1,4 @@
-use Rattle.std.proofs.Common.{ℕ, ◌≡◌, ◌+◌, List, ◌++◌, length, Result, Ok, Err, subst, sym, ap, ◌∙◌, arith}
+use Rattle.std.proofs.Common.{ℕ, ◌≡◌, List, ◌++◌, length, Result, Ok, Err, subst, sym, ap, ◌∙◌, arith}
 use Rattle.std.specs.Prelude.{slice_range, chars}
 use Rattle.std.proofs.lemmas.Result.{err_from_is_err_and}
 use Rattle.gcx_model.specs.Faults.{size}
@@ -41,5 +41,5 @@ returns c =
     let long : length bytes ≡ size text = text_size bytes c.from_utf8_unchecked-text.utf8 ∙ ap size same in (
       omega (arith, c.in_ok-behind.ensures.read.0, long, size_append first text),
       reads_both c.args.limits c.args.place c.args.m.now first text c.read_first.new.m at (Ok c.read_text.new.m) c.in_ok-behind.ensures.read.1 c.in_ok-behind.ensures.read.0
-      (ap (λ l. judged_steps c.args.limits at c.read_first.new.m l) (sym same) ∙ c.in_ok-read_text.ensures),
+          (ap (λ l. judged_steps c.args.limits at c.read_first.new.m l) (sym same) ∙ c.in_ok-read_text.ensures),
     )

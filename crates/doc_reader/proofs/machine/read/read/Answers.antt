@@ -11,7 +11,7 @@ returns-in_err-judge-in-Some-clause-judged c =
     let lim = c.args.limits in
     let old = scan_state c.args.m.now in
     let text = c.args.text.now in
-    let now = scan_state c.copy_text.new.m in
+    let now = scan_state c.read_front.new.m in
     let r = reached_moves lim c.args.place old text c.loop-n.at (scan_state c.loop-n.m) now c.loop-n.rest.now c.in_ok-n.n c.loop-n.invariant.1 c.in_ok-n.ensures.moves in
     let behind = subst (λ (l : List ℕ). IsFirst c.in-Some.c c.in-Some.after.now l) c.split_at.ensures.back c.in-Some.ensures in
     rw (p.1, p.2) (reached_stop lim c.args.place old text (c.loop-n.at + c.in_ok-n.n) now (scan_state c.judge.new.m) c.in-Some.c (drop c.in_ok-n.n c.loop-n.rest.now) c.in-Some.after.now c.in_err-judge-in-Some.field-0.0 r behind c.in_err-judge-in-Some.ensures)
@@ -21,7 +21,7 @@ loop-n-preserved c =
     let lim = c.args.limits in
     let old = scan_state c.args.m.now in
     let text = c.args.text.now in
-    let now = scan_state c.copy_text.new.m in
+    let now = scan_state c.read_front.new.m in
     let r = reached_moves lim c.args.place old text c.loop-n.at (scan_state c.loop-n.m) now c.loop-n.rest.now c.in_ok-n.n c.loop-n.invariant.1 c.in_ok-n.ensures.moves in
     let behind = subst (λ (l : List ℕ). IsFirst c.in-Some.c c.in-Some.after.now l) c.split_at.ensures.back c.in-Some.ensures in
     let at = c.loop-n.at + c.in_ok-n.n in
@@ -32,6 +32,6 @@ returns-in-None-clause-judged c =
     let lim = c.args.limits in
     let old = scan_state c.args.m.now in
     let text = c.args.text.now in
-    let now = scan_state c.copy_text.new.m in
+    let now = scan_state c.read_front.new.m in
     let r = reached_moves lim c.args.place old text c.loop-n.at (scan_state c.loop-n.m) now c.loop-n.rest.now c.in_ok-n.n c.loop-n.invariant.1 c.in_ok-n.ensures.moves in
     reached_all lim c.args.place old text (c.loop-n.at + c.in_ok-n.n) now (drop c.in_ok-n.n c.loop-n.rest.now) r (sym c.split_at.ensures.back ∙ c.in-None.ensures)

@@ -1,4 +1,4 @@
-use Rattle.std.proofs.Common.{◌≡◌, Bool, false, sym, ap, ◌∙◌, subst}
+use Rattle.std.proofs.Common.{Bool, false, sym, ◌∙◌, subst}
 use Rattle.doc_reader.specs.Standing.{Held, Stands}
 use Rattle.doc_reader.specs.Inside.{held}
 use Rattle.doc_reader.proofs.Standings.{ended_is, was_refused, not_refused, stands_end_refused, stands_end_whole, stands_end_short}

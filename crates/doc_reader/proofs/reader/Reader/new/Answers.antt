@@ -1,5 +1,4 @@
 use Rattle.std.proofs.Common.{refl}
-use Rattle.doc_reader.specs.Standing.{Held}
 use Rattle.doc_reader.proofs.Standings.{stands_new}
 use Rattle.doc_reader.proofs.reader.Reader.new.Goals as goal
 

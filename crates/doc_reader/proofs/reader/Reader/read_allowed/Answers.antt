@@ -1,11 +1,11 @@
-use Rattle.std.proofs.Common.{ℕ, ◌≡◌, ◌+◌, ◌-◌, ◌<◌, ◌≤◌, List, ◌++◌, length, take, drop, Result, Ok, Err, refl, sym, ap, ◌∙◌, subst, append_assoc, arith, length-append, length-take, length-drop}
+use Rattle.std.proofs.Common.{ℕ, ◌≡◌, ◌-◌, ◌<◌, List, ◌++◌, length, take, drop, Result, Err, sym, ap, ◌∙◌, subst, append_assoc, arith, length-append, length-take, length-drop}
 use Rattle.std.proofs.lemmas.Result.{err_from_is_err_and}
 use Rattle.std.proofs.lemmas.List.{take-append-drop}
 use Rattle.gcx_model.specs.declared.fault.DocFault.{DocFault}
 use Rattle.gcx_model.specs.declared.fault.DocFault.TheVariants.{TooLong}
 use Rattle.doc_reader.specs.Standing.{Held}
 use Rattle.doc_reader.specs.Piece.{Took}
-use Rattle.doc_reader.proofs.Readings.{took_more, took_past}
+use Rattle.doc_reader.proofs.Pieces.{took_more, took_past}
 use Rattle.doc_reader.proofs.reader.Reader.read_allowed.Goals as goal
 
 whole : (b piece : List ℕ) (n : ℕ) → (b ++ take n piece) ++ drop n piece ≡ b ++ piece

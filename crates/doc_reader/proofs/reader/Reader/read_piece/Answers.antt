@@ -1,4 +1,4 @@
-use Rattle.std.proofs.Common.{ℕ, ◌≡◌, ◌+◌, ◌≤◌, List, ◌++◌, length, Option, Some, None, Result, Ok, Err, refl, sym, ap, ◌∙◌, subst, arith, length-append}
+use Rattle.std.proofs.Common.{◌≡◌, ◌+◌, ◌≤◌, ◌++◌, length, Option, Result, Ok, Err, refl, sym, ap, ◌∙◌, subst, arith, length-append}
 use Rattle.std.specs.Prelude.{IfNone, drop}
 use Rattle.std.proofs.lemmas.Result.{err_from_is_err_and}
 use Rattle.gcx_model.specs.declared.fault.DocFault.{DocFault}
@@ -7,9 +7,8 @@ use Rattle.doc_chars.specs.Stream.{given, still_carried, GoesOn}
 use Rattle.doc_reader.specs.Standing.{Held, IsReading}
 use Rattle.doc_reader.specs.Inside.{held}
 use Rattle.doc_reader.specs.Piece.{Took}
-use Rattle.doc_reader.specs.declared.token.Token.{Token}
 use Rattle.doc_reader.proofs.Counts.{in_order, given_size}
-use Rattle.doc_reader.proofs.Readings.{took_stop, took_breaks, took_reads}
+use Rattle.doc_reader.proofs.Pieces.{took_stop, took_breaks, took_reads}
 use Rattle.doc_reader.proofs.Ties.{parts_of}
 use Rattle.doc_reader.proofs.reader.Reader.read_piece.Goals as goal
 

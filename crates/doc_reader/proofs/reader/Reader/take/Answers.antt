@@ -1,4 +1,4 @@
-use Rattle.std.proofs.Common.{List, ℕ, Some, ◌++◌, false, sym, ap, ◌∙◌, subst}
+use Rattle.std.proofs.Common.{Some, ◌++◌, false, sym, ap, ◌∙◌, subst}
 use Rattle.doc_reader.specs.Standing.{Held, Stands}
 use Rattle.doc_reader.proofs.Standings.{was_refused, not_refused, stands_read, stands_refused, stands_still}
 use Rattle.doc_reader.proofs.reader.Reader.take.Goals as goal

@@ -1,7 +1,6 @@
 -- A piece more behind characters that were read without a fault.
-use Rattle.std.proofs.Common.{ℕ, ◌≡◌, ◌+◌, ◌-◌, ◌<◌, ◌≤◌, Bool, true, false, List, [], ◌∷◌, ◌++◌, length, take, drop, map, Option, Some, None, Result, Ok, Err, refl, sym, ap, ◌∙◌, subst, append_assoc, append-nil, arith, length-append, take_at}
+use Rattle.std.proofs.Common.{ℕ, ◌≡◌, ◌+◌, ◌<◌, ◌≤◌, true, false, List, [], ◌∷◌, ◌++◌, length, Some, None, Ok, Err, refl, sym, ap, ◌∙◌, subst, append_assoc, append-nil, arith, length-append, take_at}
 use Rattle.std.proofs.lemmas.Str.{encodes-append}
-use Rattle.std.proofs.lemmas.List.{take-append-drop}
 use lib.Utf8.{scalar, scalars, encode, encodes}
 use Rattle.gcx_base.specs.declared.limits.Limits.{Limits}
 use Rattle.gcx_model.specs.Tree.{Token as Said}
@@ -11,7 +10,7 @@ use Rattle.gcx_model.specs.Faults.{Refusal, AtSyntax, fault_of, size, AtDepth, A
 use Rattle.gcx_model.specs.Seen.{IsLongest}
 use Rattle.doc_chars.specs.declared.chars.CharFault.{CharFault}
 use Rattle.doc_chars.specs.declared.chars.CharFault.TheVariants.{Utf8 as not_utf8, Char as no_char}
-use Rattle.doc_chars.specs.Stream.{StandsFor, Breaks, GoesOn}
+use Rattle.doc_chars.specs.Stream.{StandsFor, Breaks}
 use Rattle.doc_laws.specs.Machine.{State}
 use Rattle.doc_laws.specs.Judging.{judged, judged_steps}
 use Rattle.doc_laws.proofs.Characters.{not_char_comes}
@@ -21,7 +20,7 @@ use Rattle.doc_laws.proofs.Tests.{true_and}
 use Rattle.doc_laws.proofs.Words.{scalars_front}
 use Rattle.doc_laws.proofs.LastTag.{longest_at_fault, longest_at_bad, longest_at_limit}
 use Rattle.doc_reader.specs.Judged.{Refuses, ReadsFront, Judged, fault}
-use Rattle.doc_reader.specs.Standing.{Held, with_given, IsReading, HasRead, HasStopped, HasLost, GoesOnBy, IsFault}
+use Rattle.doc_reader.specs.Standing.{Held, with_given, IsReading, HasRead, HasStopped, HasLost}
 use Rattle.doc_reader.specs.Piece.{Took, char_fault, stop_fault}
 use Rattle.doc_reader.specs.declared.stop.Stop.{Stop}
 use Rattle.doc_reader.specs.declared.stop.Stop.TheVariants.{Refused as Stopped, Memory as Lost}
@@ -73,7 +72,6 @@ module _ (old new : Held) (lim : Limits) (b piece : List ℕ) (given : List Toke
         before = r.before;
         given_are = r.given_are;
         front = q.front;
-        
       }
 
   -- the machine refuses one of them
@@ -88,11 +86,10 @@ module _ (old new : Held) (lim : Limits) (b piece : List ℕ) (given : List Toke
       let are : scalars chars ≡ true = scalars_front chars (q.at ∷ q.rest) (ap scalars (sym all) ∙ p.scalars_are) in
       let parts : b ++ piece ≡ encodes chars ++ (encode q.at ++ (encodes q.rest ++ p.rest)) =
       p.parts ∙ ap (λ l. encodes l ++ p.rest) all ∙ ap (λ l. l ++ p.rest) (encodes-append chars (q.at ∷ q.rest)) ∙ append_assoc (encodes chars) (encode q.at ++ encodes q.rest) p.rest ∙ ap (λ l. encodes chars ++ l) (append_assoc (encode q.at) (encodes q.rest) p.rest) in
-      let fits : length (encodes chars) ≤ lim.bytes = omega (arith, within, ap length parts, length-append (encodes chars) (encode q.at ++ (encodes q.rest ++ p.rest))) in
-      (
+      let fits : length (encodes chars) ≤ lim.bytes = omega (arith, within, ap length parts, length-append (encodes chars) (encode q.at ++ (encodes q.rest ++ p.rest))) in (
         record {
           chars = chars;
-          read = record { rest = encode q.at ++ (encodes q.rest ++ p.rest); scalars_are = are; parts = parts; within = fits; clean = reads.clean; before = r.before; given_are = r.given_are; state = state; tokens_are = ap (λ l. r.before ++ l) (sym q.waits); front = reads.front; };
+          read = record { rest = encode q.at ++ (encodes q.rest ++ p.rest); scalars_are = are; parts = parts; within = fits; clean = reads.clean; before = r.before; given_are = r.given_are; state = state; tokens_are = ap (λ l. r.before ++ l) (sym q.waits); front = reads.front };
           longest = λ more. longest_at_fault lim ((b ++ piece) ++ more) chars ((encodes q.rest ++ p.rest) ++ more) state q.at f reads refused are
               (ap (λ l. l ++ more) parts ∙ append_assoc (encodes chars) (encode q.at ++ (encodes q.rest ++ p.rest)) more ∙ ap (λ l. encodes chars ++ l) (append_assoc (encode q.at) (encodes q.rest ++ p.rest) more)) fits;
         },
@@ -120,7 +117,6 @@ module _ (old new : Held) (lim : Limits) (b piece : List ℕ) (given : List Toke
           state = state;
           tokens_are = ap (λ l. r.before ++ l) (sym q.waits);
           front = reads.front;
-          
         };
       }
 
@@ -136,7 +132,6 @@ module _ (old new : Held) (lim : Limits) (b piece : List ℕ) (given : List Toke
     state = with_given r.before new.state;
     tokens_are = refl;
     front = q.front;
-    
   }
 
   -- they are read, and behind them stands what isn't UTF-8 or no Char
@@ -147,8 +142,7 @@ module _ (old new : Held) (lim : Limits) (b piece : List ℕ) (given : List Toke
       let reads : Reads lim chars state = judged_on lim r.chars ds r.before old.state new.state old.place r.place (reads_of old lim b given r) j in
       let p = parts_of (Some (not_utf8 k)) new.carry (b ++ piece) chars w in
       let read = read_all p reads in
-      let at : k ≡ size chars = w.why.0 ∙ sym (size_is chars) in
-      (
+      let at : k ≡ size chars = w.why.0 ∙ sym (size_is chars) in (
         record {
           chars = chars;
           read = read;
@@ -167,8 +161,7 @@ module _ (old new : Held) (lim : Limits) (b piece : List ℕ) (given : List Toke
       let n = w.why.1 in
       let comes : Comes lim chars n.c (AtSyntax (size chars)) = not_char_comes lim chars n.c n.other in
       let refused = comes_refusal lim chars n.c state (AtSyntax (size chars)) reads.front reads.short comes in
-      let parts : b ++ piece ≡ encodes chars ++ (encode n.c ++ n.rest) = w.bytes ∙ ap (λ l. encodes chars ++ l) n.bytes in
-      (
+      let parts : b ++ piece ≡ encodes chars ++ (encode n.c ++ n.rest) = w.bytes ∙ ap (λ l. encodes chars ++ l) n.bytes in (
         record {
           chars = chars;
           read = read;
@@ -176,8 +169,8 @@ module _ (old new : Held) (lim : Limits) (b piece : List ℕ) (given : List Toke
               (ap (λ l. l ++ more) parts ∙ append_assoc (encodes chars) (encode n.c ++ n.rest) more ∙ ap (λ l. encodes chars ++ l) (append_assoc (encode n.c) n.rest more)) read.within;
         },
         within_limit within (by_character (chars ++ n.c ∷ []) n.rest (AtSyntax (size chars)) (scalars_append chars (n.c ∷ []) p.scalars_are (true_and (scalar n.c) true n.scalar refl))
-          (parts ∙ ap (λ l. encodes chars ++ (l ++ n.rest)) (sym (append-nil (encode n.c))) ∙ sym (append_assoc (encodes chars) (encode n.c ++ []) n.rest) ∙ ap (λ l. l ++ n.rest) (sym (encodes-append chars (n.c ∷ []))))
-          (record { front = chars; at = n.c; rest = []; parts = refl; clean = reads.clean; comes = comes }) (ap (λ m. Some (Syntax m)) at)),
+            (parts ∙ ap (λ l. encodes chars ++ (l ++ n.rest)) (sym (append-nil (encode n.c))) ∙ sym (append_assoc (encodes chars) (encode n.c ++ []) n.rest) ∙ ap (λ l. l ++ n.rest) (sym (encodes-append chars (n.c ∷ []))))
+            (record { front = chars; at = n.c; rest = []; parts = refl; clean = reads.clean; comes = comes }) (ap (λ m. Some (Syntax m)) at)),
       )
 
 -- ---- what a part of the reader answers then
@@ -214,7 +207,6 @@ read_more waits lim b more chars given q = record {
   state = q.state;
   tokens_are = q.tokens_are;
   front = q.front;
-  
 }
 
 stopped_more : (waits : List Said) (lim : Limits) (b more : List ℕ) (given : List Token) → HasStopped waits lim b given → HasStopped waits lim (b ++ more) given
@@ -245,8 +237,7 @@ pub took_past : (h : Held) (lim : Limits) (b more : List ℕ) (given : List Toke
 took_past h lim b more given r full some =
     let kept = kept_of h lim b given r in
     let state = with_given r.before h.state in
-    let read = all_read h lim b given r in
-    (
+    let read = all_read h lim b given r in (
       record {
         chars = r.chars;
         read = read_more h.state.tokens lim b more r.chars given read;
