@@ -1,88 +1,304 @@
--- How a reader goes on, and what its end shows.
-use Rattle.std.proofs.Common.{ℕ, ◌≡◌, ◌+◌, ◌-◌, ◌^◌, min, ◌≤◌, ◌<◌, inl, inr, true, false, List, [], ◌∷◌, ◌++◌, length, refl, sym, ap, ◌∙◌, subst, arith, length-append}
+-- What a reader stands for, from call to call.
+use Rattle.std.proofs.Common.{ℕ, ◌≡◌, ◌-◌, ◌≤◌, inl, inr, Bool, true, false, List, [], ◌∷◌, ◌++◌, length, map, Option, Some, None, Result, Ok, Err, refl, sym, ap, ◌∙◌, subst, append_assoc, append-nil, arith}
+use Rattle.std.specs.Option.{is_some}
 use Rattle.std.proofs.lemmas.Bool.{false≢true, true≢false}
 use Rattle.gcx_base.specs.declared.limits.Limits.{Limits}
-use Rattle.gcx_model.specs.Document.{Nodes}
-use Rattle.gcx_model.specs.Spelling.{SpellsWithin}
-use Rattle.doc_reader.specs.Machine.{State, start, is_whole}
-use Rattle.doc_reader.specs.Front.{Reads}
-use Rattle.doc_reader.specs.Reading.{GoesOn, is_reading}
-use Rattle.doc_reader.specs.Standing.{Held, Stands, StandsBy, Accepted, Finished, answer_by, waiting_by}
+use Rattle.gcx_model.specs.Tree.{Token as Said}
+use Rattle.gcx_model.specs.declared.fault.DocFault.{DocFault}
+use Rattle.gcx_model.specs.declared.fault.DocFault.TheVariants.{Utf8, Syntax, Truncated, Depth, NameLong, TextLong, TooLong, Memory}
+use Rattle.gcx_model.specs.Faults.{FaultIs, within_limit, size}
+use Rattle.gcx_model.specs.Seen.{IsLongest}
+use Rattle.doc_chars.specs.Stream.{StandsFor}
+use Rattle.doc_laws.specs.Machine.{State, start, is_whole}
+use Rattle.doc_laws.specs.States.{Fronts}
+use Rattle.doc_laws.proofs.Faults.{start_reads}
+use Rattle.doc_laws.proofs.LastTag.{longest_so_far}
+use Rattle.doc_laws.proofs.Pieces.{Stands as Kept, fault_stays, end_cut, end_short, end_whole, stands_place}
+use Rattle.doc_laws.proofs.Unique.{fault_one}
+use Rattle.doc_reader.specs.Judged.{given_token, TakesFirst}
+use Rattle.doc_reader.specs.Standing.{Held, end_token, waiting, with_given, Gives, GivesBy, IsFault, IsReading, HasRead, HasStopped, HasLost, GoesOnBy, GoesOn, Stands, IsRefused}
+use Rattle.doc_reader.specs.Piece.{Took, IsSame, Ends}
 use Rattle.doc_reader.specs.declared.token.Token.{Token}
 use Rattle.doc_reader.specs.declared.token.Token.TheVariants.{EndOfDocument}
-use Rattle.doc_reader.specs.declared.reader.Phase.{Phase}
-use Rattle.doc_reader.specs.declared.reader.Phase.TheVariants.{Reading, Refused, Out}
-use Rattle.doc_reader.proofs.Theorems.{start_reads, stuck_hopeless, hopeless_more, long_hopeless, hopeless_none, whole_spells, not_whole, spells_one}
-use Rattle.doc_reader.proofs.Fronts.{steps_more}
+use Rattle.doc_reader.proofs.Givings.{map-append, gives_open, gives_whole, gives_more}
+use Rattle.doc_reader.proofs.Pieces.{kept_of, all_read, took_more, no_fault_yet}
+
+some_none : (f : DocFault) → Some f ≡ None → ⊥
+some_none f e = cc
+
+-- the bytes have a fault, so the document doesn't end
+pub no_document : (lim : Limits) (b : List ℕ) (f : DocFault) (ended : Bool) → FaultIs lim b ended (Some f) → ended ≡ true → FaultIs lim b true None → ⊥
+no_document lim b f ended h e k = some_none f (fault_one lim b true (Some f) None (subst (λ o. FaultIs lim b o (Some f)) e h) k)
+
+pub was_refused : (o : Option DocFault) → is_some o ≡ true → o ≡ None → ⊥
+was_refused None e n = false≢true e
+was_refused (Some f) e n = some_none f n
+
+pub not_refused : (o : Option DocFault) → is_some o ≡ false → o ≡ None
+not_refused None e = refl
+not_refused (Some f) e = absurd (true≢false e)
+
+-- a fault that comes at the end alone
+abbrev SaysEnd : DocFault → Type 0
+SaysEnd (Utf8 n) = Unit {0}
+SaysEnd (Truncated n) = Unit {0}
+SaysEnd other = ⊥
+
+-- ---- what waits, by what the reader goes on from
+
+gives_reading : (h : Held) (lim : Limits) (b : List ℕ) (given : List Token) → IsReading h lim b given → Gives lim b false (given ++ (map given_token h.state.tokens ++ []))
+gives_reading h lim b given r =
+    gives_open h.state.tokens lim b r.chars false given (all_read h lim b given r) (longest_so_far lim b h.carry.bytes (with_given r.before h.state) (kept_of h lim b given r) r.within) (λ e k. false≢true e)
+
+-- a refusal that isn't want of memory
+gives_stopped : (waits : List Said) (lim : Limits) (b : List ℕ) (ended : Bool) (given : List Token) (f : DocFault) → HasStopped waits lim b given → FaultIs lim b ended (Some f) → Gives lim b ended (given ++ (map given_token waits ++ []))
+gives_stopped waits lim b ended given f q k =
+    gives_open waits lim b q.chars ended given q.read (subst (λ l. IsLongest lim l q.chars) (append-nil b) (q.longest [])) (no_document lim b f ended k)
+
+gives_by : (o : Option DocFault) (h : Held) (lim : Limits) (b : List ℕ) (given : List Token) → GoesOnBy o h lim b given → IsFault o lim b false → GivesBy o lim b false (given ++ (map given_token h.state.tokens ++ []))
+gives_by None h lim b given q k = gives_reading h lim b given q
+gives_by (Some Memory) h lim b given q k = gives_more h.state.tokens lim b q.chars false given q.read
+gives_by (Some (Utf8 n)) h lim b given q k = gives_stopped h.state.tokens lim b false given (Utf8 n) q k
+gives_by (Some (Syntax n)) h lim b given q k = gives_stopped h.state.tokens lim b false given (Syntax n) q k
+gives_by (Some (Truncated n)) h lim b given q k = gives_stopped h.state.tokens lim b false given (Truncated n) q k
+gives_by (Some (Depth n)) h lim b given q k = gives_stopped h.state.tokens lim b false given (Depth n) q k
+gives_by (Some (NameLong n)) h lim b given q k = gives_stopped h.state.tokens lim b false given (NameLong n) q k
+gives_by (Some (TextLong n)) h lim b given q k = gives_stopped h.state.tokens lim b false given (TextLong n) q k
+gives_by (Some (TooLong n)) h lim b given q k = gives_stopped h.state.tokens lim b false given (TooLong n) q k
+
+-- an open reader
+pub stands_open : (h : Held) (lim : Limits) (b : List ℕ) (given : List Token) → h.limits ≡ lim → h.finished ≡ false → h.end_waits ≡ false → GoesOnBy h.refused h lim b given → IsFault h.refused lim b false → Stands h lim b false given
+stands_open h lim b given l f e q k = record {
+  limits = l;
+  finished = f;
+  fault = k;
+  gives = subst (λ (w : Bool). GivesBy h.refused lim b false (given ++ (map given_token h.state.tokens ++ end_token w))) (sym e) (gives_by h.refused h lim b given q k);
+  goes_on = (e, q);
+}
+
+-- the refusal that came is kept
+kept_by : (f : DocFault) (old new : Held) (lim : Limits) (b : List ℕ) (given : List Token) → new.state ≡ old.state → GoesOnBy (Some f) old lim b given → GoesOnBy (Some f) new lim b given
+kept_by Memory old new lim b given e q = subst (λ (s : State). HasLost s.tokens lim b given) (sym e) q
+kept_by (Utf8 n) old new lim b given e q = subst (λ (s : State). HasStopped s.tokens lim b given) (sym e) q
+kept_by (Syntax n) old new lim b given e q = subst (λ (s : State). HasStopped s.tokens lim b given) (sym e) q
+kept_by (Truncated n) old new lim b given e q = subst (λ (s : State). HasStopped s.tokens lim b given) (sym e) q
+kept_by (Depth n) old new lim b given e q = subst (λ (s : State). HasStopped s.tokens lim b given) (sym e) q
+kept_by (NameLong n) old new lim b given e q = subst (λ (s : State). HasStopped s.tokens lim b given) (sym e) q
+kept_by (TextLong n) old new lim b given e q = subst (λ (s : State). HasStopped s.tokens lim b given) (sym e) q
+kept_by (TooLong n) old new lim b given e q = subst (λ (s : State). HasStopped s.tokens lim b given) (sym e) q
 
 -- a new reader
-pub stands_new : (h : Held) (lim : Limits) → h.state ≡ start → h.limits ≡ lim → h.count ≡ 0 → h.finished ≡ false → h.phase ≡ Reading → lim.bytes ≤ 1099511627776 → Stands h lim []
-stands_new h lim e l n f p m =
+pub stands_new : (h : Held) (lim : Limits) → h.limits ≡ lim → h.state ≡ start → StandsFor h.carry [] [] → h.place ≡ 0 → h.count ≡ 0 → h.refused ≡ None → h.finished ≡ false → h.end_waits ≡ false → Stands h lim [] false []
+stands_new h lim l s w p n r f e =
+    let reads = start_reads lim in
+    let reading : IsReading h lim [] [] = record {
+      chars = [];
+      stream = w;
+      place = p;
+      count = n;
+      within = omega arith;
+      clean = reads.clean;
+      short = subst (λ (t : State). length t.run ≤ lim.text) (sym s) reads.short;
+      before = [];
+      given_are = refl;
+      front = subst (λ (t : State). Fronts [] (with_given [] t)) (sym s) reads.front;
+    } in
+    stands_open h lim [] [] l f e (subst (λ o. GoesOnBy o h lim [] []) (sym r) reading) (subst (λ o. IsFault o lim [] false) (sym r) (no_fault_yet h lim [] [] reading))
+
+-- what an open reader that wasn't refused goes on from
+pub reading_of : (h : Held) (lim : Limits) (b : List ℕ) (given : List Token) → h.refused ≡ None → Stands h lim b false given → IsReading h lim b given
+reading_of h lim b given e s = subst (λ o. GoesOnBy o h lim b given) e s.goes_on.1
+
+-- behind a piece
+took_at : (old new : Held) (lim : Limits) (b more : List ℕ) (given : List Token) (r : Result (Unit {0}) DocFault) → old.refused ≡ None → (IsReading old old.limits b given → Took r new old.limits (b ++ more) given) → Stands old lim b false given → Took r new lim (b ++ more) given
+took_at old new lim b more given r e q s =
+    subst (λ (l : Limits). Took r new l (b ++ more) given) s.limits (q (subst (λ (l : Limits). IsReading old l b given) (sym s.limits) (reading_of old lim b given e s)))
+
+pub stands_read : (old new : Held) (lim : Limits) (b more : List ℕ) (given : List Token) → old.refused ≡ None → IsSame old new → (IsReading old old.limits b given → Took {T = Unit {0}} (Ok tt) new old.limits (b ++ more) given) → Stands old lim b false given → Stands new lim (b ++ more) false given
+stands_read old new lim b more given e m took s =
+    let none = m.refused ∙ e in
+    let q = took_at old new lim b more given (Ok tt) e took s in
+    stands_open new lim (b ++ more) given (m.limits ∙ s.limits) (m.finished ∙ s.finished) (m.end_waits ∙ s.goes_on.0) (subst (λ o. GoesOnBy o new lim (b ++ more) given) (sym none) q.0) (subst (λ o. IsFault o lim (b ++ more) false) (sym none) q.1)
+
+pub stands_refused : (old new : Held) (lim : Limits) (b more : List ℕ) (given : List Token) (f : DocFault) → old.refused ≡ None → IsSame old new → (IsReading old old.limits b given → Took {T = Unit {0}} (Err f) new old.limits (b ++ more) given) → Stands old lim b false given → Stands (record new { refused = Some f }) lim (b ++ more) false given
+stands_refused old new lim b more given f e m took s =
+    let q = took_at old new lim b more given (Err f) e took s in
+    stands_open (record new { refused = Some f }) lim (b ++ more) given (m.limits ∙ s.limits) (m.finished ∙ s.finished) (m.end_waits ∙ s.goes_on.0) (kept_by f new (record new { refused = Some f }) lim (b ++ more) given refl q.0) q.1
+
+-- a piece behind a refusal
+pub stands_still : (h : Held) (lim : Limits) (b more : List ℕ) (given : List Token) → IsRefused h → Stands h lim b false given → Stands h lim (b ++ more) false given
+stands_still h lim b more given n s =
+    let q = by h.refused n s.goes_on.1 s.fault in
+    stands_open h lim (b ++ more) given s.limits s.finished s.goes_on.0 q.0 q.1
+  where
+    by : (o : Option DocFault) → (o ≡ None → ⊥) → GoesOnBy o h lim b given → IsFault o lim b false → GoesOnBy o h lim (b ++ more) given × IsFault o lim (b ++ more) false
+    by None n q k = absurd (n refl)
+    by (Some f) n q k = took_more h lim b more given f (q, k)
+
+-- ---- a token is taken
+
+pub first_taken : (o : Option Token) (ts rest : List Said) (t : Token) → TakesFirst o ts rest → o ≡ Some t → (s : Said) × (ts ≡ s ∷ rest) × (t ≡ given_token s)
+first_taken o [] rest t h e = let no : ⊥ = none_some t (sym h.0 ∙ e) in absurd no
+  where
+    none_some : (t : Token) → None ≡ Some t → ⊥
+    none_some t e = cc
+first_taken o (s ∷ ts) rest t h e = (s, ap (λ l. s ∷ l) (sym h.1), same t (given_token s) (sym e ∙ h.0))
+  where
+    same : (t u : Token) → Some t ≡ Some u → t ≡ u
+    same t u e = cc
+
+pub none_taken : (o : Option Token) (ts rest : List Said) → TakesFirst o ts rest → o ≡ None → (ts ≡ []) × (rest ≡ [])
+none_taken o [] rest h e = (refl, h.1)
+none_taken o (s ∷ ts) rest h e = absurd (some_no (given_token s) (sym h.0 ∙ e))
+  where
+    some_no : (t : Token) → Some t ≡ None → ⊥
+    some_no t e = cc
+
+-- a reader whose first token was taken
+abbrev pub popped : Held → List Said → Held
+popped h rest = record h { state = record h.state { tokens = rest } }
+
+module _ (h : Held) (s : Said) (rest : List Said) (first : h.state.tokens ≡ s ∷ rest) (lim : Limits) (b : List ℕ) (given : List Token) where
+  given_more : (before : List Said) → given ≡ map given_token before → given ++ (given_token s ∷ []) ≡ map given_token (before ++ (s ∷ []))
+  given_more before e = ap (λ l. l ++ (given_token s ∷ [])) e ∙ sym (map-append before (s ∷ []))
+
+  read_popped : (chars : List ℕ) → HasRead h.state.tokens lim b chars given → HasRead rest lim b chars (given ++ (given_token s ∷ []))
+  read_popped chars r = record {
+    rest = r.rest;
+    scalars_are = r.scalars_are;
+    parts = r.parts;
+    within = r.within;
+    clean = r.clean;
+    before = r.before ++ (s ∷ []);
+    given_are = given_more r.before r.given_are;
+    state = r.state;
+    tokens_are = r.tokens_are ∙ ap (λ l. r.before ++ l) first ∙ sym (append_assoc r.before (s ∷ []) rest);
+    front = r.front;
+  }
+
+  reading_popped : IsReading h lim b given → IsReading (popped h rest) lim b (given ++ (given_token s ∷ []))
+  reading_popped r = record {
+    chars = r.chars;
+    stream = r.stream;
+    place = r.place;
+    count = r.count;
+    within = r.within;
+    clean = r.clean;
+    short = r.short;
+    before = r.before ++ (s ∷ []);
+    given_are = given_more r.before r.given_are;
+    front = subst (λ l. Fronts r.chars (record h.state { tokens = l })) (ap (λ l. r.before ++ l) first ∙ sym (append_assoc r.before (s ∷ []) rest)) r.front;
+  }
+
+  stopped_popped : HasStopped h.state.tokens lim b given → HasStopped rest lim b (given ++ (given_token s ∷ []))
+  stopped_popped q = record { chars = q.chars; read = read_popped q.chars q.read; longest = q.longest }
+
+  goes_popped : (o : Option DocFault) → GoesOnBy o h lim b given → GoesOnBy o (popped h rest) lim b (given ++ (given_token s ∷ []))
+  goes_popped None q = reading_popped q
+  goes_popped (Some Memory) q = record { chars = q.chars; read = read_popped q.chars q.read }
+  goes_popped (Some (Utf8 n)) q = stopped_popped q
+  goes_popped (Some (Syntax n)) q = stopped_popped q
+  goes_popped (Some (Truncated n)) q = stopped_popped q
+  goes_popped (Some (Depth n)) q = stopped_popped q
+  goes_popped (Some (NameLong n)) q = stopped_popped q
+  goes_popped (Some (TextLong n)) q = stopped_popped q
+  goes_popped (Some (TooLong n)) q = stopped_popped q
+
+  on_popped : (ended : Bool) → GoesOn ended h lim b given → GoesOn ended (popped h rest) lim b (given ++ (given_token s ∷ []))
+  on_popped true q = tt
+  on_popped false q = (q.0, goes_popped h.refused q.1)
+
+  pub stands_popped : (ended : Bool) → Stands h lim b ended given → Stands (popped h rest) lim b ended (given ++ (given_token s ∷ []))
+  stands_popped ended q = record {
+    limits = q.limits;
+    finished = q.finished;
+    fault = q.fault;
+    gives = subst (GivesBy h.refused lim b ended) (ap (λ l. given ++ (map given_token l ++ end_token h.end_waits)) first ∙ sym (append_assoc given (given_token s ∷ []) (map given_token rest ++ end_token h.end_waits))) q.gives;
+    goes_on = on_popped ended q.goes_on;
+  }
+
+-- the end of the document is taken
+pub stands_told : (h : Held) (lim : Limits) (b : List ℕ) (ended : Bool) (given : List Token) → h.state.tokens ≡ [] → h.end_waits ≡ true → Stands h lim b ended given → Stands (record h { end_waits = false }) lim b ended (given ++ (EndOfDocument ∷ []))
+stands_told h lim b false given e w q = absurd (true≢false (sym w ∙ q.goes_on.0))
+stands_told h lim b true given e w q = record {
+  limits = q.limits;
+  finished = q.finished;
+  fault = q.fault;
+  gives = subst (GivesBy h.refused lim b true) ((λ i. given ++ (map given_token (e i) ++ end_token (w i))) ∙ sym (append-nil (given ++ (EndOfDocument ∷ []))) ∙ ap (λ l. (given ++ (EndOfDocument ∷ [])) ++ (map given_token l ++ [])) (sym e)) q.gives;
+  goes_on = tt;
+}
+
+-- ---- the end of the input
+
+pub ended_is : (h : Held) (lim : Limits) (b : List ℕ) (ended : Bool) (given : List Token) → Stands h lim b ended given → h.finished ≡ false → ended ≡ false
+ended_is h lim b ended given s e = sym s.finished ∙ e
+
+-- behind a refusal
+pub stands_end_refused : (h : Held) (lim : Limits) (b : List ℕ) (given : List Token) → IsRefused h → Stands h lim b false given → Stands (record h { finished = true }) lim b true given
+stands_end_refused h lim b given n s =
+    let q = by h.refused n s.goes_on.1 s.fault in
     record {
-      open_still = f;
-      limits = l;
-      most = m;
-      by_phase = let P : Phase → Type 0 = λ q. StandsBy q h lim [] in subst P (sym p) (let Q : State → Type 0 = λ s. Reads lim [] s in subst Q (sym e) (start_reads lim), n, omega arith);
+      limits = s.limits;
+      finished = refl;
+      fault = q.0;
+      gives = subst (λ (w : Bool). GivesBy h.refused lim b true (given ++ (map given_token h.state.tokens ++ end_token w))) (sym s.goes_on.0) q.1;
+      goes_on = tt;
+    }
+  where
+    stays : (f : DocFault) → FaultIs lim b false (Some f) → FaultIs lim b true (Some f)
+    stays f k = subst (λ l. FaultIs lim l true (Some f)) (append-nil b) (fault_stays lim b [] true f k)
+
+    stopped : (f : DocFault) → HasStopped h.state.tokens lim b given → FaultIs lim b false (Some f) → FaultIs lim b true (Some f) × Gives lim b true (given ++ (map given_token h.state.tokens ++ []))
+    stopped f q k = (stays f k, gives_stopped h.state.tokens lim b true given f q (stays f k))
+
+    by : (o : Option DocFault) → (o ≡ None → ⊥) → GoesOnBy o h lim b given → IsFault o lim b false → IsFault o lim b true × GivesBy o lim b true (given ++ (map given_token h.state.tokens ++ []))
+    by None n q k = absurd (n refl)
+    by (Some Memory) n q k = (tt, gives_more h.state.tokens lim b q.chars true given q.read)
+    by (Some (Utf8 m)) n q k = stopped (Utf8 m) q k
+    by (Some (Syntax m)) n q k = stopped (Syntax m) q k
+    by (Some (Truncated m)) n q k = stopped (Truncated m) q k
+    by (Some (Depth m)) n q k = stopped (Depth m) q k
+    by (Some (NameLong m)) n q k = stopped (NameLong m) q k
+    by (Some (TextLong m)) n q k = stopped (TextLong m) q k
+    by (Some (TooLong m)) n q k = stopped (TooLong m) q k
+
+-- with a whole document
+pub stands_end_whole : (h : Held) (lim : Limits) (b : List ℕ) (given : List Token) → h.refused ≡ None → h.carry.bytes ≡ [] → is_whole h.state ≡ true → Stands h lim b false given → Stands (record h { finished = true; end_waits = true }) lim b true given
+stands_end_whole h lim b given e none w s =
+    let r = reading_of h lim b given e s in
+    let state = with_given r.before h.state in
+    let kept : Kept lim b [] state = subst (λ l. Kept lim b l state) none (kept_of h lim b given r) in
+    let fault : FaultIs lim b true None = within_limit r.within (end_whole lim b state kept w).0 in
+    let gives = gives_whole h.state.tokens lim b r.chars true given (all_read h lim b given r) (longest_so_far lim b h.carry.bytes state (kept_of h lim b given r) r.within) refl fault in
+    record {
+      limits = s.limits;
+      finished = refl;
+      fault = subst (λ o. IsFault o lim b true) (sym e) fault;
+      gives = subst (λ o. GivesBy o lim b true (given ++ (map given_token h.state.tokens ++ (EndOfDocument ∷ [])))) (sym e) gives;
+      goes_on = tt;
     }
 
--- what a reader stands for when its phase is known
-pub at_phase : (h : Held) (lim : Limits) (b : List ℕ) (p : Phase) → h.phase ≡ p → Stands h lim b → StandsBy p h lim b
-at_phase h lim b p e s = let P : Phase → Type 0 = λ q. StandsBy q h lim b in subst P e s.by_phase
-
--- a piece more where the bytes so far are a front
-goes : (old new : Held) (lim : Limits) (b piece : List ℕ) (p : Phase) (count : ℕ) → StandsBy Reading old lim b → lim.bytes ≤ 1099511627776 → count ≡ min (old.count + length piece) (2 ^ 64 - 1) → new.count ≡ count → GoesOn p lim count old.state piece new.state → StandsBy p new lim (b ++ piece)
-goes old new lim b piece Reading count s m e f g =
-    let short : count ≤ lim.bytes = g.0 in
-    let total : length (b ++ piece) ≡ length b + length piece = length-append b piece in
-    let was : old.count ≡ length b = s.1 in
-    (steps_more lim b old.state new.state piece s.0 g.1, omega arith, omega arith)
-goes old new lim b piece Refused count s m e f g =
-    elim g [
-      | inl long ↦ let total : length (b ++ piece) ≡ length b + length piece = length-append b piece in let was : old.count ≡ length b = s.1 in let past : lim.bytes < length (b ++ piece) = omega arith in long_hopeless lim (b ++ piece) past
-      | inr stuck ↦ stuck_hopeless lim b old.state piece s.0 stuck
-    ]
-goes old new lim b piece Out count s m e f g = tt
-
-pub stands_goes : (old new : Held) (lim : Limits) (b piece : List ℕ) (count : ℕ) → old.phase ≡ Reading → new.finished ≡ false → new.limits ≡ old.limits → count ≡ min (old.count + length piece) (2 ^ 64 - 1) → new.count ≡ count → GoesOn new.phase old.limits count old.state piece new.state → Stands old lim b → Stands new lim (b ++ piece)
-stands_goes old new lim b piece count p f l e k g s =
-    record {
-      open_still = f;
-      limits = l ∙ s.limits;
-      most = s.most;
-      by_phase = goes old new lim b piece new.phase count (at_phase old lim b Reading p s) s.most e k (let P : Limits → Type 0 = λ q. GoesOn new.phase q count old.state piece new.state in subst P s.limits g);
-    }
-
-pub reading : (p : Phase) → is_reading p ≡ true → p ≡ Reading
-reading Reading e = refl
-reading Refused e = absurd (false≢true e)
-reading Out e = absurd (false≢true e)
-
--- a piece more behind a refusal, or where memory ran out
-stays : (h : Held) (lim : Limits) (b piece : List ℕ) (p : Phase) → is_reading p ≡ false → StandsBy p h lim b → StandsBy p h lim (b ++ piece)
-stays h lim b piece Reading e s = absurd (true≢false e)
-stays h lim b piece Refused e s = hopeless_more lim b piece s
-stays h lim b piece Out e s = tt
-
-pub stands_stays : (h : Held) (lim : Limits) (b piece : List ℕ) → is_reading h.phase ≡ false → Stands h lim b → Stands h lim (b ++ piece)
-stands_stays h lim b piece e s = record { open_still = s.open_still; limits = s.limits; most = s.most; by_phase = stays h lim b piece h.phase e s.by_phase }
-
--- the end of a whole document
-pub ends_whole : (h : Held) (lim : Limits) (b : List ℕ) → h.phase ≡ Reading → is_whole h.state ≡ true → Stands h lim b → Accepted lim b (h.state.tokens ++ (EndOfDocument ∷ []))
-ends_whole h lim b p w s =
-    let by = at_phase h lim b Reading p s in
-    let r = whole_spells lim b h.state by.0 by.2 w in
-    record { document = r.document; spells = r.spells; only = λ e k. spells_one lim b e r.document k r.spells; waits = ap (λ ts. ts ++ (EndOfDocument ∷ [])) r.said }
-
--- the answer where the phase is known
-pub finished_at : (p : Phase) (h : Held) (lim : Limits) (b : List ℕ) → p ≡ Reading → Accepted lim b (waiting_by Reading true h) → Finished (answer_by p) lim b (waiting_by p true h)
-finished_at p h lim b e a = let P : Phase → Type 0 = λ q. Finished (answer_by q) lim b (waiting_by q true h) in subst P (sym e) a
-
--- the end of a front that is no document
-pub ends_short : (h : Held) (lim : Limits) (b : List ℕ) → h.phase ≡ Reading → is_whole h.state ≡ false → Stands h lim b → (d : Nodes) → SpellsWithin lim b d → ⊥
-ends_short h lim b p w s d = not_whole lim b h.state d (at_phase h lim b Reading p s).0 w
-
--- the end behind a refusal, or where memory ran out
-pub ends_other : (h : Held) (lim : Limits) (b : List ℕ) (p : Phase) (ts : List Token) → is_reading p ≡ false → StandsBy p h lim b → Finished (answer_by p) lim b ts
-ends_other h lim b Reading ts e s = absurd (true≢false e)
-ends_other h lim b Refused ts e s = (refl, hopeless_none lim b s)
-ends_other h lim b Out ts e s = tt
+-- inside a character, or too soon
+pub stands_end_short : (h : Held) (lim : Limits) (b : List ℕ) (given : List Token) (f : DocFault) → h.refused ≡ None → Ends {T = Unit {0}} (Err f) h → Stands h lim b false given → Stands (record h { finished = true; refused = Some f }) lim b true given
+stands_end_short h lim b given f e ends s =
+    let r = reading_of h lim b given e s in
+    let state = with_given r.before h.state in
+    let kept = kept_of h lim b given r in
+    let q = elim ends as (λ _. FaultIs lim b true (Some f) × SaysEnd f) [
+      | inl c ↦
+          let place : size r.chars ≡ h.carry.seen - length h.carry.bytes = omega (arith, stands_place lim b h.carry.bytes state kept, r.stream.seen) in
+          let is : Utf8 (size r.chars) ≡ f = ap Utf8 place ∙ sym c.1 in
+          (subst (λ g. FaultIs lim b true (Some g)) is (within_limit r.within (end_cut lim b h.carry.bytes state kept (λ n. let z : length h.carry.bytes ≡ 0 = ap length n in let some = c.0 in absurd (omega (arith, z, some))))), subst SaysEnd is tt)
+      | inr c ↦
+          let is : Truncated (length b) ≡ f = ap Truncated (sym r.count) ∙ sym c.2 in
+          (subst (λ g. FaultIs lim b true (Some g)) is (within_limit r.within (end_short lim b state (subst (λ l. Kept lim b l state) c.0 kept) c.1)), subst SaysEnd is tt)
+    ] in
+    let gives = gives_open h.state.tokens lim b r.chars true given (all_read h lim b given r) (longest_so_far lim b h.carry.bytes state kept r.within) (no_document lim b f true q.0) in
+    let at : Gives lim b true (given ++ waiting h) = subst (λ (w : Bool). Gives lim b true (given ++ (map given_token h.state.tokens ++ end_token w))) (sym s.goes_on.0) gives in
+    let both = by f q.1 q.0 at in
+    record { limits = s.limits; finished = refl; fault = both.0; gives = both.1; goes_on = tt }
+  where
+    by : (f : DocFault) → SaysEnd f → FaultIs lim b true (Some f) → Gives lim b true (given ++ waiting h) → IsFault (Some f) lim b true × GivesBy (Some f) lim b true (given ++ waiting h)
+    by (Utf8 m) w k g = (k, g)
+    by (Truncated m) w k g = (k, g)
+    by other w k g = absurd w

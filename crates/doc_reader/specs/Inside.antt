@@ -1,7 +1,14 @@
--- What contracts see of a reader.
-use Rattle.doc_reader.specs.Reading.{view}
+-- What contracts see of a reader, and what its fields keep.
+use Rattle.std.specs.Prelude.{◌+◌, ◌≤◌, length}
 use Rattle.doc_reader.specs.Standing.{Held}
 use Rattle.doc_reader.specs.declared.reader.Reader.TheInside.{Inside}
 
 abbrev pub held : Inside → Held
-held r = record { limits = r.limits; state = view r.machine; count = r.count; phase = r.phase; finished = r.finished; end_waits = r.end_waits }
+held r = record { limits = r.limits; state = r.machine; carry = r.chars; place = r.place; count = r.count; refused = r.refused; finished = r.finished; end_waits = r.end_waits }
+
+-- the counts are in order and within the limit
+pub record IsSound (r : Inside) : Type 0 where
+  pub most : r.limits.bytes ≤ 1099511627776
+  pub within : r.count ≤ r.limits.bytes
+  pub seen : r.chars.seen ≤ r.count
+  pub place : r.place + length r.chars.bytes ≤ r.count

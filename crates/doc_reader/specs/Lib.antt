@@ -1,7 +1,11 @@
-pub mod Machine
 pub mod OpenNames
-pub mod Judging
-pub mod Front
-pub mod Reading
+pub mod Machine
+pub mod Steps
+pub mod Sound
+pub mod Judged
 pub mod Standing
 pub mod Inside
+pub mod Piece
+pub mod Limited
+pub mod Spans
+pub mod Reading

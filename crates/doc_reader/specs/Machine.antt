@@ -1,95 +1,87 @@
--- The reader's machine, without limits: one step for each character (this project's).
-use Rattle.std.specs.Prelude.{ℕ, ◌+◌, Bool, true, false, not, ◌&&◌, ◌==◌, nat_lt, List, [], ◌∷◌, ◌++◌, length, Option, Some, None, slice_get, if◌then◌else◌}
-use Rattle.gcx_base.specs.Name.{is_name_start, is_name_byte, is_plain_name}
-use Rattle.gcx_model.specs.Document.{is_blank}
-use Rattle.gcx_model.specs.Spelling.{is_text_char, may_open}
-use Rattle.doc_reader.specs.declared.token.Token.{Token}
-use Rattle.doc_reader.specs.declared.token.Token.TheVariants.{Start, End, Text}
-use Rattle.doc_reader.specs.declared.machine.Mode.{Mode}
-use Rattle.doc_reader.specs.declared.machine.Mode.TheVariants.{Between, Less, StartName, EndName}
+-- What the fields of the code stand for in the machine's definition (this project's).
+use Rattle.std.specs.Prelude.{ℕ, List, [], ◌∷◌, map, drop}
+use Rattle.gcx_model.specs.Markup.{cdata_word, doc_word}
+use Rattle.gcx_model.specs.Tree.{Token, Start, Chars, End}
+use Rattle.doc_laws.specs.Machine as laws
+use Rattle.doc_laws.specs.Machine.{State, innermost}
+use Rattle.doc_reader.specs.declared.event.Event as event
+use Rattle.doc_reader.specs.declared.event.Event.TheVariants as events
+use Rattle.doc_reader.specs.declared.referring.Letters.{Letters}
+use Rattle.doc_reader.specs.declared.referring.Letters.TheVariants as letters
+use Rattle.doc_reader.specs.declared.referring.Referring.{Referring}
+use Rattle.doc_reader.specs.declared.referring.Referring.TheVariants as referring
+use Rattle.doc_reader.specs.declared.mode.Brackets.{Brackets}
+use Rattle.doc_reader.specs.declared.mode.Brackets.TheVariants as brackets
+use Rattle.doc_reader.specs.declared.mode.Mode.{Mode}
+use Rattle.doc_reader.specs.declared.mode.Mode.TheVariants as mode
+use Rattle.doc_reader.specs.declared.machine.Scan.{Scan}
 
--- the place in the grammar, the names of the open elements from the innermost on, whether there was a root,
--- the text since the last tag, the name of the start tag that is being read, and the tokens so far
-pub record State : Type 0 where
-  pub mode : Mode
-  pub names : List (List ℕ)
-  pub rooted : Bool
-  pub run : List ℕ
-  pub name : List ℕ
-  pub tokens : List Token
+abbrev pub event_token : event.Event → Token
+event_token (events.Start name) = Start name
+event_token (events.Text bytes) = Chars bytes
+event_token events.End = End
 
-abbrev pub start : State
-start = record { mode = Between; names = []; rooted = false; run = []; name = []; tokens = [] }
+abbrev pub letters_of : Letters → List ℕ
+letters_of letters.None = []
+letters_of letters.L = 108 ∷ []
+letters_of letters.Lt = 108 ∷ (116 ∷ [])
+letters_of letters.G = 103 ∷ []
+letters_of letters.Gt = 103 ∷ (116 ∷ [])
+letters_of letters.A = 97 ∷ []
+letters_of letters.Am = 97 ∷ (109 ∷ [])
+letters_of letters.Amp = 97 ∷ (109 ∷ (112 ∷ []))
+letters_of letters.Ap = 97 ∷ (112 ∷ [])
+letters_of letters.Apo = 97 ∷ (112 ∷ (111 ∷ []))
+letters_of letters.Apos = 97 ∷ (112 ∷ (111 ∷ (115 ∷ [])))
+letters_of letters.Q = 113 ∷ []
+letters_of letters.Qu = 113 ∷ (117 ∷ [])
+letters_of letters.Quo = 113 ∷ (117 ∷ (111 ∷ []))
+letters_of letters.Quot = 113 ∷ (117 ∷ (111 ∷ (116 ∷ [])))
 
-abbrev pub is_inside : List (List ℕ) → Bool
-is_inside [] = false
-is_inside (n ∷ ns) = true
+abbrev pub referring_of : Referring → laws.Referring
+referring_of (referring.Letters l) = laws.Letters (letters_of l)
+referring_of referring.Number = laws.Number
+referring_of (referring.Decimal v) = laws.Decimal v
+referring_of (referring.Hexadecimal v) = laws.Hexadecimal v
 
--- a run as a token, unless it is empty or only white space
-abbrev pub text_of : List ℕ → List Token
-text_of r = if is_blank r then [] else (Text r ∷ [])
+abbrev pub brackets_of : Brackets → ℕ
+brackets_of brackets.None = 0
+brackets_of brackets.One = 1
+brackets_of brackets.Two = 2
 
-abbrev pub opened : State → State
-opened s = record s { mode = Between; names = s.name ∷ s.names; rooted = true; run = []; name = []; tokens = s.tokens ++ (text_of s.run ++ (Start s.name ∷ [])) }
+-- the place in the grammar, given the names of the open elements
+abbrev pub mode_of : List (List ℕ) → Mode → laws.Mode
+mode_of ns mode.Opening = laws.Opening
+mode_of ns mode.Between = laws.Between
+mode_of ns mode.Less = laws.Less
+mode_of ns mode.StartName = laws.StartName
+mode_of ns mode.StartSpace = laws.StartSpace
+mode_of ns mode.AttributeName = laws.AttributeName
+mode_of ns mode.AttributeSpace = laws.AttributeSpace
+mode_of ns mode.Equals = laws.Equals
+mode_of ns (mode.InValue q) = laws.InValue q
+mode_of ns (mode.InValueReference q r) = laws.InValueReference q (referring_of r)
+mode_of ns mode.ValueEnd = laws.ValueEnd
+mode_of ns mode.Slash = laws.Slash
+mode_of ns (mode.EndName i) = laws.EndName (drop i (innermost ns))
+mode_of ns mode.EndSpace = laws.EndSpace
+mode_of ns mode.Question = laws.Question
+mode_of ns mode.Target = laws.Target
+mode_of ns mode.TargetMark = laws.TargetMark
+mode_of ns mode.Note = laws.InNote 0
+mode_of ns mode.NoteMark = laws.InNote 1
+mode_of ns (mode.DocWord i) = laws.DocWord (drop i doc_word)
+mode_of ns mode.DocSpace = laws.DocSpace
+mode_of ns mode.Doc = laws.Doc
+mode_of ns (mode.DocLiteral q) = laws.DocLiteral q
+mode_of ns mode.Bang = laws.Bang
+mode_of ns mode.BangDash = laws.BangDash
+mode_of ns mode.Comment = laws.Comment
+mode_of ns mode.CommentDash = laws.CommentDash
+mode_of ns mode.CommentEnd = laws.CommentEnd
+mode_of ns (mode.SectionWord i) = laws.SectionWord (drop i cdata_word)
+mode_of ns (mode.Section n) = laws.InSection (brackets_of n)
+mode_of ns (mode.InReference r) = laws.InReference (referring_of r)
 
-abbrev pub closed : State → List (List ℕ) → State
-closed s rest = record s { mode = Between; names = rest; run = []; tokens = s.tokens ++ (text_of s.run ++ (End ∷ [])) }
-
-abbrev pub on_between : State → ℕ → Option State
-on_between s c =
-    if is_text_char c && is_inside s.names then Some (record s { run = s.run ++ (c ∷ []) })
-    else if (c == 60) && may_open (is_inside s.names) s.rooted then Some (record s { mode = Less })
-    else None
-
-abbrev pub on_less : State → ℕ → Option State
-on_less s c =
-    if is_name_start c then Some (record s { mode = StartName; name = c ∷ [] })
-    else if (c == 47) && is_inside s.names then Some (record s { mode = EndName 0 })
-    else None
-
--- behind the name of a start tag
-abbrev pub on_named : State → Option State
-on_named s = if is_plain_name s.name then Some (opened s) else None
-
-abbrev pub on_start : State → ℕ → Option State
-on_start s c =
-    if is_name_byte c && nat_lt (length s.name) 1024 then Some (record s { name = s.name ++ (c ∷ []) })
-    else if c == 62 then on_named s
-    else None
-
--- behind the first i characters of the name of an end tag
-abbrev pub on_expected : State → ℕ → ℕ → List (List ℕ) → Option ℕ → Option State
-on_expected s i c rest (Some d) = if c == d then Some (record s { mode = EndName (i + 1) }) else None
-on_expected s i c rest None = if c == 62 then Some (closed s rest) else None
-
-abbrev pub on_end : State → ℕ → ℕ → List (List ℕ) → Option State
-on_end s i c [] = None
-on_end s i c (n ∷ rest) = on_expected s i c rest (slice_get n i)
-
-abbrev pub on_mode : State → ℕ → Mode → Option State
-on_mode s c Between = on_between s c
-on_mode s c Less = on_less s c
-on_mode s c StartName = on_start s c
-on_mode s c (EndName i) = on_end s i c s.names
-
-abbrev pub step : State → ℕ → Option State
-step s c = on_mode s c s.mode
-
-abbrev pub go_on : Option State → (State → Option State) → Option State
-go_on None f = None
-go_on (Some s) f = f s
-
--- the state behind characters, or none where one of them is no step
-abbrev pub steps : State → List ℕ → Option State
-steps s [] = Some s
-steps s (c ∷ cs) = go_on (step s c) (λ t. steps t cs)
-
-abbrev pub is_between : Mode → Bool
-is_between Between = true
-is_between Less = false
-is_between StartName = false
-is_between (EndName i) = false
-
--- the whole document is read
-abbrev pub is_whole : State → Bool
-is_whole s = is_between s.mode && (not (is_inside s.names) && s.rooted)
+abbrev pub scan_state : Scan → State
+scan_state m = record { mode = mode_of m.names m.mode; names = m.names; rooted = m.rooted; typed = m.typed; run = m.run; name = m.name.items; attrs = m.attrs; attr = m.attr.items; pending = map event_token m.pending.items; tokens = map event_token m.events.items }

@@ -1,64 +1,33 @@
--- What the fields of the code stand for, and what its parts answer.
-use Rattle.std.specs.Prelude.{ℕ, ◌≡◌, ◌<◌, ◌≤◌, ◌⊎◌, Bool, true, false, List, [], ◌∷◌, ◌++◌, length, take, Option, Some, None, Result, Ok, Err}
-use Rattle.std.specs.List.{list_all}
+-- Text read as a whole (this project's).
+use Rattle.std.specs.Prelude.{ℕ, ◌≡◌, ◌+◌, List, ◌∷◌, ◌++◌, length, drop, Ok}
+use Rattle.std.specs.Char.{len_utf8}
+use Rattle.std.specs.Str.{chars, IsUtf8, IsCharBoundary}
 use Rattle.gcx_base.specs.declared.limits.Limits.{Limits}
-use Rattle.gcx_model.specs.Spelling.{is_text_char}
-use Rattle.doc_reader.specs.Machine.{State, text_of, closed}
-use Rattle.doc_reader.specs.Judging.{judged_steps}
-use Rattle.doc_reader.specs.declared.machine.Machine.{Machine}
-use Rattle.doc_reader.specs.declared.reader.Phase.{Phase}
-use Rattle.doc_reader.specs.declared.reader.Phase.TheVariants.{Reading, Refused, Out}
+use Rattle.gcx_model.specs.Faults.{size}
+use Rattle.doc_laws.specs.Machine.{State}
+use Rattle.doc_laws.specs.Judging.{judged_steps}
+use Rattle.doc_reader.specs.Sound.{IsSound}
 
-abbrev pub view : Machine → State
-view m = record { mode = m.mode; names = m.names; rooted = m.rooted; run = m.run; name = m.name.items; tokens = m.tokens.items }
+-- c is the first character of the text, and the rest stands behind it
+pub record IsFirst (c : ℕ) (rest text : List ℕ) : Type 0 where
+  pub first : chars text ≡ c ∷ chars rest
+  pub size_is : length text ≡ len_utf8 c + length rest
+  pub utf8 : IsUtf8 rest
 
--- a step was taken, or there is none and nothing changed
-abbrev pub Taken : Bool → State → Option State → State → Type 0
-Taken true old o new = o ≡ Some new
-Taken false old o new = (o ≡ None) × (new ≡ old)
+-- The first n bytes are characters, which are read, from whatever place on.
+pub record Moves (lim : Limits) (old : State) (text : List ℕ) (n : ℕ) (new : State) : Type 0 where
+  pub front : List ℕ
+  pub parts : chars text ≡ front ++ chars (drop n text)
+  pub size_is : size front ≡ n
+  pub boundary : IsCharBoundary text n
+  pub read : (place : ℕ) → judged_steps lim place old front ≡ Ok new
+  pub sound : IsSound old → IsSound new
 
--- where memory ran out the tokens are the same
-abbrev pub Stepped : {E : Type 0} → Result Bool E → State → Option State → State → Type 0
-Stepped (Ok b) old o new = Taken b old o new
-Stepped (Err e) old o new = new.tokens ≡ old.tokens
-
--- the same within limits, but that nothing is said of the state where there is no step
-abbrev pub Led : Bool → Option State → State → Type 0
-Led true o new = o ≡ Some new
-Led false o new = o ≡ None
-
-abbrev pub Leads : {E : Type 0} → Result Bool E → Option State → State → Type 0
-Leads (Ok b) o new = Led b o new
-Leads (Err e) o new = Unit {0}
-
-abbrev pub run_ended : State → State
-run_ended s = record s { run = []; tokens = s.tokens ++ text_of s.run }
-
-abbrev pub ClosedNames : List (List ℕ) → State → State → Type 0
-ClosedNames [] s t = Unit {0}
-ClosedNames (n ∷ rest) s t = t ≡ closed s rest
-
--- the first n bytes are text
-pub record IsTextFront (n : ℕ) (rest : List ℕ) : Type 0 where
-  pub within : n ≤ length rest
-  pub text : list_all is_text_char (take n rest) ≡ true
-
--- so many bytes were read, or the bytes lead nowhere
-abbrev pub CopiedTo : Option ℕ → Limits → State → List ℕ → State → Type 0
-CopiedTo (Some n) lim old rest new = (n ≤ length rest) × (judged_steps lim old (take n rest) ≡ Some new)
-CopiedTo None lim old rest new = judged_steps lim old rest ≡ None
-
-abbrev pub Copied : {E : Type 0} → Result (Option ℕ) E → Limits → State → List ℕ → State → Type 0
-Copied (Ok o) lim old rest new = CopiedTo o lim old rest new
-Copied (Err e) lim old rest new = Unit {0}
-
-abbrev pub is_reading : Phase → Bool
-is_reading Reading = true
-is_reading Refused = false
-is_reading Out = false
-
--- the phase behind a piece, with so many bytes in all
-abbrev pub GoesOn : Phase → Limits → ℕ → State → List ℕ → State → Type 0
-GoesOn Reading lim count old piece new = (count ≤ lim.bytes) × (judged_steps lim old piece ≡ Some new)
-GoesOn Refused lim count old piece new = (lim.bytes < count) ⊎ (judged_steps lim old piece ≡ None)
-GoesOn Out lim count old piece new = Unit {0}
+-- The characters of a text before the rest are read.
+pub record Reached (lim : Limits) (place : ℕ) (old : State) (text : List ℕ) (at : ℕ) (now : State) (rest : List ℕ) : Type 0 where
+  pub front : List ℕ
+  pub parts : chars text ≡ front ++ chars rest
+  pub read : judged_steps lim place old front ≡ Ok now
+  pub at_is : at ≡ place + size front
+  pub room : at + length rest ≡ place + length text
+  pub sound : IsSound now

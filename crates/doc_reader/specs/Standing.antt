@@ -1,23 +1,41 @@
--- What a reader stands for.
-use Rattle.std.specs.Prelude.{ℕ, ◌≡◌, ◌≤◌, Bool, true, false, List, [], ◌∷◌, ◌++◌, length, Option, Some, None, Result, Ok, Err, if◌then◌else◌, ⊤}
+-- What a reader stands for (this project's).
+use Rattle.std.specs.Prelude.{ℕ, ◌≡◌, ◌≤◌, Bool, true, false, List, [], ◌∷◌, ◌++◌, length, map, Option, Some, None, Result, Ok, Err, if◌then◌else◌, ⊤}
+use lib.Utf8.{scalars, encodes}
 use Rattle.gcx_base.specs.declared.limits.Limits.{Limits}
-use Rattle.gcx_model.specs.Document.{Nodes}
-use Rattle.gcx_model.specs.Spelling.{SpellsWithin}
+use Rattle.gcx_model.specs.Document.{Nodes, IsDocument, tokens}
+use Rattle.gcx_model.specs.Tree.{Token as Said, Start as said_start, Chars as said_text, End as said_end}
+use Rattle.gcx_model.specs.Grammar.{SpellsDocument}
+use Rattle.gcx_model.specs.Faults.{Clean, FaultIs, size}
+use Rattle.gcx_model.specs.Seen.{IsLongest, SeenIs}
 use Rattle.gcx_model.specs.declared.fault.DocFault.{DocFault}
-use Rattle.gcx_model.specs.declared.fault.DocFault.TheVariants.{Utf8, Syntax, Truncated, Depth, NameLong, TextLong, TooLong, Memory}
-use Rattle.doc_reader.specs.Machine.{State}
-use Rattle.doc_reader.specs.Front.{node_tokens, Reads}
+use Rattle.gcx_model.specs.declared.fault.DocFault.TheVariants.{Memory}
+use Rattle.doc_chars.specs.Stream.{Carry, StandsFor}
+use Rattle.doc_laws.specs.Machine.{State}
+use Rattle.doc_laws.specs.States.{Fronts}
+use Rattle.doc_reader.specs.Judged.{given_token}
 use Rattle.doc_reader.specs.declared.token.Token.{Token}
-use Rattle.doc_reader.specs.declared.token.Token.TheVariants.{EndOfDocument}
-use Rattle.doc_reader.specs.declared.reader.Phase.{Phase}
-use Rattle.doc_reader.specs.declared.reader.Phase.TheVariants.{Reading, Refused, Out}
+use Rattle.doc_reader.specs.declared.token.Token.TheVariants.{Start, End, Text, EndOfDocument}
 
--- what contracts see of a reader
+-- a token that a reader gave, as the model's
+abbrev pub said_of : Token → Said
+said_of (Start n) = said_start n
+said_of (Text t) = said_text t
+said_of End = said_end
+said_of EndOfDocument = said_end
+
+-- the end of the document node, as a reader gives it
+abbrev pub given_end : Said → Token
+given_end t = EndOfDocument
+
+-- what contracts see of a reader: with the machine's state, whose tokens are those that weren't given, the bytes of a character that
+-- a piece cut, how many bytes the characters read take, how many bytes were fed of those that may be, and the refusal
 pub record Held : Type 0 where
   pub limits : Limits
   pub state : State
+  pub carry : Carry
+  pub place : ℕ
   pub count : ℕ
-  pub phase : Phase
+  pub refused : Option DocFault
   pub finished : Bool
   pub end_waits : Bool
 
@@ -29,84 +47,138 @@ IsOpen h = h.finished ≡ false
 abbrev pub IsDone : Held → Type 0
 IsDone h = h.finished ≡ true
 
--- memory ran out
-abbrev pub IsOut : Held → Type 0
-IsOut h = h.phase ≡ Out
+-- a refusal was answered
+abbrev pub IsRefused : Held → Type 0
+IsRefused h = h.refused ≡ None → ⊥
 
 abbrev pub end_token : Bool → List Token
 end_token waits = if waits then (EndOfDocument ∷ []) else []
 
-abbrev pub waiting_by : Phase → Bool → Held → List Token
-waiting_by Reading finished h = if finished then (h.state.tokens ++ end_token h.end_waits) else []
-waiting_by Refused finished h = []
-waiting_by Out finished h = []
-
--- the tokens that wait, in their order: none before finish, and none after a refusal
+-- the tokens that wait, in their order
 abbrev pub waiting : Held → List Token
-waiting h = waiting_by h.phase h.finished h
+waiting h = map given_token h.state.tokens ++ end_token h.end_waits
 
--- no document within the limits begins with these bytes
-abbrev pub IsHopeless : Limits → List ℕ → Type 0
-IsHopeless lim b = (more : List ℕ) (d : Nodes) → SpellsWithin lim (b ++ more) d → ⊥
+-- what feed and finish answer, and answer again
+abbrev pub answer_by : Option DocFault → Result ⊤ DocFault
+answer_by None = Ok tt
+answer_by (Some f) = Err f
 
--- The bytes so far are a front of a document within the limits, and the state is the one behind them;
--- or no document within the limits begins so; or memory ran out, and nothing is said.
-abbrev pub StandsBy : Phase → Held → Limits → List ℕ → Type 0
-StandsBy Reading h lim b = Reads lim b h.state × (h.count ≡ length b) × (length b ≤ lim.bytes)
-StandsBy Refused h lim b = IsHopeless lim b
-StandsBy Out h lim b = Unit {0}
+abbrev pub answer_of : Held → Result ⊤ DocFault
+answer_of h = answer_by h.refused
 
--- The open reader with these limits has read exactly these bytes, in whatever pieces.
-pub record Stands (h : Held) (lim : Limits) (b : List ℕ) : Type 0 where
-  pub open_still : IsOpen h
+-- The tokens that a reader gives of bytes are those that are seen: those of the tags, and EndOfDocument as the end of the document node.
+pub record Gives (lim : Limits) (b : List ℕ) (ended : Bool) (ts : List Token) : Type 0 where
+  pub seen : SeenIs lim b ended (map said_of ts)
+  pub tokens_are : ts ≡ map given_token seen.tags ++ map given_end seen.ends
+
+-- These tokens are the first of them.
+pub record GivesMore (lim : Limits) (b : List ℕ) (ended : Bool) (ts : List Token) : Type 0 where
+  pub rest : List Token
+  pub gives : Gives lim b ended (ts ++ rest)
+
+-- all of them, or the first of them where memory ran out
+abbrev pub GivesBy : Option DocFault → Limits → List ℕ → Bool → List Token → Type 0
+GivesBy None lim b ended ts = Gives lim b ended ts
+GivesBy (Some Memory) lim b ended ts = GivesMore lim b ended ts
+GivesBy (Some f) lim b ended ts = Gives lim b ended ts
+
+-- the bytes have no fault, or this one, or memory ran out
+abbrev pub IsFault : Option DocFault → Limits → List ℕ → Bool → Type 0
+IsFault None lim b ended = FaultIs lim b ended None
+IsFault (Some Memory) lim b ended = Unit {0}
+IsFault (Some f) lim b ended = FaultIs lim b ended (Some f)
+
+-- the same of an answer
+abbrev pub Answers : {T : Type 0} → Result T DocFault → Limits → List ℕ → Bool → Type 0
+Answers (Ok x) lim b ended = IsFault None lim b ended
+Answers (Err f) lim b ended = IsFault (Some f) lim b ended
+
+-- a state whose first tokens were given
+abbrev pub with_given : List Said → State → State
+with_given before s = record s { tokens = before ++ s.tokens }
+
+-- All characters of the bytes were read and make no fault, and a front of a character is carried.
+pub record IsReading (h : Held) (lim : Limits) (b : List ℕ) (given : List Token) : Type 0 where
+  pub chars : List ℕ
+  pub stream : StandsFor h.carry b chars
+  pub place : h.place ≡ size chars
+  pub count : h.count ≡ length b
+  pub within : length b ≤ lim.bytes
+  pub clean : Clean lim chars
+  pub short : length h.state.run ≤ lim.text
+  pub before : List Said
+  pub given_are : given ≡ map given_token before
+  pub front : Fronts chars (with_given before h.state)
+
+-- These first characters of the bytes make no fault, and the tokens given and those that wait are those of their whole tags.
+pub record HasRead (waits : List Said) (lim : Limits) (b chars : List ℕ) (given : List Token) : Type 0 where
+  pub rest : List ℕ
+  pub scalars_are : scalars chars ≡ true
+  pub parts : b ≡ encodes chars ++ rest
+  pub within : length (encodes chars) ≤ lim.bytes
+  pub clean : Clean lim chars
+  pub before : List Said
+  pub given_are : given ≡ map given_token before
+  pub state : State
+  pub tokens_are : state.tokens ≡ before ++ waits
+  pub front : Fronts chars state
+
+-- They are the most characters without a fault, whatever bytes follow.
+pub record HasStopped (waits : List Said) (lim : Limits) (b : List ℕ) (given : List Token) : Type 0 where
+  pub chars : List ℕ
+  pub read : HasRead waits lim b chars given
+  pub longest : (more : List ℕ) → IsLongest lim (b ++ more) chars
+
+-- Memory ran out behind some of the characters.
+pub record HasLost (waits : List Said) (lim : Limits) (b : List ℕ) (given : List Token) : Type 0 where
+  pub chars : List ℕ
+  pub read : HasRead waits lim b chars given
+
+abbrev pub GoesOnBy : Option DocFault → Held → Limits → List ℕ → List Token → Type 0
+GoesOnBy None h lim b given = IsReading h lim b given
+GoesOnBy (Some Memory) h lim b given = HasLost h.state.tokens lim b given
+GoesOnBy (Some f) h lim b given = HasStopped h.state.tokens lim b given
+
+-- what an open reader goes on from; after finish nothing goes on
+abbrev pub GoesOn : Bool → Held → Limits → List ℕ → List Token → Type 0
+GoesOn false h lim b given = (h.end_waits ≡ false) × GoesOnBy h.refused h lim b given
+GoesOn true h lim b given = Unit {0}
+
+-- The reader with these limits was fed exactly these bytes, in whatever pieces, and gave these tokens.
+pub record Stands (h : Held) (lim : Limits) (b : List ℕ) (ended : Bool) (given : List Token) : Type 0 where
   pub limits : h.limits ≡ lim
-  pub most : lim.bytes ≤ 1099511627776
-  pub by_phase : StandsBy h.phase h lim b
-
--- Ok exactly where memory didn't run out, and no other fault than want of memory
-abbrev pub Answers : {T : Type 0} → Result T DocFault → Held → Type 0
-Answers (Ok x) h = IsOut h → ⊥
-Answers (Err f) h = (f ≡ Memory) × IsOut h
+  pub finished : h.finished ≡ ended
+  -- its answer is the fault of the bytes
+  pub fault : IsFault h.refused lim b ended
+  -- the tokens given and those that wait are those of the whole tags, each once and in order
+  pub gives : GivesBy h.refused lim b ended (given ++ waiting h)
+  pub goes_on : GoesOn ended h lim b given
 
 -- the first token that waited was taken, or none waited
 abbrev pub Takes : Option Token → List Token → List Token → Type 0
 Takes None old new = (old ≡ []) × (new ≡ [])
 Takes (Some t) old new = old ≡ t ∷ new
 
--- what finish answers, and answers again
-abbrev pub answer_by : Phase → Result ⊤ DocFault
-answer_by Reading = Ok tt
-answer_by Refused = Err (Syntax 0)
-answer_by Out = Err Memory
+abbrev pub taken : Option Token → List Token
+taken None = []
+taken (Some t) = t ∷ []
 
-abbrev pub answer_of : Held → Result ⊤ DocFault
-answer_of h = answer_by h.phase
-
--- Everything but the tokens that wait is the same: what the reader stands for, whether finish was called, and its answer.
+-- the answer is the same, and whether finish was called
 pub record Keeps (old new : Held) : Type 0 where
-  pub stands : (lim : Limits) (b : List ℕ) → Stands old lim b → Stands new lim b
-  pub done : new.finished ≡ old.finished
+  pub finished : new.finished ≡ old.finished
   pub answer : answer_of new ≡ answer_of old
 
--- the tokens that a reader gives of a document
+-- the tokens that a reader gives of a whole document
 abbrev pub reader_tokens : Nodes → List Token
-reader_tokens d = node_tokens d ++ (EndOfDocument ∷ [])
+reader_tokens d = map given_token (tokens d) ++ (EndOfDocument ∷ [])
 
--- The bytes spell this document within the limits and no other, and its tokens wait.
-pub record Accepted (lim : Limits) (b : List ℕ) (ts : List Token) : Type 0 where
+-- The bytes spell this document and no other, and these are its tokens.
+pub record Accepted (b : List ℕ) (ts : List Token) : Type 0 where
+  pub chars : List ℕ
+  pub scalars_are : scalars chars ≡ true
+  pub bytes : b ≡ encodes chars
   pub document : Nodes
-  pub spells : SpellsWithin lim b document
-  pub only : (e : Nodes) → SpellsWithin lim b e → e ≡ document
-  pub waits : ts ≡ reader_tokens document
-
--- what the end of the input shows
-abbrev pub Finished : {T : Type 0} → Result T DocFault → Limits → List ℕ → List Token → Type 0
-Finished (Ok x) lim b ts = Accepted lim b ts
-Finished (Err (Utf8 k)) lim b ts = ⊥
-Finished (Err (Syntax k)) lim b ts = (k ≡ 0) × ((d : Nodes) → SpellsWithin lim b d → ⊥)
-Finished (Err (Truncated k)) lim b ts = ⊥
-Finished (Err (Depth k)) lim b ts = ⊥
-Finished (Err (NameLong k)) lim b ts = ⊥
-Finished (Err (TextLong k)) lim b ts = ⊥
-Finished (Err (TooLong k)) lim b ts = ⊥
-Finished (Err Memory) lim b ts = Unit {0}
+  pub spells : SpellsDocument chars document
+  pub is_document : IsDocument document
+  pub only : (cs : List ℕ) (d : Nodes) → scalars cs ≡ true → b ≡ encodes cs → SpellsDocument cs d → d ≡ document
+  pub tokens_are : ts ≡ reader_tokens document

@@ -1,13 +1,16 @@
 //! The reader of documents: bytes in pieces of any size in, tokens out.
 #![tactic(auto)]
 
-mod judge;
+mod bytes;
+mod event;
 mod machine;
+mod mode;
 mod open_names;
-mod read;
+mod piece;
 mod reader;
+mod referring;
 mod run;
-mod tags;
+mod stop;
 mod token;
 
 pub use reader::Reader;

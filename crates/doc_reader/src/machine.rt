@@ -1,110 +1,128 @@
-ghost use Rattle.std.specs.Prelude.{◌≡◌, ◌+◌, ◌≤◌, OnOk, OnErr};
-ghost use Rattle.std.specs.VecDeque.{deque_len, deque_capacity};
-ghost use Rattle.doc_reader.specs.Machine.{start, is_whole, on_named};
-ghost use Rattle.doc_reader.specs.Reading.{view, Stepped, run_ended, ClosedNames};
+//! The machine that reads characters.
+ghost use Rattle.std.specs.Prelude.{◌≡◌, ◌+◌, ◌<◌, ◌^◌, length};
+ghost use Rattle.std.specs.Str.{chars};
+ghost use Rattle.doc_laws.specs.Machine.{start, is_whole};
+ghost use Rattle.doc_reader.specs.Judged.{Judged, TakesWhole};
+ghost use Rattle.doc_reader.specs.Machine.{scan_state};
 
+mod end_tag;
+mod judge;
+mod markup;
+mod read;
+mod span;
+mod step;
+mod tag;
+mod text;
+
+use self::read::read;
+use crate::event::{Event, token_of};
+use crate::mode::Mode;
 use crate::open_names::OpenNames;
 use crate::run::Run;
+use crate::stop::Stop;
 use crate::token::Token;
-use gcx_base::{Memory, plain_name};
+use gcx_base::Limits;
 use std::alloc::Global;
 use std::collections::VecDeque;
+use std::marker::Model;
 
-/// Where in the grammar the machine stands.
-#[derive(Clone, Copy)]
-pub(crate) enum Mode {
-    /// Between two tags.
-    Between,
-    /// Behind `<`.
-    Less,
-    /// Behind the first characters of the name of a start tag.
-    StartName,
-    /// Behind so many characters of the name of an end tag.
-    EndName(usize),
-}
-
-/// What was read, without limits.
+/// What was read.
 #[derive(Drop)]
-pub(crate) struct Machine {
+pub(crate) struct Scan {
     pub(crate) alloc: Global,
     pub(crate) mode: Mode,
+    /// The names of the open elements.
     pub(crate) names: OpenNames,
     /// Whether there was a root element.
     pub(crate) rooted: bool,
+    /// Whether there was a root element or a document type declaration.
+    pub(crate) typed: bool,
     pub(crate) run: Run,
-    /// The name of the start tag that is being read.
+    /// The name of the tag that is being read.
     pub(crate) name: Vec<u8>,
-    pub(crate) tokens: VecDeque<Token>,
+    /// The names of its attributes.
+    pub(crate) attrs: OpenNames,
+    /// The name of the attribute that is being read.
+    pub(crate) attr: Vec<u8>,
+    /// The tokens of the tag that is being read.
+    pub(crate) pending: VecDeque<Event>,
+    /// The tokens of the whole tags.
+    pub(crate) events: VecDeque<Event>,
 }
 
+/// The machine, seen as the state of its definition.
+#[derive(Drop)]
+pub(crate) struct Machine {
+    scan: Scan,
+}
+
+impl Model for Machine {
+    ghost use Rattle.doc_laws.specs.Machine.{State};
+    ghost use Rattle.doc_reader.specs.Machine.{scan_state};
+    ghost use Rattle.doc_reader.specs.Sound.{IsSound};
+
+    ghost Value = { State };
+
+    ghost view = { λ m. scan_state m.scan };
+
+    ghost invariant = { λ m. IsSound (scan_state m.scan) };
+}
+
+/// A machine that has read nothing.
 pub(crate) fn new_machine(alloc: Global) -> Machine
-    ensures { view result ≡ start }
+    ensures { result ≡ start }
 {
     Machine {
-        alloc,
-        mode: Mode::Between,
-        names: OpenNames::new(alloc),
-        rooted: false,
-        run: Run::new(alloc),
-        name: Vec::new(alloc),
-        tokens: VecDeque::new(alloc),
+        scan: Scan {
+            alloc,
+            mode: Mode::Opening,
+            names: OpenNames::new(alloc),
+            rooted: false,
+            typed: false,
+            run: Run::new(alloc),
+            name: Vec::new(alloc),
+            attrs: OpenNames::new(alloc),
+            attr: Vec::new(alloc),
+            pending: VecDeque::new(alloc),
+            events: VecDeque::new(alloc),
+        },
     }
 }
 
 /// Whether a whole document was read.
 pub(crate) fn has_whole(m: &Machine) -> bool
-    ensures { result ≡ is_whole (view m.now) }
+    ensures { result ≡ is_whole m.now }
 {
-    match m.mode {
-        Mode::Between => !m.names.has_open() && m.rooted,
+    match m.scan.mode {
+        Mode::Between => !m.scan.names.has_open() && m.scan.rooted,
         _ => false,
     }
 }
 
-/// Makes the run a token, unless it is blank, and empties it.
-fn end_run(m: &mut Machine)
-    requires { deque_len m.old.tokens + 2 ≤ deque_capacity m.old.tokens }
-    ensures view { view m.new ≡ run_ended (view m.old) }
-    ensures room { deque_len m.new.tokens + 1 ≤ deque_capacity m.new.tokens }
-    ensures names { m.new.names ≡ m.old.names }
+/// Takes the first token of the whole tags. None exactly where there is none.
+pub(crate) fn next_whole(m: &mut Machine) -> Option<Token>
+    ensures { TakesWhole result m.old m.new }
 {
-    if m.run.is_blank() {
-        m.run.clear();
-    } else {
-        let text = m.run.take();
-        m.tokens.push_back(Token::Text(text)).unwrap();
+    match m.scan.events.pop_front() {
+        Some(event) => Some(token_of(event)),
+        None => None,
     }
 }
 
-/// Opens the element of the name that was read, where it is a plain name.
-#[tactic(auto, using(crate::proofs::Lists::joined))]
-pub(crate) fn open_element(m: &mut Machine) -> Result<bool, Memory>
-    ensures { Stepped result (view m.old) (on_named (view m.old)) (view m.new) }
+/// Reads characters, the first of which stands at byte `place` of the document.
+pub(crate) fn read_text(m: &mut Machine, limits: Limits, place: u64, text: &str) -> Result<(), Stop>
+    requires { place + length text.now < 2 ^ 64 }
+    ensures { Judged result limits place m.old (chars text.now) m.new }
 {
-    m.tokens.reserve(2)?;
-    match plain_name(m.alloc, &m.name)? {
-        Some(name) => {
-            m.names.push(&m.name)?;
-            end_run(m);
-            m.tokens.push_back(Token::Start(name)).unwrap();
-            m.name.clear();
-            m.rooted = true;
-            m.mode = Mode::Between;
-            Ok(true)
+    match read(&mut m.scan, limits, place, text) {
+        Ok(()) => Ok(()),
+        Err(stop) => {
+            // Only the tokens are wanted of it then.
+            m.scan.mode = Mode::Between;
+            Err(stop)
         }
-        None => Ok(false),
     }
 }
 
-/// Closes the innermost element.
-pub(crate) fn close_element(m: &mut Machine) -> Result<(), Memory>
-    ensures ok { OnOk result (ClosedNames (view m.old).names (view m.old) (view m.new)) }
-    ensures err { OnErr result ((view m.new).tokens ≡ (view m.old).tokens) }
-{
-    m.tokens.reserve(2)?;
-    end_run(m);
-    m.tokens.push_back(Token::End).unwrap();
-    m.names.pop();
-    m.mode = Mode::Between;
-    Ok(())
-}
+#[cfg(test)]
+mod tests;

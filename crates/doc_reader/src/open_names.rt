@@ -1,6 +1,8 @@
-ghost use Rattle.std.specs.Prelude.{◌≡◌, ◌+◌, ◌<◌, ◌^◌, [], ◌∷◌, length, drop, slice_get, reverse, IsSome, OnOk};
-ghost use Rattle.doc_reader.specs.Machine.{is_inside};
-ghost use Rattle.doc_reader.specs.OpenNames.{expected_at, IsBelow, WithoutFirst};
+ghost use Rattle.std.specs.Prelude.{◌≡◌, [], ◌∷◌, length, drop, not, OnOk};
+ghost use Rattle.gcx_model.specs.Attributes.{is_fresh};
+ghost use Rattle.gcx_model.specs.Fronts.{is_inside};
+ghost use Rattle.doc_laws.specs.Machine.{innermost};
+ghost use Rattle.doc_reader.specs.OpenNames.{WithoutFirst};
 
 use gcx_base::Memory;
 use std::alloc::Global;
@@ -24,14 +26,13 @@ impl Model for OpenNames {
     ghost view = { λ n. names_of (reverse n.starts.items) n.bytes.items };
 }
 
-fn byte_behind(bytes: &[u8], start: usize, i: usize) -> Option<u8>
-    ensures value { result ≡ slice_get (drop start bytes.now) i }
-    ensures below { IsSome result → i + 1 < 2 ^ 64 }
+/// The bytes from a place on.
+fn from(bytes: &[u8], start: usize) -> &[u8]
+    ensures { result.now ≡ drop start bytes.now }
 {
-    if start <= bytes.len() {
-        bytes[start..].get(i).copied()
-    } else {
-        None
+    match bytes.get(start..) {
+        Some(rest) => rest,
+        None => &[],
     }
 }
 
@@ -79,12 +80,38 @@ impl OpenNames {
         }
     }
 
-    /// The character at i of the innermost name, or none behind its last one, if there is a name.
-    pub(crate) fn expected(&self, i: usize) -> Option<Option<u8>>
-        ensures value { result ≡ expected_at self.now i }
-        ensures below { IsBelow result i }
+    /// The name of the innermost element, or nothing.
+    pub(crate) fn innermost(&self) -> &[u8]
+        ensures { result.now ≡ innermost self.now }
     {
-        let start = self.starts.last()?;
-        Some(byte_behind(&self.bytes, *start, i))
+        match self.starts.last() {
+            Some(start) => from(&self.bytes, *start),
+            None => &[],
+        }
+    }
+
+    /// Whether a name is one of them.
+    pub(crate) fn has(&self, name: &[u8]) -> bool
+        ensures { result ≡ not (is_fresh name.now self.now) }
+    {
+        let mut end = self.bytes.len();
+        let mut k = self.starts.len();
+        while k > 0 {
+            k -= 1;
+            let start = self.starts[k].min(end);
+            if &self.bytes[start..end] == name {
+                return true;
+            }
+            end = start;
+        }
+        false
+    }
+
+    /// Forgets all names, and keeps their room.
+    pub(crate) fn clear(&mut self)
+        ensures { self.new ≡ [] }
+    {
+        self.bytes.clear();
+        self.starts.clear();
     }
 }

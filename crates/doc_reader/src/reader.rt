@@ -1,34 +1,26 @@
-ghost use Rattle.std.specs.Prelude.{◌≡◌, ◌↔◌, ℕ, ◌≤◌, List, [], ◌++◌};
-ghost use Rattle.gcx_model.specs.declared.fault.DocFault.TheVariants.{Memory as document_memory};
-ghost use Rattle.doc_reader.specs.Reading.{view, GoesOn, is_reading};
+ghost use Rattle.std.specs.Prelude.{◌≡◌, ◌+◌, ◌≤◌, ◌++◌, [], ℕ, List, length, Bool, false, true, OnOk};
+ghost use Rattle.doc_reader.specs.Piece.{char_fault as fault_of_char};
 
-use crate::machine::{Machine, has_whole, new_machine};
-use crate::read::read;
+use crate::machine::{Machine, has_whole, new_machine, next_whole};
+use crate::piece::read_split;
 use crate::token::Token;
+use doc_chars::{CharFault, Chars};
 use gcx_base::Limits;
 use gcx_model::DocFault;
 use std::alloc::Global;
 use std::marker::Model;
 
-/// What is known of the bytes so far.
-#[derive(Clone, Copy)]
-pub(crate) enum Phase {
-    /// They are the front of a document within the limits; after `finish`, they are one.
-    Reading,
-    /// No document within the limits begins so; after `finish`, they are none.
-    Refused,
-    /// Memory ran out.
-    Out,
-}
-
 /// A reader of one document in pieces.
 #[derive(Drop)]
 pub struct Reader {
     machine: Machine,
+    chars: Chars,
     limits: Limits,
-    /// Bytes read, up to the type's end.
+    /// How many bytes the characters take that the machine read.
+    place: u64,
+    /// How many bytes were fed, of those that may be.
     count: u64,
-    phase: Phase,
+    refused: Option<DocFault>,
     finished: bool,
     /// Whether the document ended, and the token that says so wasn't given.
     end_waits: bool,
@@ -39,76 +31,71 @@ impl Model for Reader {
 
     ghost Value = { Held };
 
-    ghost use Rattle.doc_reader.specs.Inside.{held};
+    ghost use Rattle.doc_reader.specs.Inside.{held, IsSound};
 
     ghost view = { held };
+
+    ghost invariant = { IsSound };
 }
 
-fn reads(phase: Phase) -> bool
-    ensures { result ≡ is_reading phase }
+/// What isn't a character of a document.
+fn char_fault(fault: CharFault) -> DocFault
+    ensures { result ≡ fault_of_char fault }
 {
-    matches!(phase, Phase::Reading)
-}
-
-/// A piece more, with so many bytes in all.
-fn go_on(machine: &mut Machine, limits: Limits, count: u64, piece: &[u8]) -> Phase
-    ensures { GoesOn result limits count (view machine.old) piece.now (view machine.new) }
-{
-    if limits.bytes < count {
-        return Phase::Refused;
-    }
-    match read(machine, limits, piece) {
-        Ok(true) => Phase::Reading,
-        Ok(false) => Phase::Refused,
-        Err(_) => Phase::Out,
+    match fault {
+        CharFault::Utf8(place) => DocFault::Utf8(place),
+        CharFault::Char(place) => DocFault::Syntax(place),
     }
 }
 
 impl Reader {
-    ghost use Rattle.doc_reader.specs.Standing.{Stands, IsOpen, IsDone, IsOut, Answers, Takes, Keeps, Finished, waiting, answer_of};
+    ghost use Rattle.doc_reader.specs.Standing.{Stands, IsReading, IsOpen, IsDone, IsRefused, Answers, Takes, taken, Keeps, Accepted, waiting, answer_of};
+    ghost use Rattle.doc_reader.specs.Piece.{Took, Ends, IsSame};
 
     /// A reader that has read nothing. The limits are at most 1,000 elements and 1,099,511,627,776 bytes.
     pub fn new(alloc: Global, limits: Limits) -> Reader
         requires depth { limits.depth ≤ 1000 }
         requires bytes { limits.bytes ≤ 1099511627776 }
-        ensures stands { Stands result limits [] }
+        ensures stands { Stands result limits [] false [] }
         ensures open { IsOpen result }
-        ensures memory { IsOut result → ⊥ }
+        ensures nothing { waiting result ≡ [] }
     {
         Reader {
             machine: new_machine(alloc),
+            chars: Chars::new(),
             limits,
+            place: 0,
             count: 0,
-            phase: Phase::Reading,
+            refused: None,
             finished: false,
             end_waits: false,
         }
     }
 
-    /// Takes the next piece. The error is `Memory`, which comes again from then on.
+    /// Takes the next piece. The tokens of its whole tags wait, up to the first fault, which is the error then and from then on.
+    /// After `Memory` some of them may be missing, and `Memory` comes again.
     pub fn feed(&mut self, piece: &[u8]) -> Result<(), DocFault>
         requires { IsOpen self.old }
-        ensures stands { (lim : Limits) (b : List ℕ) → Stands self.old lim b → Stands self.new lim (b ++ piece.now) }
+        ensures stands { (lim : Limits) (b : List ℕ) (given : List Token) → Stands self.old lim b false given
+            → Stands self.new lim (b ++ piece.now) false given }
+        ensures exact { (lim : Limits) (b : List ℕ) (given : List Token) → Stands self.old lim b false given
+            → Answers result lim (b ++ piece.now) false }
+        ensures answer { result ≡ answer_of self.new }
         ensures open { IsOpen self.new }
-        ensures answers { Answers result self.new }
-        ensures out { IsOut self.old → IsOut self.new }
+        ensures again { IsRefused self.old → self.new ≡ self.old }
     {
         self.take(piece);
-        match self.phase {
-            Phase::Out => Err(DocFault::Memory),
-            _ => Ok(()),
-        }
+        self.answer()
     }
 
     /// Takes the first token that waits. None exactly where none waits.
     pub fn next(&mut self) -> Option<Token>
         ensures takes { Takes result (waiting self.old) (waiting self.new) }
+        ensures stands { (lim : Limits) (b : List ℕ) (ended : Bool) (given : List Token) → Stands self.old lim b ended given
+            → Stands self.new lim b ended (given ++ taken result) }
         ensures keeps { Keeps self.old self.new }
     {
-        if !self.finished || !reads(self.phase) {
-            return None;
-        }
-        match self.machine.tokens.pop_front() {
+        match next_whole(&mut self.machine) {
             Some(token) => Some(token),
             None => {
                 if self.end_waits {
@@ -121,56 +108,117 @@ impl Reader {
         }
     }
 
-    /// Ends the input, and says whether the bytes are a plain document within the limits: if not, `Syntax(0)`.
-    /// `Memory` comes again where it came before. A second call answers the same and changes nothing.
+    /// Ends the input: Ok exactly where the bytes are a document within the limits, and then `EndOfDocument` waits behind its tokens.
+    /// A refusal comes again. A second call answers the same and changes nothing.
     pub fn finish(&mut self) -> Result<(), DocFault>
-        ensures ends { (lim : Limits) (b : List ℕ) → Stands self.old lim b → Finished result lim b (waiting self.new) }
-        ensures done { IsDone self.new }
+        ensures stands { (lim : Limits) (b : List ℕ) (ended : Bool) (given : List Token) → Stands self.old lim b ended given
+            → Stands self.new lim b true given }
+        ensures exact { (lim : Limits) (b : List ℕ) (ended : Bool) (given : List Token) → Stands self.old lim b ended given
+            → Answers result lim b true }
+        ensures document { (lim : Limits) (b : List ℕ) (ended : Bool) (given : List Token) → Stands self.old lim b ended given
+            → OnOk result (Accepted b (given ++ waiting self.new)) }
         ensures answer { result ≡ answer_of self.new }
+        ensures done { IsDone self.new }
         ensures again { IsDone self.old → self.new ≡ self.old }
-        ensures memory { IsOut self.new ↔ IsOut self.old }
+        ensures refused { IsRefused self.old → answer_of self.new ≡ answer_of self.old }
+        ensures same { IsRefused self.old → waiting self.new ≡ waiting self.old }
     {
         self.end();
-        match self.phase {
-            Phase::Reading => Ok(()),
-            Phase::Refused => Err(DocFault::Syntax(0)),
-            Phase::Out => Err(DocFault::Memory),
+        self.answer()
+    }
+
+    fn answer(&self) -> Result<(), DocFault>
+        ensures { result ≡ answer_of self.now }
+    {
+        match self.refused {
+            Some(fault) => Err(fault),
+            None => Ok(()),
         }
     }
 
-    /// Reads a piece, unless the bytes so far are refused or memory ran out.
+    /// Reads a piece, unless there was a refusal.
     fn take(&mut self, piece: &[u8])
         requires { IsOpen self.old }
-        ensures stands { (lim : Limits) (b : List ℕ) → Stands self.old lim b → Stands self.new lim (b ++ piece.now) }
+        ensures stands { (lim : Limits) (b : List ℕ) (given : List Token) → Stands self.old lim b false given
+            → Stands self.new lim (b ++ piece.now) false given }
         ensures open { IsOpen self.new }
-        ensures out { IsOut self.old → IsOut self.new }
+        ensures again { IsRefused self.old → self.new ≡ self.old }
     {
-        if !reads(self.phase) {
+        if self.refused.is_some() {
             return;
         }
-        self.count = self.count.saturating_add(piece.len() as u64);
-        self.phase = go_on(&mut self.machine, self.limits, self.count, piece);
+        if let Err(fault) = self.read_allowed(piece) {
+            self.refused = Some(fault);
+        }
+    }
+
+    /// Reads the bytes that may be, and refuses one too many.
+    fn read_allowed(&mut self, piece: &[u8]) -> Result<(), DocFault>
+        ensures took { (b : List ℕ) (given : List Token) → IsReading self.old self.old.limits b given
+            → Took result self.new self.old.limits (b ++ piece.now) given }
+        ensures same { IsSame self.old self.new }
+    {
+        let room = (self.limits.bytes - self.count) as usize;
+        if piece.len() <= room {
+            return self.read_piece(piece);
+        }
+        self.read_piece(&piece[..room])?;
+        Err(DocFault::TooLong(self.limits.bytes))
+    }
+
+    /// Reads a piece whose bytes all may be.
+    fn read_piece(&mut self, piece: &[u8]) -> Result<(), DocFault>
+        requires { self.old.count + length piece.now ≤ self.old.limits.bytes }
+        ensures took { (b : List ℕ) (given : List Token) → IsReading self.old self.old.limits b given
+            → Took result self.new self.old.limits (b ++ piece.now) given }
+        ensures same { IsSame self.old self.new }
+    {
+        let split = self.chars.split(piece);
+        self.count += piece.len() as u64;
+        let place = read_split(&mut self.machine, self.limits, self.place, split, piece)?;
+        match split.fault {
+            Some(fault) => Err(char_fault(fault)),
+            None => {
+                self.place = place;
+                Ok(())
+            }
+        }
+    }
+
+    /// What the end of the input shows.
+    fn last(&self) -> Result<(), DocFault>
+        ensures { Ends result self.now }
+    {
+        if let Err(fault) = self.chars.finish() {
+            return Err(char_fault(fault));
+        }
+        if has_whole(&self.machine) {
+            Ok(())
+        } else {
+            Err(DocFault::Truncated(self.count))
+        }
     }
 
     /// Ends the input, unless it ended before.
     fn end(&mut self)
-        ensures ends { (lim : Limits) (b : List ℕ) → Stands self.old lim b → Finished (answer_of self.new) lim b (waiting self.new) }
+        ensures stands { (lim : Limits) (b : List ℕ) (ended : Bool) (given : List Token) → Stands self.old lim b ended given
+            → Stands self.new lim b true given }
         ensures done { IsDone self.new }
         ensures again { IsDone self.old → self.new ≡ self.old }
-        ensures memory { IsOut self.new ↔ IsOut self.old }
+        ensures refused { IsRefused self.old → answer_of self.new ≡ answer_of self.old }
+        ensures same { IsRefused self.old → waiting self.new ≡ waiting self.old }
     {
         if self.finished {
             return;
         }
         self.finished = true;
-        if !reads(self.phase) {
+        if self.refused.is_some() {
             return;
         }
-        if has_whole(&self.machine) {
-            self.end_waits = true;
-            return;
+        match self.last() {
+            Ok(()) => self.end_waits = true,
+            Err(fault) => self.refused = Some(fault),
         }
-        self.phase = Phase::Refused;
     }
 }
 

@@ -1,30 +1,25 @@
-ghost use Rattle.std.specs.Prelude.{◌≡◌, ◌++◌, ◌∷◌, [], true, length, OnOk};
-ghost use Rattle.std.specs.List.{list_all};
+ghost use Rattle.std.specs.Prelude.{◌≡◌, ◌++◌, [], length, OnOk};
+ghost use Rattle.std.specs.Char.{encode_utf8};
 ghost use Rattle.gcx_model.specs.Document.{is_space, is_blank};
-ghost use Rattle.gcx_model.specs.Spelling.{is_text_char};
 
 use gcx_base::{Memory, Text};
 use std::alloc::Global;
 use std::marker::Model;
 use std::mem;
 
-/// The text since the last tag, seen as its characters.
+/// The text since the last tag, or of a value, seen as its bytes.
 #[derive(Drop)]
 pub(crate) struct Run {
     alloc: Global,
-    bytes: Vec<u8>,
+    text: String,
 }
 
 impl Model for Run {
-    ghost use Rattle.std.specs.Prelude.{List, ℕ, IsTrue};
-    ghost use Rattle.std.specs.List.{list_all};
-    ghost use Rattle.gcx_model.specs.Spelling.{is_text_char};
+    ghost use Rattle.std.specs.Prelude.{List, ℕ, string_bytes};
 
     ghost Value = { List ℕ };
 
-    ghost view = { λ r. r.bytes.items };
-
-    ghost invariant = { λ r. IsTrue (list_all is_text_char r.bytes.items) };
+    ghost view = { λ r. string_bytes r.text };
 }
 
 /// White space (XML 1.0, section 2.3).
@@ -34,20 +29,13 @@ fn is_white(c: u8) -> bool
     c == b' ' || c == b'\t' || c == b'\r' || c == b'\n'
 }
 
-/// Whether a byte may stand in text.
-pub(crate) fn is_text(c: u8) -> bool
-    ensures { result ≡ is_text_char c }
-{
-    (is_white(c) || (32 <= c && c <= 127)) && (c != b'<' && c != b'&')
-}
-
 impl Run {
     pub(crate) fn new(alloc: Global) -> Run
         ensures { result ≡ [] }
     {
         Run {
             alloc,
-            bytes: Vec::new(alloc),
+            text: String::new(alloc),
         }
     }
 
@@ -55,22 +43,29 @@ impl Run {
     pub(crate) fn len(&self) -> usize
         ensures { result ≡ length self.now }
     {
-        self.bytes.len()
+        self.text.len()
     }
 
     /// Whether it is empty or only white space.
     pub(crate) fn is_blank(&self) -> bool
         ensures { result ≡ is_blank self.now }
     {
-        self.bytes.iter().all(|c| is_white(*c))
+        self.text.as_bytes().iter().all(|c| is_white(*c))
+    }
+
+    /// Adds a character at its end.
+    pub(crate) fn push(&mut self, c: char) -> Result<(), Memory>
+        ensures { OnOk result (self.new ≡ self.old ++ encode_utf8 c) }
+    {
+        self.text.push(c)?;
+        Ok(())
     }
 
     /// Adds text at its end.
-    pub(crate) fn extend(&mut self, text: &[u8]) -> Result<(), Memory>
-        requires { list_all is_text_char text.now ≡ true }
+    pub(crate) fn push_str(&mut self, text: &str) -> Result<(), Memory>
         ensures { OnOk result (self.new ≡ self.old ++ text.now) }
     {
-        self.bytes.extend_from_slice(text)?;
+        self.text.push_str(text)?;
         Ok(())
     }
 
@@ -78,7 +73,7 @@ impl Run {
     pub(crate) fn clear(&mut self)
         ensures { self.new ≡ [] }
     {
-        self.bytes.clear();
+        self.text.clear();
     }
 
     /// Takes the text out of it.
@@ -86,10 +81,6 @@ impl Run {
         ensures value { result ≡ self.old }
         ensures empty { self.new ≡ [] }
     {
-        let bytes = mem::replace(&mut self.bytes, Vec::new(self.alloc));
-        match String::from_utf8(bytes) {
-            Ok(text) => Text::from_string(text),
-            Err(_) => unreachable!(),
-        }
+        Text::from_string(mem::replace(&mut self.text, String::new(self.alloc)))
     }
 }

@@ -1,8 +1,11 @@
 -- Completeness, from what each status says and from the causes of faults.
-use Rattle.std.proofs.Common.{◌≡◌, ◌⊎◌, ℕ, List, inl, inr, ⊎_elim, refl, subst}
+use Rattle.std.proofs.Common.{◌≡◌, ◌⊎◌, ℕ, true, List, inl, inr, ⊎_elim, refl, subst}
 use Rattle.std.specs.declared.option.Option.TheVariants as o
+use Rattle.gcx_base.specs.Limits.{full_limits}
+use Rattle.gcx_model.specs.declared.fault.DocFault.{DocFault}
+use Rattle.doc_laws.proofs.Unique.{fault_one}
 use Rattle.gcx_io.specs.Shelf.{Names, content_of, IsMissing}
-use Rattle.gcx_cmd.specs.Main.{IsRun, IsQuery, IsDocument, SaysOfQuery, SaysOfDocument, StopsDocument}
+use Rattle.gcx_cmd.specs.Main.{IsRun, IsQuery, IsOneQuery, IsDocument, IsDocumentRefusal, SaysOfQuery, SaysOfDocument, StopsDocument}
 use Rattle.gcx_cmd.specs.declared.status.Status.{Status}
 use Rattle.gcx_cmd.specs.declared.status.Status.TheVariants.{Ok, Usage, QueryRefused, DocumentRefused, ReadFault, WriteFault, Memory}
 
@@ -10,25 +13,28 @@ there : (names : Names) (name bytes : List ℕ) → content_of names name ≡ o.
 there o.None name bytes told missing = missing
 there (o.Some holds) name bytes told missing = cc
 
+no_some : (f : DocFault) → o.None ≡ o.Some f → ⊥
+no_some f e = cc
+
 complete_from : (status : Status) (query document : List ℕ) → SaysOfQuery status query → SaysOfDocument status document → IsQuery query → IsDocument document
     → (status ≡ ReadFault → ⊥) → (status ≡ WriteFault → ⊥) → (status ≡ Ok) ⊎ (status ≡ Memory)
 complete_from Ok q d says_q says_d good_q good_d not_read not_write = inl refl
 complete_from Usage q d says_q says_d good_q good_d not_read not_write = absurd says_q
-complete_from (QueryRefused f) q d says_q says_d good_q good_d not_read not_write = absurd (says_q.1 good_q)
-complete_from (DocumentRefused f) q d says_q says_d good_q good_d not_read not_write = absurd (says_d.1 good_d)
+complete_from (QueryRefused f) q d says_q says_d good_q good_d not_read not_write = absurd (says_q.1.no_query good_q.0 good_q.1.spells good_q.1.sound)
+complete_from (DocumentRefused f) q d says_q says_d good_q good_d not_read not_write = absurd (no_some f (fault_one full_limits d true o.None (o.Some f) good_d says_d))
 complete_from ReadFault q d says_q says_d good_q good_d not_read not_write = absurd (not_read refl)
 complete_from WriteFault q d says_q says_d good_q good_d not_read not_write = absurd (not_write refl)
 complete_from Memory q d says_q says_d good_q good_d not_read not_write = inr refl
 
 -- a run that stops at the document has a query
-pub says_of_query : (status : Status) (query : List ℕ) → StopsDocument status → IsQuery query → SaysOfQuery status query
-says_of_query Ok q stop good = absurd stop
-says_of_query Usage q stop good = absurd stop
-says_of_query (QueryRefused f) q stop good = absurd stop
-says_of_query (DocumentRefused f) q stop good = good
-says_of_query ReadFault q stop good = tt
-says_of_query WriteFault q stop good = absurd stop
-says_of_query Memory q stop good = tt
+pub says_of_query : (status : Status) (query : List ℕ) (before after : ℕ) → StopsDocument status before after → IsOneQuery query → SaysOfQuery status query
+says_of_query Ok q before after stop good = absurd stop
+says_of_query Usage q before after stop good = absurd stop
+says_of_query (QueryRefused f) q before after stop good = absurd stop
+says_of_query (DocumentRefused f) q before after stop good = good
+says_of_query ReadFault q before after stop good = tt
+says_of_query WriteFault q before after stop good = absurd stop
+says_of_query Memory q before after stop good = tt
 
 pub same_run : (words : List (List ℕ)) (q d q' d' : List ℕ) → IsRun words q d → IsRun words q' d' → (q ≡ q') × (d ≡ d')
 same_run words q d q' d' a b = (cc, cc)

@@ -1,10 +1,5 @@
-pub mod Numbering
-pub mod Below
-pub mod Copying
-pub mod Selecting
-pub mod Paths
-pub mod Selections
 pub mod Lists
-pub mod Judged
 pub mod Complete
-pub mod Rows
+pub mod Growing
+pub mod Documents
+pub mod Queries

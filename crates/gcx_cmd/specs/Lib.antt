@@ -1,8 +1,7 @@
-pub mod Status
-pub mod Selected
-pub mod PlainQuery
-pub mod Selector
-pub mod Selecting
-pub mod Reading
-pub mod ReadEnd
 pub mod Main
+pub mod Status
+pub mod ReadEnd
+pub mod Reading
+pub mod Document
+pub mod Diagnosis
+pub mod Lines

@@ -1,22 +1,22 @@
 //! The commands.
 ghost use Rattle.std.specs.Prelude.{◌≡◌, ◌≢◌, ◌⊎◌, ◌≤◌, ◌↔◌, ℕ, List, Some};
-ghost use Rattle.gcx_base.specs.Limits.{full_limits};
 ghost use Rattle.gcx_io.specs.Causes.{Rose};
 ghost use Rattle.gcx_io.specs.Shelf.{content_of, IsMissing};
 ghost use Rattle.gcx_model.specs.Answer.{answer};
 ghost use Rattle.gcx_model.specs.Document.{Nodes};
 ghost use Rattle.gcx_model.specs.Query.{ExprTree};
-ghost use Rattle.gcx_model.specs.Spelling.{SpellsWithin};
-ghost use Rattle.gcx_cmd.specs.PlainQuery.{SpellsQuery};
-ghost use Rattle.gcx_cmd.specs.Main.{IsRun, IsQuery, IsDocument, SaysOfQuery, SaysOfDocument, Writes, Refuses, LacksFile};
+ghost use Rattle.gcx_cmd.specs.Document.{BytesSpell};
+ghost use Rattle.gcx_cmd.specs.Diagnosis.{line_of, TakesLine};
+ghost use Rattle.gcx_cmd.specs.Main.{IsRun, Accepts, IsQuery, IsDocument, SaysOfQuery, SaysOfDocument, Writes, Attaches, LacksFile};
 
 use crate::Status;
-use crate::answering::answer_waiting;
+use crate::diagnosis::diagnose;
 use crate::files::{read_document, read_query};
-use crate::words::command_of;
+use crate::words::{Command, command_of};
 use gcx_base::Text;
 use gcx_io::{Failed, Shelf, Sink, write_all};
 use std::alloc::Global;
+use tree_eval::answer_whole;
 
 /// Runs `run QUERY DOC`.
 fn run<F: Shelf, O: Sink>(
@@ -30,9 +30,9 @@ fn run<F: Shelf, O: Sink>(
     ensures document { (bytes : List ℕ) → content_of (F.names files.old) document.now ≡ Some bytes → SaysOfDocument result bytes }
     ensures written { (query_bytes document_bytes : List ℕ) (q : List ExprTree) (d : Nodes) →
         content_of (F.names files.old) query.now ≡ Some query_bytes → content_of (F.names files.old) document.now ≡ Some document_bytes →
-        SpellsQuery query_bytes q → SpellsWithin full_limits document_bytes d → Writes result (O.taken out.old) (O.taken out.new) (answer q d) }
+        Accepts query_bytes q → BytesSpell document_bytes d → Writes result (O.taken out.old) (O.taken out.new) (answer q d) }
     ensures quiet { result ≢ Status.Ok → result ≢ Status.WriteFault → out.new ≡ out.old }
-    ensures refusals { Refuses result (F.handles files.old) (F.handles files.new) }
+    ensures attaches { Attaches result (F.handles files.old) (F.handles files.new) }
     ensures usage { result ≡ Status.Usage → ⊥ }
     ensures read { result ≡ Status.ReadFault → Rose (F.faults files.old) (F.faults files.new)
         ⊎ (IsMissing (F.names files.old) query.now ⊎ IsMissing (F.names files.old) document.now) }
@@ -41,15 +41,15 @@ fn run<F: Shelf, O: Sink>(
     ensures read_count { F.faults files.old ≤ F.faults files.new }
     ensures write_count { O.faults out.old ≤ O.faults out.new }
 {
-    let path = match read_query(alloc, files, query) {
-        Ok(path) => path,
+    let query = match read_query(alloc, files, query) {
+        Ok(query) => query,
         Err(status) => return status,
     };
-    let mut reader = match read_document(alloc, files, document) {
-        Ok(reader) => reader,
+    let tree = match read_document(alloc, files, document) {
+        Ok(tree) => tree,
         Err(status) => return status,
     };
-    let Ok(answer) = answer_waiting(alloc, &path, &mut reader) else {
+    let Ok(answer) = answer_whole(alloc, &query, &tree) else {
         return Status::Memory;
     };
     match write_all(out, &answer) {
@@ -58,8 +58,8 @@ fn run<F: Shelf, O: Sink>(
     }
 }
 
-/// Runs one command line: `run QUERY DOC` writes on `out` the answer of the query in the file QUERY
-/// over the document in the file DOC. `err` takes nothing.
+/// Runs one command line: `run QUERY DOC` writes on `out` the answer of the query in the file QUERY over the document in
+/// the file DOC. Where the status isn't Ok, `err` takes a line that says why.
 pub fn gcx_main<F: Shelf, O: Sink, E: Sink>(
     alloc: Global,
     words: &[Text],
@@ -72,9 +72,9 @@ pub fn gcx_main<F: Shelf, O: Sink, E: Sink>(
     ensures document { (q d bytes : List ℕ) → IsRun words.now q d → content_of (F.names files.old) d ≡ Some bytes → SaysOfDocument result bytes }
     ensures written { (query document query_bytes document_bytes : List ℕ) (q : List ExprTree) (d : Nodes) → IsRun words.now query document →
         content_of (F.names files.old) query ≡ Some query_bytes → content_of (F.names files.old) document ≡ Some document_bytes →
-        SpellsQuery query_bytes q → SpellsWithin full_limits document_bytes d → Writes result (O.taken out.old) (O.taken out.new) (answer q d) }
+        Accepts query_bytes q → BytesSpell document_bytes d → Writes result (O.taken out.old) (O.taken out.new) (answer q d) }
     ensures quiet { result ≢ Status.Ok → result ≢ Status.WriteFault → out.new ≡ out.old }
-    ensures refusals { Refuses result (F.handles files.old) (F.handles files.new) }
+    ensures attaches { Attaches result (F.handles files.old) (F.handles files.new) }
     ensures read { result ≡ Status.ReadFault → Rose (F.faults files.old) (F.faults files.new) ⊎ LacksFile words.now (F.names files.old) }
     ensures write { result ≡ Status.WriteFault → Rose (O.faults out.old) (O.faults out.new) }
     ensures complete { (query document query_bytes document_bytes : List ℕ) → IsRun words.now query document →
@@ -85,10 +85,13 @@ pub fn gcx_main<F: Shelf, O: Sink, E: Sink>(
     ensures names { F.names files.new ≡ F.names files.old }
     ensures read_count { F.faults files.old ≤ F.faults files.new }
     ensures write_count { O.faults out.old ≤ O.faults out.new }
-    ensures err { err.new ≡ err.old }
+    ensures diagnosis { TakesLine (E.taken err.old) (E.taken err.new) (E.faults err.old) (E.faults err.new) (line_of result) }
+    ensures silent { result ≡ Status.Ok → err.new ≡ err.old }
 {
-    match command_of(words) {
+    let status = match command_of(words) {
         Some(command) => run(alloc, command.query, command.document, files, out),
         None => Status::Usage,
-    }
+    };
+    diagnose(err, status);
+    status
 }

@@ -1,12 +1,11 @@
 //! The command line of `gcx`.
 #![tactic(auto)]
 
-mod answering;
 mod command;
+mod diagnosis;
+mod document;
 mod files;
-mod path_query;
 mod reading;
-mod selector;
 mod status;
 mod words;
 

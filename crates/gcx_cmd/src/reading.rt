@@ -1,14 +1,12 @@
 //! Reading of whole files.
-ghost use Rattle.std.specs.Prelude.{◌≡◌, ◌⊎◌, ◌≤◌, ◌<◌, ◌-◌, ◌^◌, ℕ, List, Some, IfOk, OnOk, OnErr, IsErrOf};
+ghost use Rattle.std.specs.Prelude.{◌≡◌, ◌⊎◌, ◌≤◌, ℕ, List, Some, IfOk, OnOk, OnErr, IsErrOf};
 ghost use Rattle.gcx_io.specs.Causes.{Rose};
 ghost use Rattle.gcx_io.specs.Shelf.{content_of, IsMissing};
-ghost use Rattle.doc_reader.specs.Standing.{IsOpen};
-ghost use Rattle.gcx_cmd.specs.Reading.{IsReadUpTo, FedUpTo, Attached};
+ghost use Rattle.gcx_cmd.specs.Reading.{IsReadUpTo, Attached};
 
 use crate::Status;
-use doc_reader::Reader;
 use gcx_base::Text;
-use gcx_io::{AttachFault, Failed, Handle, Opened, Shelf, Source};
+use gcx_io::{AttachFault, Failed, Handle, Shelf, Source};
 use std::alloc::{AllocError, Global};
 
 /// Why a file isn't read.
@@ -75,35 +73,6 @@ pub(crate) fn read_up_to<S: Source>(
         bytes.extend_from_slice(&buf[..count])?;
     }
     Ok(bytes)
-}
-
-/// Feeds the reader to the end of the source, or until there are more bytes than the limit.
-pub(crate) fn feed_up_to<S: Source>(
-    source: &mut S,
-    reader: &mut Reader,
-    limit: u64,
-) -> Result<(), ReadEnd>
-    requires open { IsOpen reader.old }
-    requires ends { limit < 2 ^ 64 - 1 }
-    ensures fed { OnOk result (FedUpTo limit (S.left source.old) (S.left source.new) reader.old reader.new) }
-    ensures open { OnOk result (IsOpen reader.new) }
-    ensures kept { S.keeps source.old source.new }
-    ensures later { S.faults source.old ≤ S.faults source.new }
-    ensures cause { IsErrOf result ReadEnd.Fault → Rose (S.faults source.old) (S.faults source.new) }
-{
-    let mut buf = [0u8; 4096];
-    let mut count = 0;
-    'feeding: while count <= limit {
-        let n = source.read(&mut buf)?;
-        if n == 0 {
-            return Ok(());
-        }
-        if reader.feed(&buf[..n]).is_err() {
-            return Err(ReadEnd::Memory);
-        }
-        count = count.saturating_add(n as u64);
-    }
-    Ok(())
 }
 
 /// Opens a file.

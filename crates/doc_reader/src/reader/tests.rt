@@ -1,40 +1,15 @@
-ghost use Rattle.std.specs.Prelude.{◌≤◌, length};
-ghost use Rattle.doc_reader.specs.Standing.{IsOpen};
+ghost use Rattle.std.specs.Prelude.{◌≡◌, ◌≤◌, ◌<◌};
 
 use crate::{Reader, Token};
 use gcx_base::Limits;
 use gcx_model::DocFault;
 use std::alloc::Global;
-use std::process::Abort;
 use std::test::Fail;
 
-/// Full limits, or at most 24 bytes, 2 open elements, 3 bytes of a name and 4 bytes of a text.
-fn reader(alloc: Global, small: bool) -> Reader
-    ensures { IsOpen result }
+/// Takes all tokens that wait: `<name>`, `</>`, `[text]`, and `$` for the end of the document.
+fn put_waiting(reader: &mut Reader, out: &mut Vec<u8>) -> Result<(), Fail>
+    ensures { reader.new.finished ≡ reader.old.finished }
 {
-    if small {
-        let limits = Limits {
-            bytes: 24,
-            depth: 2,
-            name: 3,
-            text: 4,
-        };
-        Reader::new(alloc, limits)
-    } else {
-        Reader::new(alloc, Limits::full())
-    }
-}
-
-/// The tokens at the end of the input: `<name>`, `</>`, `[text]`, and `$` for the end of the document.
-/// Before them stands `refused` where the bytes are no document.
-fn told(alloc: Global, reader: &mut Reader) -> Result<Vec<u8>, Fail> {
-    let mut out = Vec::new(alloc);
-    if let Err(fault) = reader.finish() {
-        if fault != DocFault::Syntax(0) {
-            Err(fault)?;
-        }
-        out.extend_from_slice(b"refused")?;
-    }
     while let Some(token) = reader.next() {
         match token {
             Token::Start(name) => {
@@ -51,159 +26,116 @@ fn told(alloc: Global, reader: &mut Reader) -> Result<Vec<u8>, Fail> {
             Token::EndOfDocument => out.push(b'$')?,
         }
     }
-    Ok(out)
+    Ok(())
 }
 
-/// What is told of a document in two pieces.
-fn cut(alloc: Global, small: bool, document: &[u8], place: usize) -> Result<Vec<u8>, Fail>
-    requires { place ≤ length document.now }
-{
-    let mut reader = reader(alloc, small);
-    reader.feed(&document[..place])?;
-    reader.feed(&document[place..])?;
-    told(alloc, &mut reader)
-}
-
-/// What is told of a document byte by byte.
-fn in_bytes(alloc: Global, small: bool, document: &[u8]) -> Result<Vec<u8>, Fail> {
-    let mut reader = reader(alloc, small);
-    for c in document {
-        reader.feed(&[*c])?;
-    }
-    told(alloc, &mut reader)
-}
-
-/// A document with one element, whose name is so many times `a`.
-fn named(alloc: Global, most: usize) -> Result<Vec<u8>, Fail> {
-    let mut document = Vec::new(alloc);
-    document.push(b'<')?;
-    for _ in 0..most {
-        document.push(b'a')?;
-    }
-    document.extend_from_slice(b"></")?;
-    for _ in 0..most {
-        document.push(b'a')?;
-    }
-    document.push(b'>')?;
-    Ok(document)
-}
-
-/// Asserts what is told of a document, in two pieces cut at each place, and byte by byte.
-fn assert_told(
-    rt: &impl Abort,
+/// The tokens of a document in pieces of this size, and the fault at its end.
+fn told(
     alloc: Global,
-    small: bool,
+    limits: Limits,
     document: &[u8],
-    want: &[u8],
-) -> Result<(), Fail> {
-    for place in 0..document.len() + 1 {
-        assert_eq!(rt;
-            cut(alloc, small, document, place)?.as_slice(),
-            want,
-            "cut at {place}"
-        );
+    size: usize,
+) -> Result<(Vec<u8>, Option<DocFault>), Fail>
+    requires depth { limits.depth ≤ 1000 }
+    requires bytes { limits.bytes ≤ 1099511627776 }
+    requires size { 0 < size }
+{
+    let mut reader = Reader::new(alloc, limits);
+    let mut out = Vec::new(alloc);
+    for piece in document.chunks(size) {
+        let _ = reader.feed(piece);
+        put_waiting(&mut reader, &mut out)?;
     }
-    assert_eq!(rt; in_bytes(alloc, small, document)?.as_slice(), want);
-    Ok(())
+    let fault = reader.finish().err();
+    if fault == Some(DocFault::Memory) {
+        Err(DocFault::Memory)?;
+    }
+    put_waiting(&mut reader, &mut out)?;
+    Ok((out, fault))
 }
 
 #[test]
-fn gives_the_tokens_of_plain_documents_in_any_pieces(rt: HostRuntime) -> Result<(), Fail> {
-    let rows: [(&[u8], &[u8]); 10] = [
-        (b"<a></a>", b"<a></>$"),
-        (b"<a> <b></b> </a>", b"<a><b></></>$"),
-        (b"<a>1 > 0</a>", b"<a>[1 > 0]</>$"),
-        (b"<a><b>1</b><b>2</b></a>", b"<a><b>[1]</><b>[2]</></>$"),
-        (b"<a>x<b>y</b>z</a>", b"<a>[x]<b>[y]</>[z]</>$"),
-        (b"<a> x </a>", b"<a>[ x ]</>$"),
-        (b"<a>\t\r\n </a>", b"<a></>$"),
-        (b"<a>\x7f\"'</a>", b"<a>[\x7f\"']</>$"),
-        (b"<_A-1.z></_A-1.z>", b"<_A-1.z></>$"),
-        (b"<a><a><a></a></a></a>", b"<a><a><a></></></>$"),
+fn gives_the_tags_before_the_first_fault_in_any_pieces(rt: HostRuntime) -> Result<(), Fail> {
+    let rows: [(&[u8], &[u8], Option<DocFault>); 24] = [
+        (b"<a b=\"1\"/>", b"<a><b>[1]</></>$", None),
+        (
+            b"<a b=\" \" c='x&lt;\"'>t</a>",
+            b"<a><b></><c>[x<\"]</>[t]</>$",
+            None,
+        ),
+        (
+            b"\xEF\xBB\xBF<?xml version=\"1.0\"?><!-- c --><a>x<!--c-->y&lt;&#65;</a>",
+            b"<a>[xy<A]</>$",
+            None,
+        ),
+        (b"<a> <b/> </a>", b"<a><b></></>$", None),
+        (b"<a><![CDATA[<x>]]>&amp;</a>", b"<a>[<x>&]</>$", None),
+        (b"<a>]]></a>", b"<a>[]]>]</>$", None),
+        (
+            b"<\xC3\xA9>\xE2\x82\xAC</\xC3\xA9 >\n",
+            b"<\xC3\xA9>[\xE2\x82\xAC]</>$",
+            None,
+        ),
+        (b"", b"", Some(DocFault::Truncated(0))),
+        (
+            b"<r><p><j/>",
+            b"<r><p><j></>",
+            Some(DocFault::Truncated(10)),
+        ),
+        (b"<a></a>x", b"<a></>", Some(DocFault::Syntax(7))),
+        (b"<a b=\"1\" b=\"2\">", b"", Some(DocFault::Syntax(10))),
+        (b"<a b=\"1\"c=\"2\"/>", b"", Some(DocFault::Syntax(8))),
+        (b"<a b=1/>", b"", Some(DocFault::Syntax(5))),
+        (b"<a b>", b"", Some(DocFault::Syntax(4))),
+        (b"<a>&#0;</a>", b"<a>", Some(DocFault::Syntax(6))),
+        (b"<a>&nbsp;</a>", b"<a>", Some(DocFault::Syntax(4))),
+        (b"<!DOCTYPE a [", b"", Some(DocFault::Syntax(12))),
+        (b"<a></ab>", b"<a>", Some(DocFault::Syntax(6))),
+        (b"<ab></a>", b"<ab>", Some(DocFault::Syntax(7))),
+        (b"<a>x\xFF</a>", b"<a>", Some(DocFault::Utf8(4))),
+        (b"<a></b>\xFF", b"<a>", Some(DocFault::Syntax(5))),
+        (b"<a/>\xE2\x82", b"<a></>", Some(DocFault::Utf8(4))),
+        (b"<a>\x01</a>", b"<a>", Some(DocFault::Syntax(3))),
+        (b"<a><![CDATA[]\x01", b"<a>", Some(DocFault::Syntax(13))),
     ];
-    for (document, want) in rows {
-        assert_told(&rt, rt.alloc(), false, document, want)?;
-    }
-    Ok(())
-}
-
-#[test]
-fn refuses_all_else_at_the_end(rt: HostRuntime) -> Result<(), Fail> {
-    let rows: [&[u8]; 36] = [
-        b"",
-        b" ",
-        b"a",
-        b" <a></a>",
-        b"<a></a> ",
-        b"<a></a>x",
-        b"x<a></a>",
-        b"<a></a><b></b>",
-        b"<a></a><",
-        b"<a></a></a>",
-        b"</a>",
-        b"<",
-        b"<a",
-        b"<a>",
-        b"<a>x",
-        b"<a><",
-        b"<a></",
-        b"<a></a",
-        b"<a><b></a>",
-        b"<a><b></a></b>",
-        b"<ab></a>",
-        b"<a></ab>",
-        b"<a></b>",
-        b"<a></>",
-        b"<></>",
-        b"<1a></1a>",
-        b"<-a></-a>",
-        b"<a:b></a:b>",
-        b"< a></a>",
-        b"<a ></a>",
-        b"<a></a >",
-        b"<a/>",
-        b"<a b=\"1\"></a>",
-        b"<a>&amp;</a>",
-        b"<a>\x80</a>",
-        b"<a>\x01</a>",
-    ];
-    for document in rows {
-        assert_told(&rt, rt.alloc(), false, document, b"refused")?;
+    for (document, tokens, fault) in rows {
+        for size in [1, 2, 3, 100] {
+            let (out, answer) = told(rt.alloc(), Limits::full(), document, size)?;
+            assert_eq!(rt; out.as_slice(), tokens, "in pieces of {size}");
+            assert_eq!(rt; answer, fault, "in pieces of {size}");
+        }
     }
     Ok(())
 }
 
 #[test]
 fn keeps_its_limits(rt: HostRuntime) -> Result<(), Fail> {
-    let rows: [(&[u8], &[u8]); 13] = [
-        (b"<a><b></b></a>", b"<a><b></></>$"),
-        (b"<a><b></b><c></c></a>", b"<a><b></><c></></>$"),
-        (b"<a><b><c></c></b></a>", b"refused"),
-        (b"<abc></abc>", b"<abc></>$"),
-        (b"<abcd></abcd>", b"refused"),
-        (b"<a>1234</a>", b"<a>[1234]</>$"),
-        (b"<a>1234<b></b>5678</a>", b"<a>[1234]<b></>[5678]</>$"),
-        (b"<a>12345</a>", b"refused"),
-        (b"<a>    </a>", b"<a></>$"),
-        (b"<a>     </a>", b"refused"),
+    let limits = Limits {
+        bytes: 8,
+        depth: 2,
+        name: 3,
+        text: 4,
+    };
+    let rows: [(&[u8], &[u8], Option<DocFault>); 8] = [
+        (b"<a/>    ", b"<a></>$", None),
+        (b"<abcd>", b"", Some(DocFault::NameLong(4))),
+        (b"<a>12345", b"<a>", Some(DocFault::TextLong(7))),
+        (b"<a><b><c>", b"<a><b>", Some(DocFault::Depth(6))),
+        (b"<a></a>  ", b"<a></>", Some(DocFault::TooLong(8))),
+        (b"<a>1234  ", b"<a>", Some(DocFault::TextLong(7))),
+        (b"<a></a> x", b"<a></>", Some(DocFault::TooLong(8))),
         (
-            b"<a>1234<b>12</b>1234</a>",
-            b"<a>[1234]<b>[12]</>[1234]</>$",
+            b"<a></a>\xE2\x82\xAC",
+            b"<a></>",
+            Some(DocFault::TooLong(8)),
         ),
-        (b"<a>1234<b>123</b>1234</a>", b"refused"),
-        (b"<a></a>                  ", b"refused"),
     ];
-    for (document, want) in rows {
-        assert_told(&rt, rt.alloc(), true, document, want)?;
-    }
-    for (most, refused) in [(1, false), (1_024, false), (1_025, true)] {
-        let document = named(rt.alloc(), most)?;
-        let answer = in_bytes(rt.alloc(), false, &document)?;
-        assert_eq!(rt;
-            answer.as_slice() == b"refused".as_slice(),
-            refused,
-            "a name of {most} bytes"
-        );
+    for (document, tokens, fault) in rows {
+        for size in [1, 3, 100] {
+            let (out, answer) = told(rt.alloc(), limits, document, size)?;
+            assert_eq!(rt; out.as_slice(), tokens, "in pieces of {size}");
+            assert_eq!(rt; answer, fault, "in pieces of {size}");
+        }
     }
     Ok(())
 }

@@ -1,23 +1,29 @@
-use Rattle.std.proofs.Common.{sym, ◌∙◌, subst, refl, true}
+use Rattle.std.proofs.Common.{Bool, false, sym, ◌∙◌, subst}
 use Rattle.doc_reader.specs.Standing.{Held, Stands}
 use Rattle.doc_reader.specs.Inside.{held}
-use Rattle.doc_reader.proofs.Standings.{reading, at_phase, ends_whole, finished_at, ends_short, ends_other}
+use Rattle.doc_reader.proofs.Standings.{ended_is, was_refused, not_refused, stands_end_refused, stands_end_whole, stands_end_short}
 use Rattle.doc_reader.proofs.reader.Reader.end.Goals as goal
 
-pub returns-then-not-reads-clause-ends : goal.returns-then-not-reads-clause-ends
-returns-then-not-reads-clause-ends c lim b h =
+pub returns-then-is_some-clause-stands : goal.returns-then-is_some-clause-stands
+returns-then-is_some-clause-stands c lim b ended given s =
     let old = held c.self.inside in
-    ends_other old lim b old.phase _ (sym c.reads.ensures ∙ c.if-not-reads.true) (at_phase old lim b old.phase refl (subst (λ (v : Held). Stands v lim b) (sym c.self.view_is) h))
+    let now = subst (λ (v : Held). Stands v lim b ended given) (sym c.self.view_is) s in
+    let open_still : Stands old lim b false given = subst (λ (o : Bool). Stands old lim b o given) (ended_is old lim b ended given now c.if-self.false) now in
+    stands_end_refused old lim b given (was_refused c.self.inside.refused (sym c.is_some.ensures ∙ c.if-is_some.true)) open_still
 
-pub returns-then-has_whole-clause-ends : goal.returns-then-has_whole-clause-ends
-returns-then-has_whole-clause-ends c lim b h =
+pub returns-in-Ok-clause-stands : goal.returns-in-Ok-clause-stands
+returns-in-Ok-clause-stands c lim b ended given s =
     let old = held c.self.inside in
-    let new : Held = record old { finished = true; end_waits = true } in
-    let p = reading old.phase (sym c.reads.ensures ∙ c.if-not-reads.false) in
-    finished_at old.phase new lim b p (ends_whole old lim b p (sym c.has_whole.ensures ∙ c.if-has_whole.true) (subst (λ (v : Held). Stands v lim b) (sym c.self.view_is) h))
+    let now = subst (λ (v : Held). Stands v lim b ended given) (sym c.self.view_is) s in
+    let open_still : Stands old lim b false given = subst (λ (o : Bool). Stands old lim b o given) (ended_is old lim b ended given now c.if-self.false) now in
+    let none = not_refused c.self.inside.refused (sym c.is_some.ensures ∙ c.if-is_some.false) in
+    let ends = c.in-Ok.ensures in
+    stands_end_whole old lim b given none ends.0 ends.1 open_still
 
-pub returns-clause-ends : goal.returns-clause-ends
-returns-clause-ends c lim b h =
+pub returns-in-Err-clause-stands : goal.returns-in-Err-clause-stands
+returns-in-Err-clause-stands c lim b ended given s =
     let old = held c.self.inside in
-    let p = reading old.phase (sym c.reads.ensures ∙ c.if-not-reads.false) in
-    (refl, ends_short old lim b p (sym c.has_whole.ensures ∙ c.if-has_whole.false) (subst (λ (v : Held). Stands v lim b) (sym c.self.view_is) h))
+    let now = subst (λ (v : Held). Stands v lim b ended given) (sym c.self.view_is) s in
+    let open_still : Stands old lim b false given = subst (λ (o : Bool). Stands old lim b o given) (ended_is old lim b ended given now c.if-self.false) now in
+    let none = not_refused c.self.inside.refused (sym c.is_some.ensures ∙ c.if-is_some.false) in
+    stands_end_short old lim b given c.in-Err.fault none c.in-Err.ensures open_still

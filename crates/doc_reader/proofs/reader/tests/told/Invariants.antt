@@ -1,6 +1,5 @@
-use Rattle.std.proofs.Common.{length}
-use Rattle.doc_reader.specs.Standing.{waiting}
+use Rattle.doc_reader.specs.Standing.{IsOpen}
 use Rattle.doc_reader.proofs.reader.tests.told.Given as goal
 
-abbrev pub decreases-loop-token : goal.decreases-loop-token
-decreases-loop-token l = length (waiting l.reader)
+abbrev pub invariant-loop-piece : goal.invariant-loop-piece
+invariant-loop-piece l = IsOpen l.reader

@@ -1,0 +1,34 @@
+-- The characters of a stream and those of the faults are the same.
+use Rattle.std.proofs.Common.{ℕ, ◌≡◌, ◌+◌, true, List, [], ◌∷◌, ◌++◌, Option, Some, None, arith}
+use lib.Utf8.{scalars, encodes}
+use Rattle.gcx_model.specs.Faults as faults
+use Rattle.gcx_model.specs.Faults.{size}
+use Rattle.doc_chars.specs.declared.chars.CharFault.{CharFault}
+use Rattle.doc_chars.specs.Stream.{IsFront, IsNotUtf8, Carry, StandsFor, GoesOn}
+use Rattle.doc_chars.proofs.Streams.{scalars_of}
+
+pub front_tie : (bs : List ℕ) → IsFront bs → faults.IsCharFront bs
+front_tie bs f = record { c = f.c; rest = f.rest; scalar = f.scalar; bytes = f.bytes; more = f.more }
+
+pub bad_tie : (bs : List ℕ) → IsNotUtf8 bs → faults.IsNotUtf8 bs
+bad_tie bs h = record {
+  no_char = λ c rest s e. h.no_char c rest s e;
+  no_front = λ f. h.no_front (record { c = f.c; rest = f.rest; scalar = f.scalar; bytes = f.bytes; more = f.more });
+}
+
+pub decodes_tie : (carry : Carry) (b cs : List ℕ) → StandsFor carry b cs → faults.Decodes b cs carry.bytes
+decodes_tie carry b cs s = record { chars = scalars_of cs s.decodes.chars; parts = s.decodes.bytes; part = front_tie carry.bytes s.decodes.front }
+
+-- the characters that a piece gives, and what stands behind them
+pub record Parts (b cs : List ℕ) : Type 0 where
+  pub scalars_are : scalars cs ≡ true
+  pub rest : List ℕ
+  pub parts : b ≡ encodes cs ++ rest
+
+pub parts_of : (o : Option CharFault) (carry : Carry) (b cs : List ℕ) → GoesOn o carry b cs → Parts b cs
+parts_of None carry b cs s = record { scalars_are = scalars_of cs s.decodes.chars; rest = carry.bytes; parts = s.decodes.bytes }
+parts_of (Some f) carry b cs s = record { scalars_are = scalars_of cs s.chars; rest = s.rest; parts = s.bytes }
+
+pub size_append : (a b : List ℕ) → size (a ++ b) ≡ size a + size b
+size_append [] b = omega arith
+size_append (c ∷ a) b = omega (arith, size_append a b)

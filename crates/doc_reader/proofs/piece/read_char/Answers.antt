@@ -1,0 +1,8 @@
+use Rattle.std.proofs.Common.{List, ℕ, subst}
+use Rattle.doc_reader.specs.Judged.{Judged}
+use Rattle.doc_reader.proofs.Judgings.{one_char}
+use Rattle.doc_reader.proofs.piece.read_char.Goals as goal
+
+pub returns : goal.returns
+returns c =
+    subst (λ (l : List ℕ). Judged c.read_text.result c.args.limits c.args.place c.args.m.now l c.read_text.new.m) (one_char c.args.c _ c.ranges.c.0 c.encode_utf8.ensures.value) c.read_text.ensures

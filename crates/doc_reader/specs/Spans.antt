@@ -1,0 +1,69 @@
+-- Characters that are read as a whole (this project's).
+use Rattle.std.specs.Prelude.{ℕ, ◌≡◌, ◌≤◌, ◌-◌, ◌==◌, Bool, true, not, ◌&&◌, ◌||◌, nat_lt, List, ◌++◌, length, take}
+use Rattle.std.specs.List.{list_all}
+use Rattle.gcx_base.specs.Characters.{between, is_char, is_part_char}
+use Rattle.gcx_base.specs.declared.limits.Limits.{Limits}
+use Rattle.gcx_model.specs.Attributes.{is_text_char, is_value_char}
+use Rattle.gcx_model.specs.Fronts.{is_inside}
+use Rattle.doc_laws.specs.Machine as laws
+use Rattle.doc_laws.specs.Machine.{State}
+use Rattle.doc_reader.specs.declared.machine.span.Span.{Span}
+use Rattle.doc_reader.specs.declared.machine.span.Span.TheVariants.{Text, Value, TagName, AttributeName, Comment, Note, Section}
+
+-- the characters that stand in a span
+abbrev pub stands : Span → ℕ → Bool
+stands Text c = is_text_char c
+stands (Value q) c = is_value_char q c
+stands TagName c = is_part_char c
+stands AttributeName c = is_part_char c
+stands Comment c = is_char c && not (c == 45)
+stands Note c = is_char c && not (c == 63)
+stands Section c = is_char c && not (c == 93)
+
+-- the members of NameChar below #x80
+abbrev pub is_short_part : ℕ → Bool
+is_short_part b = (b == 45) || ((b == 46) || (between 48 57 b || ((b == 58) || (between 65 90 b || ((b == 95) || between 97 122 b)))))
+
+-- those that take one byte
+abbrev pub in_span : Span → ℕ → Bool
+in_span span b = nat_lt b 128 && stands span b
+
+-- the first n bytes are such, and at most so many
+pub record IsSpanFront (n most : ℕ) (span : Span) (bytes : List ℕ) : Type 0 where
+  pub within : n ≤ length bytes
+  pub few : n ≤ most
+  pub inside : list_all (in_span span) (take n bytes) ≡ true
+
+-- the state with bytes of the span more
+abbrev pub spread : Span → State → List ℕ → State
+spread Text s bytes = record s { run = s.run ++ bytes }
+spread (Value q) s bytes = record s { run = s.run ++ bytes }
+spread TagName s bytes = record s { name = s.name ++ bytes }
+spread AttributeName s bytes = record s { attr = s.attr ++ bytes }
+spread Comment s bytes = s
+spread Note s bytes = s
+spread Section s bytes = record s { run = s.run ++ bytes }
+
+-- the mode is that of the span, and there is room for so many bytes
+abbrev pub HasRoom : Limits → ℕ → Span → State → Type 0
+HasRoom lim most Text s = (s.mode ≡ laws.Between) × (is_inside s.names ≡ true) × (most ≤ lim.text - length s.run)
+HasRoom lim most (Value q) s = (s.mode ≡ laws.InValue q) × (most ≤ lim.text - length s.run)
+HasRoom lim most TagName s = (s.mode ≡ laws.StartName) × (most ≤ lim.name - length s.name)
+HasRoom lim most AttributeName s = (s.mode ≡ laws.AttributeName) × (most ≤ lim.name - length s.attr)
+HasRoom lim most Comment s = s.mode ≡ laws.Comment
+HasRoom lim most Note s = s.mode ≡ laws.InNote 0
+HasRoom lim most Section s = (s.mode ≡ laws.InSection 0) × (most ≤ lim.text - length s.run)
+
+pub record Allows (lim : Limits) (most : ℕ) (span : Span) (s : State) : Type 0 where
+  pub run : length s.run ≤ lim.text
+  pub room : HasRoom lim most span s
+
+abbrev pub is_ascii_byte : ℕ → Bool
+is_ascii_byte b = nat_lt b 128
+
+-- both begin with the same n bytes, which are ASCII
+pub record IsSameFront (n : ℕ) (left bytes : List ℕ) : Type 0 where
+  pub short : n ≤ length left
+  pub within : n ≤ length bytes
+  pub same : take n left ≡ take n bytes
+  pub ascii : list_all is_ascii_byte (take n bytes) ≡ true

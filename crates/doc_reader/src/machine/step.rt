@@ -1,0 +1,68 @@
+//! One character more.
+ghost use Rattle.std.specs.Prelude.{◌≡◌};
+ghost use Rattle.doc_laws.specs.Machine.{step, on_bang};
+ghost use Rattle.doc_reader.specs.Machine.{scan_state};
+ghost use Rattle.doc_reader.specs.Sound.{IsSound};
+ghost use Rattle.doc_reader.specs.Steps.{Taken, Stepped};
+
+use super::Scan;
+use super::end_tag::{end_name, ended};
+use super::markup::{
+    bang, bang_dash, comment, comment_dash, comment_end, doc, doc_literal, doc_space, doc_word,
+    note, note_mark, question, section_word, target, target_mark,
+};
+use super::tag::{
+    attribute_name, equals, in_value, in_value_reference, less, named, slash, start_name,
+    start_space, tag,
+};
+use super::text::{between, in_reference, opening, section, turn};
+use crate::mode::Mode;
+use gcx_base::Memory;
+
+/// Behind `<!`.
+fn exclamation(m: &mut Scan, c: char) -> bool
+    ensures { Taken result (scan_state m.old) (on_bang (scan_state m.old) c) (scan_state m.new) }
+{
+    let mode = bang(m.names.has_open(), m.typed, c);
+    turn(m, mode)
+}
+
+/// One character more: false where there is no such step.
+pub(crate) fn advance(m: &mut Scan, c: char) -> Result<bool, Memory>
+    requires { IsSound (scan_state m.old) }
+    ensures { Stepped result (scan_state m.old) (step (scan_state m.old) c) (scan_state m.new) }
+{
+    match m.mode {
+        Mode::Opening => opening(m, c),
+        Mode::Between => between(m, c),
+        Mode::Less => less(m, c),
+        Mode::StartName => start_name(m, c),
+        Mode::StartSpace => start_space(m, c),
+        Mode::AttributeName => attribute_name(m, c),
+        Mode::AttributeSpace => Ok(named(m, c)),
+        Mode::Equals => Ok(equals(m, c)),
+        Mode::InValue(quote) => in_value(m, quote, c),
+        Mode::InValueReference(quote, referring) => in_value_reference(m, quote, referring, c),
+        Mode::ValueEnd => tag(m, c),
+        Mode::Slash => slash(m, c),
+        Mode::EndName(i) => end_name(m, i, c),
+        Mode::EndSpace => ended(m, c),
+        Mode::Question => Ok(turn(m, question(c))),
+        Mode::Target => Ok(turn(m, target(c))),
+        Mode::TargetMark => Ok(turn(m, target_mark(c))),
+        Mode::Note => Ok(turn(m, note(c))),
+        Mode::NoteMark => Ok(turn(m, note_mark(c))),
+        Mode::DocWord(i) => Ok(turn(m, doc_word(i, c))),
+        Mode::DocSpace => Ok(turn(m, doc_space(c))),
+        Mode::Doc => Ok(doc(m, c)),
+        Mode::DocLiteral(quote) => Ok(turn(m, doc_literal(quote, c))),
+        Mode::Bang => Ok(exclamation(m, c)),
+        Mode::BangDash => Ok(turn(m, bang_dash(c))),
+        Mode::Comment => Ok(turn(m, comment(c))),
+        Mode::CommentDash => Ok(turn(m, comment_dash(c))),
+        Mode::CommentEnd => Ok(turn(m, comment_end(c))),
+        Mode::SectionWord(i) => Ok(turn(m, section_word(i, c))),
+        Mode::Section(brackets) => section(m, brackets, c),
+        Mode::InReference(referring) => in_reference(m, referring, c),
+    }
+}

@@ -1,0 +1,269 @@
+//! Start tags.
+ghost use Rattle.std.specs.Prelude.{◌≡◌, ◌+◌, ◌≤◌, ◌++◌, [], map, IfOk};
+ghost use Rattle.std.specs.VecDeque.{deque_len, deque_capacity};
+ghost use Rattle.gcx_base.specs.Name.{IsNameBytes};
+ghost use Rattle.gcx_model.specs.Fronts.{text_of};
+ghost use Rattle.doc_laws.specs.Machine.{InValue, InValueReference, begun, opened, emptied, valued, on_less, on_start, on_tag, on_start_space, on_attribute_name, on_named, on_equals, on_value, on_slash, on_referred, refer};
+ghost use Rattle.doc_reader.specs.Machine.{scan_state, event_token, referring_of};
+ghost use Rattle.doc_reader.specs.Steps.{Taken, Stepped, Becomes};
+
+use super::Scan;
+use super::markup::is_quote;
+use super::text::is_text;
+use crate::bytes::push_char;
+use crate::event::Event;
+use crate::mode::Mode;
+use crate::referring::{Letters, Referred, Referring};
+use crate::run::Run;
+use gcx_base::{Memory, Name, is_name_char, is_name_start, is_space};
+use std::alloc::Global;
+use std::collections::VecDeque;
+
+/// A name of bytes that are known to be one.
+fn name_of(alloc: Global, bytes: &[u8]) -> Result<Name, Memory>
+    requires { IsNameBytes bytes.now }
+    ensures { IfOk result (λ name. name ≡ bytes.now) }
+{
+    match Name::from_bytes(alloc, bytes)? {
+        Some(name) => Ok(name),
+        None => unreachable!(),
+    }
+}
+
+/// Empties the run, and puts it as a token behind the others, unless it is blank.
+pub(crate) fn end_run(run: &mut Run, events: &mut VecDeque<Event>)
+    requires { deque_len events.old + 1 ≤ deque_capacity events.old }
+    ensures run { run.new ≡ [] }
+    ensures events { map event_token events.new.items ≡ map event_token events.old.items ++ text_of run.old }
+    ensures len { deque_len events.new ≤ deque_len events.old + 1 }
+    ensures capacity { deque_capacity events.old ≤ deque_capacity events.new }
+{
+    if run.is_blank() {
+        run.clear();
+    } else {
+        let text = run.take();
+        events.push_back(Event::Text(text)).unwrap();
+    }
+}
+
+/// Behind `<`.
+pub(crate) fn less(m: &mut Scan, c: char) -> Result<bool, Memory>
+    ensures { Stepped result (scan_state m.old) (on_less (scan_state m.old) c) (scan_state m.new) }
+{
+    let inside = m.names.has_open();
+    if is_name_start(c) && (inside || !m.rooted) {
+        m.name.clear();
+        push_char(&mut m.name, c)?;
+        m.mode = Mode::StartName;
+        Ok(true)
+    } else if c == '/' && inside {
+        m.mode = Mode::EndName(0);
+        Ok(true)
+    } else if c == '!' {
+        m.mode = Mode::Bang;
+        Ok(true)
+    } else if c == '?' {
+        m.mode = Mode::Question;
+        Ok(true)
+    } else {
+        Ok(false)
+    }
+}
+
+/// The name of the tag is whole.
+fn begin_tag(m: &mut Scan) -> Result<(), Memory>
+    requires { IsNameBytes m.old.name.items }
+    ensures { Becomes result (scan_state m.old) (begun (scan_state m.old)) (scan_state m.new) }
+{
+    let name = name_of(m.alloc, &m.name)?;
+    m.pending.clear();
+    m.pending.reserve(2)?;
+    end_run(&mut m.run, &mut m.pending);
+    m.pending.push_back(Event::Start(name)).unwrap();
+    Ok(())
+}
+
+/// The tag is whole, and its element is open.
+fn open_element(m: &mut Scan) -> Result<(), Memory>
+    ensures { Becomes result (scan_state m.old) (opened (scan_state m.old)) (scan_state m.new) }
+{
+    m.names.push(&m.name)?;
+    m.events.append(&mut m.pending)?;
+    m.name.clear();
+    m.attrs.clear();
+    m.rooted = true;
+    m.typed = true;
+    m.mode = Mode::Between;
+    Ok(())
+}
+
+/// The tag is whole, and its element is empty.
+fn empty_element(m: &mut Scan) -> Result<(), Memory>
+    ensures { Becomes result (scan_state m.old) (emptied (scan_state m.old)) (scan_state m.new) }
+{
+    m.pending.push_back(Event::End)?;
+    m.events.append(&mut m.pending)?;
+    m.name.clear();
+    m.attrs.clear();
+    m.rooted = true;
+    m.typed = true;
+    m.mode = Mode::Between;
+    Ok(())
+}
+
+/// Behind the name of a start tag, or behind a value.
+pub(crate) fn tag(m: &mut Scan, c: char) -> Result<bool, Memory>
+    ensures { Stepped result (scan_state m.old) (on_tag (scan_state m.old) c) (scan_state m.new) }
+{
+    if is_space(c) {
+        m.mode = Mode::StartSpace;
+        Ok(true)
+    } else if c == '>' {
+        open_element(m)?;
+        Ok(true)
+    } else if c == '/' {
+        m.mode = Mode::Slash;
+        Ok(true)
+    } else {
+        Ok(false)
+    }
+}
+
+pub(crate) fn start_name(m: &mut Scan, c: char) -> Result<bool, Memory>
+    requires { IsNameBytes m.old.name.items }
+    ensures { Stepped result (scan_state m.old) (on_start (scan_state m.old) c) (scan_state m.new) }
+{
+    if is_name_char(c) {
+        push_char(&mut m.name, c)?;
+        Ok(true)
+    } else {
+        begin_tag(m)?;
+        tag(m, c)
+    }
+}
+
+pub(crate) fn start_space(m: &mut Scan, c: char) -> Result<bool, Memory>
+    ensures { Stepped result (scan_state m.old) (on_start_space (scan_state m.old) c) (scan_state m.new) }
+{
+    if is_name_start(c) {
+        m.attr.clear();
+        push_char(&mut m.attr, c)?;
+        m.mode = Mode::AttributeName;
+        Ok(true)
+    } else {
+        tag(m, c)
+    }
+}
+
+pub(crate) fn slash(m: &mut Scan, c: char) -> Result<bool, Memory>
+    ensures { Stepped result (scan_state m.old) (on_slash (scan_state m.old) c) (scan_state m.new) }
+{
+    if c == '>' {
+        empty_element(m)?;
+        Ok(true)
+    } else {
+        Ok(false)
+    }
+}
+
+/// Behind the name of an attribute.
+pub(crate) fn named(m: &mut Scan, c: char) -> bool
+    ensures { Taken result (scan_state m.old) (on_named (scan_state m.old) c) (scan_state m.new) }
+{
+    if is_space(c) {
+        m.mode = Mode::AttributeSpace;
+        true
+    } else if c == '=' {
+        m.mode = Mode::Equals;
+        true
+    } else {
+        false
+    }
+}
+
+/// In the name of an attribute, which is none of the tag's others.
+pub(crate) fn attribute_name(m: &mut Scan, c: char) -> Result<bool, Memory>
+    ensures { Stepped result (scan_state m.old) (on_attribute_name (scan_state m.old) c) (scan_state m.new) }
+{
+    if is_name_char(c) {
+        push_char(&mut m.attr, c)?;
+        Ok(true)
+    } else if m.attrs.has(&m.attr) {
+        Ok(false)
+    } else {
+        Ok(named(m, c))
+    }
+}
+
+pub(crate) fn equals(m: &mut Scan, c: char) -> bool
+    ensures { Taken result (scan_state m.old) (on_equals (scan_state m.old) c) (scan_state m.new) }
+{
+    if is_space(c) {
+        m.mode = Mode::Equals;
+        true
+    } else if is_quote(c) {
+        m.mode = Mode::InValue(c);
+        true
+    } else {
+        false
+    }
+}
+
+/// The attribute is whole.
+fn end_value(m: &mut Scan) -> Result<(), Memory>
+    requires { IsNameBytes m.old.attr.items }
+    ensures { Becomes result (scan_state m.old) (valued (scan_state m.old)) (scan_state m.new) }
+{
+    let name = name_of(m.alloc, &m.attr)?;
+    m.attrs.push(&m.attr)?;
+    m.attr.clear();
+    m.pending.reserve(3)?;
+    m.pending.push_back(Event::Start(name)).unwrap();
+    end_run(&mut m.run, &mut m.pending);
+    m.pending.push_back(Event::End).unwrap();
+    m.mode = Mode::ValueEnd;
+    Ok(())
+}
+
+/// In a value between quotes of this kind.
+pub(crate) fn in_value(m: &mut Scan, quote: char, c: char) -> Result<bool, Memory>
+    requires { IsNameBytes m.old.attr.items }
+    ensures { Stepped result (scan_state m.old) (on_value (scan_state m.old) quote c) (scan_state m.new) }
+{
+    if c != quote && is_text(c) {
+        m.run.push(c)?;
+        m.mode = Mode::InValue(quote);
+        Ok(true)
+    } else if c == quote {
+        end_value(m)?;
+        Ok(true)
+    } else if c == '&' {
+        m.mode = Mode::InValueReference(quote, Referring::Letters(Letters::None));
+        Ok(true)
+    } else {
+        Ok(false)
+    }
+}
+
+/// In a reference in a value.
+pub(crate) fn in_value_reference(
+    m: &mut Scan,
+    quote: char,
+    referring: Referring,
+    c: char,
+) -> Result<bool, Memory>
+    ensures { Stepped result (scan_state m.old) (on_referred (scan_state m.old) (InValueReference quote) (InValue quote) (refer (referring_of referring) c)) (scan_state m.new) }
+{
+    match referring.and(c) {
+        Referred::More(more) => {
+            m.mode = Mode::InValueReference(quote, more);
+            Ok(true)
+        }
+        Referred::Done(c) => {
+            m.run.push(c)?;
+            m.mode = Mode::InValue(quote);
+            Ok(true)
+        }
+        Referred::Bad => Ok(false),
+    }
+}

@@ -1,0 +1,213 @@
+-- A document's tree from the tokens of its reader.
+use Rattle.std.proofs.Common.{◌≡◌, ◌⊎◌, ℕ, ◌+◌, ◌≤◌, ◌<◌, Bool, true, false, List, [], ◌∷◌, ◌++◌, length, map, Option, Some, None, refl, sym, ◌∙◌, ap, subst, arith, length-append, append-nil, append_assoc}
+use Rattle.std.specs.Prelude.{Result}
+use Rattle.std.specs.declared.result.Result.TheVariants.{Ok, Err}
+use Rattle.std.proofs.lemmas.List.{map-append}
+use Rattle.std.specs.Io.KnownBytes.{Consumes, IsAtEnd}
+use Rattle.std.proofs.KnownBytes.{Consumes-trans}
+use Rattle.gcx_base.specs.declared.limits.Limits.{Limits}
+use Rattle.gcx_base.specs.Limits.{full_limits}
+use Rattle.gcx_model.specs.Document.{Nodes, tokens, tree_of}
+use Rattle.gcx_model.specs.Tree.{Tree, Token as Said, Start, Chars, End, opening, grow, grow_all}
+use Rattle.gcx_model.specs.Faults.{FaultIs, within_limit, before_limit, past_limit}
+use Rattle.gcx_model.specs.declared.fault.DocFault.{DocFault}
+use Rattle.gcx_model.specs.declared.fault.DocFault.TheVariants as fault
+use Rattle.doc_laws.proofs.Pieces.{fault_stays}
+use Rattle.doc_reader.specs.Judged.{given_token}
+use Rattle.doc_reader.specs.Standing.{Held, Stands, Keeps, Accepted, Answers, Takes, taken, waiting, reader_tokens}
+use Rattle.doc_reader.specs.declared.token.Token.{Token}
+use Rattle.doc_reader.specs.declared.token.Token.TheVariants.{EndOfDocument}
+use Rattle.tree_eval.specs.Tokens.{token_of}
+use Rattle.gcx_cmd.specs.declared.document.DocumentEnd.{DocumentEnd}
+use Rattle.gcx_cmd.specs.declared.document.DocumentEnd.TheVariants as end
+use Rattle.gcx_cmd.specs.Main.{SaysOfDocument}
+use Rattle.gcx_cmd.specs.ReadEnd.{document_status}
+use Rattle.gcx_cmd.specs.Document.{BytesSpell, IsWhole, HasGrown, HasRead, EndsBy, Finds, SaysWhy, end_of}
+
+-- ---- tokens taken one after another
+
+-- These tokens were taken of a reader, and grew the tree.
+pub record HasTaken (old new : Held) (before after : Tree) : Type 0 where
+  pub tokens : List Token
+  pub waits : waiting old ≡ tokens ++ waiting new
+  pub tree_is : after ≡ grow_all (map token_of tokens) before
+  pub stands : (lim : Limits) (b : List ℕ) (ended : Bool) (given : List Token) → Stands old lim b ended given → Stands new lim b ended (given ++ tokens)
+  pub keeps : Keeps old new
+
+pub taken_none : (h : Held) (t : Tree) → HasTaken h h t t
+taken_none h t = record {
+  tokens = [];
+  waits = refl;
+  tree_is = refl;
+  stands = λ lim b ended given s. subst (λ (l : List Token). Stands h lim b ended l) (sym (append-nil given)) s;
+  keeps = record { finished = refl; answer = refl };
+}
+
+grow_more : (ts us : List Said) (P : Tree) → grow_all (ts ++ us) P ≡ grow_all us (grow_all ts P)
+grow_more [] us P = refl
+grow_more (t ∷ ts) us P = grow_more ts us (grow t P)
+
+grown_on : (xs ys : List Token) (P Q R : Tree) → Q ≡ grow_all (map token_of xs) P → R ≡ grow_all (map token_of ys) Q → R ≡ grow_all (map token_of (xs ++ ys)) P
+grown_on xs ys P Q R h k = k ∙ ap (grow_all (map token_of ys)) h ∙ sym (grow_more (map token_of xs) (map token_of ys) P) ∙ ap (λ (l : List Said). grow_all l P) (sym (map-append token_of xs ys))
+
+pub taken_on : (a b c : Held) (s t u : Tree) (x : Token) → HasTaken a b s t → waiting b ≡ x ∷ waiting c
+    → ((lim : Limits) (bs : List ℕ) (ended : Bool) (given : List Token) → Stands b lim bs ended given → Stands c lim bs ended (given ++ (x ∷ [])))
+    → Keeps b c → u ≡ grow (token_of x) t → HasTaken a c s u
+taken_on a b c s t u x h waits on keeps tree = record {
+  tokens = h.tokens ++ (x ∷ []);
+  waits = h.waits ∙ ap (λ (l : List Token). h.tokens ++ l) waits ∙ sym (append_assoc h.tokens (x ∷ []) (waiting c));
+  tree_is = grown_on h.tokens (x ∷ []) s t u h.tree_is tree;
+  stands = λ lim bs ended given st. subst (λ (l : List Token). Stands c lim bs ended l) (append_assoc given h.tokens (x ∷ [])) (on lim bs ended (given ++ h.tokens) (h.stands lim bs ended given st));
+  keeps = record { finished = keeps.finished ∙ h.keeps.finished; answer = keeps.answer ∙ h.keeps.answer };
+}
+
+-- all that waited were taken
+pub taken_all : (a b : Held) (s t : Tree) → (h : HasTaken a b s t) → waiting b ≡ [] → h.tokens ≡ waiting a
+taken_all a b s t h none = sym (h.waits ∙ ap (λ (l : List Token). h.tokens ++ l) none ∙ append-nil h.tokens)
+
+pub taken_tree : (a b : Held) (s t : Tree) → HasTaken a b s t → waiting b ≡ [] → t ≡ grow_all (map token_of (waiting a)) s
+taken_tree a b s t h none = h.tree_is ∙ ap (λ (l : List Token). grow_all (map token_of l) s) (taken_all a b s t h none)
+
+pub taken_stands : (a b : Held) (s t : Tree) → HasTaken a b s t → waiting b ≡ [] → (lim : Limits) (bs : List ℕ) (ended : Bool) (given : List Token) → Stands a lim bs ended given → Stands b lim bs ended (given ++ waiting a)
+taken_stands a b s t h none lim bs ended given st = subst (λ (l : List Token). Stands b lim bs ended (given ++ l)) (taken_all a b s t h none) (h.stands lim bs ended given st)
+
+-- ---- refusals
+
+pub says_why : (f : DocFault) → SaysWhy (end_of f)
+says_why (fault.Utf8 k) = tt
+says_why (fault.Syntax k) = tt
+says_why (fault.Truncated k) = tt
+says_why (fault.Depth k) = tt
+says_why (fault.NameLong k) = tt
+says_why (fault.TextLong k) = tt
+says_why (fault.TooLong k) = tt
+says_why fault.Memory = tt
+
+pub no_read_fault : (f : DocFault) → end_of f ≡ end.Fault → ⊥
+no_read_fault (fault.Utf8 k) e = cc
+no_read_fault (fault.Syntax k) e = cc
+no_read_fault (fault.Truncated k) e = cc
+no_read_fault (fault.Depth k) e = cc
+no_read_fault (fault.NameLong k) e = cc
+no_read_fault (fault.TextLong k) e = cc
+no_read_fault (fault.TooLong k) e = cc
+no_read_fault fault.Memory e = cc
+
+-- what the reader answers of the bytes is what the call ends by
+pub ends_by : (T U : Type 0) (f : DocFault) (b : List ℕ) (ended : Bool) (P : Type 0) → Answers {T = T} (Err f) full_limits b ended → EndsBy {T = U} ended b (Err (end_of f)) P
+ends_by T U (fault.Utf8 k) b ended P h = h
+ends_by T U (fault.Syntax k) b ended P h = h
+ends_by T U (fault.Truncated k) b ended P h = h
+ends_by T U (fault.Depth k) b ended P h = h
+ends_by T U (fault.NameLong k) b ended P h = h
+ends_by T U (fault.TextLong k) b ended P h = h
+ends_by T U (fault.TooLong k) b ended P h = h
+ends_by T U fault.Memory b ended P h = tt
+
+-- bytes without a fault are no more than may be
+none_within : (lim : Limits) (b : List ℕ) (ended : Bool) → FaultIs lim b ended None → length b ≤ lim.bytes
+none_within lim b ended (within_limit h w) = h
+none_within lim b ended (before_limit f h w e) = absurd (no_some f e)
+  where
+    no_some : (f : DocFault) → None ≡ Some f → ⊥
+    no_some f e = cc
+none_within lim b ended (past_limit h w e) = absurd (no_some (fault.TooLong lim.bytes) e)
+  where
+    no_some : (f : DocFault) → None ≡ Some f → ⊥
+    no_some f e = cc
+
+-- ---- a piece, and the end
+
+pub grown_none : (h : Held) → Stands h full_limits [] false [] → waiting h ≡ [] → HasGrown h opening []
+grown_none h s none = record { given = []; stands = s; nothing_waits = none; tree_is = refl; within = omega arith }
+
+pub piece_grown : (r0 r1 r2 : Held) (s t : Tree) (b piece : List ℕ) → HasGrown r0 s b
+    → ((lim : Limits) (b : List ℕ) (given : List Token) → Stands r0 lim b false given → Stands r1 lim (b ++ piece) false given)
+    → ((lim : Limits) (b : List ℕ) (given : List Token) → Stands r0 lim b false given → FaultIs lim (b ++ piece) false None)
+    → ((lim : Limits) (b : List ℕ) (ended : Bool) (given : List Token) → Stands r1 lim b ended given → Stands r2 lim b ended (given ++ waiting r1))
+    → waiting r2 ≡ [] → t ≡ grow_all (map token_of (waiting r1)) s → HasGrown r2 t (b ++ piece)
+piece_grown r0 r1 r2 s t b piece h fed clean took none tree = record {
+  given = h.given ++ waiting r1;
+  stands = took full_limits (b ++ piece) false h.given (fed full_limits b h.given h.stands);
+  nothing_waits = none;
+  tree_is = grown_on h.given (waiting r1) opening s t h.tree_is tree;
+  within = none_within full_limits (b ++ piece) false (clean full_limits b h.given h.stands);
+}
+
+tokens_back : (ts : List Said) → map token_of (map given_token ts) ≡ ts
+tokens_back [] = refl
+tokens_back (Start n ∷ ts) = ap (λ (l : List Said). Start n ∷ l) (tokens_back ts)
+tokens_back (Chars t ∷ ts) = ap (λ (l : List Said). Chars t ∷ l) (tokens_back ts)
+tokens_back (End ∷ ts) = ap (λ (l : List Said). End ∷ l) (tokens_back ts)
+
+document_tree : (d : Nodes) → grow_all (map token_of (reader_tokens d)) opening ≡ tree_of d
+document_tree d = ap (λ (l : List Said). grow_all l opening) (map-append token_of (map given_token (tokens d)) (EndOfDocument ∷ []) ∙ ap (λ (l : List Said). l ++ (End ∷ [])) (tokens_back (tokens d)))
+
+pub whole_grown : (r0 r1 : Held) (s t : Tree) (b : List ℕ) → (h : HasGrown r0 s b) → Accepted b (h.given ++ waiting r1) → FaultIs full_limits b true None
+    → t ≡ grow_all (map token_of (waiting r1)) s → IsWhole b t
+whole_grown r0 r1 s t b h a clean tree = record {
+  document = a.document;
+  spells = record { chars = a.chars; characters = a.scalars_are; encoded = a.bytes; spells = a.spells };
+  only = λ d sp. a.only sp.chars d sp.characters sp.encoded sp.spells;
+  tree_is = grown_on h.given (waiting r1) opening s t h.tree_is tree ∙ ap (λ (l : List Token). grow_all (map token_of l) opening) a.tokens_are ∙ document_tree a.document;
+  no_fault = clean;
+}
+
+-- ---- a source
+
+pub read_none : (r : Held) (t : Tree) (a : Option (List ℕ)) → Consumes a a [] → HasGrown r t [] → HasRead r t a a 0
+read_none r t a same h = record { bytes = []; moved = same; grown = h; counted = omega arith }
+
+pub read_on : (r0 r1 : Held) (s t : Tree) (a b c : Option (List ℕ)) (count more n : ℕ) (piece : List ℕ) → (h : HasRead r0 s a b count) → Consumes b c piece
+    → HasGrown r1 t (h.bytes ++ piece) → n ≤ length piece → more ≤ count + n → HasRead r1 t a c more
+read_on r0 r1 s t a b c count more n piece h moved grown some counted = record {
+  bytes = h.bytes ++ piece;
+  moved = Consumes-trans a b c h.bytes piece h.moved moved;
+  grown = grown;
+  counted = let e = length-append h.bytes piece in let g = h.counted in omega arith;
+}
+
+-- all bytes that the source had
+all_read : (bytes read : List ℕ) (a c : Option (List ℕ)) → a ≡ Some bytes → Consumes a c read → IsAtEnd c → bytes ≡ read
+all_read bytes read a c told moved at_end = go c (subst (λ (l : Option (List ℕ)). Consumes l c read) told moved) at_end
+  where
+    go : (c : Option (List ℕ)) → Consumes (Some bytes) c read → IsAtEnd c → bytes ≡ read
+    go None m e = absurd m
+    go (Some rest) m e = m ∙ ap (λ (l : List ℕ). read ++ l) e ∙ append-nil read
+
+pub end_found : (T : Type 0) (r : Held) (s t : Tree) (e : DocumentEnd) (bytes : List ℕ) (a b c : Option (List ℕ)) (count : ℕ) → (h : HasRead r s a b count) → a ≡ Some bytes → Consumes b c [] → IsAtEnd c
+    → EndsBy {T = T} true h.bytes (Err e) (IsWhole h.bytes t) → Finds (Err e) bytes
+end_found T r s t (end.Refused f) bytes a b c count h told moved at_end k =
+    subst (λ (l : List ℕ). FaultIs full_limits l true (Some f)) (sym (all_read bytes (h.bytes ++ []) a c told (Consumes-trans a b c h.bytes [] h.moved moved) at_end ∙ append-nil h.bytes)) k
+end_found T r s t end.Fault bytes a b c count h told moved at_end k = tt
+end_found T r s t end.Memory bytes a b c count h told moved at_end k = tt
+
+pub whole_found : (r : Held) (s t : Tree) (bytes : List ℕ) (a b c : Option (List ℕ)) (count : ℕ) → (h : HasRead r s a b count) → a ≡ Some bytes → Consumes b c [] → IsAtEnd c
+    → IsWhole h.bytes t → IsWhole bytes t
+whole_found r s t bytes a b c count h told moved at_end k =
+    subst (λ (l : List ℕ). IsWhole l t) (sym (all_read bytes (h.bytes ++ []) a c told (Consumes-trans a b c h.bytes [] h.moved moved) at_end ∙ append-nil h.bytes)) k
+
+-- a refusal stays with the bytes that weren't read
+pub piece_found : (T : Type 0) (r : Held) (s : Tree) (P : Type 0) (e : DocumentEnd) (bytes piece : List ℕ) (a b c : Option (List ℕ)) (count : ℕ) → (h : HasRead r s a b count) → a ≡ Some bytes → Consumes b c piece
+    → EndsBy {T = T} false (h.bytes ++ piece) (Err e) P → Finds (Err e) bytes
+piece_found T r s P (end.Refused f) bytes piece a b c count h told moved k = stays c (subst (λ (l : Option (List ℕ)). Consumes l c (h.bytes ++ piece)) told (Consumes-trans a b c h.bytes piece h.moved moved))
+  where
+    stays : (c : Option (List ℕ)) → Consumes (Some bytes) c (h.bytes ++ piece) → FaultIs full_limits bytes true (Some f)
+    stays None m = absurd m
+    stays (Some rest) m = subst (λ (l : List ℕ). FaultIs full_limits l true (Some f)) (sym m) (fault_stays full_limits (h.bytes ++ piece) rest true f k)
+piece_found T r s P end.Fault bytes piece a b c count h told moved k = tt
+piece_found T r s P end.Memory bytes piece a b c count h told moved k = tt
+
+pub consumes_none : (a : Option (List ℕ)) → Consumes a a []
+consumes_none None = tt
+consumes_none (Some xs) = refl
+
+-- what the end of a document's reading says of its bytes
+pub says_of_found : (e : DocumentEnd) (bytes : List ℕ) → Finds (Err e) bytes → SaysOfDocument (document_status e) bytes
+says_of_found (end.Refused f) bytes h = h
+says_of_found end.Fault bytes h = tt
+says_of_found end.Memory bytes h = tt
+
+-- not so many bytes are read
+pub never_past : (r : Held) (t : Tree) (a b : Option (List ℕ)) (count : ℕ) → HasRead r t a b count → full_limits.bytes < count → ⊥
+never_past r t a b count h past = let c = h.counted in let w = h.grown.within in omega arith

@@ -1,0 +1,76 @@
+-- What QUERY holds, from what was read.
+use Rattle.std.proofs.Common.{◌≡◌, ℕ, ◌≤◌, ◌<◌, List, [], ◌++◌, length, refl, sym, ◌∙◌, ap, subst, arith, length-append, append-nil, true}
+use Rattle.gcx_model.specs.Query.{ExprTree}
+use Rattle.gcx_model.specs.declared.fault.QueryFault.{QueryFault}
+use Rattle.gcx_model.specs.declared.fault.QueryFault.TheVariants.{Utf8, Lex, Syntax, UnknownVar, TagMismatch, DescendantNotLast, IntegerWide, TooLarge, Memory}
+use Rattle.gcx_model.specs.declared.fault.What.{What}
+use Rattle.gcx_model.specs.declared.fault.What.TheVariants.{Text, Nesting, Loops, Steps, Conditions, Roles, Descendants}
+use Rattle.xq_parse.specs.Faults.{QueryFaultOf, HasOnlyQuery, HasOnlyRefusal}
+use Rattle.xq_parse.specs.Spelling.{QuerySpells}
+use Rattle.xq_lex.specs.Answer.{UnlessMemory}
+use Rattle.gcx_cmd.specs.declared.status.Status.{Status}
+use Rattle.gcx_cmd.specs.declared.status.Status.TheVariants as status
+use Rattle.gcx_cmd.specs.Main.{Accepts, SaysOfQuery, IsQueryRefusal, IsOneQuery}
+use Rattle.gcx_cmd.specs.ReadEnd.{query_status}
+use Rattle.gcx_cmd.specs.Reading.{IsReadUpTo}
+use Rattle.gcx_cmd.specs.Document.{BytesSpell, IsWhole}
+use Rattle.gcx_model.specs.Answer.{answer}
+use Rattle.gcx_model.specs.Document.{Nodes, tree_of}
+use Rattle.gcx_model.specs.Tree.{Tree}
+
+too_large : (bytes : List ℕ) → 1048576 < length bytes → QueryFaultOf bytes (TooLarge Text 1048576)
+too_large bytes long = (refl, refl, long)
+
+-- the one fault of bytes that are too many
+same_fault : (bytes : List ℕ) (f : QueryFault) → 1048576 < length bytes → QueryFaultOf bytes f → f ≡ TooLarge Text 1048576
+same_fault bytes (Utf8 at) long h = absurd (let s = h.0 in omega arith)
+same_fault bytes (Lex at) long h = absurd (let s = h.short in omega arith)
+same_fault bytes (IntegerWide at) long h = absurd (let s = h.short in omega arith)
+same_fault bytes (Syntax at) long h = absurd (let s = h.lexed.short in omega arith)
+same_fault bytes (TagMismatch at) long h = absurd (let s = h.lexed.short in omega arith)
+same_fault bytes (UnknownVar at) long h = absurd (let s = h.1.lexed.short in omega arith)
+same_fault bytes (DescendantNotLast at) long h = absurd (let s = h.1.lexed.short in omega arith)
+same_fault bytes (TooLarge Text limit) long h = ap (λ (n : ℕ). TooLarge Text n) h.1
+same_fault bytes (TooLarge Nesting limit) long h = absurd (let s = h.1.lexed.short in omega arith)
+same_fault bytes (TooLarge Loops limit) long h = absurd h
+same_fault bytes (TooLarge Steps limit) long h = absurd h
+same_fault bytes (TooLarge Conditions limit) long h = absurd h
+same_fault bytes (TooLarge Roles limit) long h = absurd h
+same_fault bytes (TooLarge Descendants limit) long h = absurd h
+same_fault bytes Memory long h = absurd h
+
+pub long_query : (bytes read : List ℕ) → IsReadUpTo 1048576 bytes read → 1048576 < length read → SaysOfQuery (status.QueryRefused (TooLarge Text 1048576)) bytes
+long_query bytes read h over = (too_large bytes long, record { once = λ f k. same_fault bytes f long k; no_query = λ q s _. let short = s.derived.lexed.short in let over = long in omega arith })
+  where
+    long : 1048576 < length bytes
+    long = let e = ap length h.split in let f = length-append read h.rest in omega arith
+
+whole_query : (bytes read : List ℕ) → IsReadUpTo 1048576 bytes read → length read ≤ 1048576 → read ≡ bytes
+whole_query bytes read h short = sym (h.split ∙ ap (λ (l : List ℕ). read ++ l) (h.whole short) ∙ append-nil read)
+
+pub query_found : (bytes read : List ℕ) (q : List ExprTree) → IsReadUpTo 1048576 bytes read → length read ≤ 1048576 → Accepts read q → HasOnlyQuery read q → Accepts bytes q × HasOnlyQuery bytes q
+query_found bytes read q h short a o = subst (λ (l : List ℕ). Accepts l q × HasOnlyQuery l q) (whole_query bytes read h short) (a, o)
+
+refused_by : (bytes : List ℕ) (f : QueryFault) → UnlessMemory (QueryFaultOf bytes) f → UnlessMemory (HasOnlyRefusal bytes) f → SaysOfQuery (query_status f) bytes
+refused_by bytes (Utf8 at) h k = (h, k)
+refused_by bytes (Lex at) h k = (h, k)
+refused_by bytes (IntegerWide at) h k = (h, k)
+refused_by bytes (Syntax at) h k = (h, k)
+refused_by bytes (TagMismatch at) h k = (h, k)
+refused_by bytes (UnknownVar at) h k = (h, k)
+refused_by bytes (DescendantNotLast at) h k = (h, k)
+refused_by bytes (TooLarge what limit) h k = (h, k)
+refused_by bytes Memory h k = tt
+
+pub query_refused : (bytes read : List ℕ) (f : QueryFault) → IsReadUpTo 1048576 bytes read → length read ≤ 1048576 → UnlessMemory (QueryFaultOf read) f → UnlessMemory (HasOnlyRefusal read) f → SaysOfQuery (query_status f) bytes
+query_refused bytes read f h short a o = subst (λ (l : List ℕ). SaysOfQuery (query_status f) l) (whole_query bytes read h short) (refused_by read f a o)
+
+-- what is said of the query where the document decides
+pub one_query : (bytes : List ℕ) (q : List ExprTree) → Accepts bytes q × HasOnlyQuery bytes q → IsOneQuery bytes
+one_query bytes q h = (q, h.0, h.1)
+
+-- what is written is the answer
+pub answer_is : (items query_bytes document_bytes : List ℕ) (q r : List ExprTree) (tree : Tree) (d : Nodes) → Accepts query_bytes r × HasOnlyQuery query_bytes r → IsWhole document_bytes tree
+    → ((d : Nodes) → tree ≡ tree_of d → items ≡ answer r d) → Accepts query_bytes q → BytesSpell document_bytes d → items ≡ answer q d
+answer_is items query_bytes document_bytes q r tree d one whole written accepted spelled =
+    written whole.document whole.tree_is ∙ (λ i. answer (sym (one.1.once q accepted.spells) i) (sym (whole.only d spelled) i))
