@@ -3,3 +3,7 @@ pub mod Grammar
 pub mod Places
 pub mod Spelling
 pub mod Faults
+pub mod Signs
+pub mod Machine
+pub mod Reading
+pub mod Behind

@@ -5,6 +5,8 @@ use Rattle.xq_parse.specs.declared.refusal.Why.{Why}
 use Rattle.xq_parse.specs.declared.refusal.Why.TheVariants.{Syntax}
 use Rattle.xq_parse.specs.declared.refusal.Refusal.{Refusal}
 use Rattle.xq_parse.specs.declared.refusal.Refusal.TheVariants.{Memory, At}
+use Rattle.gcx_model.specs.Query.{ExprTree}
+use Rattle.xq_parse.specs.declared.marks.Marks.{Marks}
 use Rattle.xq_parse.specs.Tokens.{token_of}
 use Rattle.xq_parse.specs.Machine.{State, step, whole, Found}
 
@@ -37,3 +39,6 @@ Fails (At why left) now = now ≡ Err (a_stop why left)
 abbrev pub Moves : {X : Type 0} → (X → Result Found Stop) → Result X Refusal → Result Found Stop → Type 0
 Moves next (Ok x) now = now ≡ next x
 Moves next (Err e) now = Fails e now
+
+abbrev pub a_found : Marks → List ExprTree → Found
+a_found m es = record { marks = m; parts = es }
