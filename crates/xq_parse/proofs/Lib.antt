@@ -1,0 +1,6 @@
+mod ScopeLaws
+mod Folds
+mod Lang
+mod Routes
+mod Complete
+mod Back

@@ -48,24 +48,21 @@ abbrev pub a_var : ℕ → List ℕ → Var
 a_var at x = record { name = x; at = at }
 
 abbrev pub a_route : Option Var → Trail → Route
-a_route v t = record { start = v; steps = t.steps; late = t.late }
-
-abbrev pub path_of : Route → PathExpr
-path_of r = a_path (on_some (λ v. v.name) r.start) r.steps
+a_route v t = record { path = a_path (on_some (λ v. v.name) v) t.steps; var_at = on_some (λ v. v.at) v; late = t.late }
 
 -- ---- what was found of places
 
-abbrev pub unbound_at : Scope → Option Var → Option ℕ
-unbound_at scope None = None
-unbound_at scope (Some v) = if any (bytes_eq v.name) scope then None else Some v.at
+abbrev pub unbound_at : Scope → (start : Option (List ℕ)) (at : Option ℕ) → Option ℕ
+unbound_at scope None at = None
+unbound_at scope (Some x) at = if any (bytes_eq x) scope then None else at
 
 -- a path was read
 abbrev pub seen : Scope → Marks → Route → Marks
-seen scope m r = record { unknown = or_else m.unknown (unbound_at scope r.start); late = m.late }
+seen scope m r = record { unknown = or_else m.unknown (unbound_at scope r.path.start r.var_at); late = m.late }
 
 -- a path was read whose matches come in order
 abbrev pub seen_in_order : Scope → Marks → Route → Marks
-seen_in_order scope m r = record { unknown = or_else m.unknown (unbound_at scope r.start); late = or_else m.late r.late }
+seen_in_order scope m r = record { unknown = or_else m.unknown (unbound_at scope r.path.start r.var_at); late = or_else m.late r.late }
 
 -- ---- states
 
@@ -115,7 +112,7 @@ unfoldable pub cond_state : ℕ → Scope → Marks → (Marks → CondTree → 
 cond_state n sc m k = alls_state n sc m (λ m os. k m (any_of os))
 
 unfoldable pub clause_state : Scope → Marks → (Marks → Clause → State) → State
-clause_state sc m k = var (λ x. word in_ (source (λ r. k (seen_in_order sc m r) (a_clause x (path_of r)))))
+clause_state sc m k = var (λ x. word in_ (source (λ r. k (seen_in_order sc m r) (a_clause x r.path))))
 
 abbrev pub clauses_state : Scope → Marks → (Scope → Marks → List Clause → State) → State
 clauses_state sc m k = clause_state sc m (λ m c. clauses (c.var ∷ sc) m (c ∷ []) k)
@@ -139,7 +136,7 @@ unfoldable pub not_state : ℕ → Scope → Marks → (Marks → CondTree → S
 not_state n sc m k = sign signs.ParenOpen (group_state n sc m (λ m c. k m (q.Not c)))
 
 unfoldable pub exists_state : Scope → Marks → (Marks → CondTree → State) → State
-exists_state sc m k = sign signs.ParenOpen (path (λ r. sign signs.ParenClose (k (seen sc m r) (q.Exists (path_of r)))))
+exists_state sc m k = sign signs.ParenOpen (path (λ r. sign signs.ParenClose (k (seen sc m r) (q.Exists r.path))))
 
 abbrev pub true_state : Marks → (Marks → CondTree → State) → State
 true_state m k = sign signs.ParenOpen (sign signs.ParenClose (k m q.Always))
@@ -234,7 +231,7 @@ at_rel k (TSign s) = at_found k (rel_of s)
 at_rel k t = Err Syntax
 
 abbrev pub side_seen : Scope → Marks → (Marks → QOperand → State) → Route → State
-side_seen sc m k r = k (seen sc m r) (sides.Path (path_of r))
+side_seen sc m k r = k (seen sc m r) (sides.Path r.path)
 
 abbrev pub at_operand : Scope → Marks → (Marks → QOperand → State) → Token → Result State Why
 at_operand sc m k (TStr x) = Ok (k m (sides.Str x))
@@ -242,10 +239,10 @@ at_operand sc m k (TNum u) = Ok (k m (sides.Num u))
 at_operand sc m k t = at_path (side_seen sc m k) t
 
 abbrev pub compare_state : Scope → Marks → (Marks → CondTree → State) → Route → State
-compare_state sc m k r = rel (λ c. operand sc (seen sc m r) (λ m o. k m (q.Compare (sides.Path (path_of r)) c o)))
+compare_state sc m k r = rel (λ c. operand sc (seen sc m r) (λ m o. k m (q.Compare (sides.Path r.path) c o)))
 
 unfoldable pub literal_state : QOperand → Scope → Marks → (Marks → CondTree → State) → State
-literal_state l sc m k = rel (λ c. path (λ r. k (seen sc m r) (q.Compare l c (sides.Path (path_of r)))))
+literal_state l sc m k = rel (λ c. path (λ r. k (seen sc m r) (q.Compare l c (sides.Path r.path))))
 
 abbrev pub at_atom : ℕ → ℕ → Scope → Marks → (Marks → CondTree → State) → Token → Result State Why
 at_atom limit n sc m k (TName x) =
@@ -268,7 +265,7 @@ at_comma s over (TSign signs.Comma) = Ok s
 at_comma s over t = over
 
 abbrev pub path_seen : Scope → Marks → (Marks → ExprTree → State) → Route → State
-path_seen sc m k r = k (seen_in_order sc m r) (q.Path (path_of r))
+path_seen sc m k r = k (seen_in_order sc m r) (q.Path r.path)
 
 abbrev pub at_expr : ℕ → ℕ → Scope → Marks → (Marks → ExprTree → State) → Token → Result State Why
 at_expr limit n sc m k (TName x) =

@@ -214,7 +214,7 @@ impl<'a> Parser<'a> {
             None => {
                 let route = self.cursor.path()?;
                 self.marks.see(&self.scope, &route);
-                Ok(QOperand::Path(route.into_path()))
+                Ok(QOperand::Path(route.path))
             }
         }
     }
@@ -241,7 +241,7 @@ impl<'a> Parser<'a> {
         let route = self.cursor.path()?;
         self.cursor.sign(Sign::ParenClose)?;
         self.marks.see(&self.scope, &route);
-        Ok(QCond::Exists(route.into_path()))
+        Ok(QCond::Exists(route.path))
     }
 
     /// Reads a comparison that begins with a path.
@@ -255,7 +255,7 @@ impl<'a> Parser<'a> {
         let rel = self.cursor.rel()?;
         let right = self.operand()?;
         Ok(QCond::Compare {
-            left: QOperand::Path(left.into_path()),
+            left: QOperand::Path(left.path),
             rel,
             right,
         })
@@ -274,7 +274,7 @@ impl<'a> Parser<'a> {
         Ok(QCond::Compare {
             left,
             rel,
-            right: QOperand::Path(right.into_path()),
+            right: QOperand::Path(right.path),
         })
     }
 

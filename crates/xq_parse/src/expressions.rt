@@ -233,7 +233,7 @@ impl<'a> Parser<'a> {
         self.scope.bind(var.copy(self.cursor.alloc)?)?;
         Ok(Clause {
             var,
-            path: route.into_path(),
+            path: route.path,
         })
     }
 
@@ -295,7 +295,7 @@ impl<'a> Parser<'a> {
             ExprStart::Path => {
                 let route = self.cursor.path()?;
                 self.marks.see_in_order(&self.scope, &route);
-                Ok(Expr::Path(route.into_path()))
+                Ok(Expr::Path(route.path))
             }
         }
     }

@@ -2,7 +2,7 @@
 ghost use Rattle.std.specs.Prelude.{◌≡◌};
 ghost use Rattle.xq_parse.specs.Machine.{no_marks, seen, seen_in_order, unbound_at};
 
-use crate::route::{Route, Var, first_of};
+use crate::route::{Route, first_of};
 use crate::scope::Scope;
 
 /// Where the first variable stands that no clause binds, and where the first descendant step stands
@@ -13,11 +13,11 @@ pub(crate) struct Marks {
     pub late: Option<u64>,
 }
 
-fn unbound(scope: &Scope, start: &Option<Var>) -> Option<u64>
-    ensures { result ≡ unbound_at scope.now start.now }
+fn unbound(scope: &Scope, route: &Route) -> Option<u64>
+    ensures { result ≡ unbound_at scope.now route.now.path.start route.now.var_at }
 {
-    match start {
-        Some(var) if !scope.has(&var.name) => Some(var.at),
+    match &route.path.start {
+        Some(name) if !scope.has(name) => route.var_at,
         _ => None,
     }
 }
@@ -36,7 +36,7 @@ impl Marks {
     pub(crate) fn see(&mut self, scope: &Scope, route: &Route)
         ensures { self.new ≡ seen scope.now self.old route.now }
     {
-        self.unknown = first_of(self.unknown, unbound(scope, &route.start));
+        self.unknown = first_of(self.unknown, unbound(scope, route));
     }
 
     /// Notes what the path of a clause or of an expression has.

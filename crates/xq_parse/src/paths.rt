@@ -1,19 +1,21 @@
 //! Paths and the sides of comparisons.
 ghost use Rattle.std.specs.Prelude.{◌≡◌, ◌≤◌, ◌<◌, ℕ, true, false, cond, List, Option, Some, None, length, bytes_eq, ◌||◌, OnOk};
 ghost use Rattle.gcx_base.specs.declared.rel.Rel.{Rel};
+ghost use Rattle.gcx_base.specs.declared.steps.Axis.{Axis};
 ghost use Rattle.gcx_base.specs.declared.steps.Axis.TheVariants as axes;
 ghost use Rattle.gcx_base.specs.declared.steps.Step.{Step};
 ghost use Rattle.gcx_base.specs.declared.steps.Test.TheVariants as tests;
 ghost use Rattle.gcx_model.specs.declared.query.QOperand.{QOperand};
 ghost use Rattle.gcx_model.specs.Query.{on_some};
+ghost use Rattle.xq_lex.specs.declared.sign.Sign.TheVariants as signs;
 ghost use Rattle.xq_parse.specs.declared.route.Route.{Route};
 ghost use Rattle.xq_parse.specs.declared.route.Trail.{Trail};
 ghost use Rattle.xq_parse.specs.declared.marks.Marks.{Marks};
-ghost use Rattle.xq_parse.specs.Tokens.{child_, descendant_};
+ghost use Rattle.xq_parse.specs.Tokens.{child_, descendant_, node_, text_};
 ghost use Rattle.xq_parse.specs.Places.{Scope};
 ghost use Rattle.xq_parse.specs.Grammar.{a_step};
-ghost use Rattle.xq_parse.specs.Machine.{State, axis, axis_named, axis_or_name, first_step, no_trail, operand, path, rel, rel_of, side_seen, source, steps, steps_behind, steps_state, test, with_start};
-ghost use Rattle.xq_parse.specs.Behind.{axis_found, path_behind, operand_behind};
+ghost use Rattle.xq_parse.specs.Machine.{State, axis, axis_named, axis_or_name, first_step, kind_test, no_trail, operand, path, rel, rel_of, side_seen, sign, source, steps, steps_behind, steps_state, test, with_start};
+ghost use Rattle.xq_parse.specs.Behind.{axis_found, name_behind, operand_behind, path_behind};
 ghost use Rattle.xq_parse.specs.Reading.{Moves, Stop, run};
 
 use crate::cursor::{Cursor, is_word};
@@ -37,6 +39,23 @@ fn axis_of(name: &Name) -> Axis
         Axis::Descendant
     } else {
         Axis::Child
+    }
+}
+
+fn is_kind(name: &Name) -> bool
+    ensures { result ≡ (bytes_eq name.now text_ || bytes_eq name.now node_) }
+{
+    is_word(name, b"text") || is_word(name, b"node")
+}
+
+/// The kind test of this name, of the two that there are.
+fn kind_of(name: &Name) -> Test
+    ensures { result ≡ kind_test name.now }
+{
+    if is_word(name, b"text") {
+        Test::AnyText
+    } else {
+        Test::AnyNode
     }
 }
 
@@ -74,6 +93,49 @@ impl<'a> Cursor<'a> {
         )
     }
 
+    /// Takes the `(` behind `text` or `node`, which is a kind test then.
+    fn takes_call(&mut self, found: &Name) -> bool
+        ensures moves { (a : Axis) (k : Step → State) → run 200 (name_behind a found.now k) self.old.rest.now ≡ run 200 (cond result (sign signs.ParenClose (k (a_step a (kind_test found.now)))) (k (a_step a (tests.Named found.now)))) self.new.rest.now }
+        ensures shorter { length self.new.rest.now ≤ length self.old.rest.now }
+    {
+        if !is_kind(found) {
+            return false;
+        }
+        match self.rest {
+            [
+                Tok {
+                    kind: TokKind::Sign(Sign::ParenOpen),
+                    ..
+                },
+                rest @ ..,
+            ] => {
+                self.rest = rest;
+                true
+            }
+            _ => false,
+        }
+    }
+
+    /// Reads what stands behind the name of a test.
+    fn named_test(&mut self, axis: Axis, found: &Name) -> Result<Step, Refusal>
+        ensures moves { (k : Step → State) → Moves (λ s. run 200 (k s) self.new.rest.now) result (run 200 (name_behind axis found.now k) self.old.rest.now) }
+        ensures shorter { length self.new.rest.now ≤ length self.old.rest.now }
+    {
+        if self.takes_call(found) {
+            self.sign(Sign::ParenClose)?;
+            Ok(Step {
+                axis,
+                test: kind_of(found),
+            })
+        } else {
+            let name = found.copy(self.alloc)?;
+            Ok(Step {
+                axis,
+                test: Test::Named(name),
+            })
+        }
+    }
+
     /// Reads the test of a step.
     fn test(&mut self, axis: Axis) -> Result<Step, Refusal>
         ensures moves { (k : Step → State) → Moves (λ s. run 200 (k s) self.new.rest.now) result (run 200 (test axis k) self.old.rest.now) }
@@ -98,50 +160,11 @@ impl<'a> Cursor<'a> {
                     kind: TokKind::Name(found),
                     ..
                 },
-                Tok {
-                    kind: TokKind::Sign(Sign::ParenOpen),
-                    ..
-                },
-                rest @ ..,
-            ] if is_word(found, b"text") => {
-                self.rest = rest;
-                self.sign(Sign::ParenClose)?;
-                Ok(Step {
-                    axis,
-                    test: Test::AnyText,
-                })
-            }
-            [
-                Tok {
-                    kind: TokKind::Name(found),
-                    ..
-                },
-                Tok {
-                    kind: TokKind::Sign(Sign::ParenOpen),
-                    ..
-                },
-                rest @ ..,
-            ] if is_word(found, b"node") => {
-                self.rest = rest;
-                self.sign(Sign::ParenClose)?;
-                Ok(Step {
-                    axis,
-                    test: Test::AnyNode,
-                })
-            }
-            [
-                Tok {
-                    kind: TokKind::Name(found),
-                    ..
-                },
                 rest @ ..,
             ] => {
-                let name = found.copy(self.alloc)?;
                 self.rest = rest;
-                Ok(Step {
-                    axis,
-                    test: Test::Named(name),
-                })
+                let step = self.named_test(axis, found)?;
+                Ok(step)
             }
             _ => Err(Refusal::At(Why::Syntax, self.rest.len())),
         }

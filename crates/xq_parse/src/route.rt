@@ -1,7 +1,6 @@
 //! Paths, with the places that faults name.
 ghost use Rattle.std.specs.Prelude.{◌≡◌, OnOk};
-ghost use Rattle.gcx_model.specs.Query.{on_some};
-ghost use Rattle.xq_parse.specs.Machine.{a_route, added, descent_at, no_trail, or_else, path_of};
+ghost use Rattle.xq_parse.specs.Machine.{a_route, added, descent_at, no_trail, or_else};
 
 use gcx_base::{Axis, Memory, Name, Step, Steps};
 use gcx_model::PathExpr;
@@ -30,11 +29,11 @@ pub(crate) struct Trail {
     pub late: Option<u64>,
 }
 
-/// A path, and where its first descendant step stands that isn't the last.
+/// A path, where its variable stands, and where its first descendant step stands that isn't the last.
 #[derive(Drop)]
 pub(crate) struct Route {
-    pub start: Option<Var>,
-    pub steps: Steps,
+    pub path: PathExpr,
+    pub var_at: Option<u64>,
     pub late: Option<u64>,
 }
 
@@ -79,34 +78,21 @@ impl Trail {
         Ok(())
     }
 
+    /// The path of these steps.
     pub(crate) fn from(self, start: Option<Var>) -> Route
         ensures { result ≡ a_route start self }
     {
+        let (start, var_at) = match start {
+            Some(var) => (Some(var.name), Some(var.at)),
+            None => (None, None),
+        };
         Route {
-            start,
-            steps: self.steps,
+            path: PathExpr {
+                start,
+                steps: self.steps,
+            },
+            var_at,
             late: self.late,
-        }
-    }
-}
-
-fn name_of(start: Option<Var>) -> Option<Name>
-    ensures { result ≡ on_some (λ v. v.name) start }
-{
-    match start {
-        Some(var) => Some(var.name),
-        None => None,
-    }
-}
-
-impl Route {
-    /// The path without its places.
-    pub(crate) fn into_path(self) -> PathExpr
-        ensures { result ≡ path_of self }
-    {
-        PathExpr {
-            start: name_of(self.start),
-            steps: self.steps,
         }
     }
 }

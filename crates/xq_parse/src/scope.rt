@@ -1,5 +1,6 @@
 //! The variables in scope.
 ghost use Rattle.std.specs.Prelude.{◌≡◌, ◌∷◌, ◌-◌, ◌≤◌, [], length, drop, bytes_eq, OnOk};
+ghost use Rattle.std.specs.List.{list_any};
 ghost use Rattle.gcx_model.specs.Paths.{any};
 
 use gcx_base::{Memory, Name};
@@ -18,6 +19,14 @@ impl Model for Scope {
     ghost Value = { List (List ℕ) };
 
     ghost view = { λ s. reverse s.names.items };
+}
+
+fn is_among(names: &[Name], name: &Name) -> bool
+    ensures { result ≡ list_any (bytes_eq name.now) names.now }
+{
+    names
+        .iter()
+        .any(|bound| name.as_bytes() == bound.as_bytes())
 }
 
 impl Scope {
@@ -39,9 +48,7 @@ impl Scope {
     pub(crate) fn has(&self, name: &Name) -> bool
         ensures { result ≡ any (bytes_eq name.now) self.now }
     {
-        self.names
-            .iter()
-            .any(|bound| name.as_bytes() == bound.as_bytes())
+        is_among(&self.names, name)
     }
 
     pub(crate) fn bind(&mut self, name: Name) -> Result<(), Memory>
