@@ -4,3 +4,6 @@ mod Lang
 mod Routes
 mod Complete
 mod Back
+mod Growth
+mod Tags
+mod Refused

@@ -1,40 +1,39 @@
--- Why a text is refused: the first reason in the order of the definitions below.
+-- Why a text is refused (this project's language).
 use Rattle.std.specs.Prelude.{ℕ, ◌≡◌, ◌≤◌, List, [], ◌∷◌, ◌++◌, length, ◌⊎◌, true}
 use Rattle.gcx_model.specs.declared.fault.QueryFault.{QueryFault}
 use Rattle.gcx_model.specs.declared.fault.QueryFault.TheVariants.{Utf8, Lex, Syntax, UnknownVar, TagMismatch, DescendantNotLast, IntegerWide, TooLarge, Memory}
-use Rattle.gcx_model.specs.declared.fault.What.{What}
 use Rattle.gcx_model.specs.declared.fault.What.TheVariants.{Text, Nesting, Loops, Steps, Conditions, Roles, Descendants}
 use Rattle.gcx_model.specs.Query.{ExprTree}
 use Rattle.gcx_model.specs.Sound.{is_sound}
 use Rattle.xq_lex.specs.declared.sign.Sign.TheVariants.{EndTag}
 use Rattle.xq_lex.specs.declared.token.Tok.{Tok}
-use Rattle.xq_lex.specs.Lex.{Lexes, LexFault}
-use Rattle.xq_parse.specs.Tokens.{Token, TName, TSign, token_of, tokens_of}
+use Rattle.xq_lex.specs.Lex.{LexFault}
+use Rattle.xq_parse.specs.Tokens.{Token, TName, TSign, tokens_of}
 use Rattle.xq_parse.specs.Grammar.{Derivation, Derives, Viable}
 use Rattle.xq_parse.specs.Places.{unknown_of, late_of}
-use Rattle.xq_parse.specs.Spelling.{IsDerivedBy, QuerySpells}
+use Rattle.xq_parse.specs.Spelling.{HasTokens, QuerySpells}
+
+-- ---- the kind of a fault whose token is the last of these
 
 -- But for the limit the tokens are a front of a query.
 abbrev pub IsTooDeep : List Token → Type 0
 IsTooDeep front = (limit : ℕ) × (200 ≤ limit) × Viable limit front
 
 -- The last token is a Name directly behind `</`.
-pub record EndsWithTagName (ts : List Token) : Type 0 where
+pub record EndsWithTagName (front : List Token) : Type 0 where
   pub before : List Token
   pub name : List ℕ
-  pub parts : ts ≡ before ++ (TSign EndTag ∷ TName name ∷ [])
-
--- the kind of a fault, where its token is the last one
-abbrev pub IsNesting : List Token → Type 0
-IsNesting ts = IsTooDeep ts
+  pub parts : front ≡ before ++ (TSign EndTag ∷ TName name ∷ [])
 
 abbrev pub IsTagMismatch : List Token → Type 0
-IsTagMismatch ts = ¬ (IsTooDeep ts) × EndsWithTagName ts
+IsTagMismatch front = ¬ (IsTooDeep front) × EndsWithTagName front
 
 abbrev pub IsSyntax : List Token → Type 0
-IsSyntax ts = ¬ (IsTooDeep ts) × ¬ (EndsWithTagName ts)
+IsSyntax front = ¬ (IsTooDeep front) × ¬ (EndsWithTagName front)
 
--- This token, at byte `at`, is the first with which the tokens are no front of a query, and Kind holds of the tokens up to it.
+-- ---- where it comes
+
+-- The token at byte `at` is the first with which the tokens so far are no front of a query, and Kind holds of them.
 pub record HasFaultToken (ts : List Tok) (at : ℕ) (Kind : List Token → Type 0) : Type 0 where
   pub front : List Tok
   pub token : Tok
@@ -50,36 +49,37 @@ pub record EndsSoon (ts : List Tok) : Type 0 where
   pub good : Viable 200 (tokens_of ts)
   pub bad : (d : Derivation) → ¬ (Derives 200 (tokens_of ts) d)
 
--- the bytes have tokens, of which P holds
-pub record HasTokens (bytes : List ℕ) (P : List Tok → Type 0) : Type 0 where
-  pub tokens : List Tok
-  pub lexed : Lexes bytes tokens
-  pub holds : P tokens
+-- A derivation spells the tokens, and P holds of it.
+abbrev pub IsDerivedWith : (ts : List Tok) (P : Derivation → Type 0) → Type 0
+IsDerivedWith ts P = (d : Derivation) × Derives 200 (tokens_of ts) d × P d
 
--- The bytes are derived, and P holds of the derivation.
-abbrev pub IsDerivedWith : (bytes : List ℕ) (P : Derivation → Type 0) → Type 0
-IsDerivedWith bytes P = (d : Derivation) × IsDerivedBy bytes d × P d
-
+-- the first of these places
 abbrev pub BeginsAt : List ℕ → ℕ → Type 0
 BeginsAt places at = (others : List ℕ) × (places ≡ at ∷ others)
 
--- QueryFaultOf
+-- What is wrong with the tokens of a text that ends at byte `end`: their grammar; else their variables; else their steps.
+abbrev pub GrammarFault : (ts : List Tok) (end : ℕ) → QueryFault → Type 0
+GrammarFault ts end (Syntax at) = HasFaultToken ts at IsSyntax ⊎ ((at ≡ end) × EndsSoon ts)
+GrammarFault ts end (TagMismatch at) = HasFaultToken ts at IsTagMismatch
+GrammarFault ts end (TooLarge Nesting limit) = (limit ≡ 200) × ((at : ℕ) × HasFaultToken ts at IsTooDeep)
+GrammarFault ts end (UnknownVar at) = IsDerivedWith ts (λ d. BeginsAt (unknown_of d) at)
+GrammarFault ts end (DescendantNotLast at) = IsDerivedWith ts (λ d. (unknown_of d ≡ []) × BeginsAt (late_of d) at)
+GrammarFault ts end (TooLarge Text limit) = ⊥
+GrammarFault ts end (TooLarge Loops limit) = ⊥
+GrammarFault ts end (TooLarge Steps limit) = ⊥
+GrammarFault ts end (TooLarge Conditions limit) = ⊥
+GrammarFault ts end (TooLarge Roles limit) = ⊥
+GrammarFault ts end (TooLarge Descendants limit) = ⊥
+GrammarFault ts end (Utf8 at) = ⊥
+GrammarFault ts end (Lex at) = ⊥
+GrammarFault ts end (IntegerWide at) = ⊥
+GrammarFault ts end Memory = ⊥
+
+-- QueryFaultOf: for this reason the bytes have no tokens, or this is wrong with their tokens.
 abbrev pub QueryFaultOf : (bytes : List ℕ) → QueryFault → Type 0
-QueryFaultOf bytes (TooLarge Text limit) = LexFault bytes (TooLarge Text limit)
-QueryFaultOf bytes (Utf8 at) = LexFault bytes (Utf8 at)
-QueryFaultOf bytes (Lex at) = LexFault bytes (Lex at)
-QueryFaultOf bytes (IntegerWide at) = LexFault bytes (IntegerWide at)
-QueryFaultOf bytes (Syntax at) = HasTokens bytes (λ ts. HasFaultToken ts at IsSyntax ⊎ ((at ≡ length bytes) × EndsSoon ts))
-QueryFaultOf bytes (TagMismatch at) = HasTokens bytes (λ ts. HasFaultToken ts at IsTagMismatch)
-QueryFaultOf bytes (TooLarge Nesting limit) = (limit ≡ 200) × HasTokens bytes (λ ts. (at : ℕ) × HasFaultToken ts at IsNesting)
-QueryFaultOf bytes (UnknownVar at) = IsDerivedWith bytes (λ d. BeginsAt (unknown_of d) at)
-QueryFaultOf bytes (DescendantNotLast at) = IsDerivedWith bytes (λ d. (unknown_of d ≡ []) × BeginsAt (late_of d) at)
-QueryFaultOf bytes (TooLarge Loops limit) = ⊥
-QueryFaultOf bytes (TooLarge Steps limit) = ⊥
-QueryFaultOf bytes (TooLarge Conditions limit) = ⊥
-QueryFaultOf bytes (TooLarge Roles limit) = ⊥
-QueryFaultOf bytes (TooLarge Descendants limit) = ⊥
-QueryFaultOf bytes Memory = ⊥
+QueryFaultOf bytes fault = LexFault bytes fault ⊎ HasTokens bytes (λ ts. GrammarFault ts (length bytes) fault)
+
+-- ---- one answer
 
 -- The bytes spell no other query, and nothing is wrong with them.
 pub record HasOnlyQuery (bytes : List ℕ) (q : List ExprTree) : Type 0 where

@@ -7,3 +7,4 @@ pub mod Signs
 pub mod Machine
 pub mod Reading
 pub mod Behind
+pub mod Answering

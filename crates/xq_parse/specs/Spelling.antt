@@ -6,14 +6,18 @@ use Rattle.xq_lex.specs.Lex.{Lexes}
 use Rattle.xq_parse.specs.Tokens.{tokens_of}
 use Rattle.xq_parse.specs.Grammar.{Derivation, Derives, derivation_tree}
 
--- The bytes have tokens, and this derivation spells them, nesting at most 200 constructs.
-pub record IsDerivedBy (bytes : List ℕ) (d : Derivation) : Type 0 where
+-- The bytes have tokens, of which P holds.
+pub record HasTokens (bytes : List ℕ) (P : List Tok → Type 0) : Type 0 where
   pub tokens : List Tok
   pub lexed : Lexes bytes tokens
-  pub derives : Derives 200 (tokens_of tokens) d
+  pub holds : P tokens
 
--- QuerySpells: the query q, seen as the trees of its parts, is that of a derivation of the bytes.
-pub record QuerySpells (bytes : List ℕ) (q : List ExprTree) : Type 0 where
+-- A derivation spells the tokens, nesting at most 200 constructs, and its tree is q.
+pub record Spells (ts : List Tok) (q : List ExprTree) : Type 0 where
   pub derivation : Derivation
-  pub derived : IsDerivedBy bytes derivation
+  pub derives : Derives 200 (tokens_of ts) derivation
   pub tree : derivation_tree derivation ≡ q
+
+-- QuerySpells: the bytes spell the query q, which is seen as the trees of its parts.
+abbrev pub QuerySpells : (bytes : List ℕ) (q : List ExprTree) → Type 0
+QuerySpells bytes q = HasTokens bytes (λ ts. Spells ts q)
