@@ -7,3 +7,8 @@ mod Back
 mod Growth
 mod Tags
 mod Refused
+mod Noted
+mod Soundness
+mod Verdict
+mod Answered
+mod Reported
