@@ -26,7 +26,7 @@ use Rattle.xq_parse.specs.Tokens.{Token, TName, TVar, TNum, TStr, TSlash, TSlash
 use Rattle.xq_parse.specs.Grammar as g
 use Rattle.xq_parse.specs.Grammar.{a_step, a_clause, any_of, seq_of, test_tokens, test_tree, step_tokens, step_tree, steps_tokens, path_tokens, path_tree, source_tokens, operand_tokens, operand_tree, literal_token, literal_tree, rel_sign, cond_tokens, cond_tree, ors_tokens, ors_tree, all_tokens, all_tree, ands_tokens, ands_tree, atom_tokens, atom_tree, CondFits, OrsFits, AllFits, AndsFits, AtomFits, clause_tokens, clause_tree, clauses_tokens, clauses_tree, where_tokens, where_tree, WhereFits, expr_tokens, expr_tree, ExprFits, inner_tokens, inner_tree, InnerFits, rest_tokens, rest_tree, RestFits, tag_tokens, tag_tree, TagFits, content_tokens, content_tree, ContentFits}
 use Rattle.xq_parse.specs.Places.{Scope, step_place, clause_scope, clauses_scope}
-use Rattle.xq_parse.specs.Machine.{State, Found, done, sign, word, end_name, var, name, axis, axis_or_name, test, call_or_name, first_step, steps, source, path, rel, operand, atom, ands, ors, expr, rest, inner, clauses, condition, tag, content, no_trail, a_var, a_route, seen, seen_in_order, steps_behind, steps_state, with_start, side_seen, path_seen, close_list, after_brace, after_nested, more_ands, more_ors, more_rest, more_clauses, with_filter, all_state, cond_state, clause_state, for_state, if_state, elem_state, group_state, not_state, exists_state, true_state, literal_state, compare_state, braces_state, listed_state, members, kind_test, axis_named, rel_of, step, whole, at_test, at_axis, at_step, at_path, at_source, at_found, at_operand, at_atom, at_expr, opens}
+use Rattle.xq_parse.specs.Machine.{State, Found, done, sign, word, end_name, var, name, axis, axis_or_name, test, call_or_name, first_step, steps, source, path, rel, operand, atom, ands, ors, expr, rest, inner, clauses, condition, tag, content, no_trail, a_var, a_route, seen, seen_in_order, steps_behind, steps_state, with_start, side_seen, path_seen, close_list, after_brace, after_nested, more_ands, more_ors, more_rest, more_clauses, with_filter, all_state, cond_state, clause_state, for_state, head_state, if_state, elem_state, group_state, not_state, exists_state, true_state, literal_state, compare_state, braces_state, listed_state, members, kind_test, axis_named, rel_of, step, whole, at_test, at_axis, at_step, at_path, at_source, at_found, at_operand, at_atom, at_expr, opens}
 use Rattle.xq_parse.specs.Reading.{a_found}
 use Rattle.xq_parse.proofs.Lang.{AxisTest, child_axis, descendant_axis, no_axis, axis_tree, axis_tokens, Behind, colons, bare, colons_tokens, colons_tree, Call, called, uncalled, call_tokens, call_tree, Begins, Lang}
 use Rattle.xq_parse.proofs.Routes.{from_var_is, from_root_is, in_var_is, in_root_is}
@@ -51,6 +51,10 @@ chosen false x y z e = inr (refl, e)
 pub guarded : (b : Bool) (s u : State) (why : Why) → cond b (okay s) (Err why) ≡ okay u → (b ≡ true) × (okay s ≡ okay u)
 guarded true s u why e = (refl, e)
 guarded false s u why e = absurd cc
+
+picked : (b : Bool) (x y u : State) → okay (cond b x y) ≡ okay u → ((b ≡ true) × (okay x ≡ okay u)) ⊎ ((b ≡ false) × (okay y ≡ okay u))
+picked true x y u e = inl (refl, e)
+picked false x y u e = inr (refl, e)
 
 either : (a b : Bool) → a || b ≡ true → (a ≡ true) ⊎ (b ≡ true)
 either true b e = inl refl
@@ -97,7 +101,7 @@ seq2 a b r p q = p ∙ ap (λ (l : List Token). a ++ l) q ∙ sym (append_assoc 
 -- ---- steps
 
 test_back : (limit : ℕ) (d : Axis) (k : Step → State) (t : Token) (w : List Token) (p : Found) (u : State) → at_test d k t ≡ okay u → Lang limit u w p → Lang limit (test d k) (t ∷ w) p
-test_back limit d k (TName x) w p u e h = go (chosen (bytes_eq x text_ || bytes_eq x node_) (Ok (call_or_name d x k)) (Ok (k (a_step d (tests.Named x)))) (okay u) e)
+test_back limit d k (TName x) w p u e h = go (picked (bytes_eq x text_ || bytes_eq x node_) (call_or_name d x k) (k (a_step d (tests.Named x))) u e)
   where
     word_call : (y : List ℕ) → x ≡ y → (t : g.Test) → test_tokens t ≡ TName y ∷ TSign signs.ParenOpen ∷ TSign signs.ParenClose ∷ [] → test_tree t ≡ kind_test y → Begins (call_tokens called) w (λ ws. Lang limit (k (a_step d (kind_test x))) ws p) → Lang limit (test d k) (TName x ∷ w) p
     word_call y xy t i j b = (t, record { behind = b.behind; parts = ap (λ (l : List Token). TName x ∷ l) b.parts ∙ ap (λ (v : List ℕ). TName v ∷ TSign signs.ParenOpen ∷ TSign signs.ParenClose ∷ b.behind) xy ∙ ap (λ (l : List Token). l ++ b.behind) (sym i); goes_on = subst (λ (v : NodeTest). Lang limit (k (a_step d v)) b.behind p) (ap kind_test xy ∙ sym j) b.goes_on })
@@ -440,7 +444,7 @@ for_back limit n sc m k w p f h =
     )
 
 if_back : (limit n : ℕ) (sc : Scope) (m : Marks) (k : Marks → ExprTree → State) (w : List Token) (p : Found) → nat_lt n limit ≡ true → Lang limit (if_state (n + 1) sc m k) w p → Lang limit (expr n sc m k) (TName if_ ∷ w) p
-unfolding if_state
+unfolding if_state head_state
 if_back limit n sc m k w p f h =
     let d = n + 1 in
     let next : Marks → CondTree → State = λ m c. sign signs.ParenClose (word then_ (expr d sc m (λ m a. word else_ (expr d sc m (λ m b. k m (q.If c a b)))))) in

@@ -22,7 +22,7 @@ use Rattle.xq_parse.specs.Tokens.{Token, TName, TVar, TNum, TStr, TSlash, TSlash
 use Rattle.xq_parse.specs.Grammar as g
 use Rattle.xq_parse.specs.Grammar.{a_step, a_clause, all_of, any_of, seq_of, test_tokens, test_tree, step_tokens, step_tree, steps_tokens, path_tokens, path_tree, source_tokens, operand_tokens, operand_tree, literal_token, literal_tree, rel_sign, cond_tokens, cond_tree, ors_tokens, ors_tree, all_tokens, all_tree, ands_tokens, ands_tree, atom_tokens, atom_tree, CondFits, OrsFits, AllFits, AndsFits, AtomFits, clause_tokens, clause_tree, clauses_tokens, clauses_tree, where_tokens, where_tree, WhereFits, expr_tokens, expr_tree, ExprFits, inner_tokens, inner_tree, InnerFits, rest_tokens, rest_tree, RestFits, tag_tokens, tag_tree, TagFits, content_tokens, content_tree, ContentFits}
 use Rattle.xq_parse.specs.Places.{Scope, step_place, clause_scope, clauses_scope}
-use Rattle.xq_parse.specs.Machine.{State, Found, done, sign, word, axis, axis_or_name, test, call_or_name, first_step, steps, source, path, rel, operand, atom, ands, ors, expr, rest, inner, clauses, condition, tag, content, no_trail, a_var, a_route, no_marks, seen, seen_in_order, steps_behind, steps_state, with_start, side_seen, path_seen, close_list, after_brace, after_nested, more_ands, more_ors, more_rest, more_clauses, with_filter, atoms_state, all_state, alls_state, cond_state, clause_state, clauses_state, list_state, for_state, if_state, elem_state, group_state, not_state, exists_state, literal_state, compare_state, members, step, start}
+use Rattle.xq_parse.specs.Machine.{State, Found, done, sign, word, axis, axis_or_name, test, call_or_name, first_step, steps, source, path, rel, operand, atom, ands, ors, expr, rest, inner, clauses, condition, tag, content, no_trail, a_var, a_route, no_marks, seen, seen_in_order, steps_behind, steps_state, with_start, side_seen, path_seen, close_list, after_brace, after_nested, more_ands, more_ors, more_rest, more_clauses, with_filter, atoms_state, all_state, alls_state, cond_state, clause_state, clauses_state, list_state, for_state, head_state, if_state, elem_state, group_state, not_state, exists_state, literal_state, compare_state, members, step, start}
 use Rattle.xq_parse.specs.Reading.{a_found}
 use Rattle.xq_parse.proofs.Lang.{reads, onto}
 use Rattle.xq_parse.proofs.Routes.{from_var_is, from_root_is, in_var_is, in_root_is}
@@ -81,7 +81,7 @@ colons_over limit x k (TSign s ∷ ts) h = refl
 
 name_reads : (limit : ℕ) (d : Axis) (k : Step → State) (x : List ℕ) (ts : List Token) → no_call ts ≡ true → reads limit (test d k) (TName x ∷ ts) ≡ reads limit (k (a_step d (tests.Named x))) ts
 name_reads limit d k x ts h =
-    elim (bytes_eq x text_ || bytes_eq x node_) as (λ (b : Bool). onto (cond b (Ok (call_or_name d x k)) (Ok (k (a_step d (tests.Named x))))) (λ u. reads limit u ts) ≡ reads limit (k (a_step d (tests.Named x))) ts)
+    elim (bytes_eq x text_ || bytes_eq x node_) as (λ (b : Bool). reads limit (cond b (call_or_name d x k) (k (a_step d (tests.Named x)))) ts ≡ reads limit (k (a_step d (tests.Named x))) ts)
     [ true ↦ call_over limit d x k ts h | false ↦ refl ]
 
 pub test_reads : (limit : ℕ) (d : Axis) (k : Step → State) (t : g.Test) (ts : List Token) → no_call ts ≡ true → reads limit (test d k) (test_tokens t ++ ts) ≡ reads limit (k (a_step d (test_tree t))) ts
@@ -405,7 +405,7 @@ bytes_same : (x : List ℕ) → bytes_eq x x ≡ true
 bytes_same x = (bytes_eq-Decides x x).1 refl
 
 mutual
-  unfolding for_state if_state elem_state
+  unfolding for_state if_state head_state elem_state
 
   pub expr_reads : (limit n : ℕ) (sc : Scope) (m : Marks) (k : Marks → ExprTree → State) (e : g.Expr) (ts : List Token) → ExprFits limit n e → no_step ts ≡ true → reads limit (expr n sc m k) (expr_tokens e ++ ts) ≡ reads limit (k (expr_marks sc m e) (expr_tree e)) ts
   expr_reads limit n sc m k (g.for_expr c cs w e) ts f h =

@@ -72,7 +72,7 @@ name_not k (TName x) = tt
 name_not k t = tt
 
 test_not : (d : Axis) (k : Step → State) (t : Token) → NotNesting (at_test d k t)
-test_not d k (TName x) = cond_not (bytes_eq x text_ || bytes_eq x node_) (Ok (call_or_name d x k)) (Ok (k (a_step d (tests.Named x)))) tt tt
+test_not d k (TName x) = tt
 test_not d k (TSign signs.Star) = tt
 test_not d k t = tt
 
@@ -91,9 +91,13 @@ first_not k (TSlashes at) = tt
 first_not k t = tt
 
 path_not : (k : Route → State) (t : Token) → NotNesting (at_path k t)
+path_not k (TSlash at) = tt
+path_not k (TSlashes at) = tt
 path_not k t = tt
 
 source_not : (k : Route → State) (t : Token) → NotNesting (at_source k t)
+source_not k (TSlash at) = tt
+source_not k (TSlashes at) = tt
 source_not k t = tt
 
 rel_not : (k : Rel → State) (t : Token) → NotNesting (at_rel k t)
@@ -105,6 +109,8 @@ rel_not k (TSign s) = found_not s
 rel_not k t = tt
 
 operand_not : (sc : Scope) (m : Marks) (k : Marks → QOperand → State) (t : Token) → NotNesting (at_operand sc m k t)
+operand_not sc m k (TSlash at) = tt
+operand_not sc m k (TSlashes at) = tt
 operand_not sc m k t = tt
 
 tag_not : (n : ℕ) (sc : Scope) (m : Marks) (x : List ℕ) (k : Marks → List ExprTree → State) (t : Token) → NotNesting (at_tag n sc m x k t)

@@ -1,5 +1,5 @@
 -- The machine gives what tokens spell, or their fault.
-use Rattle.std.proofs.Common.{ℕ, ◌≡◌, ◌+◌, ◌≤◌, Bool, true, cond, List, [], ◌∷◌, ◌++◌, length, map, Option, Some, None, Result, Ok, Err, refl, sym, ap, ◌∙◌, subst, append_assoc, append-nil, arith, inl, inr, ◌⊎◌}
+use Rattle.std.proofs.Common.{ℕ, ◌≡◌, ◌+◌, ◌≤◌, Bool, true, false, cond, List, [], ◌∷◌, ◌++◌, length, map, Option, Some, None, Result, Ok, Err, refl, sym, ap, ◌∙◌, subst, append_assoc, append-nil, arith, inl, inr, ◌⊎◌}
 use Rattle.std.specs.Prelude.{bytes_eq}
 use Rattle.xq_lex.specs.declared.sign.Sign.TheVariants as signs
 use Rattle.xq_lex.specs.declared.token.Tok.{Tok}
@@ -231,10 +231,10 @@ refused [] b s r st h e = inr (go (whole s) refl)
           soon = record {
             good = subst (Viable 200) (sym all_of_it) (reaches_viable 200 (tokens_of b) s (h 200 (omega arith)));
             bad = λ (q : Derivation) (sp : Derives 200 (tokens_of (b ++ [])) q).
-              let i : Some (found_of q) ≡ None = sym (derives_reads 200 (tokens_of (b ++ [])) q sp) ∙ ap (reads 200 start) (all_of_it ∙ sym (append-nil (tokens_of b))) ∙ (h 200 (omega arith)).forward [] ∙ d in absurd cc;
+                let i : Some (found_of q) ≡ None = sym (derives_reads 200 (tokens_of (b ++ [])) q sp) ∙ ap (reads 200 start) (all_of_it ∙ sym (append-nil (tokens_of b))) ∙ (h 200 (omega arith)).forward [] ∙ d in absurd cc;
           };
         }
-refused (t ∷ ts) b s r st h e = go (step 200 s (token_of t)) refl
+refused (t ∷ ts) b s r st h e = go (step 200 s (token_of t)) refl (λ (u : State) (d : step 200 s (token_of t) ≡ okay u). refused ts (b ++ (t ∷ [])) u r)
   where
     snoc : tokens_of (b ++ (t ∷ [])) ≡ tokens_of b ++ (token_of t ∷ [])
     snoc = tokens_join b (t ∷ [])
@@ -242,14 +242,15 @@ refused (t ∷ ts) b s r st h e = go (step 200 s (token_of t)) refl
     after : (x : Result State Why) → step 200 s (token_of t) ≡ x → forth (length (t ∷ ts)) x (λ v. run 200 v ts) ≡ Err r
     after x d = sym (ap (λ (x : Result State Why). forth (length (t ∷ ts)) x (λ v. run 200 v ts)) d) ∙ e
 
-    go : (x : Result State Why) → step 200 s (token_of t) ≡ x → Stopped (b ++ (t ∷ ts)) r
-    go (Ok u) d =
+    go : (x : Result State Why) → step 200 s (token_of t) ≡ x →
+        ((u : State) → step 200 s (token_of t) ≡ okay u → Stands (tokens_of (b ++ (t ∷ []))) u → ((m : ℕ) → 200 ≤ m → Reaches m (tokens_of (b ++ (t ∷ []))) u) → run 200 u ts ≡ Err r → Stopped ((b ++ (t ∷ [])) ++ ts) r) → Stopped (b ++ (t ∷ ts)) r
+    go (Ok u) d rec =
         let there = stands_step 200 (tokens_of b) s u (token_of t) st d in
         subst (λ (l : List Tok). Stopped l r) (append_assoc b (t ∷ []) ts)
-        (refused ts (b ++ (t ∷ [])) u r (subst (λ (l : List Token). Stands l u) (sym snoc) there)
+        (rec u d (subst (λ (l : List Token). Stands l u) (sym snoc) there)
             (λ (m : ℕ) (g : 200 ≤ m). subst (λ (l : List Token). Reaches m l u) (sym snoc) (reaches_step m (tokens_of b) s u (token_of t) (h m g) (step_more 200 m s u (token_of t) g d)))
             (after (Ok u) d))
-    go (Err why) d =
+    go (Err why) d rec =
         let is : a_stop why (length (t ∷ ts)) ≡ r = err_is _ r (after (Err why) d) in
         inl (record {
           front = b;
@@ -276,14 +277,14 @@ run_reads s [] f e = go (whole s) refl
     go : (x : Option Found) → whole s ≡ x → Lang 200 s [] f
     go (Some p) d = whole_back 200 s f (d ∙ ap Some (ok_is p f (sym (ap over d) ∙ e)))
     go None d = let i : over (whole s) ≡ Ok f = e in let j = ap over d in absurd cc
-run_reads s (t ∷ ts) f e = go (step 200 s (token_of t)) refl
+run_reads s (t ∷ ts) f e = go (step 200 s (token_of t)) refl (λ (u : State). run_reads u ts f)
   where
     after : (x : Result State Why) → step 200 s (token_of t) ≡ x → forth (length (t ∷ ts)) x (λ v. run 200 v ts) ≡ Ok f
     after x d = sym (ap (λ (x : Result State Why). forth (length (t ∷ ts)) x (λ v. run 200 v ts)) d) ∙ e
 
-    go : (x : Result State Why) → step 200 s (token_of t) ≡ x → Lang 200 s (token_of t ∷ tokens_of ts) f
-    go (Ok u) d = step_back 200 s (token_of t) (tokens_of ts) f u d (run_reads u ts f (after (Ok u) d))
-    go (Err why) d = let i : Err (a_stop why (length (t ∷ ts))) ≡ Ok f = after (Err why) d in absurd cc
+    go : (x : Result State Why) → step 200 s (token_of t) ≡ x → ((u : State) → run 200 u ts ≡ Ok f → Lang 200 u (tokens_of ts) f) → Lang 200 s (token_of t ∷ tokens_of ts) f
+    go (Ok u) d rec = step_back 200 s (token_of t) (tokens_of ts) f u d (rec u (after (Ok u) d))
+    go (Err why) d rec = let i : Err (a_stop why (length (t ∷ ts))) ≡ Ok f = after (Err why) d in absurd cc
 
 pub found : (ts : List Tok) (f : Found) → run 200 start ts ≡ Ok f → IsFound 200 (tokens_of ts) f
 found ts f e = start_spells 200 (tokens_of ts) f (run_reads start ts f e)

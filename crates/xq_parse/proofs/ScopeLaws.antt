@@ -1,5 +1,5 @@
 -- Scopes that grow and are left.
-use Rattle.std.proofs.Common.{ℕ, suc, ◌≡◌, ◌≤◌, ◌-◌, ◌+◌, Bool, true, false, ◌||◌, List, [], ◌∷◌, ◌++◌, length, drop, take, reverse, refl, sym, ap, ◌∙◌, arith}
+use Rattle.std.proofs.Common.{ℕ, suc, ◌≡◌, ◌≤◌, ◌-◌, ◌+◌, Bool, true, false, ◌||◌, List, [], ◌∷◌, ◌++◌, length, drop, take, reverse, refl, sym, ap, ◌∙◌, subst, arith}
 use Rattle.std.specs.List.{list_any}
 use Rattle.std.proofs.Math.Seq.{drop-append_seam}
 use Rattle.std.proofs.lemmas.List.{reverse-append, length-reverse, length-drop, take-append-drop}
@@ -15,6 +15,13 @@ extends_more x inner outer e =
     let h = e.longer in
     let n : length (x ∷ inner) - length outer ≡ suc (length inner - length outer) = omega arith in
     record { longer = omega arith; same = ap (λ (n : ℕ). drop n (x ∷ inner)) n ∙ e.same }
+
+-- the scope behind one clause more
+pub extends_after : (x : List ℕ) (after inner outer : Scope) → after ≡ x ∷ inner → Extends inner outer → Extends after outer
+extends_after x after inner outer a e = subst (λ (s : Scope). Extends s outer) (sym a) (extends_more x inner outer e)
+
+pub extends_one : (x : List ℕ) (after outer : Scope) → after ≡ x ∷ outer → Extends after outer
+extends_one x after outer a = extends_after x after outer outer a (extends_same outer)
 
 pub left : (xs : Scope) (n : ℕ) → n ≤ length (reverse xs) → reverse (take n xs) ≡ drop (length (reverse xs) - n) (reverse xs)
 left xs n h =

@@ -22,7 +22,7 @@ use Rattle.xq_parse.specs.Signs.{sign_eq}
 use Rattle.xq_parse.specs.Tokens.{Token, TName, TVar, TNum, TStr, TSlash, TSlashes, TSign, for_, in_, where_, return_, if_, then_, else_, or_, and_, not_, true_, exists_, text_, node_, child_, descendant_}
 use Rattle.xq_parse.specs.Grammar.{a_step, a_clause, all_of, any_of, seq_of}
 use Rattle.xq_parse.specs.Places.{Scope}
-use Rattle.xq_parse.specs.Machine.{State, Found, done, sign, word, end_name, var, name, axis, axis_or_name, test, call_or_name, first_step, steps, source, path, rel, operand, atom, ands, ors, expr, rest, inner, clauses, condition, tag, content, added, no_trail, a_var, a_route, seen, seen_in_order, steps_behind, steps_state, with_start, side_seen, path_seen, close_list, after_brace, after_nested, more_ands, more_ors, more_rest, more_clauses, with_filter, all_state, cond_state, clause_state, for_state, if_state, elem_state, group_state, not_state, exists_state, true_state, literal_state, compare_state, braces_state, listed_state, list_state, members, kind_test, axis_named, rel_of, step, start, at_test, at_axis, at_step, at_path, at_source, at_found, at_operand, at_atom, at_expr, at_content, opens}
+use Rattle.xq_parse.specs.Machine.{State, Found, done, sign, word, end_name, var, name, axis, axis_or_name, test, call_or_name, first_step, steps, source, path, rel, operand, atom, ands, ors, expr, rest, inner, clauses, condition, tag, content, added, no_trail, a_var, a_route, seen, seen_in_order, steps_behind, steps_state, with_start, side_seen, path_seen, close_list, after_brace, after_nested, more_ands, more_ors, more_rest, more_clauses, with_filter, all_state, cond_state, clause_state, for_state, head_state, if_state, elem_state, group_state, not_state, exists_state, true_state, literal_state, compare_state, braces_state, listed_state, list_state, members, kind_test, axis_named, rel_of, step, start, at_test, at_axis, at_step, at_path, at_source, at_found, at_operand, at_atom, at_expr, at_content, opens}
 
 abbrev pub IsOther : State → Type 0
 IsOther (end_name x s) = ⊥
@@ -87,6 +87,10 @@ kept_cond : (b : Bool) (t : Token) (x y : Result State Why) → Kept t x → Kep
 kept_cond true t x y p q = p
 kept_cond false t x y p q = q
 
+calm_cond : (b : Bool) (x y : State) → Calm x → Calm y → Calm (cond b x y)
+calm_cond true x y p q = p
+calm_cond false x y p q = q
+
 -- ---- rules
 
 all_calm : (n : ℕ) (sc : Scope) (m : Marks) (k : Marks → CondTree → State) → CalmCond k → Calm (all_state n sc m k)
@@ -127,10 +131,10 @@ for_calm : (n : ℕ) (sc : Scope) (m : Marks) (k : Marks → ExprTree → State)
 unfolding for_state
 for_calm n sc m k h =
     clause_calm sc m (more_clauses sc [] (λ sc m cs. condition n sc m (λ m w. word return_ (expr n sc m (λ m e. k m (q.For cs w e))))))
-        (λ (m : Marks) (c : Clause). (λ (sc : Scope) (m : Marks) (cs : List Clause). (λ (m : Marks) (w : Option CondTree). ((λ (m : Marks) (e : ExprTree). h m (q.For cs w e), tt), tt), tt), tt))
+    (λ (m : Marks) (c : Clause). (λ (sc : Scope) (m : Marks) (cs : List Clause). (λ (m : Marks) (w : Option CondTree). ((λ (m : Marks) (e : ExprTree). h m (q.For cs w e), tt), tt), tt), tt))
 
 if_calm : (n : ℕ) (sc : Scope) (m : Marks) (k : Marks → ExprTree → State) → CalmExpr k → Calm (if_state n sc m k)
-unfolding if_state
+unfolding if_state head_state
 if_calm n sc m k h =
     let next : Marks → CondTree → State = λ m c. sign signs.ParenClose (word then_ (expr n sc m (λ m a. word else_ (expr n sc m (λ m b. k m (q.If c a b)))))) in
     ((cond_calm n sc m next (λ (m : Marks) (c : CondTree). (((((λ (m : Marks) (a : ExprTree). ((λ (m : Marks) (b : ExprTree). h m (q.If c a b), tt), tt), tt), tt), refl)), tt)), refl), tt)
@@ -154,7 +158,7 @@ opens_kept : (limit n : ℕ) (t : Token) (s : State) → Kept t (Ok s) → Kept 
 opens_kept limit n t s h = kept_cond (nat_lt n limit) t (Ok s) (Err Nesting) h tt
 
 test_kept : (a : Axis) (k : Step → State) (t : Token) → ((s : Step) → Calm (k s)) → Kept t (at_test a k t)
-test_kept a k (TName x) h = kept_cond (bytes_eq x text_ || bytes_eq x node_) (TName x) (Ok (call_or_name a x k)) (Ok (k (a_step a (tests.Named x)))) (h, tt) (h (a_step a (tests.Named x)))
+test_kept a k (TName x) h = calm_cond (bytes_eq x text_ || bytes_eq x node_) (call_or_name a x k) (k (a_step a (tests.Named x))) (h, tt) (h (a_step a (tests.Named x)))
 test_kept a k (TSign signs.Star) h = h (a_step a tests.AnyElement)
 test_kept a k t h = tt
 
@@ -201,9 +205,9 @@ operand_kept sc m k t h = path_kept (side_seen sc m k) t (λ (r : Route). h (see
 atom_kept : (limit n : ℕ) (sc : Scope) (m : Marks) (k : Marks → CondTree → State) (t : Token) → CalmCond k → Kept t (at_atom limit n sc m k t)
 atom_kept limit n sc m k (TName x) h =
     kept_cond (bytes_eq x not_) (TName x) (opens limit n (not_state (n + 1) sc m k)) (cond (bytes_eq x true_) (Ok (true_state m k)) (cond (bytes_eq x exists_) (Ok (exists_state sc m k)) (Err Syntax)))
-        (opens_kept limit n (TName x) (not_state (n + 1) sc m k) (not_calm (n + 1) sc m k h))
-        (kept_cond (bytes_eq x true_) (TName x) (Ok (true_state m k)) (cond (bytes_eq x exists_) (Ok (exists_state sc m k)) (Err Syntax)) (true_calm m k h)
-            (kept_cond (bytes_eq x exists_) (TName x) (Ok (exists_state sc m k)) (Err Syntax) (exists_calm sc m k h) tt))
+    (opens_kept limit n (TName x) (not_state (n + 1) sc m k) (not_calm (n + 1) sc m k h))
+    (kept_cond (bytes_eq x true_) (TName x) (Ok (true_state m k)) (cond (bytes_eq x exists_) (Ok (exists_state sc m k)) (Err Syntax)) (true_calm m k h)
+    (kept_cond (bytes_eq x exists_) (TName x) (Ok (exists_state sc m k)) (Err Syntax) (exists_calm sc m k h) tt))
 atom_kept limit n sc m k (TSign signs.ParenOpen) h = opens_kept limit n (TSign signs.ParenOpen) (group_state (n + 1) sc m k) (group_calm (n + 1) sc m k h)
 atom_kept limit n sc m k (TStr x) h = literal_calm (sides.Str x) sc m k h
 atom_kept limit n sc m k (TNum x) h = literal_calm (sides.Num x) sc m k h
@@ -212,8 +216,8 @@ atom_kept limit n sc m k t h = path_kept (compare_state sc m k) t (compare_calm 
 expr_kept : (limit n : ℕ) (sc : Scope) (m : Marks) (k : Marks → ExprTree → State) (t : Token) → CalmExpr k → Kept t (at_expr limit n sc m k t)
 expr_kept limit n sc m k (TName x) h =
     kept_cond (bytes_eq x for_) (TName x) (opens limit n (for_state (n + 1) sc m k)) (cond (bytes_eq x if_) (opens limit n (if_state (n + 1) sc m k)) (Err Syntax))
-        (opens_kept limit n (TName x) (for_state (n + 1) sc m k) (for_calm (n + 1) sc m k h))
-        (kept_cond (bytes_eq x if_) (TName x) (opens limit n (if_state (n + 1) sc m k)) (Err Syntax) (opens_kept limit n (TName x) (if_state (n + 1) sc m k) (if_calm (n + 1) sc m k h)) tt)
+    (opens_kept limit n (TName x) (for_state (n + 1) sc m k) (for_calm (n + 1) sc m k h))
+    (kept_cond (bytes_eq x if_) (TName x) (opens limit n (if_state (n + 1) sc m k)) (Err Syntax) (opens_kept limit n (TName x) (if_state (n + 1) sc m k) (if_calm (n + 1) sc m k h)) tt)
 expr_kept limit n sc m k (TSign signs.Lt) h = opens_kept limit n (TSign signs.Lt) (elem_state (n + 1) sc m k) (elem_calm (n + 1) sc m k h)
 expr_kept limit n sc m k (TSign signs.ParenOpen) h = opens_kept limit n (TSign signs.ParenOpen) (inner (n + 1) sc m k) (h, tt)
 expr_kept limit n sc m k t h = path_kept (path_seen sc m k) t (λ (r : Route). h (seen_in_order sc m r) (q.Path r.path))

@@ -99,7 +99,7 @@ place_end ts end = let n : length ts - 0 ≡ length ts = omega arith in ap (λ (
 token_fault : (ts : List Tok) (end : ℕ) (why : Why) (left : ℕ) → StopsIn ts (a_stop why left) → GrammarFault ts end (fault_at why (place_at ts left end))
 token_fault ts end whys.Syntax left s = inl (record { front = s.front; token = s.token; behind = s.behind; parts = s.parts; place = place_is ts s.front s.behind s.token left end s.parts s.left; good = s.good; bad = s.bad; kind = s.kind })
 token_fault ts end whys.TagMismatch left s = record { front = s.front; token = s.token; behind = s.behind; parts = s.parts; place = place_is ts s.front s.behind s.token left end s.parts s.left; good = s.good; bad = s.bad; kind = s.kind }
-token_fault ts end whys.Nesting left s = (refl, s.token.from, record { front = s.front; token = s.token; behind = s.behind; parts = s.parts; place = refl; good = s.good; bad = s.bad; kind = s.kind })
+token_fault ts end whys.Nesting left s = (refl, (s.token.from, record { front = s.front; token = s.token; behind = s.behind; parts = s.parts; place = refl; good = s.good; bad = s.bad; kind = s.kind }))
 
 end_fault : (ts : List Tok) (end : ℕ) (why : Why) (left : ℕ) → StopsBehind ts (a_stop why left) → GrammarFault ts end (fault_at why (place_at ts left end))
 end_fault ts end whys.Syntax left s = inr (ap (λ (k : ℕ). place_at ts k end) s.left ∙ place_end ts end, s.soon)
@@ -266,7 +266,7 @@ pub fault_judged : (ts : List Tok) (end : ℕ) (f : QueryFault) → GrammarFault
 fault_judged ts end (Syntax at) (inl h) = token_judged ts end at IsSyntax whys.Syntax syntax_is h
 fault_judged ts end (Syntax at) (inr s) = soon_judged ts end s.1 ∙ ap (λ (n : ℕ). let e : Verdict = Err (Syntax n) in e) (sym s.0)
 fault_judged ts end (TagMismatch at) h = token_judged ts end at IsTagMismatch whys.TagMismatch mismatch_is h
-fault_judged ts end (TooLarge Nesting limit) h = token_judged ts end h.1 IsTooDeep whys.Nesting nesting_is h.2 ∙ ap (λ (n : ℕ). let e : Verdict = Err (TooLarge Nesting n) in e) (sym h.0)
+fault_judged ts end (TooLarge Nesting limit) h = token_judged ts end h.1.0 IsTooDeep whys.Nesting nesting_is h.1.1 ∙ ap (λ (n : ℕ). let e : Verdict = Err (TooLarge Nesting n) in e) (sym h.0)
 fault_judged ts end (UnknownVar at) h = derived_judged ts end h.0 h.1 ∙ ap (λ (o : Option ℕ). judge_marks o (head (late_of h.0)) (derivation_tree h.0)) (ap head h.2.1)
 fault_judged ts end (DescendantNotLast at) h = derived_judged ts end h.0 h.1 ∙ ap (λ (o : Option ℕ). judge_marks o (head (late_of h.0)) (derivation_tree h.0)) (ap head h.2.0) ∙ ap (λ (o : Option ℕ). judge_marks None o (derivation_tree h.0)) (ap head h.2.1.1)
 fault_judged ts end (TooLarge Text limit) h = absurd h

@@ -1,8 +1,6 @@
 -- What the machine expects behind a token that was looked at.
-use Rattle.std.specs.Prelude.{ℕ, ◌≡◌, ◌+◌, ◌-◌, ◌<◌, ◌≤◌, ◌||◌, if◌then◌else◌, bytes_eq, length, drop, List, Option, Some, None}
-use Rattle.gcx_base.specs.declared.steps.Axis.{Axis}
+use Rattle.std.specs.Prelude.{ℕ, ◌≡◌, ◌+◌, ◌-◌, ◌<◌, ◌≤◌, length, drop, List, Option, Some, None}
 use Rattle.gcx_base.specs.declared.steps.Axis.TheVariants as axes
-use Rattle.gcx_base.specs.declared.steps.Test.TheVariants as tests
 use Rattle.gcx_base.specs.declared.steps.Step.{Step}
 use Rattle.gcx_model.specs.declared.query.QOperand.{QOperand}
 use Rattle.gcx_model.specs.Query.{CondTree, ExprTree}
@@ -16,17 +14,12 @@ use Rattle.xq_parse.specs.declared.expressions.ExprStart.{ExprStart}
 use Rattle.xq_parse.specs.declared.expressions.ExprStart.TheVariants as exprs
 use Rattle.xq_parse.specs.declared.expressions.Part.{Part}
 use Rattle.xq_parse.specs.declared.expressions.Part.TheVariants as parts
-use Rattle.xq_parse.specs.Tokens.{text_, node_}
-use Rattle.xq_parse.specs.Grammar.{a_step}
 use Rattle.xq_parse.specs.Places.{Scope}
-use Rattle.xq_parse.specs.Machine.{State, sign, end_name, axis_or_name, call_or_name, test, steps, steps_state, no_trail, with_start, path, inner, side_seen, path_seen, not_state, true_state, exists_state, group_state, literal_state, compare_state, for_state, if_state, elem_state, after_nested, braces_state}
+use Rattle.xq_parse.specs.Machine.{State, sign, end_name, axis_or_name, test, steps, steps_state, no_trail, with_start, path, inner, side_seen, path_seen, not_state, true_state, exists_state, group_state, literal_state, compare_state, for_state, if_state, elem_state, after_nested, braces_state}
 
 abbrev pub axis_found : Option (List ℕ) → (Step → State) → State
 axis_found None k = test axes.Child k
 axis_found (Some x) k = axis_or_name x k
-
-abbrev pub name_behind : Axis → List ℕ → (Step → State) → State
-name_behind a x k = if bytes_eq x text_ || bytes_eq x node_ then call_or_name a x k else k (a_step a (tests.Named x))
 
 abbrev pub path_behind : Option Var → (Route → State) → State
 path_behind None k = steps_state (with_start None k)

@@ -123,8 +123,16 @@ list_state n sc m k = expr n sc m (λ m e. rest n sc m (e ∷ []) k)
 unfoldable pub for_state : ℕ → Scope → Marks → (Marks → ExprTree → State) → State
 for_state n sc m k = clauses_state sc m (λ sc m cs. condition n sc m (λ m w. word return_ (expr n sc m (λ m e. k m (q.For cs w e)))))
 
+-- "(" Cond ")" "then"
+unfoldable pub head_state : ℕ → Scope → Marks → (Marks → CondTree → State) → State
+head_state n sc m k = sign signs.ParenOpen (cond_state n sc m (λ m c. sign signs.ParenClose (word then_ (k m c))))
+
+-- "else" Expr
+abbrev pub else_state : ℕ → Scope → Marks → (Marks → ExprTree → State) → State
+else_state n sc m k = word else_ (expr n sc m k)
+
 unfoldable pub if_state : ℕ → Scope → Marks → (Marks → ExprTree → State) → State
-if_state n sc m k = sign signs.ParenOpen (cond_state n sc m (λ m c. sign signs.ParenClose (word then_ (expr n sc m (λ m a. word else_ (expr n sc m (λ m b. k m (q.If c a b))))))))
+if_state n sc m k = head_state n sc m (λ m c. expr n sc m (λ m a. else_state n sc m (λ m b. k m (q.If c a b))))
 
 unfoldable pub elem_state : ℕ → Scope → Marks → (Marks → ExprTree → State) → State
 elem_state n sc m k = name (λ x. tag n sc m x (λ m es. k m (q.Elem x (exprs_of es))))
@@ -166,8 +174,12 @@ abbrev pub at_name : (List ℕ → State) → Token → Result State Why
 at_name k (TName x) = Ok (k x)
 at_name k t = Err Syntax
 
+-- behind the name of a test
+abbrev pub name_behind : Axis → List ℕ → (Step → State) → State
+name_behind a x k = if bytes_eq x text_ || bytes_eq x node_ then call_or_name a x k else k (a_step a (tests.Named x))
+
 abbrev pub at_test : Axis → (Step → State) → Token → Result State Why
-at_test a k (TName x) = if bytes_eq x text_ || bytes_eq x node_ then Ok (call_or_name a x k) else Ok (k (a_step a (tests.Named x)))
+at_test a k (TName x) = Ok (name_behind a x k)
 at_test a k (TSign signs.Star) = Ok (k (a_step a tests.AnyElement))
 at_test a k t = Err Syntax
 

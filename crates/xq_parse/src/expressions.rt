@@ -6,7 +6,7 @@ ghost use Rattle.gcx_model.specs.Query.{CondTree, ExprTree, cond_tree, expr_tree
 ghost use Rattle.xq_parse.specs.declared.marks.Marks.{Marks};
 ghost use Rattle.xq_parse.specs.Places.{Scope};
 ghost use Rattle.xq_parse.specs.Grammar.{seq_of};
-ghost use Rattle.xq_parse.specs.Machine.{State, clause_state, clauses, clauses_state, condition, content, elem_state, expr, for_state, if_state, inner, list_state, listed_state, rest, tag};
+ghost use Rattle.xq_parse.specs.Machine.{State, clause_state, clauses, clauses_state, condition, content, elem_state, else_state, expr, for_state, head_state, if_state, inner, list_state, listed_state, rest, tag};
 ghost use Rattle.xq_parse.specs.Behind.{ExprHasRoom, Extends, PartHasRoom, expr_behind, part_behind};
 ghost use Rattle.xq_parse.specs.Reading.{Moves, Stop, run};
 
@@ -238,6 +238,7 @@ impl<'a> Parser<'a> {
     }
 
     /// Reads the clauses of a loop.
+    #[tactic(auto, using(crate::proofs::ScopeLaws::extends_after, crate::proofs::ScopeLaws::extends_one))]
     fn clauses(&mut self) -> Result<Clauses, Refusal>
         ensures moves { (k : Scope → Marks → List Clause → State) → Moves (λ cs. run 200 (k self.new.scope self.new.marks cs) self.new.cursor.rest.now) result (run 200 (clauses_state self.old.scope self.old.marks k) self.old.cursor.rest.now) }
         ensures scope { OnOk result (Extends self.new.scope self.old.scope) }
@@ -322,6 +323,34 @@ impl<'a> Parser<'a> {
         })
     }
 
+    /// Reads what stands between `if` and the first branch.
+    #[tactic(auto, unfolding(crate::specs::Machine::head_state))]
+    fn head(&mut self, depth: usize) -> Result<QCond, Refusal>
+        requires { depth ≤ 200 }
+        ensures moves { (k : Marks → CondTree → State) → Moves (λ c. run 200 (k self.new.marks (cond_tree c)) self.new.cursor.rest.now) result (run 200 (head_state depth self.old.scope self.old.marks k) self.old.cursor.rest.now) }
+        ensures scope { OnOk result (self.new.scope ≡ self.old.scope) }
+        ensures shorter { length self.new.cursor.rest.now ≤ length self.old.cursor.rest.now }
+    {
+        self.cursor.sign(Sign::ParenOpen)?;
+        let cond = self.condition(depth)?;
+        self.cursor.sign(Sign::ParenClose)?;
+        self.cursor.word(b"then")?;
+        Ok(cond)
+    }
+
+    /// Reads `else` and the other branch.
+    #[cycle(exprs)]
+    fn other_branch(&mut self, depth: usize) -> Result<Expr, Refusal>
+        requires { depth ≤ 200 }
+        ensures moves { (k : Marks → ExprTree → State) → Moves (λ e. run 200 (k self.new.marks (expr_tree e)) self.new.cursor.rest.now) result (run 200 (else_state depth self.old.scope self.old.marks k) self.old.cursor.rest.now) }
+        ensures scope { OnOk result (self.new.scope ≡ self.old.scope) }
+        ensures shorter { length self.new.cursor.rest.now ≤ length self.old.cursor.rest.now }
+    {
+        self.cursor.word(b"else")?;
+        let other = self.expr(depth)?;
+        Ok(other)
+    }
+
     /// Reads what stands behind `if`.
     #[tactic(auto, unfolding(crate::specs::Machine::if_state))]
     #[cycle(exprs)]
@@ -331,18 +360,12 @@ impl<'a> Parser<'a> {
         ensures scope { OnOk result (self.new.scope ≡ self.old.scope) }
         ensures shorter { length self.new.cursor.rest.now ≤ length self.old.cursor.rest.now }
     {
-        self.cursor.sign(Sign::ParenOpen)?;
-        let cond = self.condition(depth)?;
-        self.cursor.sign(Sign::ParenClose)?;
-        self.cursor.word(b"then")?;
+        let cond = self.head(depth)?;
         let then = self.expr(depth)?;
-        self.cursor.word(b"else")?;
-        let other = self.expr(depth)?;
-        Ok(Expr::If {
-            cond,
-            then: Box::new(self.cursor.alloc, then)?,
-            other: Box::new(self.cursor.alloc, other)?,
-        })
+        let other = self.other_branch(depth)?;
+        let then = Box::new(self.cursor.alloc, then)?;
+        let other = Box::new(self.cursor.alloc, other)?;
+        Ok(Expr::If { cond, then, other })
     }
 
     /// Reads what stands behind the `<` of a constructor.

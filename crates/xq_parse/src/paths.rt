@@ -14,8 +14,8 @@ ghost use Rattle.xq_parse.specs.declared.marks.Marks.{Marks};
 ghost use Rattle.xq_parse.specs.Tokens.{child_, descendant_, node_, text_};
 ghost use Rattle.xq_parse.specs.Places.{Scope};
 ghost use Rattle.xq_parse.specs.Grammar.{a_step};
-ghost use Rattle.xq_parse.specs.Machine.{State, axis, axis_named, axis_or_name, first_step, kind_test, no_trail, operand, path, rel, rel_of, side_seen, sign, source, steps, steps_behind, steps_state, test, with_start};
-ghost use Rattle.xq_parse.specs.Behind.{axis_found, name_behind, operand_behind, path_behind};
+ghost use Rattle.xq_parse.specs.Machine.{State, axis, axis_named, axis_or_name, first_step, kind_test, name_behind, no_trail, operand, path, rel, rel_of, side_seen, sign, source, steps, steps_behind, steps_state, test, with_start};
+ghost use Rattle.xq_parse.specs.Behind.{axis_found, operand_behind, path_behind};
 ghost use Rattle.xq_parse.specs.Reading.{Moves, Stop, run};
 
 use crate::cursor::{Cursor, is_word};

@@ -12,7 +12,10 @@ abbrev pub decreases-for_expr : goal.decreases-for_expr
 decreases-for_expr l = 10 * (200 - l.depth) + 1
 
 abbrev pub decreases-if_expr : goal.decreases-if_expr
-decreases-if_expr l = 10 * (200 - l.depth) + 1
+decreases-if_expr l = 10 * (200 - l.depth) + 2
+
+abbrev pub decreases-other_branch : goal.decreases-other_branch
+decreases-other_branch l = 10 * (200 - l.depth) + 1
 
 abbrev pub decreases-list : goal.decreases-list
 decreases-list l = 10 * (200 - l.depth) + 1

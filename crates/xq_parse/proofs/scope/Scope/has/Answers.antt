@@ -5,6 +5,8 @@ use Rattle.xq_parse.specs.Places.{Scope}
 use Rattle.xq_parse.proofs.ScopeLaws.{any_reverse}
 use Rattle.xq_parse.proofs.Complete.{derives_reads}
 use Rattle.xq_parse.proofs.Back.{way}
+use Rattle.xq_parse.proofs.Answered.{of_answer}
+use Rattle.xq_parse.proofs.Reported.{of_refusal}
 use Rattle.xq_parse.proofs.scope.Scope.has.Goals as goal
 
 pub returns : goal.returns
