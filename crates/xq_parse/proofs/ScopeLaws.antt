@@ -23,6 +23,28 @@ extends_after x after inner outer a e = subst (λ (s : Scope). Extends s outer) 
 pub extends_one : (x : List ℕ) (after outer : Scope) → after ≡ x ∷ outer → Extends after outer
 extends_one x after outer a = extends_after x after outer outer a (extends_same outer)
 
+drop_more : (n : ℕ) (xs : Scope) → drop (suc n) xs ≡ drop 1 (drop n xs)
+drop_more n [] = drop_nil n
+  where
+    drop_nil : (n : ℕ) → (let none : Scope = [] in none ≡ drop 1 (drop n none))
+    drop_nil 0 = refl
+    drop_nil (suc n) = refl
+drop_more 0 (x ∷ xs) = refl
+drop_more (suc n) (x ∷ xs) = drop_more n xs
+
+-- of a scope with one name more outside
+pub extends_inner : (x : List ℕ) (inner between outer : Scope) → Extends inner between → between ≡ x ∷ outer → Extends inner outer
+extends_inner x inner between outer e b =
+    let h : length (x ∷ outer) ≤ length inner = subst (λ (s : Scope). length s ≤ length inner) b e.longer in
+    let n : length inner - length outer ≡ suc (length inner - length (x ∷ outer)) = omega arith in
+    record {
+      longer = omega arith;
+      same =
+          ap (λ (k : ℕ). drop k inner) n
+          ∙ drop_more (length inner - length (x ∷ outer)) inner
+          ∙ ap (drop 1) (subst (λ (s : Scope). drop (length inner - length s) inner ≡ s) b e.same);
+    }
+
 pub left : (xs : Scope) (n : ℕ) → n ≤ length (reverse xs) → reverse (take n xs) ≡ drop (length (reverse xs) - n) (reverse xs)
 left xs n h =
     let whole : reverse xs ≡ reverse (drop n xs) ++ reverse (take n xs) = ap reverse (sym (take-append-drop n xs)) ∙ reverse-append (take n xs) (drop n xs) in

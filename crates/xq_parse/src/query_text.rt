@@ -81,6 +81,7 @@ fn sound(draft: Draft) -> Result<Query, QueryFault>
 }
 
 /// The query of the tokens of a text that ends at byte `end`.
+#[tactic(auto, using(crate::proofs::Reported::of_found, crate::proofs::Reported::of_refusal))]
 fn query_of(alloc: Global, tokens: &[Tok], end: u64) -> Result<Query, QueryFault>
     ensures { Answers result (judged tokens.now end) }
 {
