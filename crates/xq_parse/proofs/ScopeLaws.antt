@@ -1,5 +1,5 @@
 -- Scopes that grow and are left.
-use Rattle.std.proofs.Common.{ℕ, suc, ◌≡◌, ◌≤◌, ◌-◌, ◌+◌, Bool, true, false, ◌||◌, List, [], ◌∷◌, ◌++◌, length, drop, take, reverse, refl, sym, ap, ◌∙◌, subst, arith}
+use Rattle.std.proofs.Common.{ℕ, zero, suc, ◌≡◌, ◌≤◌, ◌-◌, ◌+◌, Bool, true, false, ◌||◌, List, [], ◌∷◌, ◌++◌, length, drop, take, reverse, refl, sym, ap, ◌∙◌, subst, arith}
 use Rattle.std.specs.List.{list_any}
 use Rattle.std.proofs.Math.Seq.{drop-append_seam}
 use Rattle.std.proofs.lemmas.List.{reverse-append, length-reverse, length-drop, take-append-drop}
@@ -24,12 +24,8 @@ pub extends_one : (x : List ℕ) (after outer : Scope) → after ≡ x ∷ outer
 extends_one x after outer a = extends_after x after outer outer a (extends_same outer)
 
 drop_more : (n : ℕ) (xs : Scope) → drop (suc n) xs ≡ drop 1 (drop n xs)
-drop_more n [] = drop_nil n
-  where
-    drop_nil : (n : ℕ) → (let none : Scope = [] in none ≡ drop 1 (drop n none))
-    drop_nil 0 = refl
-    drop_nil (suc n) = refl
-drop_more 0 (x ∷ xs) = refl
+drop_more zero xs = refl
+drop_more (suc n) [] = refl
 drop_more (suc n) (x ∷ xs) = drop_more n xs
 
 -- of a scope with one name more outside
