@@ -1,16 +1,14 @@
 -- What is seen, in other words.
-use Rattle.std.proofs.Common.{ℕ, ◌≡◌, ◌+◌, ◌<◌, ◌≤◌, ◌⊎◌, inl, inr, Bool, true, false, ◌&&◌, List, [], ◌∷◌, ◌++◌, length, Option, Some, None, refl, sym, ap, ◌∙◌, subst, append_assoc, append-nil, arith, length-append}
-use Rattle.std.proofs.lemmas.Bool.{true≢false, false≢true}
+use Rattle.std.proofs.Common.{ℕ, ◌≡◌, ◌≤◌, inl, inr, Bool, true, false, List, [], ◌∷◌, ◌++◌, length, Some, None, refl, sym, ap, ◌∙◌, subst, append_assoc, append-nil, arith, length-append}
+use Rattle.std.proofs.lemmas.Bool.{false≢true}
 use Rattle.std.proofs.lemmas.Str.{encodes-append}
 use lib.Utf8.{scalar, scalars, encode, encodes}
 use Rattle.gcx_base.specs.declared.limits.Limits.{Limits}
-use Rattle.gcx_model.specs.Document.{Nodes, tokens}
 use Rattle.gcx_model.specs.Tree.{Token}
-use Rattle.gcx_model.specs.Grammar.{SpellsDocument}
 use Rattle.gcx_model.specs.declared.fault.DocFault.{DocFault}
 use Rattle.gcx_model.specs.declared.fault.DocFault.TheVariants.{TooLong}
-use Rattle.gcx_model.specs.Faults.{Refusal, fault_of, Clean, IsCharFront, Decodes, FaultWithin, by_character, by_sequence, by_cut, by_end, none_yet, none_whole, FaultIs, within_limit, before_limit, past_limit}
-use Rattle.gcx_model.specs.Seen.{SeenIn, IsLongest, SeenIs, EndsWithTag, end_tags, open_ends, LastTag, SeenInWords}
+use Rattle.gcx_model.specs.Faults.{fault_of, Clean, IsCharFront, FaultWithin, by_character, by_sequence, by_cut, by_end, none_yet, none_whole, FaultIs, within_limit, before_limit, past_limit}
+use Rattle.gcx_model.specs.Seen.{SeenIs, open_ends, SeenInWords}
 use Rattle.doc_laws.proofs.Tests.{and_true, true_and}
 use Rattle.doc_laws.proofs.Unique.{front_no_char, clean_front, longest}
 use Rattle.doc_laws.proofs.LastTag.{last_tag, longest_is}

@@ -1,5 +1,5 @@
 -- The laws of the grammar of documents, of its faults and of the machine that reads it.
-use Rattle.std.specs.Prelude.{ℕ, ◌≡◌, ◌⊎◌, ◌↔◌, Bool, true, false, List, [], ◌∷◌, ◌++◌, Option, Some, None}
+use Rattle.std.specs.Prelude.{ℕ, ◌≡◌, ◌⊎◌, ◌↔◌, Bool, false, List, [], ◌∷◌, ◌++◌, Option, Some}
 use lib.Utf8.{encodes}
 use Rattle.gcx_base.specs.Characters.{is_char, is_part_char}
 use Rattle.gcx_base.specs.declared.limits.Limits.{Limits}

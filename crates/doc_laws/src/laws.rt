@@ -48,8 +48,7 @@ pub fn fault_stays()
 /// In all bytes tokens are seen.
 pub fn some_seen()
     ensures { SomeSeen }
-{
-}
+{}
 
 /// What is seen in bytes is one list of tokens.
 pub fn one_seen()

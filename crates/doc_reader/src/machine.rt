@@ -6,7 +6,7 @@ ghost use Rattle.doc_reader.specs.Reading.{view, Stepped, run_ended, ClosedNames
 use crate::open_names::OpenNames;
 use crate::run::Run;
 use crate::token::Token;
-use gcx_base::{Memory, Name};
+use gcx_base::{Memory, plain_name};
 use std::alloc::Global;
 use std::collections::VecDeque;
 
@@ -82,7 +82,7 @@ pub(crate) fn open_element(m: &mut Machine) -> Result<bool, Memory>
     ensures { Stepped result (view m.old) (on_named (view m.old)) (view m.new) }
 {
     m.tokens.reserve(2)?;
-    match Name::from_bytes(m.alloc, &m.name)? {
+    match plain_name(m.alloc, &m.name)? {
         Some(name) => {
             m.names.push(&m.name)?;
             end_run(m);

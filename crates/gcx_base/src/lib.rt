@@ -7,6 +7,7 @@ mod kind;
 mod limits;
 mod memory;
 mod name;
+mod plain;
 mod rel;
 mod steps;
 mod text;
@@ -17,6 +18,7 @@ pub use kind::Kind;
 pub use limits::Limits;
 pub use memory::Memory;
 pub use name::Name;
+pub use plain::plain_name;
 pub use rel::Rel;
 pub use steps::{Axis, Step, Steps, Test};
 pub use text::Text;
@@ -28,33 +30,34 @@ mod tests {
     use std::test::Fail;
 
     #[test]
-    fn names_are_plain(rt: HostRuntime) -> Result<(), Fail> {
+    fn names_are_of_xml(rt: HostRuntime) -> Result<(), Fail> {
         let alloc = rt.alloc();
-        let long = vec![in alloc; b'a'; 1024]?;
-        let longer = vec![in alloc; b'a'; 1025]?;
-        let table: [(&[u8], bool); 12] = [
-            (b"a", true),
-            (b"_", true),
-            (b"Z9-._", true),
-            (&long, true),
-            (&longer, false),
-            (b"", false),
-            (b"9a", false),
-            (b"-a", false),
-            (b"a b", false),
-            (b"a:b", false),
-            (b"a/", false),
-            (b"\xC3\xA9", false),
+        let long = vec![in alloc; b'a'; 1025]?;
+        let table: [(&[u8], bool, bool); 13] = [
+            (b"a", true, true),
+            (b"_", true, true),
+            (b"Z9-._", true, true),
+            (&long, true, false),
+            (b"", false, false),
+            (b"9a", false, false),
+            (b"-a", false, false),
+            (b"a b", false, false),
+            (b"a:b", true, false),
+            (b":", true, false),
+            (b"\xC3\xA9\xCC\x81", true, false),
+            (b"\xC3\x97", false, false),
+            (b"a\xC3", false, false),
         ];
-        for (bytes, plain) in table {
+        for (bytes, named, plain) in table {
             match Name::from_bytes(alloc, bytes)? {
                 Some(name) => {
-                    assert!(rt; plain, "{bytes:?}");
+                    assert!(rt; named, "{bytes:?}");
                     assert_eq!(rt; name.as_bytes(), bytes);
                     assert_eq!(rt; name.copy(alloc)?.as_bytes(), bytes);
                 }
-                None => assert!(rt; !plain, "{bytes:?}"),
+                None => assert!(rt; !named, "{bytes:?}"),
             }
+            assert_eq!(rt; plain_name(alloc, bytes)?.is_some(), plain, "{bytes:?}");
         }
         Ok(())
     }

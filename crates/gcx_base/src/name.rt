@@ -1,72 +1,77 @@
 ghost use Rattle.std.specs.Prelude.{◌≡◌, true, false, IfOk, IfSome, IsNone};
 ghost use Rattle.std.specs.List.{list_all};
-ghost use Rattle.gcx_base.specs.Name.{is_name_start, is_name_byte, is_plain_name};
+ghost use Rattle.gcx_base.specs.Characters.{is_part_char};
+ghost use Rattle.std.specs.Str.{chars};
+ghost use Rattle.gcx_base.specs.Name.{first_starts, is_name, IsNameBytes};
 
 use crate::Memory;
+use crate::chars::{is_name_char, is_name_start};
+use simdutf8::compat::from_utf8;
 use std::alloc::Global;
 use std::marker::Model;
 
-/// The most bytes of a plain name.
-const MOST: usize = 1_024;
-
-/// A plain name, seen as its bytes.
+/// A name (XML 1.0, section 2.3), seen as its bytes.
 #[derive(Drop, Debug)]
 pub struct Name {
     bytes: Vec<u8>,
 }
 
 impl Model for Name {
-    ghost use Rattle.std.specs.Prelude.{List, ℕ, IsTrue};
-    ghost use Rattle.gcx_base.specs.Name.{is_plain_name};
+    ghost use Rattle.std.specs.Prelude.{List, ℕ};
+    ghost use Rattle.gcx_base.specs.Name.{IsNameBytes};
 
     ghost Value = { List ℕ };
 
     ghost view = { λ n. n.bytes.items };
 
-    ghost invariant = { λ n. IsTrue (is_plain_name n.bytes.items) };
+    ghost invariant = { λ n. IsNameBytes n.bytes.items };
 }
 
-fn is_start(c: u8) -> bool
-    ensures { result ≡ is_name_start c }
+/// Whether it begins with a NameStartChar.
+fn begins_name(text: &str) -> bool
+    ensures { result ≡ first_starts (chars text.now) }
 {
-    c.is_ascii_alphabetic() || c == b'_'
+    match text.chars().next() {
+        Some(first) => is_name_start(first),
+        None => false,
+    }
 }
 
-fn is_part(c: u8) -> bool
-    ensures { result ≡ is_name_byte c }
+/// Whether all of it are NameChars.
+fn are_name_chars(text: &str) -> bool
+    ensures { result ≡ list_all is_part_char (chars text.now) }
 {
-    is_start(c) || c.is_ascii_digit() || c == b'-' || c == b'.'
+    text.chars().all(|c| is_name_char(c))
 }
 
-fn are_parts(bytes: &[u8]) -> bool
-    ensures { result ≡ list_all is_name_byte bytes.now }
+/// Whether the text is a name: a NameStartChar, and then NameChars.
+#[tactic(auto, using(crate::proofs::Names::name_in_two))]
+fn spells_name(text: &str) -> bool
+    ensures { result ≡ is_name (chars text.now) }
 {
-    bytes.iter().all(|c| is_part(*c))
+    begins_name(text) && are_name_chars(text)
 }
 
-fn is_plain(bytes: &[u8]) -> bool
-    ensures { result ≡ is_plain_name bytes.now }
+/// Whether the bytes are those of a name.
+fn is_name(bytes: &[u8]) -> bool
+    ensures yes { result ≡ true → IsNameBytes bytes.now }
+    ensures no { result ≡ false → IsNameBytes bytes.now → ⊥ }
 {
-    match bytes {
-        [] => false,
-        [first, rest @ ..] => {
-            let short = rest.len() < MOST;
-            let starts = is_start(*first);
-            let goes_on = are_parts(rest);
-            short && (starts && goes_on)
-        }
+    match from_utf8(bytes) {
+        Ok(text) => spells_name(text),
+        Err(_) => false,
     }
 }
 
 impl Name {
-    /// A name of these bytes. None exactly where they aren't a plain name: an ASCII letter or `_`,
-    /// then any number of ASCII letters, digits, `_`, `-` and `.`, at most 1,024 bytes in all.
+    /// A name of these bytes. None exactly where they aren't a name: a NameStartChar and any number of NameChars
+    /// (XML 1.0, section 2.3), in UTF-8.
     pub fn from_bytes(alloc: Global, bytes: &[u8]) -> Result<Option<Name>, Memory>
         ensures same { IfOk result (λ name. IfSome name (λ name. name ≡ bytes.now)) }
-        ensures plain { IfOk result (λ name. IfSome name (λ name. is_plain_name bytes.now ≡ true)) }
-        ensures none { IfOk result (λ name. IsNone name → is_plain_name bytes.now ≡ false) }
+        ensures named { IfOk result (λ name. IfSome name (λ name. IsNameBytes bytes.now)) }
+        ensures none { IfOk result (λ name. IsNone name → IsNameBytes bytes.now → ⊥) }
     {
-        if is_plain(bytes) {
+        if is_name(bytes) {
             let bytes = bytes.to_vec(alloc)?;
             Ok(Some(Name { bytes }))
         } else {
@@ -77,7 +82,7 @@ impl Name {
     /// Its bytes.
     pub fn as_bytes(&self) -> &[u8]
         ensures bytes { result.now ≡ self.now }
-        ensures plain { is_plain_name self.now ≡ true }
+        ensures named { IsNameBytes self.now }
     {
         &self.bytes
     }

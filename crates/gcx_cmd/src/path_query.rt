@@ -2,7 +2,7 @@
 ghost use Rattle.std.specs.Prelude.{◌≡◌, ◌≤◌, ℕ, List, length, take, drop, true, IfOk, IfSome, IsNone};
 ghost use Rattle.gcx_cmd.specs.PlainQuery.{IsPath, BeginsPath, is_slashless};
 
-use gcx_base::{Memory, Name};
+use gcx_base::{Memory, Name, plain_name};
 use std::alloc::Global;
 
 /// The most bytes of a query.
@@ -34,7 +34,7 @@ pub(crate) fn read_path(alloc: Global, bytes: &[u8]) -> Result<Option<Vec<Name>>
             return Ok(None);
         }
         let end = name_end(behind);
-        match Name::from_bytes(alloc, &behind[..end])? {
+        match plain_name(alloc, &behind[..end])? {
             Some(name) => names.push(name)?,
             None => return Ok(None),
         }

@@ -2,19 +2,9 @@
 use Rattle.std.specs.Prelude.{ℕ, Bool, true, false, not, ◌&&◌, ◌||◌, ◌==◌, ◌≡◌, List, [], ◌∷◌, ◌++◌}
 use Rattle.std.specs.List.{list_all}
 use lib.Utf8.{encode, encodes}
-use Rattle.gcx_base.specs.Characters.{is_char, is_white, is_start_char, is_part_char}
+use Rattle.gcx_base.specs.Characters.{is_char, is_white}
+pub use Rattle.gcx_base.specs.Name.{is_name, IsNameBytes}
 use Rattle.gcx_model.specs.References.{Reference, reference_spelling, reference_char, IsReference}
-
--- a Name, as characters: a NameStartChar, and then NameChars
-abbrev pub is_name : List ℕ → Bool
-is_name [] = false
-is_name (c ∷ cs) = is_start_char c && list_all is_part_char cs
-
--- the bytes of a name
-pub record IsNameBytes (bytes : List ℕ) : Type 0 where
-  pub chars : List ℕ
-  pub name : is_name chars ≡ true
-  pub parts : encodes chars ≡ bytes
 
 -- white space, or nothing
 abbrev pub is_blank_text : List ℕ → Bool

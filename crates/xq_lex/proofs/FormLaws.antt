@@ -1,5 +1,5 @@
 -- The token that is found is the longest, and the only one.
-use Rattle.std.proofs.Common.{ℕ, suc, ◌≡◌, ◌≢◌, ◌+◌, ◌≤◌, ◌<◌, ◌==◌, ◌⊎◌, inl, inr, Bool, true, false, ◌&&◌, List, [], ◌∷◌, ◌++◌, length, drop, Option, Some, None, refl, sym, ap, ◌∙◌, subst, arith, length-append, append_assoc}
+use Rattle.std.proofs.Common.{ℕ, ◌≡◌, ◌≤◌, Bool, true, false, ◌&&◌, List, [], ◌∷◌, ◌++◌, length, Option, Some, None, refl, sym, ap, ◌∙◌, subst, arith, length-append, append_assoc}
 use Rattle.std.specs.List.{list_all}
 use Rattle.std.proofs.lemmas.Bool.{and_parts, true≢false, false≢true}
 use Rattle.std.proofs.lemmas.List.{append_cancel_left}
@@ -13,7 +13,7 @@ use Rattle.xq_lex.specs.Form.{Form, name, variable, number, string, sign, form_c
 use Rattle.xq_lex.specs.Found.{Kind, of_variable, of_string, of_number, of_name, of_sign, kind_at, kind_of_form, unsigned_at}
 use Rattle.xq_lex.proofs.NameLaws.{HasName, name_front, name_at-append}
 use Rattle.xq_lex.proofs.NumberLaws.{HasNumber, unsigned_front, LongerNumber, number_longer}
-use Rattle.xq_lex.proofs.SignLaws.{HasSign, sign_front, Longer, IsLonger, sign_longer}
+use Rattle.xq_lex.proofs.SignLaws.{HasSign, sign_front, IsLonger, sign_longer}
 use Rattle.xq_lex.proofs.StringLaws.{SameParts, string_same}
 use Rattle.xq_lex.proofs.KindLaws.{kind_is}
 

@@ -1,11 +1,11 @@
 -- A comment is what is found up to its end, and a text has one gap at its front.
-use Rattle.std.proofs.Common.{ℕ, zero, suc, ◌≡◌, ◌≢◌, ◌+◌, ◌≤◌, ◌<◌, ◌==◌, ◌⊎◌, inl, inr, Bool, true, false, ◌&&◌, ◌||◌, cond, List, [], ◌∷◌, ◌++◌, length, drop, get_or, length-drop, Option, Some, None, refl, sym, ap, ◌∙◌, subst, arith, eqb-true}
+use Rattle.std.proofs.Common.{ℕ, zero, suc, ◌≡◌, ◌≢◌, ◌+◌, ◌≤◌, ◌<◌, ◌==◌, ◌⊎◌, inl, inr, Bool, true, false, ◌&&◌, cond, List, [], ◌∷◌, length, drop, get_or, length-drop, Option, Some, None, refl, sym, ap, ◌∙◌, subst, arith, eqb-true}
 use Rattle.std.proofs.lemmas.Bool.{and_parts, or_parts, or_from, cond-true, cond-false, true≢false, false≢true}
 use Rattle.std.proofs.lemmas.List.{drop-drop}
 use Rattle.gcx_base.specs.Characters.{is_char, is_white}
-use Rattle.xq_lex.specs.Sign.{begins, opens_comment}
+use Rattle.xq_lex.specs.Sign.{opens_comment}
 use Rattle.xq_lex.specs.Gap.{Inside, nothing, char, nested, closed_chars, is_mark, IsInside, Gap, empty, white, comment, gap_chars, IsGap, begins_white, EndsGap, HasGap}
-use Rattle.xq_lex.specs.Closing.{before_is, opens, closes, closing, behind_comment, IsWhite, IsComment, HasGapPart}
+use Rattle.xq_lex.specs.Closing.{opens, closes, closing, behind_comment, IsWhite, IsComment, HasGapPart}
 
 -- no mark stands across the character before and the text
 abbrev NoMark : Option ℕ → List ℕ → Type 0

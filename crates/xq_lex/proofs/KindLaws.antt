@@ -1,19 +1,18 @@
 -- What a token can be is seen at its first characters.
-use Rattle.std.proofs.Common.{ℕ, ◌≡◌, ◌+◌, ◌≤◌, ◌<◌, ◌⊎◌, ◌==◌, Bool, true, false, not, ◌&&◌, ◌||◌, cond, List, [], ◌∷◌, ◌++◌, length, Option, Some, None, refl, sym, ap, ◌∙◌, subst, arith, inl, inr, eqb-true}
-use Rattle.std.proofs.lemmas.Bool.{and_parts, and_from, or_cases, or_from, cond-true, cond-false, leb-true, not_from_false, ne_eqb, le-leb, lt-leb, true≢false, false_from_ne_true}
+use Rattle.std.proofs.Common.{ℕ, ◌≡◌, ◌≤◌, ◌<◌, ◌⊎◌, ◌==◌, Bool, true, false, not, ◌&&◌, ◌||◌, List, [], ◌∷◌, ◌++◌, refl, sym, ◌∙◌, subst, arith, inl, inr, eqb-true}
+use Rattle.std.proofs.lemmas.Bool.{and_parts, and_from, or_cases, or_from, cond-true, cond-false, leb-true, not_from_false, ne_eqb}
 use Rattle.std.proofs.lemmas.Bool.Decides.{nat_tests}
 use Rattle.std.specs.Prelude.{nat_le}
-use Rattle.gcx_base.specs.Characters.{between, is_start_char, is_ascii_start, is_wide_start}
+use Rattle.gcx_base.specs.Characters.{between, is_ascii_start, is_wide_start}
 use Rattle.gcx_model.specs.Values.{is_digit, is_numeral}
 use Rattle.xq_lex.specs.declared.sign.Sign.{Sign}
 use Rattle.xq_lex.specs.declared.sign.Sign.TheVariants.{ParenOpen, ParenClose, BraceOpen, BraceClose, Comma, Slash, SlashSlash, Axis, Star, Eq, Ne, Lt, Le, Gt, Ge, EndTag, EmptyEnd}
 use Rattle.xq_lex.specs.Sign.{sign_chars}
-use Rattle.xq_lex.specs.Names.{may_begin, is_pair, is_query_name}
-use Rattle.xq_lex.specs.Numbers.{number_chars, is_number, fraction_chars}
-use Rattle.xq_lex.specs.Strings.{Part, is_quote, parts_chars}
+use Rattle.xq_lex.specs.Names.{may_begin, is_pair}
+use Rattle.xq_lex.specs.Strings.{is_quote}
 use Rattle.xq_lex.specs.Form.{Form, name, variable, number, string, sign, form_chars, IsForm}
 use Rattle.xq_lex.proofs.NameLaws.{IsParted, name_parts}
-use Rattle.xq_lex.specs.Found.{Kind, of_nothing, of_variable, of_string, of_number, of_name, of_sign, kind_at, kind_of_form}
+use Rattle.xq_lex.specs.Found.{of_variable, of_string, of_number, of_name, of_sign, kind_at, kind_of_form}
 
 -- a start of a name is a colon or stands at least as high as `A`
 high_range : (l h c : ℕ) → 58 ≤ l → between l h c ≡ true → 58 ≤ c

@@ -1,5 +1,5 @@
 -- Tokens are read one behind the other.
-use Rattle.std.proofs.Common.{ℕ, ◌≡◌, ◌≢◌, ◌+◌, ◌-◌, ◌≤◌, ◌<◌, ◌⊎◌, inl, inr, Bool, true, false, List, [], ◌∷◌, ◌++◌, length, take, drop, refl, sym, ap, ◌∙◌, subst, arith, length-append, length-drop}
+use Rattle.std.proofs.Common.{ℕ, ◌≡◌, ◌+◌, ◌≤◌, List, [], ◌∷◌, ◌++◌, length, take, drop, refl, sym, ap, ◌∙◌, subst, arith, length-drop}
 use Rattle.std.specs.Str.{encode_utf8_all, chars}
 use Rattle.std.specs.Prelude.{IsUtf8}
 use Rattle.std.proofs.lemmas.List.{drop-drop}
@@ -10,7 +10,7 @@ use Rattle.xq_lex.specs.declared.token.TokKind.{TokKind}
 use Rattle.xq_lex.specs.declared.lexer.Step.{Step}
 use Rattle.xq_lex.specs.Gap.{HasGap}
 use Rattle.xq_lex.specs.Form.{BeginsWith}
-use Rattle.xq_lex.specs.Lex.{Reads, ReadsAll, LexesAs, StopsAt, IsNoToken, HasWideNumber, IsTextWith, LexFault}
+use Rattle.xq_lex.specs.Lex.{Reads, ReadsAll, LexesAs, StopsAt, IsNoToken, HasWideNumber, LexFault}
 use Rattle.xq_lex.specs.Answer.{UnlessMemory, IsLexeme, IsRefusal}
 use Rattle.xq_lex.specs.Steps.{IsNext, IsStopAt, IsStop, IsStopped}
 use Rattle.xq_lex.proofs.Encoding.{split_size}

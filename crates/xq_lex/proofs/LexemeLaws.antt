@@ -1,26 +1,22 @@
 -- What is answered of a token at the front of a text, by its kind.
-use Rattle.std.proofs.Common.{ℕ, zero, suc, ◌≡◌, ◌≢◌, ◌+◌, ◌-◌, ◌≤◌, ◌<◌, ◌==◌, ◌⊎◌, inl, inr, ℤ, Bool, true, false, ◌&&◌, List, [], ◌∷◌, ◌++◌, length, take, drop, Option, Some, None, refl, sym, ap, ◌∙◌, subst, arith, length-append, length-drop, append_assoc}
-use Rattle.std.specs.List.{list_all}
+use Rattle.std.proofs.Common.{ℕ, zero, suc, ◌≡◌, ◌≢◌, ◌+◌, ◌-◌, ◌<◌, ◌==◌, ℤ, Bool, true, false, List, [], ◌∷◌, ◌++◌, length, drop, Some, None, refl, sym, ap, ◌∙◌, subst, arith, length-append, length-drop, append_assoc}
 use Rattle.std.specs.Str.{encode_utf8_all}
-use Rattle.std.proofs.Math.Seq.{drop-append_seam, take-append_seam}
-use Rattle.std.proofs.lemmas.Bool.{and_parts, false≢true, true≢false}
-use Rattle.gcx_model.specs.Attributes.{is_name}
-use Rattle.gcx_model.specs.Values.{is_digit, is_numeral}
+use Rattle.std.proofs.Math.Seq.{drop-append_seam}
+use Rattle.std.proofs.lemmas.Bool.{false≢true}
+use Rattle.gcx_base.specs.Name.{is_name}
 use Rattle.xq_lex.specs.declared.sign.Sign.{Sign}
 use Rattle.xq_lex.specs.declared.sign.Sign.TheVariants.{ParenOpen, ParenClose, BraceOpen, BraceClose, Comma, Slash, SlashSlash, Axis, Star, Eq, Ne, Lt, Le, Gt, Ge, EndTag, EmptyEnd}
 use Rattle.xq_lex.specs.declared.token.TokKind.{TokKind}
 use Rattle.xq_lex.specs.declared.token.TokKind.TheVariants as kinds
 use Rattle.xq_lex.specs.Sign.{begins, sign_chars, sign_at}
 use Rattle.xq_lex.specs.Names.{name_at}
-use Rattle.xq_lex.specs.Numbers.{minus_chars, fraction_chars, number_chars, is_number, is_wide, units_of, digits_at, fraction_at}
-use Rattle.xq_lex.specs.Strings.{Part, plain, doubled, reference, is_quote, part_chars, parts_chars, parts_value, AreParts, HasString}
-use Rattle.xq_lex.specs.Form.{Form, name, variable, number, string, sign, form_chars, IsForm, BeginsWith, BeginsWithNone, kind_of, is_too_wide}
+use Rattle.xq_lex.specs.Numbers.{minus_chars, fraction_chars, number_chars, is_wide, units_of, digits_at, fraction_at}
+use Rattle.xq_lex.specs.Strings.{Part, plain, doubled, reference, is_quote, part_chars, parts_chars}
+use Rattle.xq_lex.specs.Form.{Form, name, variable, number, string, sign, form_chars, IsForm, BeginsWith, kind_of, is_too_wide}
 use Rattle.xq_lex.specs.Lex.{IsNoToken, HasWideNumber}
-use Rattle.gcx_model.specs.declared.fault.QueryFault.{QueryFault}
-use Rattle.gcx_model.specs.declared.fault.QueryFault.TheVariants.{Utf8, Lex, Syntax, UnknownVar, TagMismatch, DescendantNotLast, IntegerWide, TooLarge, Memory}
 use Rattle.xq_lex.specs.Answer.{IsLexeme}
 use Rattle.xq_lex.specs.Reading.{HasValue, BeginsWithNoString}
-use Rattle.xq_lex.specs.Found.{Kind, of_nothing, of_variable, of_string, of_number, of_name, of_sign, kind_at, number_from, unsigned_at}
+use Rattle.xq_lex.specs.Found.{Kind, of_nothing, of_number, of_name, of_sign, kind_at, number_from, unsigned_at}
 use Rattle.xq_lex.proofs.NameLaws.{name_some, found_named}
 use Rattle.xq_lex.proofs.NumberLaws.{digits_front}
 use Rattle.xq_lex.proofs.KindLaws.{variable_kind, string_kind}

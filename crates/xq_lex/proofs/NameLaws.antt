@@ -1,14 +1,14 @@
 -- The longest name at the front of a text.
-use Rattle.std.proofs.Common.{ℕ, ◌≡◌, ◌==◌, ◌+◌, ◌≤◌, ◌⊎◌, inl, inr, Bool, true, false, not, ◌&&◌, ◌||◌, cond, List, [], ◌∷◌, ◌++◌, length, take, drop, refl, sym, ap, ◌∙◌, subst, arith, length-append}
+use Rattle.std.proofs.Common.{ℕ, ◌≡◌, ◌==◌, Bool, true, false, not, ◌&&◌, ◌||◌, cond, List, [], ◌∷◌, ◌++◌, length, take, refl, sym, ap, ◌∙◌, subst}
 use Rattle.std.specs.List.{list_all}
 use Rattle.std.specs.Str.{encode_utf8_all}
-use Rattle.std.proofs.lemmas.Bool.{and_parts, and_from, or_from, cond-true, cond-false, true≢false, false≢true, not_from_false}
+use Rattle.std.proofs.lemmas.Bool.{and_parts, and_from, or_from, cond-true, true≢false, false≢true, not_from_false}
 use Rattle.std.proofs.Math.Seq.{take-append_seam}
 use Rattle.gcx_base.specs.Characters.{is_start_char, is_part_char}
-use Rattle.gcx_model.specs.Attributes.{is_name, IsNameBytes}
+use Rattle.gcx_base.specs.Name.{is_name, IsNameBytes}
 use Rattle.gcx_model.specs.Values.{is_digit}
 use Rattle.xq_lex.specs.Strings.{is_quote}
-use Rattle.xq_lex.specs.Found.{Kind, of_nothing, of_variable, of_string, of_number, of_name, of_sign, kind_at}
+use Rattle.xq_lex.specs.Found.{of_variable, of_string, of_number, of_name, of_sign, kind_at}
 use Rattle.xq_lex.specs.Names.{may_begin, may_go_on, is_pair, has_pair, is_query_name, parts_at, name_at}
 
 abbrev may_go : ℕ → List ℕ → Bool

@@ -1,13 +1,13 @@
 -- The longest number at the front of a text.
-use Rattle.std.proofs.Common.{ℕ, ◌≡◌, ◌+◌, ◌≤◌, ◌<◌, ◌==◌, Bool, true, false, not, ◌&&◌, cond, List, [], ◌∷◌, ◌++◌, length, take, drop, Option, Some, None, refl, sym, ap, ◌∙◌, subst, arith, length-append, append_assoc, eqb-true}
+use Rattle.std.proofs.Common.{ℕ, ◌≡◌, ◌+◌, ◌≤◌, ◌==◌, Bool, true, false, cond, List, [], ◌∷◌, ◌++◌, length, take, drop, Option, Some, refl, sym, ap, ◌∙◌, subst, arith, length-append, append_assoc, eqb-true}
 use Rattle.std.specs.Prelude.{nat_lt}
 use Rattle.std.specs.List.{list_all}
-use Rattle.std.proofs.lemmas.Bool.{and_parts, and_from, cond-true, cond-false, cond_both, lt-ltb}
+use Rattle.std.proofs.lemmas.Bool.{and_parts, and_from, cond-true, lt-ltb}
 use Rattle.std.proofs.lemmas.List.{append_cancel_left, append-nil}
 use Rattle.std.proofs.Math.Seq.{take-append_seam}
 use Rattle.gcx_model.specs.Values.{is_digit, is_numeral}
-use Rattle.xq_lex.specs.Numbers.{minus_chars, fraction_chars, number_chars, is_number, digits_at, fraction_at}
-use Rattle.xq_lex.specs.Form.{Form, number, form_chars, IsForm}
+use Rattle.xq_lex.specs.Numbers.{fraction_chars, is_number, digits_at, fraction_at}
+use Rattle.xq_lex.specs.Form.{Form, number}
 use Rattle.xq_lex.specs.Found.{number_from, unsigned_at}
 
 -- the digits at the front and what follows

@@ -1,8 +1,8 @@
 -- A text begins with one token at most, and has its tokens in one way.
-use Rattle.std.proofs.Common.{ℕ, ◌≡◌, ◌≢◌, ◌+◌, ◌≤◌, ◌<◌, ◌⊎◌, inl, inr, Bool, true, false, ◌&&◌, List, [], ◌∷◌, ◌++◌, length, take, Option, Some, None, refl, sym, ap, ◌∙◌, subst, arith, length-append, append_assoc}
+use Rattle.std.proofs.Common.{ℕ, ◌≡◌, ◌≢◌, ◌+◌, ◌≤◌, Bool, true, false, List, [], ◌∷◌, ◌++◌, length, Option, Some, None, refl, sym, ap, ◌∙◌, subst, arith, length-append}
 use Rattle.std.specs.Str.{encode_utf8_all, chars, IsValidUpTo}
 use Rattle.std.specs.Prelude.{IsUtf8}
-use Rattle.std.proofs.lemmas.Bool.{and_parts, true≢false, false≢true}
+use Rattle.std.proofs.lemmas.Bool.{and_parts, true≢false}
 use Rattle.std.proofs.lemmas.List.{append_cancel_left}
 use Rattle.std.proofs.lemmas.Str.{utf8_valid_len-IsValidUpTo}
 use Rattle.std.proofs.Math.Seq.{take-length}
@@ -11,18 +11,17 @@ use Rattle.gcx_model.specs.declared.fault.QueryFault.{QueryFault}
 use Rattle.gcx_model.specs.declared.fault.QueryFault.TheVariants.{Utf8, Lex, Syntax, UnknownVar, TagMismatch, DescendantNotLast, IntegerWide, TooLarge, Memory}
 use Rattle.xq_lex.specs.declared.sign.Sign.{Sign}
 use Rattle.xq_lex.specs.declared.token.Tok.{Tok}
-use Rattle.xq_lex.specs.declared.token.TokKind.{TokKind}
-use Rattle.xq_lex.specs.Sign.{begins, sign_chars, sign_at, opens_comment}
-use Rattle.xq_lex.specs.Numbers.{minus_chars, fraction_chars, number_chars, is_number}
-use Rattle.xq_lex.specs.Strings.{Part, is_quote, parts_chars, AreParts, HasString}
-use Rattle.xq_lex.specs.Form.{Form, name, variable, number, string, sign, form_chars, IsForm, BeginsWith, BeginsWithNone, kind_of, is_too_wide}
-use Rattle.xq_lex.specs.Found.{Kind, of_variable, of_string, of_number, of_name, of_sign, kind_at, kind_of_form, unsigned_at}
+use Rattle.xq_lex.specs.Sign.{sign_chars, sign_at, opens_comment}
+use Rattle.xq_lex.specs.Numbers.{minus_chars, fraction_chars, number_chars}
+use Rattle.xq_lex.specs.Strings.{Part, parts_chars, HasString}
+use Rattle.xq_lex.specs.Form.{Form, name, variable, number, string, sign, form_chars, BeginsWith, kind_of, is_too_wide}
+use Rattle.xq_lex.specs.Found.{of_variable, of_string, of_number, of_name, of_sign, unsigned_at}
 use Rattle.xq_lex.specs.Gap.{HasGap}
-use Rattle.xq_lex.specs.Lex.{Reads, ReadsAll, LexesAs, StopsAt, IsNoToken, HasWideNumber, IsTextWith, Lexes, LexFault}
+use Rattle.xq_lex.specs.Lex.{Reads, ReadsAll, LexesAs, StopsAt, IsNoToken, HasWideNumber, Lexes, LexFault}
 use Rattle.xq_lex.proofs.NumberLaws.{LongerNumber, number_longer}
-use Rattle.xq_lex.proofs.SignLaws.{Longer, IsLonger, sign_longer}
+use Rattle.xq_lex.proofs.SignLaws.{IsLonger, sign_longer}
 use Rattle.xq_lex.proofs.StringLaws.{SameParts, string_same}
-use Rattle.xq_lex.proofs.FormLaws.{Begins, same_kind, kind_here, regroup, number_parts, minus_digit, string_of, heads, tails}
+use Rattle.xq_lex.proofs.FormLaws.{Begins, same_kind, regroup, number_parts, minus_digit, string_of, heads, tails}
 use Rattle.xq_lex.proofs.GapLaws.{one_gap}
 use Rattle.xq_lex.proofs.LexemeLaws.{form_front, form_some}
 

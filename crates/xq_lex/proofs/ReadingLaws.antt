@@ -1,13 +1,13 @@
 -- What is read of a reference and of a string.
-use Rattle.std.proofs.Common.{ℕ, suc, ◌≡◌, ◌≢◌, ◌+◌, ◌≤◌, ◌<◌, ◌==◌, ◌⊎◌, inl, inr, Bool, true, false, List, [], ◌∷◌, ◌++◌, length, take, drop, get_or, refl, sym, ap, ◌∙◌, subst, arith, length-append, length-drop, append_assoc, append-nil, add-one, eqb-true, eq-eqb}
+use Rattle.std.proofs.Common.{ℕ, ◌≡◌, ◌+◌, ◌<◌, ◌==◌, Bool, true, false, List, [], ◌∷◌, ◌++◌, length, take, drop, get_or, refl, sym, ap, ◌∙◌, subst, arith, length-append, length-drop, append_assoc, append-nil, add-one, eqb-true, eq-eqb}
 use Rattle.std.specs.Char.{encode_utf8}
 use Rattle.std.specs.Str.{encode_utf8_all}
-use Rattle.std.proofs.lemmas.Bool.{true≢false, false≢true}
+use Rattle.std.proofs.lemmas.Bool.{true≢false}
 use Rattle.std.proofs.lemmas.List.{drop-drop, take-append-drop, append_cancel_left}
 use Rattle.gcx_base.specs.Characters.{is_char}
 use Rattle.doc_chars.specs.Reference.{Refers, lt, BeginsReference, NeverRefers}
 use Rattle.xq_lex.specs.Sign.{begins}
-use Rattle.xq_lex.specs.Strings.{Part, plain, doubled, reference, is_quote, part_chars, IsPart, part_value, parts_chars, AreParts, parts_value, BeginsWithNoPart, HasString}
+use Rattle.xq_lex.specs.Strings.{plain, doubled, reference, is_quote, part_chars, parts_chars, parts_value, BeginsWithNoPart}
 use Rattle.xq_lex.specs.Reading.{HasReference, BeginsWithNoReference, HasPart, ReadsValue, HasValue, BeginsWithNoString}
 use Rattle.xq_lex.proofs.ReferenceLaws.{reference_same}
 use Rattle.xq_lex.proofs.StringLaws.{no_part, SameParts, parts_only, ReadsParts, reads_more, value-append}

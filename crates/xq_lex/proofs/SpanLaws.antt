@@ -7,9 +7,9 @@ use Rattle.std.proofs.lemmas.Str.{encodes-append, length-le-encodes, encodes-cha
 use Rattle.gcx_model.specs.declared.fault.QueryFault.{QueryFault}
 use Rattle.gcx_model.specs.declared.fault.QueryFault.TheVariants.{Utf8, Lex, Syntax, UnknownVar, TagMismatch, DescendantNotLast, IntegerWide, TooLarge, Memory}
 use Rattle.xq_lex.specs.declared.token.Tok.{Tok}
-use Rattle.xq_lex.specs.Form.{Form, form_chars, kind_of, IsForm}
-use Rattle.xq_lex.specs.Gap.{Inside, nothing, char, nested, closed_chars, Gap, empty, white, comment, gap_chars, HasGap}
-use Rattle.xq_lex.specs.Lex.{Reads, ReadsAll, LexesAs, IsTextWith, Lexes, LexFault, HasOnlyTokens, HasOnlyFault, HasSpan, AreInOrder}
+use Rattle.xq_lex.specs.Form.{form_chars}
+use Rattle.xq_lex.specs.Gap.{Inside, nothing, char, nested, closed_chars, Gap, empty, white, comment, gap_chars}
+use Rattle.xq_lex.specs.Lex.{Reads, ReadsAll, LexesAs, Lexes, LexFault, HasOnlyTokens, HasOnlyFault, HasSpan, AreInOrder}
 use Rattle.xq_lex.specs.Answer.{UnlessMemory}
 use Rattle.xq_lex.proofs.LexemeLaws.{form_front, form_some}
 use Rattle.xq_lex.specs.Steps.{IsStopped}

@@ -1,9 +1,7 @@
 -- A text begins with one string at most, and reading it part by part finds it.
-use Rattle.std.proofs.Common.{ℕ, ◌≡◌, ◌≢◌, ◌+◌, ◌≤◌, ◌==◌, Bool, true, false, List, [], ◌∷◌, ◌++◌, length, refl, sym, ap, ◌∙◌, subst, arith, eqb-true, eq-eqb, append_assoc}
+use Rattle.std.proofs.Common.{ℕ, ◌≡◌, ◌==◌, true, false, List, [], ◌∷◌, ◌++◌, refl, sym, ap, ◌∙◌, subst, eq-eqb}
 use Rattle.std.proofs.lemmas.Bool.{true≢false, false≢true}
-use Rattle.gcx_base.specs.Characters.{is_char}
 use Rattle.xq_lex.specs.Sign.{begins}
-use Rattle.doc_chars.specs.Reference.{Refers}
 use Rattle.xq_lex.specs.Strings.{Part, plain, doubled, reference, is_quote, part_chars, IsPart, part_value, parts_chars, AreParts, parts_value, BeginsWithNoPart, HasString}
 use Rattle.xq_lex.proofs.ReferenceLaws.{reference_same}
 

@@ -1,7 +1,5 @@
 -- What a token is by its first characters, and what is answered of the text that it begins.
-use Rattle.std.specs.Prelude.{◌≡◌, ℕ, ◌<◌, ◌==◌, Bool, true, false, not, ◌&&◌, ◌||◌, if◌then◌else◌, List, [], ◌∷◌, drop, Option, Some, None, Result, Ok, Err, length}
-use Rattle.gcx_model.specs.declared.fault.QueryFault.{QueryFault}
-use Rattle.gcx_model.specs.declared.fault.QueryFault.TheVariants.{Utf8, Lex, Syntax, UnknownVar, TagMismatch, DescendantNotLast, IntegerWide, TooLarge, Memory}
+use Rattle.std.specs.Prelude.{ℕ, ◌==◌, Bool, not, ◌&&◌, ◌||◌, if◌then◌else◌, List, [], ◌∷◌, drop, Option, Some, None, length}
 use Rattle.gcx_model.specs.Values.{is_digit}
 use Rattle.xq_lex.specs.Names.{may_begin, is_pair}
 use Rattle.xq_lex.specs.Numbers.{digits_at, fraction_at}

@@ -1,5 +1,5 @@
 -- What may stand between two tokens: white space (XML 1.0, section 2.3) and comments, which nest (XQuery 1.0, section A.2.4.1).
-use Rattle.std.specs.Prelude.{◌≡◌, ◌≢◌, ℕ, ◌==◌, Bool, true, false, ◌&&◌, ◌||◌, List, [], ◌∷◌, ◌++◌}
+use Rattle.std.specs.Prelude.{◌≡◌, ◌≢◌, ℕ, ◌==◌, Bool, true, false, ◌&&◌, ◌||◌, List, [], ◌∷◌}
 use Rattle.gcx_base.specs.Characters.{is_char, is_white}
 use Rattle.xq_lex.specs.Sign.{begins}
 

@@ -2,7 +2,7 @@
 -- colons stand side by side, and doesn't begin with two (this project's).
 use Rattle.std.specs.Prelude.{ℕ, ◌==◌, Bool, false, not, ◌&&◌, ◌||◌, if◌then◌else◌, List, [], ◌∷◌, ◌++◌}
 use Rattle.gcx_base.specs.Characters.{is_start_char, is_part_char}
-use Rattle.gcx_model.specs.Attributes.{is_name}
+use Rattle.gcx_base.specs.Name.{is_name}
 use Rattle.xq_lex.specs.Sign.{begins}
 
 -- the text begins with two colons side by side

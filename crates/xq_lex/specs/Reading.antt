@@ -1,5 +1,5 @@
 -- What is read of a string, part by part.
-use Rattle.std.specs.Prelude.{◌≡◌, ◌≢◌, ◌≤◌, ◌<◌, ℕ, List, [], ◌∷◌, ◌++◌, length, take, drop}
+use Rattle.std.specs.Prelude.{◌≡◌, ◌≢◌, ◌≤◌, ◌<◌, ℕ, List, ◌++◌, length, take, drop}
 use Rattle.std.specs.Str.{encode_utf8_all}
 use Rattle.doc_chars.specs.Reference.{Refers}
 use Rattle.xq_lex.specs.Strings.{Part, part_chars, IsPart, part_value, parts_chars, AreParts, parts_value, HasString}

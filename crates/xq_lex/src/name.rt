@@ -1,7 +1,7 @@
 //! Names and variables.
 ghost use Rattle.std.specs.Prelude.{◌≡◌, ◌&&◌, ◌∷◌, true, not, string_bytes, IfOk};
 ghost use Rattle.std.specs.Str.{encode_utf8_all};
-ghost use Rattle.gcx_model.specs.Attributes.{is_name};
+ghost use Rattle.gcx_base.specs.Name.{is_name};
 ghost use Rattle.xq_lex.specs.Sign.{begins};
 ghost use Rattle.xq_lex.specs.Names.{is_pair, may_begin, may_go_on, name_at, parts_at};
 

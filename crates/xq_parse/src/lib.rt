@@ -12,3 +12,6 @@ mod route;
 mod scope;
 
 pub use query_text::parse;
+
+#[cfg(test)]
+mod tests;

@@ -1,4 +1,4 @@
-use Rattle.std.proofs.Common.{ℕ, ◌≡◌, ◌≤◌, ◌-◌, List, length, drop}
+use Rattle.std.proofs.Common.{ℕ, ◌≤◌, ◌-◌, List, length, drop}
 use Rattle.xq_lex.specs.Gap.{HasGap}
 use Rattle.xq_lex.proofs.gap.gap_len.Given as goal
 

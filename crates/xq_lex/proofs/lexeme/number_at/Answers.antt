@@ -1,4 +1,4 @@
-use Rattle.std.proofs.Common.{refl, sym, ◌∙◌, eqb-true, length}
+use Rattle.std.proofs.Common.{refl, sym, eqb-true, length}
 use Rattle.std.proofs.Math.Facts.{to_z-of_z}
 use Rattle.xq_lex.proofs.LexemeLaws.{number_is, number_is_wide, number_is_not, reads_of}
 use Rattle.xq_lex.proofs.lexeme.number_at.Goals as goal

@@ -1,4 +1,4 @@
-use Rattle.std.proofs.Common.{refl, sym, ◌∷◌, length, eqb-true}
+use Rattle.std.proofs.Common.{refl, sym, length, eqb-true}
 use Rattle.xq_lex.proofs.LexemeLaws.{nonzero, variable_lexeme, variable_named, no_variable_here}
 use Rattle.xq_lex.proofs.lexeme.variable_at.Goals as goal
 

@@ -1,6 +1,4 @@
-use Rattle.std.proofs.Common.{ℕ, List, rules, arith, length, ap, ◌≡◌, ◌+◌, ◌∙◌, length-append, take}
-use Rattle.std.specs.Char.{encode_utf8}
-use Rattle.std.specs.Str.{encode_utf8_all}
+use Rattle.std.proofs.Common.{rules, arith, ◌+◌}
 use Rattle.xq_lex.proofs.Encoding.{size_step, split_size}
 use Rattle.xq_lex.proofs.lexer.size_of.Goals as goal
 

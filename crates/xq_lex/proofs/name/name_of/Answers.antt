@@ -1,5 +1,5 @@
 use Rattle.std.proofs.Common.{List, ℕ, refl, subst, sym, ◌∙◌}
-use Rattle.gcx_model.specs.Attributes.{IsNameBytes}
+use Rattle.gcx_base.specs.Name.{IsNameBytes}
 use Rattle.xq_lex.proofs.NameLaws.{name_bytes}
 use Rattle.xq_lex.proofs.name.name_of.Goals as goal
 

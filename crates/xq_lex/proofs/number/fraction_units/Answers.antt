@@ -1,4 +1,4 @@
-use Rattle.std.proofs.Common.{arith, ◌≡◌, ◌*◌, ◌-◌, ◌^◌, length, ap, ◌∙◌}
+use Rattle.std.proofs.Common.{arith, ◌≡◌, ◌*◌, ◌-◌, ◌^◌, length}
 use Rattle.gcx_model.specs.Values.{digits_from}
 use Rattle.xq_lex.proofs.DigitLaws.{few_below, few_digits}
 use Rattle.xq_lex.proofs.number.fraction_units.Goals as goal

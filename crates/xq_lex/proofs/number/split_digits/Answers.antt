@@ -1,4 +1,4 @@
-use Rattle.std.proofs.Common.{◌≡◌, length, arith, ◌∙◌, true, ap}
+use Rattle.std.proofs.Common.{◌≡◌, length, arith, ◌∙◌, ap}
 use Rattle.std.specs.List.{list_all}
 use Rattle.std.proofs.lemmas.Grind.{common_steps}
 use Rattle.gcx_model.specs.Values.{is_digit}

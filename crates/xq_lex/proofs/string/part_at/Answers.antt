@@ -1,5 +1,5 @@
-use Rattle.std.proofs.Common.{rules, arith}
-use Rattle.xq_lex.proofs.ReadingLaws.{plain_part, doubled_part, reference_part, no_part_reference}
+use Rattle.std.proofs.Common.{rules}
+use Rattle.xq_lex.proofs.ReadingLaws.{plain_part, reference_part, no_part_reference}
 use Rattle.xq_lex.proofs.string.part_at.Goals as goal
 
 pub returns-in_err-part : goal.returns-in_err-part

@@ -1,4 +1,4 @@
-use Rattle.std.proofs.Common.{◌≡◌, take}
+use Rattle.std.proofs.Common.{take}
 use Rattle.doc_chars.specs.Reference.{BeginsReference}
 use Rattle.doc_chars.specs.References.{StandsForText}
 use Rattle.xq_lex.proofs.string.reference_at.Given as goal

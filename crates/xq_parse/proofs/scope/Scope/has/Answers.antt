@@ -3,10 +3,6 @@ use Rattle.std.specs.List.{list_any}
 use Rattle.gcx_model.specs.Paths.{any}
 use Rattle.xq_parse.specs.Places.{Scope}
 use Rattle.xq_parse.proofs.ScopeLaws.{any_reverse}
-use Rattle.xq_parse.proofs.Complete.{derives_reads}
-use Rattle.xq_parse.proofs.Back.{way}
-use Rattle.xq_parse.proofs.Answered.{of_answer}
-use Rattle.xq_parse.proofs.Reported.{of_refusal}
 use Rattle.xq_parse.proofs.scope.Scope.has.Goals as goal
 
 pub returns : goal.returns

@@ -1,0 +1,10 @@
+pub mod Nodes
+pub mod Steps
+pub mod Order
+pub mod Taking
+pub mod Copying
+pub mod Marking
+pub mod Values
+pub mod Operands
+pub mod Weight
+pub mod Writing

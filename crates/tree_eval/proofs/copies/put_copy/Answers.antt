@@ -1,0 +1,15 @@
+use Rattle.std.proofs.Common.{◌≡◌, ◌++◌, sym, ◌∙◌, ap, arith}
+use Rattle.gcx_model.specs.Answer.{copy_of}
+use Rattle.tree_eval.specs.Rows.{node_at, nodes_of}
+use Rattle.tree_eval.specs.Copies.{whole}
+use Rattle.tree_eval.proofs.Copying.{root_copy, no_node_copy}
+use Rattle.tree_eval.proofs.copies.put_copy.Goals as goal
+use Rattle.tree_eval.proofs.copies.put_copy.Goals.{else-node-gt0-via-then-node-gt0+else-node-rows, else-node-gt0-via-else-node-gt0}
+
+pub returns-in_ok-put_below : goal.returns-in_ok-put_below
+returns-in_ok-put_below c =
+    let same : node_at (nodes_of c.args.rows.now) c.args.node ≡ node_at (nodes_of c.args.rows.now) 0 = elim c.else-node-gt0.branch [
+      | else-node-gt0-via-then-node-gt0+else-node-rows w ↦ no_node_copy c.args.rows.now c.args.node w.if-node-rows.false
+      | else-node-gt0-via-else-node-gt0 w ↦ (let z : c.args.node ≡ 0 = (let f = w.if-node-gt0.false in omega arith) in ap (node_at (nodes_of c.args.rows.now)) z)
+    ] in
+    c.in_ok-put_below.ensures.written ∙ ap (λ x. c.args.out.now.items ++ x) (sym (ap (copy_of (whole c.args.rows.now)) same ∙ root_copy c.args.rows.now))

@@ -1,0 +1,33 @@
+use Rattle.std.proofs.Common.{◌≡◌, length, rules, inl, inr, sym, ◌∙◌, ap}
+use Rattle.gcx_model.specs.Tree.{grow, Tree, Token, End}
+use Rattle.tree_eval.specs.Tokens.{token_of}
+use Rattle.tree_eval.proofs.Taking.{started, texted, ended}
+use Rattle.tree_eval.proofs.tree.Tree.take.Goals as goal
+
+grown : (T : Tree) (P Q : Tree) (t u : Token) → T ≡ grow u P → P ≡ Q → t ≡ u → T ≡ grow t Q
+grown T P Q t u e f g = e ∙ (ap (grow u) f ∙ ap (λ x. grow x Q) (sym g))
+
+pub invariant_of-self-in-Start : goal.invariant_of-self-in-Start
+invariant_of-self-in-Start c =
+    let e : c.len.result ≡ length c.push.new.self.items = search rules in
+    (started _ _ _ _ _ c.in-Start.name c.self.invariant c.in-Some.is c.in_ok-push-in-Start.ensures.items e).0
+
+pub invariant_of-self-in-Continue-branch-2 : goal.invariant_of-self-in-Continue-branch-2
+invariant_of-self-in-Continue-branch-2 c = (texted _ _ _ _ c.in-Text.text c.self.invariant c.in-Some.is c.in_ok-push-in-Text.ensures.items).0
+
+pub invariant_of-self-in-End : goal.invariant_of-self-in-End
+invariant_of-self-in-End c = (ended _ _ _ _ c.self.invariant c.in-Some.is (c.parent_of-self-inside.ensures ∙ ap (λ l. Rattle.tree_eval.specs.Rows.parent_of l c.in-Some.parent) c.deref.ensures.value)).0
+
+pub returns-in_ok-push-in-Start-clause-ok : goal.returns-in_ok-push-in-Start-clause-ok
+returns-in_ok-push-in-Start-clause-ok c =
+    let e : c.len.result ≡ length c.push.new.self.items = search rules in
+    grown _ _ _ _ _ (started _ _ _ _ _ c.in-Start.name c.self.invariant c.in-Some.is c.in_ok-push-in-Start.ensures.items e).1 c.self.view_is (ap token_of c.in-Start.is)
+
+pub returns-in_ok-push-in-Text-clause-ok : goal.returns-in_ok-push-in-Text-clause-ok
+returns-in_ok-push-in-Text-clause-ok c =
+    grown _ _ _ _ _ (texted _ _ _ _ c.in-Text.text c.self.invariant c.in-Some.is c.in_ok-push-in-Text.ensures.items).1 c.self.view_is (ap token_of c.in-Text.is)
+
+pub returns-in-End-clause-ok : goal.returns-in-End-clause-ok
+returns-in-End-clause-ok c =
+    let e : token_of c.args.token ≡ End = elim c.in-End.is [ inl x ↦ ap token_of x | inr x ↦ ap token_of x ] in
+    grown _ _ _ _ _ (ended _ _ _ _ c.self.invariant c.in-Some.is (c.parent_of-self-inside.ensures ∙ ap (λ l. Rattle.tree_eval.specs.Rows.parent_of l c.in-Some.parent) c.deref.ensures.value)).1 c.self.view_is e

@@ -1,0 +1,77 @@
+-- Rows of nodes, each with its parent's number, as the nodes of an open tree.
+use Rattle.std.specs.Prelude.{◌≡◌, ℕ, zero, suc, ◌≤◌, ◌<◌, Bool, true, false, List, [], ◌∷◌, ◌++◌, length, Option, Some, None, option_map}
+use Rattle.std.proofs.Common.{get_or}
+use Rattle.gcx_base.specs.declared.kind.Kind.{Kind}
+use Rattle.gcx_base.specs.declared.kind.Kind.TheVariants.{Document, Element, Text}
+use Rattle.gcx_model.specs.Tree.{Node, Root, Under, kind_of, within}
+use Rattle.gcx_model.specs.Tree as model
+use Rattle.tree_eval.specs.declared.row.Content.{Content}
+use Rattle.tree_eval.specs.declared.row.Content.TheVariants as content
+use Rattle.tree_eval.specs.declared.row.Row.{Row}
+
+abbrev pub kind_in : Content → Kind
+kind_in (content.Element name) = Element name
+kind_in (content.Text bytes) = Text bytes
+
+-- the node with this number, the document node where there is none
+abbrev pub node_at : List Node → ℕ → Node
+node_at ns i = get_or ns i Root
+
+abbrev pub with_row : List Node → Row → List Node
+with_row ns r = ns ++ Under (node_at ns r.parent) (length ns) (kind_in r.content) ∷ []
+
+-- the nodes, and behind them those of the rows
+abbrev pub nodes_from : List Node → List Row → List Node
+nodes_from ns [] = ns
+nodes_from ns (r ∷ rs) = nodes_from (with_row ns r) rs
+
+-- the document node, and the nodes of the rows
+abbrev pub nodes_of : List Row → List Node
+nodes_of rows = nodes_from (Root ∷ []) rows
+
+abbrev pub tree_of_rows : List Row → Option ℕ → model.Tree
+tree_of_rows rows at = record { nodes = nodes_of rows; at = option_map (node_at (nodes_of rows)) at }
+
+abbrev pub no_row : Row
+no_row = record { parent = 0; content = content.Text [] }
+
+-- the parent's number in the row with this index
+abbrev pub parent_in : List Row → ℕ → ℕ
+parent_in rows k = (get_or rows k no_row).parent
+
+-- the parent's number, if the node isn't the document node
+abbrev pub parent_of : List Row → ℕ → Option ℕ
+parent_of rows zero = None
+parent_of rows (suc k) = Some (parent_in rows k)
+
+abbrev pub is_text : Kind → Bool
+is_text Document = false
+is_text (Element name) = false
+is_text (Text bytes) = true
+
+-- the node that may get a child: no text, and nothing stands behind an open node that isn't in it
+pub record IsOpen (rows : List Row) (p : ℕ) : Type 0 where
+  pub there : p ≤ length rows
+  pub holder : is_text (kind_of (node_at (nodes_of rows) p)) ≡ false
+  pub behind : (i j : ℕ) → within i (node_at (nodes_of rows) p) ≡ true → i ≤ j → j < length rows → i ≤ parent_in rows j
+
+abbrev pub IsOpenAt : List Row → Option ℕ → Type 0
+IsOpenAt rows None = Unit {0}
+IsOpenAt rows (Some p) = IsOpen rows p
+
+-- a parent stands before its children and isn't a text, and behind a node that isn't in the node i there is no child of i
+pub record IsNested (rows : List Row) : Type 0 where
+  pub low : (k : ℕ) → k < length rows → parent_in rows k ≤ k
+  pub holders : (k : ℕ) → k < length rows → is_text (kind_of (node_at (nodes_of rows) (parent_in rows k))) ≡ false
+  pub nested : (i j l : ℕ) → i ≤ j → j ≤ l → l < length rows → parent_in rows j < i → parent_in rows l ≡ i → ⊥
+
+pub record IsTree (rows : List Row) (at : Option ℕ) : Type 0 where
+  pub nested : IsNested rows
+  pub innermost : IsOpenAt rows at
+
+-- the rows behind those in the node p begin at this index
+pub record IsBehind (rows : List Row) (p next : ℕ) : Type 0 where
+  pub from : p ≤ next
+  pub to : next ≤ length rows
+  pub inside : (k : ℕ) → p ≤ k → k < next → p ≤ parent_in rows k
+  pub outside : next < length rows → parent_in rows next < p
