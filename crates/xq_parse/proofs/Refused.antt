@@ -248,8 +248,8 @@ refused (t ∷ ts) b s r st h e = go (step 200 s (token_of t)) refl (λ (u : Sta
         let there = stands_step 200 (tokens_of b) s u (token_of t) st d in
         subst (λ (l : List Tok). Stopped l r) (append_assoc b (t ∷ []) ts)
         (rec u d (subst (λ (l : List Token). Stands l u) (sym snoc) there)
-            (λ (m : ℕ) (g : 200 ≤ m). subst (λ (l : List Token). Reaches m l u) (sym snoc) (reaches_step m (tokens_of b) s u (token_of t) (h m g) (step_more 200 m s u (token_of t) g d)))
-            (after (Ok u) d))
+        (λ (m : ℕ) (g : 200 ≤ m). subst (λ (l : List Token). Reaches m l u) (sym snoc) (reaches_step m (tokens_of b) s u (token_of t) (h m g) (step_more 200 m s u (token_of t) g d)))
+        (after (Ok u) d))
     go (Err why) d rec =
         let is : a_stop why (length (t ∷ ts)) ≡ r = err_is _ r (after (Err why) d) in
         inl (record {
