@@ -1,16 +1,11 @@
 -- What the machine reads, the grammar spells.
-use Rattle.std.proofs.Common.{ℕ, ◌≡◌, ◌+◌, Bool, true, false, ◌||◌, nat_lt, cond, List, [], ◌∷◌, ◌++◌, Option, Some, None, Result, Ok, Err, inl, inr, ◌⊎◌, eqb-true, refl, sym, ap, ◌∙◌, subst, append_assoc, append-nil}
-use Rattle.std.specs.Prelude.{bytes_eq, slice_get}
-use Rattle.std.proofs.lemmas.Slice.Eq.{bytes_eq-Decides}
-use Rattle.gcx_base.specs.declared.rel.Rel.{Rel}
-use Rattle.gcx_base.specs.declared.rel.Rel.TheVariants as rels
+use Rattle.std.proofs.Common.{ℕ, ◌≡◌, ◌+◌, true, false, nat_lt, cond, List, [], ◌∷◌, ◌++◌, Option, Some, None, Result, Ok, Err, inl, inr, ◌⊎◌, refl, sym, ap, ◌∙◌, subst, append_assoc, append-nil}
+use Rattle.std.specs.Prelude.{bytes_eq}
 use Rattle.gcx_base.specs.declared.steps.Axis.{Axis}
 use Rattle.gcx_base.specs.declared.steps.Axis.TheVariants as axes
 use Rattle.gcx_base.specs.declared.steps.Step.{Step}
-use Rattle.gcx_base.specs.declared.steps.Test.{Test as NodeTest}
 use Rattle.gcx_base.specs.declared.steps.Test.TheVariants as tests
 use Rattle.gcx_model.specs.declared.query.Clause.{Clause}
-use Rattle.gcx_model.specs.declared.query.QOperand.{QOperand}
 use Rattle.gcx_model.specs.declared.query.QOperand.TheVariants as sides
 use Rattle.gcx_model.specs.Query as q
 use Rattle.gcx_model.specs.Query.{CondTree, ExprTree, exprs_of}
@@ -18,224 +13,25 @@ use Rattle.xq_lex.specs.declared.sign.Sign.{Sign}
 use Rattle.xq_lex.specs.declared.sign.Sign.TheVariants as signs
 use Rattle.xq_parse.specs.declared.refusal.Why.{Why}
 use Rattle.xq_parse.specs.declared.refusal.Why.TheVariants.{Syntax, TagMismatch, Nesting}
-use Rattle.xq_parse.specs.declared.route.Trail.{Trail}
-use Rattle.xq_parse.specs.declared.route.Route.{Route}
 use Rattle.xq_parse.specs.declared.marks.Marks.{Marks}
-use Rattle.xq_parse.specs.Signs.{sign_code, sign_eq}
-use Rattle.xq_parse.specs.Tokens.{Token, TName, TVar, TNum, TStr, TSlash, TSlashes, TSign, for_, in_, where_, return_, if_, then_, else_, or_, and_, not_, true_, exists_, text_, node_, child_, descendant_}
+use Rattle.xq_parse.specs.Signs.{sign_eq}
+use Rattle.xq_parse.specs.Tokens.{Token, TName, TVar, TNum, TStr, TSlash, TSlashes, TSign, for_, in_, where_, return_, if_, then_, else_, or_, and_, not_, true_, exists_}
 use Rattle.xq_parse.specs.Grammar as g
 use Rattle.xq_parse.specs.Grammar.{a_step, a_clause, any_of, seq_of, test_tokens, test_tree, step_tokens, step_tree, steps_tokens, path_tokens, path_tree, source_tokens, operand_tokens, operand_tree, literal_token, literal_tree, rel_sign, cond_tokens, cond_tree, ors_tokens, ors_tree, all_tokens, all_tree, ands_tokens, ands_tree, atom_tokens, atom_tree, CondFits, OrsFits, AllFits, AndsFits, AtomFits, clause_tokens, clause_tree, clauses_tokens, clauses_tree, where_tokens, where_tree, WhereFits, expr_tokens, expr_tree, ExprFits, inner_tokens, inner_tree, InnerFits, rest_tokens, rest_tree, RestFits, tag_tokens, tag_tree, TagFits, content_tokens, content_tree, ContentFits}
 use Rattle.xq_parse.specs.Places.{Scope, clause_scope, clauses_scope}
-use Rattle.xq_parse.specs.Machine.{State, Found, done, sign, word, end_name, var, name, axis, axis_or_name, test, call_or_name, first_step, steps, source, path, rel, operand, atom, ands, ors, expr, rest, inner, clauses, condition, tag, content, no_trail, a_var, steps_behind, steps_state, with_start, side_seen, path_seen, after_nested, more_ands, more_ors, more_rest, more_clauses, with_filter, all_state, cond_state, clause_state, for_state, head_state, if_state, elem_state, group_state, not_state, exists_state, true_state, literal_state, compare_state, braces_state, listed_state, members, kind_test, axis_named, rel_of, step, whole, at_test, at_axis, at_step, at_path, at_source, at_found, at_operand, at_atom, at_expr, opens}
+use Rattle.xq_parse.specs.Machine.{State, Found, done, sign, word, end_name, var, name, axis, axis_or_name, test, call_or_name, first_step, steps, source, path, rel, operand, atom, ands, ors, expr, rest, inner, clauses, condition, tag, content, steps_behind, path_seen, after_nested, more_ands, more_ors, more_rest, more_clauses, with_filter, all_state, cond_state, clause_state, for_state, head_state, if_state, elem_state, group_state, not_state, exists_state, true_state, literal_state, compare_state, braces_state, listed_state, members, kind_test, axis_named, step, whole, at_atom, at_expr, opens}
 use Rattle.xq_parse.specs.Reading.{a_found}
-use Rattle.xq_parse.proofs.Lang.{AxisTest, child_axis, descendant_axis, no_axis, axis_tree, axis_tokens, Behind, colons, bare, colons_tokens, colons_tree, Call, called, uncalled, call_tokens, call_tree, Begins, Lang}
-use Rattle.xq_parse.proofs.Routes.{from_var_is, from_root_is, in_var_is, in_root_is}
-use Rattle.xq_parse.proofs.Folds.{path_route, source_route, cond_marks, ors_marks, all_marks, ands_marks, atom_marks, clause_marks, clauses_marks, expr_marks, rest_marks, tag_marks, content_marks}
-
--- ---- tests that went well
-
-abbrev pub okay : State → Result State Why
-okay s = Ok s
-
-pub ok_is : {s u : State} → okay s ≡ okay u → s ≡ u
-ok_is e = cc
-
--- the state that a step leads to
-along : (limit : ℕ) (s u : State) (w : List Token) (p : Found) → okay s ≡ okay u → Lang limit u w p → Lang limit s w p
-along limit s u w p e h = subst (λ (v : State). Lang limit v w p) (sym (ok_is e)) h
-
-pub chosen : (b : Bool) (x y z : Result State Why) → cond b x y ≡ z → ((b ≡ true) × (x ≡ z)) ⊎ ((b ≡ false) × (y ≡ z))
-chosen true x y z e = inl (refl, e)
-chosen false x y z e = inr (refl, e)
-
-pub guarded : (b : Bool) (s u : State) (why : Why) → cond b (okay s) (Err why) ≡ okay u → (b ≡ true) × (okay s ≡ okay u)
-guarded true s u why e = (refl, e)
-guarded false s u why e = absurd cc
-
-picked : (b : Bool) (x y u : State) → okay (cond b x y) ≡ okay u → ((b ≡ true) × (okay x ≡ okay u)) ⊎ ((b ≡ false) × (okay y ≡ okay u))
-picked true x y u e = inl (refl, e)
-picked false x y u e = inr (refl, e)
-
-either : (a b : Bool) → a || b ≡ true → (a ≡ true) ⊎ (b ≡ true)
-either true b e = inl refl
-either false b e = inr e
-
-pub same_is : (x y : List ℕ) → bytes_eq x y ≡ true → x ≡ y
-same_is x y e = (bytes_eq-Decides x y).0 e
-
-abbrev signs_in_order : List Sign
-signs_in_order = signs.ParenOpen ∷ signs.ParenClose ∷ signs.BraceOpen ∷ signs.BraceClose ∷ signs.Comma ∷ signs.Slash ∷ signs.SlashSlash ∷ signs.Axis ∷ signs.Star ∷ signs.Eq ∷ signs.Ne ∷ signs.Lt ∷ signs.Le ∷ signs.Gt ∷ signs.Ge ∷ signs.EndTag ∷ signs.EmptyEnd ∷ []
-
-coded : (x : Sign) → slice_get signs_in_order (sign_code x) ≡ Some x
-coded signs.ParenOpen = refl
-coded signs.ParenClose = refl
-coded signs.BraceOpen = refl
-coded signs.BraceClose = refl
-coded signs.Comma = refl
-coded signs.Slash = refl
-coded signs.SlashSlash = refl
-coded signs.Axis = refl
-coded signs.Star = refl
-coded signs.Eq = refl
-coded signs.Ne = refl
-coded signs.Lt = refl
-coded signs.Le = refl
-coded signs.Gt = refl
-coded signs.Ge = refl
-coded signs.EndTag = refl
-coded signs.EmptyEnd = refl
-
-pub sign_is : (x y : Sign) → sign_eq x y ≡ true → x ≡ y
-sign_is x y e =
-    let same : Some x ≡ Some y = sym (coded x) ∙ ap (λ (n : ℕ). slice_get signs_in_order n) (eqb-true (sign_code x) (sign_code y) e) ∙ coded y in
-    cc
-
--- ---- fronts of lists
-
-put : {front ts : List Token} {next : List Token → Type 0} (t : Token) → Begins front ts next → Begins (t ∷ front) (t ∷ ts) next
-put t b = record { behind = b.behind; parts = ap (λ (l : List Token). t ∷ l) b.parts; goes_on = b.goes_on }
-
-pub seq2 : (a b r : List Token) {ts m : List Token} → ts ≡ a ++ m → m ≡ b ++ r → ts ≡ (a ++ b) ++ r
-seq2 a b r p q = p ∙ ap (λ (l : List Token). a ++ l) q ∙ sym (append_assoc a b r)
-
--- ---- steps
-
-test_back : (limit : ℕ) (d : Axis) (k : Step → State) (t : Token) (w : List Token) (p : Found) (u : State) → at_test d k t ≡ okay u → Lang limit u w p → Lang limit (test d k) (t ∷ w) p
-test_back limit d k (TName x) w p u e h = go (picked (bytes_eq x text_ || bytes_eq x node_) (call_or_name d x k) (k (a_step d (tests.Named x))) u e)
-  where
-    word_call : (y : List ℕ) → x ≡ y → (t : g.Test) → test_tokens t ≡ TName y ∷ TSign signs.ParenOpen ∷ TSign signs.ParenClose ∷ [] → test_tree t ≡ kind_test y → Begins (call_tokens called) w (λ ws. Lang limit (k (a_step d (kind_test x))) ws p) → Lang limit (test d k) (TName x ∷ w) p
-    word_call y xy t i j b = (t, record { behind = b.behind; parts = ap (λ (l : List Token). TName x ∷ l) b.parts ∙ ap (λ (v : List ℕ). TName v ∷ TSign signs.ParenOpen ∷ TSign signs.ParenClose ∷ b.behind) xy ∙ ap (λ (l : List Token). l ++ b.behind) (sym i); goes_on = subst (λ (v : NodeTest). Lang limit (k (a_step d v)) b.behind p) (ap kind_test xy ∙ sym j) b.goes_on })
-
-    with_call : (c : Call) → Begins (call_tokens c) w (λ ws. Lang limit (k (call_tree d x c)) ws p) → (bytes_eq x text_ ≡ true) ⊎ (bytes_eq x node_ ≡ true) → Lang limit (test d k) (TName x ∷ w) p
-    with_call called b (inl i) = word_call text_ (same_is x text_ i) g.text_test refl refl b
-    with_call called b (inr i) = word_call node_ (same_is x node_ i) g.node_test refl refl b
-    with_call uncalled b i = (g.name_test x, put (TName x) b)
-
-    go : (((bytes_eq x text_ || bytes_eq x node_) ≡ true) × (okay (call_or_name d x k) ≡ okay u)) ⊎ (((bytes_eq x text_ || bytes_eq x node_) ≡ false) × (okay (k (a_step d (tests.Named x))) ≡ okay u)) → Lang limit (test d k) (TName x ∷ w) p
-    go (inl c) = let l : Lang limit (call_or_name d x k) w p = along limit (call_or_name d x k) u w p c.1 h in with_call l.0 l.1 (either (bytes_eq x text_) (bytes_eq x node_) c.0)
-    go (inr c) = (g.name_test x, record { behind = w; parts = refl; goes_on = along limit (k (a_step d (tests.Named x))) u w p c.1 h })
-test_back limit d k (TSign signs.Star) w p u e h = (g.star_test, record { behind = w; parts = refl; goes_on = along limit (k (a_step d tests.AnyElement)) u w p e h })
-test_back limit d k (TVar at x) w p u e h = absurd cc
-test_back limit d k (TNum x) w p u e h = absurd cc
-test_back limit d k (TStr x) w p u e h = absurd cc
-test_back limit d k (TSlash at) w p u e h = absurd cc
-test_back limit d k (TSlashes at) w p u e h = absurd cc
-test_back limit d k (TSign s) w p u e h = absurd cc
-
-no_axis_back : (limit : ℕ) (k : Step → State) (ts : List Token) (p : Found) → Lang limit (test axes.Child k) ts p → Lang limit (axis k) ts p
-no_axis_back limit k ts p l = (no_axis l.0, l.1)
-
-axis_back : (limit : ℕ) (k : Step → State) (t : Token) (w : List Token) (p : Found) (u : State) → at_axis k t ≡ okay u → Lang limit u w p → Lang limit (axis k) (t ∷ w) p
-axis_back limit k (TName x) w p u e h = go (chosen (bytes_eq x child_ || bytes_eq x descendant_) (Ok (axis_or_name x k)) (at_test axes.Child k (TName x)) (okay u) e)
-  where
-    word_colons : (y : List ℕ) → x ≡ y → (t : g.Test) (a : AxisTest) → axis_tokens a ≡ TName y ∷ TSign signs.Axis ∷ test_tokens t → axis_tree a ≡ colons_tree y (colons t) → Begins (colons_tokens (colons t)) w (λ ws. Lang limit (k (colons_tree x (colons t))) ws p) → Lang limit (axis k) (TName x ∷ w) p
-    word_colons y xy t a i j b = (a, record { behind = b.behind; parts = ap (λ (l : List Token). TName x ∷ l) b.parts ∙ ap (λ (v : List ℕ). TName v ∷ TSign signs.Axis ∷ (test_tokens t ++ b.behind)) xy ∙ ap (λ (l : List Token). l ++ b.behind) (sym i); goes_on = subst (λ (v : Step). Lang limit (k v) b.behind p) (ap (λ (v : List ℕ). colons_tree v (colons t)) xy ∙ sym j) b.goes_on })
-
-    with_colons : (c : Behind) → Begins (colons_tokens c) w (λ ws. Lang limit (k (colons_tree x c)) ws p) → (bytes_eq x child_ ≡ true) ⊎ (bytes_eq x descendant_ ≡ true) → Lang limit (axis k) (TName x ∷ w) p
-    with_colons (colons t) b (inl i) = word_colons child_ (same_is x child_ i) t (child_axis t) refl refl b
-    with_colons (colons t) b (inr i) = word_colons descendant_ (same_is x descendant_ i) t (descendant_axis t) refl refl b
-    with_colons bare b i = (no_axis (g.name_test x), put (TName x) b)
-
-    go : (((bytes_eq x child_ || bytes_eq x descendant_) ≡ true) × (okay (axis_or_name x k) ≡ okay u)) ⊎ (((bytes_eq x child_ || bytes_eq x descendant_) ≡ false) × (at_test axes.Child k (TName x) ≡ okay u)) → Lang limit (axis k) (TName x ∷ w) p
-    go (inl c) = let l : Lang limit (axis_or_name x k) w p = along limit (axis_or_name x k) u w p c.1 h in with_colons l.0 l.1 (either (bytes_eq x child_) (bytes_eq x descendant_) c.0)
-    go (inr c) = no_axis_back limit k (TName x ∷ w) p (test_back limit axes.Child k (TName x) w p u c.1 h)
-axis_back limit k (TVar at x) w p u e h = absurd cc
-axis_back limit k (TNum x) w p u e h = absurd cc
-axis_back limit k (TStr x) w p u e h = absurd cc
-axis_back limit k (TSlash at) w p u e h = absurd cc
-axis_back limit k (TSlashes at) w p u e h = absurd cc
-axis_back limit k (TSign s) w p u e h = no_axis_back limit k (TSign s ∷ w) p (test_back limit axes.Child k (TSign s) w p u e h)
-
-slash_test : (limit at : ℕ) (k : ℕ → Step → State) (w : List Token) (p : Found) (a : AxisTest) → Begins (axis_tokens a) w (λ ws. Lang limit (k at (axis_tree a)) ws p) → Lang limit (first_step k) (TSlash at ∷ w) p
-slash_test limit at k w p (child_axis t) b = (g.child at t, put (TSlash at) b)
-slash_test limit at k w p (descendant_axis t) b = (g.descendant at t, put (TSlash at) b)
-slash_test limit at k w p (no_axis t) b = (g.plain at t, put (TSlash at) b)
-
-slash_back : (limit at : ℕ) (k : ℕ → Step → State) (w : List Token) (p : Found) → Lang limit (axis (k at)) w p → Lang limit (first_step k) (TSlash at ∷ w) p
-slash_back limit at k w p l = slash_test limit at k w p l.0 l.1
-
-double_back : (limit at : ℕ) (k : ℕ → Step → State) (w : List Token) (p : Found) → Lang limit (test axes.Descendant (k at)) w p → Lang limit (first_step k) (TSlashes at ∷ w) p
-double_back limit at k w p l = (g.double at l.0, put (TSlashes at) l.1)
-
-first_back : (limit : ℕ) (k : ℕ → Step → State) (t : Token) (w : List Token) (p : Found) (u : State) → at_step k (Err Syntax) t ≡ okay u → Lang limit u w p → Lang limit (first_step k) (t ∷ w) p
-first_back limit k (TSlash at) w p u e h = slash_back limit at k w p (along limit (axis (k at)) u w p e h)
-first_back limit k (TSlashes at) w p u e h = double_back limit at k w p (along limit (test axes.Descendant (k at)) u w p e h)
-first_back limit k (TName x) w p u e h = absurd cc
-first_back limit k (TVar at x) w p u e h = absurd cc
-first_back limit k (TNum x) w p u e h = absurd cc
-first_back limit k (TStr x) w p u e h = absurd cc
-first_back limit k (TSign s) w p u e h = absurd cc
-
--- a step and the steps behind it
-more_back : (limit : ℕ) (t : Trail) (k : Trail → State) (ts : List Token) (p : Found) → Lang limit (first_step (steps_behind t k)) ts p → Lang limit (steps t k) ts p
-more_back limit t k ts p l =
-    let m = l.1.goes_on in
-    (g.more_steps l.0 m.0, record { behind = m.1.behind; parts = seq2 (step_tokens l.0) (steps_tokens m.0) m.1.behind l.1.parts m.1.parts; goes_on = m.1.goes_on })
-
-no_more_back : (limit : ℕ) (t : Trail) (k : Trail → State) (ts : List Token) (p : Found) → Lang limit (k t) ts p → Lang limit (steps t k) ts p
-no_more_back limit t k ts p h = (g.no_step, record { behind = ts; parts = refl; goes_on = h })
-
-root_back : (limit : ℕ) (k : Route → State) (ts : List Token) (p : Found) → Lang limit (steps_state (with_start None k)) ts p → Lang limit (path k) ts p
-root_back limit k ts p l =
-    let m = l.1.goes_on in
-    (g.from_root l.0 m.0, record { behind = m.1.behind; parts = seq2 (step_tokens l.0) (steps_tokens m.0) m.1.behind l.1.parts m.1.parts; goes_on = subst (λ (r : Route). Lang limit (k r) m.1.behind p) (from_root_is l.0 m.0) m.1.goes_on })
-
-path_back : (limit : ℕ) (k : Route → State) (t : Token) (w : List Token) (p : Found) (u : State) → at_path k t ≡ okay u → Lang limit u w p → Lang limit (path k) (t ∷ w) p
-path_back limit k (TVar at x) w p u e h =
-    let l : Lang limit (steps no_trail (with_start (Some (a_var at x)) k)) w p = along limit (steps no_trail (with_start (Some (a_var at x)) k)) u w p e h in
-    (g.from_var at x l.0, record { behind = l.1.behind; parts = ap (λ (r : List Token). TVar at x ∷ r) l.1.parts; goes_on = subst (λ (r : Route). Lang limit (k r) l.1.behind p) (from_var_is at x l.0) l.1.goes_on })
-path_back limit k (TName x) w p u e h = absurd cc
-path_back limit k (TNum x) w p u e h = absurd cc
-path_back limit k (TStr x) w p u e h = absurd cc
-path_back limit k (TSign s) w p u e h = absurd cc
-path_back limit k (TSlash at) w p u e h = root_back limit k (TSlash at ∷ w) p (first_back limit (steps_behind no_trail (with_start None k)) (TSlash at) w p u e h)
-path_back limit k (TSlashes at) w p u e h = root_back limit k (TSlashes at ∷ w) p (first_back limit (steps_behind no_trail (with_start None k)) (TSlashes at) w p u e h)
-
-source_root : (limit : ℕ) (k : Route → State) (ts : List Token) (p : Found) → Lang limit (steps_state (with_start None k)) ts p → Lang limit (source k) ts p
-source_root limit k ts p l =
-    let m = l.1.goes_on in
-    (g.in_root l.0 m.0, record { behind = m.1.behind; parts = seq2 (step_tokens l.0) (steps_tokens m.0) m.1.behind l.1.parts m.1.parts; goes_on = subst (λ (r : Route). Lang limit (k r) m.1.behind p) (in_root_is l.0 m.0) m.1.goes_on })
-
-source_back : (limit : ℕ) (k : Route → State) (t : Token) (w : List Token) (p : Found) (u : State) → at_source k t ≡ okay u → Lang limit u w p → Lang limit (source k) (t ∷ w) p
-source_back limit k (TVar at x) w p u e h =
-    let l : Lang limit (steps_state (with_start (Some (a_var at x)) k)) w p = along limit (steps_state (with_start (Some (a_var at x)) k)) u w p e h in
-    let m = l.1.goes_on in
-    (g.in_var at x l.0 m.0, record { behind = m.1.behind; parts = ap (λ (r : List Token). TVar at x ∷ r) (seq2 (step_tokens l.0) (steps_tokens m.0) m.1.behind l.1.parts m.1.parts); goes_on = subst (λ (r : Route). Lang limit (k r) m.1.behind p) (in_var_is at x l.0 m.0) m.1.goes_on })
-source_back limit k (TName x) w p u e h = absurd cc
-source_back limit k (TNum x) w p u e h = absurd cc
-source_back limit k (TStr x) w p u e h = absurd cc
-source_back limit k (TSign s) w p u e h = absurd cc
-source_back limit k (TSlash at) w p u e h = source_root limit k (TSlash at ∷ w) p (first_back limit (steps_behind no_trail (with_start None k)) (TSlash at) w p u e h)
-source_back limit k (TSlashes at) w p u e h = source_root limit k (TSlashes at ∷ w) p (first_back limit (steps_behind no_trail (with_start None k)) (TSlashes at) w p u e h)
-
-rel_back : (limit : ℕ) (k : Rel → State) (s : Sign) (w : List Token) (p : Found) (u : State) → at_found k (rel_of s) ≡ okay u → Lang limit u w p → Lang limit (rel k) (TSign s ∷ w) p
-rel_back limit k signs.Eq w p u e h = (rels.Eq, record { behind = w; parts = refl; goes_on = along limit (k rels.Eq) u w p e h })
-rel_back limit k signs.Ne w p u e h = (rels.Ne, record { behind = w; parts = refl; goes_on = along limit (k rels.Ne) u w p e h })
-rel_back limit k signs.Lt w p u e h = (rels.Lt, record { behind = w; parts = refl; goes_on = along limit (k rels.Lt) u w p e h })
-rel_back limit k signs.Le w p u e h = (rels.Le, record { behind = w; parts = refl; goes_on = along limit (k rels.Le) u w p e h })
-rel_back limit k signs.Gt w p u e h = (rels.Gt, record { behind = w; parts = refl; goes_on = along limit (k rels.Gt) u w p e h })
-rel_back limit k signs.Ge w p u e h = (rels.Ge, record { behind = w; parts = refl; goes_on = along limit (k rels.Ge) u w p e h })
-rel_back limit k s w p u e h = absurd cc
-
-operand_path : (limit : ℕ) (sc : Scope) (m : Marks) (k : Marks → QOperand → State) (ts : List Token) (p : Found) → Lang limit (path (side_seen sc m k)) ts p → Lang limit (operand sc m k) ts p
-operand_path limit sc m k ts p l = (g.path_operand l.0, l.1)
-
-operand_back : (limit : ℕ) (sc : Scope) (m : Marks) (k : Marks → QOperand → State) (t : Token) (w : List Token) (p : Found) (u : State) → at_operand sc m k t ≡ okay u → Lang limit u w p → Lang limit (operand sc m k) (t ∷ w) p
-operand_back limit sc m k (TStr x) w p u e h = (g.literal_operand (g.text x), record { behind = w; parts = refl; goes_on = along limit (k m (sides.Str x)) u w p e h })
-operand_back limit sc m k (TNum x) w p u e h = (g.literal_operand (g.number x), record { behind = w; parts = refl; goes_on = along limit (k m (sides.Num x)) u w p e h })
-operand_back limit sc m k (TVar at x) w p u e h = operand_path limit sc m k (TVar at x ∷ w) p (path_back limit (side_seen sc m k) (TVar at x) w p u e h)
-operand_back limit sc m k (TName x) w p u e h = absurd cc
-operand_back limit sc m k (TSign s) w p u e h = absurd cc
-operand_back limit sc m k (TSlash at) w p u e h = operand_path limit sc m k (TSlash at ∷ w) p (path_back limit (side_seen sc m k) (TSlash at) w p u e h)
-operand_back limit sc m k (TSlashes at) w p u e h = operand_path limit sc m k (TSlashes at ∷ w) p (path_back limit (side_seen sc m k) (TSlashes at) w p u e h)
+use Rattle.xq_parse.proofs.Lang.{colons, bare, called, uncalled, Begins, Lang}
+use Rattle.xq_parse.proofs.Folds.{cond_marks, ors_marks, all_marks, ands_marks, atom_marks, clause_marks, clauses_marks, expr_marks, rest_marks, tag_marks, content_marks}
+use Rattle.xq_parse.proofs.PathsBack.{along, axis_back, chosen, double_back, first_back, guarded, more_back, no_more_back, okay, operand_back, path_back, put, rel_back, same_is, seq2, sign_is, slash_back, source_back, test_back}
 
 -- ---- conditions
 
 -- an empty rest of atoms, of alternatives
-no_and_back : (limit n : ℕ) (sc : Scope) (m : Marks) (bs : List CondTree) (k : Marks → List CondTree → State) (ts : List Token) (p : Found) → Lang limit (k m bs) ts p → Lang limit (ands n sc m bs k) ts p
+pub no_and_back : (limit n : ℕ) (sc : Scope) (m : Marks) (bs : List CondTree) (k : Marks → List CondTree → State) (ts : List Token) (p : Found) → Lang limit (k m bs) ts p → Lang limit (ands n sc m bs k) ts p
 no_and_back limit n sc m bs k ts p h = (g.no_and, tt, record { behind = ts; parts = refl; goes_on = subst (λ (l : List CondTree). Lang limit (k m l) ts p) (sym (append-nil bs)) h })
 
-no_or_back : (limit n : ℕ) (sc : Scope) (m : Marks) (bs : List CondTree) (k : Marks → List CondTree → State) (ts : List Token) (p : Found) → Lang limit (k m bs) ts p → Lang limit (ors n sc m bs k) ts p
+pub no_or_back : (limit n : ℕ) (sc : Scope) (m : Marks) (bs : List CondTree) (k : Marks → List CondTree → State) (ts : List Token) (p : Found) → Lang limit (k m bs) ts p → Lang limit (ors n sc m bs k) ts p
 no_or_back limit n sc m bs k ts p h = (g.no_or, tt, record { behind = ts; parts = refl; goes_on = subst (λ (l : List CondTree). Lang limit (k m l) ts p) (sym (append-nil bs)) h })
 
 -- what a rule begins with, and a property of what is behind it
@@ -383,7 +179,7 @@ clause_then limit sc m k ts p l =
     let s = r.goes_on in
     (l.0, l.1, s.0, record { behind = s.1.behind; parts = l.2.parts ∙ ap (λ (r : List Token). TVar l.0 l.1 ∷ r) (r.parts ∙ ap (λ (r : List Token). TName in_ ∷ r) s.1.parts); goes_on = s.1.goes_on })
 
-no_clause_back : (limit : ℕ) (sc : Scope) (m : Marks) (cs : List Clause) (k : Scope → Marks → List Clause → State) (ts : List Token) (p : Found) → Lang limit (k sc m cs) ts p → Lang limit (clauses sc m cs k) ts p
+pub no_clause_back : (limit : ℕ) (sc : Scope) (m : Marks) (cs : List Clause) (k : Scope → Marks → List Clause → State) (ts : List Token) (p : Found) → Lang limit (k sc m cs) ts p → Lang limit (clauses sc m cs k) ts p
 no_clause_back limit sc m cs k ts p h = (g.no_clause, record { behind = ts; parts = refl; goes_on = subst (λ (l : List Clause). Lang limit (k sc m l) ts p) (sym (append-nil cs)) h })
 
 clauses_back : (limit : ℕ) (sc : Scope) (m : Marks) (cs : List Clause) (k : Scope → Marks → List Clause → State) (w : List Token) (p : Found) → Lang limit (clause_state sc m (more_clauses sc cs k)) w p → Lang limit (clauses sc m cs k) (TSign signs.Comma ∷ w) p
@@ -404,10 +200,10 @@ where_back limit n sc m k w p h =
     let l = cond_then limit n sc m (with_filter k) w p h in
     (g.where_cond l.0, l.1, put (TName where_) l.2)
 
-no_where_back : (limit n : ℕ) (sc : Scope) (m : Marks) (k : Marks → Option CondTree → State) (ts : List Token) (p : Found) → Lang limit (k m None) ts p → Lang limit (condition n sc m k) ts p
+pub no_where_back : (limit n : ℕ) (sc : Scope) (m : Marks) (k : Marks → Option CondTree → State) (ts : List Token) (p : Found) → Lang limit (k m None) ts p → Lang limit (condition n sc m k) ts p
 no_where_back limit n sc m k ts p h = (g.no_where, tt, record { behind = ts; parts = refl; goes_on = h })
 
-no_rest_back : (limit n : ℕ) (sc : Scope) (m : Marks) (es : List ExprTree) (k : Marks → List ExprTree → State) (ts : List Token) (p : Found) → Lang limit (k m es) ts p → Lang limit (rest n sc m es k) ts p
+pub no_rest_back : (limit n : ℕ) (sc : Scope) (m : Marks) (es : List ExprTree) (k : Marks → List ExprTree → State) (ts : List Token) (p : Found) → Lang limit (k m es) ts p → Lang limit (rest n sc m es k) ts p
 no_rest_back limit n sc m es k ts p h = (g.no_rest, tt, record { behind = ts; parts = refl; goes_on = subst (λ (l : List ExprTree). Lang limit (k m l) ts p) (sym (append-nil es)) h })
 
 rest_back : (limit n : ℕ) (sc : Scope) (m : Marks) (es : List ExprTree) (k : Marks → List ExprTree → State) (w : List Token) (p : Found) → Lang limit (expr n sc m (more_rest n sc es k)) w p → Lang limit (rest n sc m es k) (TSign signs.Comma ∷ w) p
@@ -584,10 +380,10 @@ content_back limit n sc m x es k (TSign s) w p u e h = absurd cc
 
 -- ---- a step back, from any state
 
-call_over : (limit : ℕ) (d : Axis) (x : List ℕ) (k : Step → State) (ts : List Token) (p : Found) → Lang limit (k (a_step d (tests.Named x))) ts p → Lang limit (call_or_name d x k) ts p
+pub call_over : (limit : ℕ) (d : Axis) (x : List ℕ) (k : Step → State) (ts : List Token) (p : Found) → Lang limit (k (a_step d (tests.Named x))) ts p → Lang limit (call_or_name d x k) ts p
 call_over limit d x k ts p h = (uncalled, record { behind = ts; parts = refl; goes_on = h })
 
-colons_over : (limit : ℕ) (x : List ℕ) (k : Step → State) (ts : List Token) (p : Found) → Lang limit (k (a_step axes.Child (tests.Named x))) ts p → Lang limit (axis_or_name x k) ts p
+pub colons_over : (limit : ℕ) (x : List ℕ) (k : Step → State) (ts : List Token) (p : Found) → Lang limit (k (a_step axes.Child (tests.Named x))) ts p → Lang limit (axis_or_name x k) ts p
 colons_over limit x k ts p h = (bare, record { behind = ts; parts = refl; goes_on = h })
 
 call_back : (limit : ℕ) (d : Axis) (x : List ℕ) (k : Step → State) (w : List Token) (p : Found) → Lang limit (sign signs.ParenClose (k (a_step d (kind_test x)))) w p → Lang limit (call_or_name d x k) (TSign signs.ParenOpen ∷ w) p
@@ -758,52 +554,3 @@ whole_back limit (expr n sc m k) p e = absurd cc
 whole_back limit (inner n sc m k) p e = absurd cc
 whole_back limit (tag n sc m x k) p e = absurd cc
 whole_back limit (content n sc m x es k) p e = absurd cc
-
--- ---- a way on from each state
-
-abbrev pub Way : ℕ → State → Type 0
-Way limit s = (ts : List Token) × (p : Found) × Lang limit s ts p
-
-abbrev any_step : g.Step
-any_step = g.plain 0 g.star_test
-
-abbrev any_path : g.Path
-any_path = g.from_root any_step g.no_step
-
-abbrev any_source : g.Source
-any_source = g.in_root any_step g.no_step
-
--- the way behind x, with x before it
-then_on : (limit : ℕ) (front : List Token) (s after : State) → ((ts : List Token) (p : Found) → Lang limit s ts p → Lang limit after (front ++ ts) p) → Way limit s → Way limit after
-then_on limit front s after f v = (front ++ v.0, v.1, f v.0 v.1 v.2)
-
-abbrev star : Axis → Step
-star d = a_step d tests.AnyElement
-
-pub way : (limit : ℕ) (s : State) → Way limit s
-way limit (done m es) = ([], a_found m es, (refl, refl))
-way limit (sign x s) = then_on limit (TSign x ∷ []) s (sign x s) (λ ts p l. record { behind = ts; parts = refl; goes_on = l }) (way limit s)
-way limit (word x s) = then_on limit (TName x ∷ []) s (word x s) (λ ts p l. record { behind = ts; parts = refl; goes_on = l }) (way limit s)
-way limit (end_name x s) = then_on limit (TName x ∷ []) s (end_name x s) (λ ts p l. record { behind = ts; parts = refl; goes_on = l }) (way limit s)
-way limit (var k) = then_on limit (TVar 0 [] ∷ []) (k []) (var k) (λ ts p l. (0, [], record { behind = ts; parts = refl; goes_on = l })) (way limit (k []))
-way limit (name k) = then_on limit (TName [] ∷ []) (k []) (name k) (λ ts p l. ([], record { behind = ts; parts = refl; goes_on = l })) (way limit (k []))
-way limit (axis k) = then_on limit (TSign signs.Star ∷ []) (k (star axes.Child)) (axis k) (λ ts p l. (no_axis g.star_test, record { behind = ts; parts = refl; goes_on = l })) (way limit (k (star axes.Child)))
-way limit (test d k) = then_on limit (TSign signs.Star ∷ []) (k (star d)) (test d k) (λ ts p l. (g.star_test, record { behind = ts; parts = refl; goes_on = l })) (way limit (k (star d)))
-way limit (axis_or_name x k) = then_on limit [] (k (a_step axes.Child (tests.Named x))) (axis_or_name x k) (λ ts p l. colons_over limit x k ts p l) (way limit (k (a_step axes.Child (tests.Named x))))
-way limit (call_or_name d x k) = then_on limit [] (k (a_step d (tests.Named x))) (call_or_name d x k) (λ ts p l. call_over limit d x k ts p l) (way limit (k (a_step d (tests.Named x))))
-way limit (first_step k) = then_on limit (step_tokens any_step) (k 0 (star axes.Child)) (first_step k) (λ ts p l. (any_step, record { behind = ts; parts = refl; goes_on = l })) (way limit (k 0 (star axes.Child)))
-way limit (steps t k) = then_on limit [] (k t) (steps t k) (λ ts p l. no_more_back limit t k ts p l) (way limit (k t))
-way limit (source k) = then_on limit (source_tokens any_source) (k (source_route any_source)) (source k) (λ ts p l. (any_source, record { behind = ts; parts = refl; goes_on = l })) (way limit (k (source_route any_source)))
-way limit (path k) = then_on limit (path_tokens any_path) (k (path_route any_path)) (path k) (λ ts p l. (any_path, record { behind = ts; parts = refl; goes_on = l })) (way limit (k (path_route any_path)))
-way limit (rel k) = then_on limit (TSign signs.Eq ∷ []) (k rels.Eq) (rel k) (λ ts p l. (rels.Eq, record { behind = ts; parts = refl; goes_on = l })) (way limit (k rels.Eq))
-way limit (operand sc m k) = then_on limit (TStr [] ∷ []) (k m (sides.Str [])) (operand sc m k) (λ ts p l. (g.literal_operand (g.text []), record { behind = ts; parts = refl; goes_on = l })) (way limit (k m (sides.Str [])))
-way limit (atom n sc m k) = then_on limit (atom_tokens g.always) (k m q.Always) (atom n sc m k) (λ ts p l. (g.always, tt, record { behind = ts; parts = refl; goes_on = l })) (way limit (k m q.Always))
-way limit (ands n sc m bs k) = then_on limit [] (k m bs) (ands n sc m bs k) (λ ts p l. no_and_back limit n sc m bs k ts p l) (way limit (k m bs))
-way limit (ors n sc m bs k) = then_on limit [] (k m bs) (ors n sc m bs k) (λ ts p l. no_or_back limit n sc m bs k ts p l) (way limit (k m bs))
-way limit (expr n sc m k) = then_on limit (path_tokens any_path) (k (expr_marks sc m (g.path_expr any_path)) (q.Path (path_tree any_path))) (expr n sc m k) (λ ts p l. (g.path_expr any_path, tt, record { behind = ts; parts = refl; goes_on = l })) (way limit (k (expr_marks sc m (g.path_expr any_path)) (q.Path (path_tree any_path))))
-way limit (rest n sc m es k) = then_on limit [] (k m es) (rest n sc m es k) (λ ts p l. no_rest_back limit n sc m es k ts p l) (way limit (k m es))
-way limit (inner n sc m k) = then_on limit (TSign signs.ParenClose ∷ []) (k m q.Empty) (inner n sc m k) (λ ts p l. (g.closed, tt, record { behind = ts; parts = refl; goes_on = l })) (way limit (k m q.Empty))
-way limit (clauses sc m cs k) = then_on limit [] (k sc m cs) (clauses sc m cs k) (λ ts p l. no_clause_back limit sc m cs k ts p l) (way limit (k sc m cs))
-way limit (condition n sc m k) = then_on limit [] (k m None) (condition n sc m k) (λ ts p l. no_where_back limit n sc m k ts p l) (way limit (k m None))
-way limit (tag n sc m x k) = then_on limit (TSign signs.EmptyEnd ∷ []) (k m []) (tag n sc m x k) (λ ts p l. (g.short, tt, record { behind = ts; parts = refl; goes_on = l })) (way limit (k m []))
-way limit (content n sc m x es k) = then_on limit (content_tokens x g.ended) (k m (es ++ [])) (content n sc m x es k) (λ ts p l. (g.ended, tt, record { behind = ts; parts = refl; goes_on = l })) (way limit (k m (es ++ [])))

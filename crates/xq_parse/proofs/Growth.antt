@@ -20,7 +20,7 @@ use Rattle.xq_parse.specs.Tokens.{Token, TName, TVar, TNum, TStr, TSlash, TSlash
 use Rattle.xq_parse.specs.Grammar.{a_step}
 use Rattle.xq_parse.specs.Places.{Scope}
 use Rattle.xq_parse.specs.Machine.{State, done, sign, word, end_name, var, name, axis, axis_or_name, test, call_or_name, first_step, steps, source, path, rel, operand, atom, ands, ors, expr, rest, inner, clauses, condition, tag, content, path_seen, after_nested, for_state, if_state, elem_state, group_state, not_state, exists_state, true_state, compare_state, members, rel_of, step, at_sign, at_word, at_end_name, at_var, at_name, at_test, at_axis, at_step, at_path, at_source, at_found, at_rel, at_operand, at_tag, at_atom, at_expr, opens}
-use Rattle.xq_parse.proofs.Back.{okay}
+use Rattle.xq_parse.proofs.PathsBack.{okay}
 
 -- Only room is missing.
 pub record Lacks (limit : ℕ) (r : ℕ → Result State Why) : Type 0 where

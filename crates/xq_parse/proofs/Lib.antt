@@ -3,7 +3,9 @@ mod Folds
 mod Lang
 mod Routes
 mod Complete
+mod PathsBack
 mod Back
+mod Ways
 mod Growth
 mod Tags
 mod Refused

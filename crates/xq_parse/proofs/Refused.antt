@@ -12,7 +12,9 @@ use Rattle.xq_parse.specs.Reading.{run, over, forth, Stop, a_stop}
 use Rattle.xq_parse.specs.Faults.{IsTooDeep, EndsWithTagName, IsTagMismatch, IsSyntax, EndsSoon}
 use Rattle.xq_parse.proofs.Lang.{reads, onto, Lang}
 use Rattle.xq_parse.proofs.Complete.{derives_reads, found_of}
-use Rattle.xq_parse.proofs.Back.{okay, step_back, whole_back, way}
+use Rattle.xq_parse.proofs.PathsBack.{okay}
+use Rattle.xq_parse.proofs.Back.{step_back, whole_back}
+use Rattle.xq_parse.proofs.Ways.{way}
 use Rattle.xq_parse.proofs.Growth.{Growth, NotNesting, step_growth, step_more}
 use Rattle.xq_parse.proofs.Tags.{IsOther, IsEndName, Keeps, After, Kept, step_kept, start_calm}
 
