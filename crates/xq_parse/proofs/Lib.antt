@@ -1,0 +1,14 @@
+mod ScopeLaws
+mod Folds
+mod Lang
+mod Routes
+mod Complete
+mod Back
+mod Growth
+mod Tags
+mod Refused
+mod Noted
+mod Soundness
+mod Verdict
+mod Answered
+mod Reported

@@ -1,0 +1,10 @@
+pub mod Tokens
+pub mod Grammar
+pub mod Places
+pub mod Spelling
+pub mod Faults
+pub mod Signs
+pub mod Machine
+pub mod Reading
+pub mod Behind
+pub mod Answering

@@ -1,0 +1,462 @@
+//! Expressions.
+ghost use Rattle.std.specs.Prelude.{◌≡◌, ◌≤◌, ◌<◌, ◌+◌, ◌++◌, ◌∷◌, [], ℕ, true, cond, List, Option, length, IfOk, OnOk};
+ghost use Rattle.gcx_model.specs.declared.query.Clause.{Clause};
+ghost use Rattle.gcx_model.specs.Query as trees;
+ghost use Rattle.gcx_model.specs.Query.{CondTree, ExprTree, cond_tree, expr_tree, expr_trees, on_some};
+ghost use Rattle.xq_parse.specs.declared.marks.Marks.{Marks};
+ghost use Rattle.xq_parse.specs.Places.{Scope};
+ghost use Rattle.xq_parse.specs.Grammar.{seq_of};
+ghost use Rattle.xq_parse.specs.Machine.{State, clause_state, clauses, clauses_state, condition, content, elem_state, else_state, expr, for_state, head_state, if_state, inner, list_state, listed_state, rest, tag};
+ghost use Rattle.xq_parse.specs.Behind.{ExprHasRoom, Extends, PartHasRoom, expr_behind, part_behind};
+ghost use Rattle.xq_parse.specs.Reading.{Moves, Stop, run};
+
+use crate::conditions::{MOST, Parser};
+use crate::cursor::{Cursor, is_word};
+use crate::refusal::{Refusal, Why};
+use gcx_base::{Memory, Name};
+use gcx_model::{Clause, Clauses, Expr, Exprs, QCond};
+use xq_lex::{Sign, Tok, TokKind};
+
+/// How an expression begins.
+#[derive(Clone, Copy, Drop)]
+pub(crate) enum ExprStart {
+    For,
+    If,
+    Elem,
+    Paren,
+    Path,
+}
+
+/// How a part of a constructor's body begins.
+#[derive(Clone, Copy, Drop)]
+pub(crate) enum Part {
+    End,
+    Nested,
+    Braced,
+}
+
+impl<'a> Cursor<'a> {
+    /// Takes what tells how an expression goes on.
+    fn takes_expr(&mut self, depth: usize) -> Result<ExprStart, Refusal>
+        requires { depth ≤ 200 }
+        ensures moves { (sc : Scope) (m : Marks) (k : Marks → ExprTree → State) → Moves (λ s. run 200 (expr_behind depth sc m s k) self.new.rest.now) result (run 200 (expr depth sc m k) self.old.rest.now) }
+        ensures room { IfOk result (λ s. ExprHasRoom depth s) }
+        ensures shorter { length self.new.rest.now ≤ length self.old.rest.now }
+    {
+        match self.rest {
+            [
+                Tok {
+                    kind: TokKind::Name(found),
+                    ..
+                },
+                rest @ ..,
+            ] => {
+                if is_word(found, b"for") {
+                    if depth >= MOST {
+                        return Err(Refusal::At(Why::Nesting, self.rest.len()));
+                    }
+                    self.rest = rest;
+                    Ok(ExprStart::For)
+                } else if is_word(found, b"if") {
+                    if depth >= MOST {
+                        return Err(Refusal::At(Why::Nesting, self.rest.len()));
+                    }
+                    self.rest = rest;
+                    Ok(ExprStart::If)
+                } else {
+                    Err(Refusal::At(Why::Syntax, self.rest.len()))
+                }
+            }
+            [
+                Tok {
+                    kind: TokKind::Sign(Sign::Lt),
+                    ..
+                },
+                rest @ ..,
+            ] => {
+                if depth >= MOST {
+                    return Err(Refusal::At(Why::Nesting, self.rest.len()));
+                }
+                self.rest = rest;
+                Ok(ExprStart::Elem)
+            }
+            [
+                Tok {
+                    kind: TokKind::Sign(Sign::ParenOpen),
+                    ..
+                },
+                rest @ ..,
+            ] => {
+                if depth >= MOST {
+                    return Err(Refusal::At(Why::Nesting, self.rest.len()));
+                }
+                self.rest = rest;
+                Ok(ExprStart::Paren)
+            }
+            _ => Ok(ExprStart::Path),
+        }
+    }
+
+    /// Takes the `)` of an empty parenthesis.
+    fn takes_close(&mut self) -> bool
+        ensures moves { (n : ℕ) (sc : Scope) (m : Marks) (k : Marks → ExprTree → State) → run 200 (inner n sc m k) self.old.rest.now ≡ run 200 (cond result (k m trees.Empty) (listed_state n sc m k)) self.new.rest.now }
+        ensures shorter { length self.new.rest.now ≤ length self.old.rest.now }
+    {
+        match self.rest {
+            [
+                Tok {
+                    kind: TokKind::Sign(Sign::ParenClose),
+                    ..
+                },
+                rest @ ..,
+            ] => {
+                self.rest = rest;
+                true
+            }
+            _ => false,
+        }
+    }
+
+    /// Takes the end of a start tag: whether the constructor ends with it.
+    fn takes_tag_end(&mut self) -> Result<bool, Refusal>
+        ensures moves { (n : ℕ) (sc : Scope) (m : Marks) (x : List ℕ) (k : Marks → List ExprTree → State) → Moves (λ short. run 200 (cond short (k m []) (content n sc m x [] k)) self.new.rest.now) result (run 200 (tag n sc m x k) self.old.rest.now) }
+        ensures shorter { length self.new.rest.now ≤ length self.old.rest.now }
+    {
+        match self.rest {
+            [
+                Tok {
+                    kind: TokKind::Sign(Sign::EmptyEnd),
+                    ..
+                },
+                rest @ ..,
+            ] => {
+                self.rest = rest;
+                Ok(true)
+            }
+            [
+                Tok {
+                    kind: TokKind::Sign(Sign::Gt),
+                    ..
+                },
+                rest @ ..,
+            ] => {
+                self.rest = rest;
+                Ok(false)
+            }
+            _ => Err(Refusal::At(Why::Syntax, self.rest.len())),
+        }
+    }
+
+    /// Takes what tells what comes next in a constructor.
+    fn takes_part(&mut self, depth: usize) -> Result<Part, Refusal>
+        requires { depth ≤ 200 }
+        ensures moves { (sc : Scope) (m : Marks) (x : List ℕ) (body : List ExprTree) (k : Marks → List ExprTree → State) → Moves (λ p. run 200 (part_behind depth sc m x body p k) self.new.rest.now) result (run 200 (content depth sc m x body k) self.old.rest.now) }
+        ensures room { IfOk result (λ p. PartHasRoom depth p) }
+        ensures shorter { length self.new.rest.now ≤ length self.old.rest.now }
+        ensures some { OnOk result (length self.new.rest.now < length self.old.rest.now) }
+    {
+        match self.rest {
+            [
+                Tok {
+                    kind: TokKind::Sign(Sign::EndTag),
+                    ..
+                },
+                rest @ ..,
+            ] => {
+                self.rest = rest;
+                Ok(Part::End)
+            }
+            [
+                Tok {
+                    kind: TokKind::Sign(Sign::Lt),
+                    ..
+                },
+                rest @ ..,
+            ] => {
+                if depth >= MOST {
+                    return Err(Refusal::At(Why::Nesting, self.rest.len()));
+                }
+                self.rest = rest;
+                Ok(Part::Nested)
+            }
+            [
+                Tok {
+                    kind: TokKind::Sign(Sign::BraceOpen),
+                    ..
+                },
+                rest @ ..,
+            ] => {
+                self.rest = rest;
+                Ok(Part::Braced)
+            }
+            _ => Err(Refusal::At(Why::Syntax, self.rest.len())),
+        }
+    }
+}
+
+/// Puts the expressions behind those before.
+fn append(body: &mut Exprs, parts: Exprs) -> Result<(), Memory>
+    ensures { OnOk result (expr_trees body.new ≡ expr_trees body.old ++ expr_trees parts) }
+{
+    let mut parts = parts.members;
+    body.members.append(&mut parts)?;
+    Ok(())
+}
+
+/// Expressions in a parenthesis; one alone is that one.
+fn in_parens(parts: Exprs) -> Expr
+    ensures { expr_tree result ≡ seq_of (expr_trees parts) }
+{
+    let mut parts = parts;
+    match parts.members.len() {
+        0 => Expr::Empty,
+        1 => match parts.members.pop() {
+            Some(part) => part,
+            None => unreachable!(),
+        },
+        _ => Expr::Seq(parts),
+    }
+}
+
+impl<'a> Parser<'a> {
+    /// Reads a variable and its path. The variable is in scope from then on.
+    #[tactic(auto, unfolding(crate::specs::Machine::clause_state))]
+    fn clause(&mut self) -> Result<Clause, Refusal>
+        ensures moves { (k : Marks → Clause → State) → Moves (λ c. run 200 (k self.new.marks c) self.new.cursor.rest.now) result (run 200 (clause_state self.old.scope self.old.marks k) self.old.cursor.rest.now) }
+        ensures scope { IfOk result (λ c. self.new.scope ≡ c.var ∷ self.old.scope) }
+        ensures shorter { length self.new.cursor.rest.now ≤ length self.old.cursor.rest.now }
+    {
+        let var = self.cursor.var()?;
+        self.cursor.word(b"in")?;
+        let route = self.cursor.source()?;
+        self.marks.see_in_order(&self.scope, &route);
+        self.scope.bind(var.copy(self.cursor.alloc)?)?;
+        Ok(Clause {
+            var,
+            path: route.path,
+        })
+    }
+
+    /// Reads the clauses of a loop.
+    #[tactic(auto, using(crate::proofs::ScopeLaws::extends_after, crate::proofs::ScopeLaws::extends_one))]
+    fn clauses(&mut self) -> Result<Clauses, Refusal>
+        ensures moves { (k : Scope → Marks → List Clause → State) → Moves (λ cs. run 200 (k self.new.scope self.new.marks cs) self.new.cursor.rest.now) result (run 200 (clauses_state self.old.scope self.old.marks k) self.old.cursor.rest.now) }
+        ensures scope { OnOk result (Extends self.new.scope self.old.scope) }
+        ensures shorter { length self.new.cursor.rest.now ≤ length self.old.cursor.rest.now }
+    {
+        let first = self.clause()?;
+        let mut clauses = Clauses::new(self.cursor.alloc);
+        clauses.push(first)?;
+        while self.cursor.takes_comma() {
+            let clause = self.clause()?;
+            clauses.push(clause)?;
+        }
+        Ok(clauses)
+    }
+
+    /// Reads the condition of a loop, if it has one.
+    fn filter(&mut self, depth: usize) -> Result<Option<QCond>, Refusal>
+        requires { depth ≤ 200 }
+        ensures moves { (k : Marks → Option CondTree → State) → Moves (λ c. run 200 (k self.new.marks (on_some cond_tree c)) self.new.cursor.rest.now) result (run 200 (condition depth self.old.scope self.old.marks k) self.old.cursor.rest.now) }
+        ensures scope { OnOk result (self.new.scope ≡ self.old.scope) }
+        ensures shorter { length self.new.cursor.rest.now ≤ length self.old.cursor.rest.now }
+    {
+        if !self.cursor.takes_where() {
+            return Ok(None);
+        }
+        let cond = self.condition(depth)?;
+        Ok(Some(cond))
+    }
+
+    /// Reads an expression, with `depth` constructs open before it.
+    #[cycle(exprs)]
+    fn expr(&mut self, depth: usize) -> Result<Expr, Refusal>
+        requires { depth ≤ 200 }
+        ensures moves { (k : Marks → ExprTree → State) → Moves (λ e. run 200 (k self.new.marks (expr_tree e)) self.new.cursor.rest.now) result (run 200 (expr depth self.old.scope self.old.marks k) self.old.cursor.rest.now) }
+        ensures scope { OnOk result (self.new.scope ≡ self.old.scope) }
+        ensures shorter { length self.new.cursor.rest.now ≤ length self.old.cursor.rest.now }
+    {
+        match self.cursor.takes_expr(depth)? {
+            ExprStart::For => {
+                let expr = self.for_expr(depth + 1)?;
+                Ok(expr)
+            }
+            ExprStart::If => {
+                let expr = self.if_expr(depth + 1)?;
+                Ok(expr)
+            }
+            ExprStart::Elem => {
+                let expr = self.elem(depth + 1)?;
+                Ok(expr)
+            }
+            ExprStart::Paren => {
+                let expr = self.inner(depth + 1)?;
+                Ok(expr)
+            }
+            ExprStart::Path => {
+                let route = self.cursor.path()?;
+                self.marks.see_in_order(&self.scope, &route);
+                Ok(Expr::Path(route.path))
+            }
+        }
+    }
+
+    /// Reads what stands behind `for`.
+    #[tactic(auto, unfolding(crate::specs::Machine::for_state))]
+    #[cycle(exprs)]
+    fn for_expr(&mut self, depth: usize) -> Result<Expr, Refusal>
+        requires { depth ≤ 200 }
+        ensures moves { (k : Marks → ExprTree → State) → Moves (λ e. run 200 (k self.new.marks (expr_tree e)) self.new.cursor.rest.now) result (run 200 (for_state depth self.old.scope self.old.marks k) self.old.cursor.rest.now) }
+        ensures scope { OnOk result (self.new.scope ≡ self.old.scope) }
+        ensures shorter { length self.new.cursor.rest.now ≤ length self.old.cursor.rest.now }
+    {
+        let outer = self.scope.len();
+        let clauses = self.clauses()?;
+        let filter = self.filter(depth)?;
+        self.cursor.word(b"return")?;
+        let body = self.expr(depth)?;
+        self.scope.leave(outer);
+        Ok(Expr::For {
+            clauses,
+            filter,
+            body: Box::new(self.cursor.alloc, body)?,
+        })
+    }
+
+    /// Reads what stands between `if` and the first branch.
+    #[tactic(auto, unfolding(crate::specs::Machine::head_state))]
+    fn head(&mut self, depth: usize) -> Result<QCond, Refusal>
+        requires { depth ≤ 200 }
+        ensures moves { (k : Marks → CondTree → State) → Moves (λ c. run 200 (k self.new.marks (cond_tree c)) self.new.cursor.rest.now) result (run 200 (head_state depth self.old.scope self.old.marks k) self.old.cursor.rest.now) }
+        ensures scope { OnOk result (self.new.scope ≡ self.old.scope) }
+        ensures shorter { length self.new.cursor.rest.now ≤ length self.old.cursor.rest.now }
+    {
+        self.cursor.sign(Sign::ParenOpen)?;
+        let cond = self.condition(depth)?;
+        self.cursor.sign(Sign::ParenClose)?;
+        self.cursor.word(b"then")?;
+        Ok(cond)
+    }
+
+    /// Reads `else` and the other branch.
+    #[cycle(exprs)]
+    fn other_branch(&mut self, depth: usize) -> Result<Expr, Refusal>
+        requires { depth ≤ 200 }
+        ensures moves { (k : Marks → ExprTree → State) → Moves (λ e. run 200 (k self.new.marks (expr_tree e)) self.new.cursor.rest.now) result (run 200 (else_state depth self.old.scope self.old.marks k) self.old.cursor.rest.now) }
+        ensures scope { OnOk result (self.new.scope ≡ self.old.scope) }
+        ensures shorter { length self.new.cursor.rest.now ≤ length self.old.cursor.rest.now }
+    {
+        self.cursor.word(b"else")?;
+        let other = self.expr(depth)?;
+        Ok(other)
+    }
+
+    /// Reads what stands behind `if`.
+    #[tactic(auto, unfolding(crate::specs::Machine::if_state))]
+    #[cycle(exprs)]
+    fn if_expr(&mut self, depth: usize) -> Result<Expr, Refusal>
+        requires { depth ≤ 200 }
+        ensures moves { (k : Marks → ExprTree → State) → Moves (λ e. run 200 (k self.new.marks (expr_tree e)) self.new.cursor.rest.now) result (run 200 (if_state depth self.old.scope self.old.marks k) self.old.cursor.rest.now) }
+        ensures scope { OnOk result (self.new.scope ≡ self.old.scope) }
+        ensures shorter { length self.new.cursor.rest.now ≤ length self.old.cursor.rest.now }
+    {
+        let cond = self.head(depth)?;
+        let then = self.expr(depth)?;
+        let other = self.other_branch(depth)?;
+        let then = Box::new(self.cursor.alloc, then)?;
+        let other = Box::new(self.cursor.alloc, other)?;
+        Ok(Expr::If { cond, then, other })
+    }
+
+    /// Reads what stands behind the `<` of a constructor.
+    #[tactic(auto, unfolding(crate::specs::Machine::elem_state))]
+    #[cycle(exprs)]
+    fn elem(&mut self, depth: usize) -> Result<Expr, Refusal>
+        requires { depth ≤ 200 }
+        ensures moves { (k : Marks → ExprTree → State) → Moves (λ e. run 200 (k self.new.marks (expr_tree e)) self.new.cursor.rest.now) result (run 200 (elem_state depth self.old.scope self.old.marks k) self.old.cursor.rest.now) }
+        ensures scope { OnOk result (self.new.scope ≡ self.old.scope) }
+        ensures shorter { length self.new.cursor.rest.now ≤ length self.old.cursor.rest.now }
+    {
+        let name = self.cursor.name()?;
+        let body = self.tag(depth, &name)?;
+        Ok(Expr::Elem { name, body })
+    }
+
+    /// Reads what stands behind the name of a start tag.
+    #[cycle(exprs)]
+    fn tag(&mut self, depth: usize, name: &Name) -> Result<Exprs, Refusal>
+        requires { depth ≤ 200 }
+        ensures moves { (k : Marks → List ExprTree → State) → Moves (λ es. run 200 (k self.new.marks (expr_trees es)) self.new.cursor.rest.now) result (run 200 (tag depth self.old.scope self.old.marks name.now k) self.old.cursor.rest.now) }
+        ensures scope { OnOk result (self.new.scope ≡ self.old.scope) }
+        ensures shorter { length self.new.cursor.rest.now ≤ length self.old.cursor.rest.now }
+    {
+        if self.cursor.takes_tag_end()? {
+            return Ok(Exprs::new(self.cursor.alloc));
+        }
+        let body = self.content(depth, name)?;
+        Ok(body)
+    }
+
+    /// Reads the body of a constructor and its end tag.
+    #[cycle(exprs)]
+    fn content(&mut self, depth: usize, name: &Name) -> Result<Exprs, Refusal>
+        requires { depth ≤ 200 }
+        ensures moves { (k : Marks → List ExprTree → State) → Moves (λ es. run 200 (k self.new.marks (expr_trees es)) self.new.cursor.rest.now) result (run 200 (content depth self.old.scope self.old.marks name.now [] k) self.old.cursor.rest.now) }
+        ensures scope { OnOk result (self.new.scope ≡ self.old.scope) }
+        ensures shorter { length self.new.cursor.rest.now ≤ length self.old.cursor.rest.now }
+    {
+        let mut body = Exprs::new(self.cursor.alloc);
+        loop {
+            match self.cursor.takes_part(depth)? {
+                Part::End => {
+                    self.cursor.end_name(name)?;
+                    self.cursor.sign(Sign::Gt)?;
+                    return Ok(body);
+                }
+                Part::Nested => {
+                    let expr = self.elem(depth + 1)?;
+                    body.push(expr)?;
+                }
+                Part::Braced => {
+                    let parts = self.list(depth)?;
+                    self.cursor.sign(Sign::BraceClose)?;
+                    append(&mut body, parts)?;
+                }
+            }
+        }
+    }
+
+    /// Reads what stands behind the `(` of an expression.
+    #[cycle(exprs)]
+    fn inner(&mut self, depth: usize) -> Result<Expr, Refusal>
+        requires { depth ≤ 200 }
+        ensures moves { (k : Marks → ExprTree → State) → Moves (λ e. run 200 (k self.new.marks (expr_tree e)) self.new.cursor.rest.now) result (run 200 (inner depth self.old.scope self.old.marks k) self.old.cursor.rest.now) }
+        ensures scope { OnOk result (self.new.scope ≡ self.old.scope) }
+        ensures shorter { length self.new.cursor.rest.now ≤ length self.old.cursor.rest.now }
+    {
+        if self.cursor.takes_close() {
+            return Ok(Expr::Empty);
+        }
+        let parts = self.list(depth)?;
+        self.cursor.sign(Sign::ParenClose)?;
+        Ok(in_parens(parts))
+    }
+
+    /// Reads expressions with commas between them.
+    #[cycle(exprs)]
+    pub(crate) fn list(&mut self, depth: usize) -> Result<Exprs, Refusal>
+        requires { depth ≤ 200 }
+        ensures moves { (k : Marks → List ExprTree → State) → Moves (λ es. run 200 (k self.new.marks (expr_trees es)) self.new.cursor.rest.now) result (run 200 (list_state depth self.old.scope self.old.marks k) self.old.cursor.rest.now) }
+        ensures scope { OnOk result (self.new.scope ≡ self.old.scope) }
+        ensures shorter { length self.new.cursor.rest.now ≤ length self.old.cursor.rest.now }
+    {
+        let first = self.expr(depth)?;
+        let mut parts = Exprs::new(self.cursor.alloc);
+        parts.push(first)?;
+        while self.cursor.takes_comma() {
+            let part = self.expr(depth)?;
+            parts.push(part)?;
+        }
+        Ok(parts)
+    }
+}
