@@ -17,13 +17,13 @@ pub map-append : (a b : List Said) → map given_token (a ++ b) ≡ map given_to
 map-append [] b = refl
 map-append (t ∷ a) b = ap (λ l. given_token t ∷ l) (map-append a b)
 
-said-map : (tags : List Said) → map said_of (map given_token tags) ≡ tags
+pub said-map : (tags : List Said) → map said_of (map given_token tags) ≡ tags
 said-map [] = refl
 said-map (said_start n ∷ tags) = ap (λ l. said_start n ∷ l) (said-map tags)
 said-map (said_text t ∷ tags) = ap (λ l. said_text t ∷ l) (said-map tags)
 said-map (said_end ∷ tags) = ap (λ l. said_end ∷ l) (said-map tags)
 
-said-append : (a b : List Token) → map said_of (a ++ b) ≡ map said_of a ++ map said_of b
+pub said-append : (a b : List Token) → map said_of (a ++ b) ≡ map said_of a ++ map said_of b
 said-append [] b = refl
 said-append (t ∷ a) b = ap (λ l. said_of t ∷ l) (said-append a b)
 

@@ -1,15 +1,14 @@
 -- Names as characters and as bytes.
-use Rattle.std.proofs.Common.{ℕ, ◌≡◌, ◌==◌, ◌||◌, ◌&&◌, ◌++◌, Bool, true, false, List, [], ◌∷◌, ◌<◌, length, nat_lt, nat_le, refl, sym, ap, ◌∙◌, arith}
-use lib.Utf8.{encodes}
+use Rattle.std.proofs.Common.{ℕ, ◌≡◌, ◌==◌, ◌||◌, ◌&&◌, ◌++◌, Bool, true, false, List, [], ◌∷◌, refl, sym, ap, ◌∙◌, arith}
 use Rattle.std.specs.Prelude.{IsUtf8}
 use Rattle.std.specs.List.{list_all}
 use Rattle.std.specs.Char.{IsScalar, encode_utf8}
 use Rattle.std.specs.Str.{all_scalars, chars}
 use Rattle.std.proofs.lemmas.Bool.{and_parts, true≢false}
 use Rattle.std.proofs.lemmas.Bool.Decides.{nat_tests}
-use Rattle.std.proofs.lemmas.Str.{chars_from_encodes, encodes-chars, chars_past_char, encode_ascii}
+use Rattle.std.proofs.lemmas.Str.{chars_from_encodes, encodes-chars, chars_past_char}
 use Rattle.gcx_base.specs.Characters.{between, is_start_char, is_part_char}
-use Rattle.gcx_base.specs.Name.{first_starts, is_name, IsNameBytes, is_name_start, is_name_byte, is_plain_name}
+use Rattle.gcx_base.specs.Name.{first_starts, is_name, IsNameBytes}
 
 part_scalar : (c : ℕ) → is_part_char c ≡ true → IsScalar c
 part_scalar c h = grind (arith, nat_tests)
@@ -60,49 +59,3 @@ first_of bs rest c u e = ap first_starts (chars_past_char bs rest c u e)
 -- what is no name
 pub chars_no_name : (bytes : List ℕ) → is_name (chars bytes) ≡ false → IsNameBytes bytes → ⊥
 chars_no_name bytes h k = true≢false (sym (name_chars bytes k) ∙ h)
-
-plain_start : (c : ℕ) → is_name_start c ≡ true → (is_start_char c ≡ true) × (c < 128)
-plain_start c h = (grind (arith, nat_tests), grind (arith, nat_tests))
-
-or_later : (a b : Bool) → b ≡ true → (a || b) ≡ true
-or_later true b h = refl
-or_later false b h = h
-
--- what follows NameStartChar in NameChar
-abbrev follows : ℕ → Bool
-follows c = (c == 45) || ((c == 46) || (between 48 57 c || ((c == 183) || (between 768 879 c || between 8255 8256 c))))
-
-plain_follows : (c : ℕ) → ((nat_le 48 c && nat_le c 57) || (c == 45) || (c == 46)) ≡ true → (follows c ≡ true) × (c < 128)
-plain_follows c h = (grind (arith, nat_tests), grind (arith, nat_tests))
-
-plain_part : (c : ℕ) → is_name_byte c ≡ true → (is_part_char c ≡ true) × (c < 128)
-plain_part c h =
-    elim (is_name_start c) as (λ (b : Bool). is_name_start c ≡ b → (b || (nat_le 48 c && nat_le c 57) || (c == 45) || (c == 46)) ≡ true → (is_part_char c ≡ true) × (c < 128)) [
-      | true ↦ λ e k. (start_part c (plain_start c e).0, (plain_start c e).1)
-      | false ↦ λ e k. (or_later (is_start_char c) (follows c) (plain_follows c k).0, (plain_follows c k).1)
-    ] refl h
-
-plain_parts : (cs : List ℕ) → list_all is_name_byte cs ≡ true → (list_all is_part_char cs ≡ true) × (encodes cs ≡ cs)
-plain_parts [] h = (refl, refl)
-plain_parts (c ∷ cs) h =
-    let parts = and_parts (is_name_byte c) (list_all is_name_byte cs) h in
-    let one = plain_part c parts.0 in
-    let more = plain_parts cs parts.1 in
-    (λ i. one.0 i && more.0 i, (λ i. encode_ascii c one.1 i ++ more.1 i))
-
--- a plain name is a name
-pub plain_named : (bytes : List ℕ) → is_plain_name bytes ≡ true → IsNameBytes bytes
-plain_named [] h = absurd (true≢false (sym h))
-plain_named (c ∷ cs) h =
-    let parts = and_parts (is_name_start c) (list_all is_name_byte cs) (and_parts (nat_lt (length cs) 1024) (is_name_start c && list_all is_name_byte cs) h).1 in
-    let one = plain_start c parts.0 in
-    let more = plain_parts cs parts.1 in
-    record { chars = c ∷ cs; name = λ i. one.0 i && more.0 i; parts = λ i. encode_ascii c one.1 i ++ more.1 i }
-
--- what is no name is no plain name
-pub unnamed_not_plain : (bytes : List ℕ) → (IsNameBytes bytes → ⊥) → is_plain_name bytes ≡ false
-unnamed_not_plain bytes h =
-    elim (is_plain_name bytes) as (λ (b : Bool). is_plain_name bytes ≡ b → b ≡ false) [
-      | true ↦ λ e. absurd (h (plain_named bytes e))
-      | false ↦ λ e. refl
-    ] refl

@@ -65,7 +65,10 @@ impl Line {
             QueryFault::Syntax(at) => Line::numbered(b"gcx: query Syntax ", at),
             QueryFault::UnknownVar(at) => Line::numbered(b"gcx: query UnknownVar ", at),
             QueryFault::TagMismatch(at) => Line::numbered(b"gcx: query TagMismatch ", at),
-            QueryFault::DescendantNotLast(at) => Line::numbered(b"gcx: query DescendantNotLast ", at),
+            QueryFault::DescendantNotLast(at) => Line::numbered(
+                b"gcx: query DescendantNotLast ",
+                at,
+            ),
             QueryFault::IntegerWide(at) => Line::numbered(b"gcx: query IntegerWide ", at),
             QueryFault::TooLarge(what, limit) => Line::numbered(limit_words(what), limit),
             QueryFault::Memory => Line::words(b"gcx: out of memory"),

@@ -1,5 +1,4 @@
 pub mod Document
-pub mod Spelling
 pub mod Tree
 pub mod Paths
 pub mod Values

@@ -1,5 +1,5 @@
 -- The answer is the query that the text spells, or its fault.
-use Rattle.std.proofs.Common.{ℕ, ◌≡◌, true, List, length, Result, Ok, Err, refl, sym, ap, ◌∙◌, subst, inl, inr, ◌⊎◌}
+use Rattle.std.proofs.Common.{ℕ, ◌≡◌, true, List, length, Result, Ok, Err, sym, ◌∙◌, subst, inl, inr}
 use Rattle.std.specs.Prelude.{IfOk, IfErr}
 use Rattle.gcx_model.specs.declared.fault.QueryFault.{QueryFault}
 use Rattle.gcx_model.specs.declared.fault.QueryFault.TheVariants.{Utf8, Lex, Syntax, UnknownVar, TagMismatch, DescendantNotLast, IntegerWide, TooLarge, Memory}
@@ -9,7 +9,7 @@ use Rattle.gcx_model.specs.Sound.{is_sound}
 use Rattle.xq_lex.specs.declared.token.Tok.{Tok}
 use Rattle.xq_lex.specs.Lex.{Lexes, LexFault, HasOnlyTokens, HasOnlyFault}
 use Rattle.xq_lex.specs.Answer.{UnlessMemory}
-use Rattle.xq_parse.specs.Spelling.{HasTokens, Spells, QuerySpells}
+use Rattle.xq_parse.specs.Spelling.{Spells, QuerySpells}
 use Rattle.xq_parse.specs.Faults.{GrammarFault, QueryFaultOf, HasOnlyQuery, HasOnlyRefusal}
 use Rattle.xq_parse.specs.Answering.{Answers, judged}
 use Rattle.xq_parse.proofs.Verdict as laws

@@ -1,5 +1,5 @@
 -- What the machine reads, the grammar spells.
-use Rattle.std.proofs.Common.{ℕ, ℤ, ◌≡◌, ◌+◌, Bool, true, false, ◌||◌, nat_lt, cond, List, [], ◌∷◌, ◌++◌, Option, Some, None, Result, Ok, Err, inl, inr, ◌⊎◌, eqb-true, refl, sym, ap, ◌∙◌, subst, append_assoc, append-nil}
+use Rattle.std.proofs.Common.{ℕ, ◌≡◌, ◌+◌, Bool, true, false, ◌||◌, nat_lt, cond, List, [], ◌∷◌, ◌++◌, Option, Some, None, Result, Ok, Err, inl, inr, ◌⊎◌, eqb-true, refl, sym, ap, ◌∙◌, subst, append_assoc, append-nil}
 use Rattle.std.specs.Prelude.{bytes_eq, slice_get}
 use Rattle.std.proofs.lemmas.Slice.Eq.{bytes_eq-Decides}
 use Rattle.gcx_base.specs.declared.rel.Rel.{Rel}
@@ -25,12 +25,12 @@ use Rattle.xq_parse.specs.Signs.{sign_code, sign_eq}
 use Rattle.xq_parse.specs.Tokens.{Token, TName, TVar, TNum, TStr, TSlash, TSlashes, TSign, for_, in_, where_, return_, if_, then_, else_, or_, and_, not_, true_, exists_, text_, node_, child_, descendant_}
 use Rattle.xq_parse.specs.Grammar as g
 use Rattle.xq_parse.specs.Grammar.{a_step, a_clause, any_of, seq_of, test_tokens, test_tree, step_tokens, step_tree, steps_tokens, path_tokens, path_tree, source_tokens, operand_tokens, operand_tree, literal_token, literal_tree, rel_sign, cond_tokens, cond_tree, ors_tokens, ors_tree, all_tokens, all_tree, ands_tokens, ands_tree, atom_tokens, atom_tree, CondFits, OrsFits, AllFits, AndsFits, AtomFits, clause_tokens, clause_tree, clauses_tokens, clauses_tree, where_tokens, where_tree, WhereFits, expr_tokens, expr_tree, ExprFits, inner_tokens, inner_tree, InnerFits, rest_tokens, rest_tree, RestFits, tag_tokens, tag_tree, TagFits, content_tokens, content_tree, ContentFits}
-use Rattle.xq_parse.specs.Places.{Scope, step_place, clause_scope, clauses_scope}
-use Rattle.xq_parse.specs.Machine.{State, Found, done, sign, word, end_name, var, name, axis, axis_or_name, test, call_or_name, first_step, steps, source, path, rel, operand, atom, ands, ors, expr, rest, inner, clauses, condition, tag, content, no_trail, a_var, a_route, seen, seen_in_order, steps_behind, steps_state, with_start, side_seen, path_seen, close_list, after_brace, after_nested, more_ands, more_ors, more_rest, more_clauses, with_filter, all_state, cond_state, clause_state, for_state, head_state, if_state, elem_state, group_state, not_state, exists_state, true_state, literal_state, compare_state, braces_state, listed_state, members, kind_test, axis_named, rel_of, step, whole, at_test, at_axis, at_step, at_path, at_source, at_found, at_operand, at_atom, at_expr, opens}
+use Rattle.xq_parse.specs.Places.{Scope, clause_scope, clauses_scope}
+use Rattle.xq_parse.specs.Machine.{State, Found, done, sign, word, end_name, var, name, axis, axis_or_name, test, call_or_name, first_step, steps, source, path, rel, operand, atom, ands, ors, expr, rest, inner, clauses, condition, tag, content, no_trail, a_var, steps_behind, steps_state, with_start, side_seen, path_seen, after_nested, more_ands, more_ors, more_rest, more_clauses, with_filter, all_state, cond_state, clause_state, for_state, head_state, if_state, elem_state, group_state, not_state, exists_state, true_state, literal_state, compare_state, braces_state, listed_state, members, kind_test, axis_named, rel_of, step, whole, at_test, at_axis, at_step, at_path, at_source, at_found, at_operand, at_atom, at_expr, opens}
 use Rattle.xq_parse.specs.Reading.{a_found}
 use Rattle.xq_parse.proofs.Lang.{AxisTest, child_axis, descendant_axis, no_axis, axis_tree, axis_tokens, Behind, colons, bare, colons_tokens, colons_tree, Call, called, uncalled, call_tokens, call_tree, Begins, Lang}
 use Rattle.xq_parse.proofs.Routes.{from_var_is, from_root_is, in_var_is, in_root_is}
-use Rattle.xq_parse.proofs.Folds.{trail_behind, path_route, source_route, path_marks, operand_marks, cond_marks, ors_marks, all_marks, ands_marks, atom_marks, clause_marks, clauses_marks, where_marks, expr_marks, inner_marks, rest_marks, tag_marks, content_marks}
+use Rattle.xq_parse.proofs.Folds.{path_route, source_route, cond_marks, ors_marks, all_marks, ands_marks, atom_marks, clause_marks, clauses_marks, expr_marks, rest_marks, tag_marks, content_marks}
 
 -- ---- tests that went well
 

@@ -22,11 +22,11 @@ use Rattle.xq_parse.specs.Tokens.{Token, TName, TVar, TNum, TStr, TSlash, TSlash
 use Rattle.xq_parse.specs.Grammar as g
 use Rattle.xq_parse.specs.Grammar.{a_step, a_clause, all_of, any_of, seq_of, test_tokens, test_tree, step_tokens, step_tree, steps_tokens, path_tokens, path_tree, source_tokens, operand_tokens, operand_tree, literal_token, literal_tree, rel_sign, cond_tokens, cond_tree, ors_tokens, ors_tree, all_tokens, all_tree, ands_tokens, ands_tree, atom_tokens, atom_tree, CondFits, OrsFits, AllFits, AndsFits, AtomFits, clause_tokens, clause_tree, clauses_tokens, clauses_tree, where_tokens, where_tree, WhereFits, expr_tokens, expr_tree, ExprFits, inner_tokens, inner_tree, InnerFits, rest_tokens, rest_tree, RestFits, tag_tokens, tag_tree, TagFits, content_tokens, content_tree, ContentFits}
 use Rattle.xq_parse.specs.Places.{Scope, step_place, clause_scope, clauses_scope}
-use Rattle.xq_parse.specs.Machine.{State, Found, done, sign, word, axis, axis_or_name, test, call_or_name, first_step, steps, source, path, rel, operand, atom, ands, ors, expr, rest, inner, clauses, condition, tag, content, no_trail, a_var, a_route, no_marks, seen, seen_in_order, steps_behind, steps_state, with_start, side_seen, path_seen, close_list, after_brace, after_nested, more_ands, more_ors, more_rest, more_clauses, with_filter, atoms_state, all_state, alls_state, cond_state, clause_state, clauses_state, list_state, for_state, head_state, if_state, elem_state, group_state, not_state, exists_state, literal_state, compare_state, members, step, start}
+use Rattle.xq_parse.specs.Machine.{State, Found, done, sign, word, axis, axis_or_name, test, call_or_name, first_step, steps, source, path, rel, operand, atom, ands, ors, expr, rest, inner, clauses, condition, tag, content, no_trail, a_var, a_route, no_marks, seen, seen_in_order, steps_behind, steps_state, with_start, side_seen, path_seen, close_list, after_brace, after_nested, more_ands, more_ors, more_rest, more_clauses, atoms_state, all_state, alls_state, cond_state, clause_state, clauses_state, list_state, for_state, head_state, if_state, elem_state, group_state, not_state, exists_state, literal_state, compare_state, members, step, start}
 use Rattle.xq_parse.specs.Reading.{a_found}
 use Rattle.xq_parse.proofs.Lang.{reads, onto}
 use Rattle.xq_parse.proofs.Routes.{from_var_is, from_root_is, in_var_is, in_root_is}
-use Rattle.xq_parse.proofs.Folds.{trail_behind, path_route, source_route, path_marks, ordered_marks, operand_marks, cond_marks, ors_marks, all_marks, ands_marks, atom_marks, clause_marks, clauses_marks, where_marks, expr_marks, inner_marks, rest_marks, tag_marks, content_marks}
+use Rattle.xq_parse.proofs.Folds.{trail_behind, path_route, source_route, path_marks, operand_marks, cond_marks, ors_marks, all_marks, ands_marks, atom_marks, clause_marks, clauses_marks, where_marks, expr_marks, inner_marks, rest_marks, tag_marks, content_marks}
 
 -- Tokens that don't go on with a name test: no `(` and no `::` first.
 abbrev pub no_call : List Token → Bool

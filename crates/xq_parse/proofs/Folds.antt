@@ -1,5 +1,5 @@
 -- What the machine makes of a derivation: the routes of its paths, and its marks.
-use Rattle.std.proofs.Common.{ℕ, List, [], ◌∷◌, ◌++◌, Option, Some, None}
+use Rattle.std.proofs.Common.{ℕ, Option, Some, None}
 use Rattle.gcx_model.specs.Paths.{head}
 use Rattle.xq_parse.specs.declared.route.Trail.{Trail}
 use Rattle.xq_parse.specs.declared.route.Route.{Route}

@@ -1,5 +1,5 @@
 -- More room changes nothing but a refusal for want of room.
-use Rattle.std.proofs.Common.{ℕ, ◌≡◌, ◌+◌, ◌<◌, ◌≤◌, Bool, true, false, ◌||◌, nat_lt, cond, List, [], ◌∷◌, ◌++◌, Option, Some, None, Result, Ok, Err, refl, sym, ap, ◌∙◌, subst, arith, inl, inr, ◌⊎◌, ltb-true}
+use Rattle.std.proofs.Common.{ℕ, ◌≡◌, ◌+◌, ◌<◌, ◌≤◌, Bool, true, false, ◌||◌, nat_lt, cond, List, None, Result, Ok, Err, refl, sym, ap, ◌∙◌, subst, arith, inl, inr, ◌⊎◌, ltb-true}
 use Rattle.std.proofs.lemmas.Bool.Decides.{nat_tests}
 use Rattle.std.specs.Prelude.{bytes_eq}
 use Rattle.gcx_base.specs.declared.rel.Rel.{Rel}
@@ -8,7 +8,6 @@ use Rattle.gcx_base.specs.declared.steps.Axis.TheVariants as axes
 use Rattle.gcx_base.specs.declared.steps.Step.{Step}
 use Rattle.gcx_base.specs.declared.steps.Test.TheVariants as tests
 use Rattle.gcx_model.specs.declared.query.QOperand.{QOperand}
-use Rattle.gcx_model.specs.declared.query.QOperand.TheVariants as sides
 use Rattle.gcx_model.specs.Query.{CondTree, ExprTree}
 use Rattle.xq_lex.specs.declared.sign.Sign.{Sign}
 use Rattle.xq_lex.specs.declared.sign.Sign.TheVariants as signs
@@ -17,10 +16,10 @@ use Rattle.xq_parse.specs.declared.refusal.Why.TheVariants.{Syntax, TagMismatch,
 use Rattle.xq_parse.specs.declared.route.Route.{Route}
 use Rattle.xq_parse.specs.declared.marks.Marks.{Marks}
 use Rattle.xq_parse.specs.Signs.{sign_eq}
-use Rattle.xq_parse.specs.Tokens.{Token, TName, TVar, TNum, TStr, TSlash, TSlashes, TSign, for_, if_, or_, and_, where_, not_, true_, exists_, text_, node_, child_, descendant_}
+use Rattle.xq_parse.specs.Tokens.{Token, TName, TVar, TNum, TStr, TSlash, TSlashes, TSign, for_, if_, or_, and_, where_, not_, true_, exists_, child_, descendant_}
 use Rattle.xq_parse.specs.Grammar.{a_step}
 use Rattle.xq_parse.specs.Places.{Scope}
-use Rattle.xq_parse.specs.Machine.{State, done, sign, word, end_name, var, name, axis, axis_or_name, test, call_or_name, first_step, steps, source, path, rel, operand, atom, ands, ors, expr, rest, inner, clauses, condition, tag, content, side_seen, path_seen, after_nested, for_state, if_state, elem_state, group_state, not_state, exists_state, true_state, compare_state, members, rel_of, step, at_sign, at_word, at_end_name, at_var, at_name, at_test, at_axis, at_step, at_path, at_source, at_found, at_rel, at_operand, at_tag, at_atom, at_expr, opens}
+use Rattle.xq_parse.specs.Machine.{State, done, sign, word, end_name, var, name, axis, axis_or_name, test, call_or_name, first_step, steps, source, path, rel, operand, atom, ands, ors, expr, rest, inner, clauses, condition, tag, content, path_seen, after_nested, for_state, if_state, elem_state, group_state, not_state, exists_state, true_state, compare_state, members, rel_of, step, at_sign, at_word, at_end_name, at_var, at_name, at_test, at_axis, at_step, at_path, at_source, at_found, at_rel, at_operand, at_tag, at_atom, at_expr, opens}
 use Rattle.xq_parse.proofs.Back.{okay}
 
 -- Only room is missing.

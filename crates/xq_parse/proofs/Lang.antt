@@ -1,6 +1,5 @@
 -- What is spelled from a state on.
 use Rattle.std.proofs.Common.{ℕ, ◌≡◌, List, [], ◌∷◌, ◌++◌, Option, None, Result, Ok, Err}
-use Rattle.std.specs.Prelude.{bytes_eq}
 use Rattle.gcx_base.specs.declared.rel.Rel.{Rel}
 use Rattle.gcx_base.specs.declared.steps.Axis.{Axis}
 use Rattle.gcx_base.specs.declared.steps.Axis.TheVariants as axes

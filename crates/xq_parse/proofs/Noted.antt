@@ -5,7 +5,7 @@ use Rattle.gcx_model.specs.Paths.{any, head}
 use Rattle.xq_parse.specs.declared.marks.Marks.{Marks}
 use Rattle.xq_parse.specs.Grammar as g
 use Rattle.xq_parse.specs.Grammar.{path_tree, source_tree}
-use Rattle.xq_parse.specs.Places.{Scope, path_unknown, source_unknown, operand_unknown, cond_unknown, ors_unknown, all_unknown, ands_unknown, atom_unknown, clause_unknown, clause_scope, clauses_unknown, clauses_scope, loop_scope, where_unknown, expr_unknown, inner_unknown, rest_unknown, tag_unknown, content_unknown, unknown_of, path_late, source_late, clause_late, clauses_late, expr_late, inner_late, rest_late, tag_late, content_late, late_of}
+use Rattle.xq_parse.specs.Places.{Scope, path_unknown, source_unknown, operand_unknown, cond_unknown, ors_unknown, all_unknown, ands_unknown, atom_unknown, clause_unknown, clause_scope, clauses_unknown, loop_scope, where_unknown, expr_unknown, inner_unknown, rest_unknown, tag_unknown, content_unknown, unknown_of, path_late, source_late, clause_late, clauses_late, expr_late, inner_late, rest_late, tag_late, content_late, late_of}
 use Rattle.xq_parse.specs.Machine.{or_else, unbound_at, no_marks}
 use Rattle.xq_parse.proofs.Folds.{path_place, source_place, path_marks, ordered_marks, operand_marks, cond_marks, ors_marks, all_marks, ands_marks, atom_marks, clause_marks, clauses_marks, where_marks, expr_marks, inner_marks, rest_marks, tag_marks, content_marks}
 

@@ -1,20 +1,20 @@
 -- The machine gives what tokens spell, or their fault.
-use Rattle.std.proofs.Common.{ℕ, ◌≡◌, ◌+◌, ◌≤◌, Bool, true, false, cond, List, [], ◌∷◌, ◌++◌, length, map, Option, Some, None, Result, Ok, Err, refl, sym, ap, ◌∙◌, subst, append_assoc, append-nil, arith, inl, inr, ◌⊎◌}
+use Rattle.std.proofs.Common.{ℕ, ◌≡◌, ◌≤◌, Bool, true, false, cond, List, [], ◌∷◌, ◌++◌, length, Option, Some, None, Result, Ok, Err, refl, sym, ap, ◌∙◌, subst, append_assoc, append-nil, arith, inl, inr, ◌⊎◌}
 use Rattle.std.specs.Prelude.{bytes_eq}
 use Rattle.xq_lex.specs.declared.sign.Sign.TheVariants as signs
 use Rattle.xq_lex.specs.declared.token.Tok.{Tok}
 use Rattle.xq_parse.specs.declared.refusal.Why.{Why}
 use Rattle.xq_parse.specs.declared.refusal.Why.TheVariants.{Syntax, TagMismatch, Nesting}
-use Rattle.xq_parse.specs.Tokens.{Token, TName, TVar, TNum, TStr, TSlash, TSlashes, TSign, token_of, tokens_of}
+use Rattle.xq_parse.specs.Tokens.{Token, TName, TSign, token_of, tokens_of}
 use Rattle.xq_parse.specs.Grammar.{Derivation, Derives, Viable, expr_tokens, rest_tokens}
 use Rattle.xq_parse.specs.Machine.{State, Found, end_name, step, whole, start}
-use Rattle.xq_parse.specs.Reading.{run, over, forth, Stop, a_stop, a_found}
+use Rattle.xq_parse.specs.Reading.{run, over, forth, Stop, a_stop}
 use Rattle.xq_parse.specs.Faults.{IsTooDeep, EndsWithTagName, IsTagMismatch, IsSyntax, EndsSoon}
 use Rattle.xq_parse.proofs.Lang.{reads, onto, Lang}
 use Rattle.xq_parse.proofs.Complete.{derives_reads, found_of}
 use Rattle.xq_parse.proofs.Back.{okay, step_back, whole_back, way}
 use Rattle.xq_parse.proofs.Growth.{Growth, NotNesting, step_growth, step_more}
-use Rattle.xq_parse.proofs.Tags.{IsOther, IsEndName, Keeps, Calm, After, Kept, step_kept, start_calm}
+use Rattle.xq_parse.proofs.Tags.{IsOther, IsEndName, Keeps, After, Kept, step_kept, start_calm}
 
 pub record IsFound (limit : ℕ) (ts : List Token) (f : Found) : Type 0 where
   pub derivation : Derivation

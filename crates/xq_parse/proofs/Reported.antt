@@ -1,16 +1,16 @@
 -- From what the machine gives to what is answered of the tokens.
-use Rattle.std.proofs.Common.{ℕ, ◌≡◌, List, Result, Ok, Err, ap, sym, ◌∙◌}
+use Rattle.std.proofs.Common.{ℕ, ◌≡◌, List, Result, Ok, Err, ap, ◌∙◌}
 use Rattle.gcx_model.specs.declared.fault.QueryFault.{QueryFault}
 use Rattle.gcx_model.specs.declared.fault.QueryFault.TheVariants.{Utf8, Lex, Syntax, UnknownVar, TagMismatch, DescendantNotLast, IntegerWide, TooLarge, Memory}
 use Rattle.gcx_model.specs.declared.query.Query.{Query}
-use Rattle.gcx_model.specs.Query.{ExprTree, query_trees}
+use Rattle.gcx_model.specs.Query.{ExprTree}
 use Rattle.xq_lex.specs.declared.token.Tok.{Tok}
 use Rattle.xq_lex.specs.Answer.{UnlessMemory}
 use Rattle.xq_parse.specs.declared.marks.Marks.{Marks}
 use Rattle.xq_parse.specs.declared.refusal.Refusal.{Refusal}
 use Rattle.xq_parse.specs.declared.refusal.Refusal.TheVariants as refusals
-use Rattle.xq_parse.specs.Machine.{Found, start}
-use Rattle.xq_parse.specs.Reading.{Stop, a_stop, a_found, run, Fails}
+use Rattle.xq_parse.specs.Machine.{start}
+use Rattle.xq_parse.specs.Reading.{a_stop, a_found, run, Fails}
 use Rattle.xq_parse.specs.Answering.{Answers, fault_from, judge, judge_marks, judged, stop_fault}
 
 unless : (P : QueryFault → Type 0) (f : QueryFault) → P f → UnlessMemory P f

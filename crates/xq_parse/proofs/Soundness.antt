@@ -1,15 +1,13 @@
 -- A query is sound exactly where no variable is unknown and no descendant step is late.
-use Rattle.std.proofs.Common.{ℕ, ◌≡◌, Bool, true, false, not, ◌&&◌, cond, List, [], ◌∷◌, ◌++◌, Option, Some, None, refl, sym, ap, ◌∙◌}
+use Rattle.std.proofs.Common.{ℕ, ◌≡◌, Bool, true, false, not, ◌&&◌, cond, List, [], ◌∷◌, ◌++◌, refl, sym, ap, ◌∙◌}
 use Rattle.std.specs.Prelude.{bytes_eq}
-use Rattle.gcx_model.specs.declared.query.Clause.{Clause}
-use Rattle.gcx_model.specs.declared.query.QOperand.TheVariants as sides
 use Rattle.gcx_model.specs.Paths.{any}
 use Rattle.gcx_model.specs.Variables.{is_child}
 use Rattle.gcx_model.specs.Query.{CondTree, ExprTree, conds_of, exprs_of}
 use Rattle.gcx_model.specs.Sound.{only_last, has_step, is_path, is_ordered_path, is_side, is_literal, is_cond, are_conds, are_clauses, scope_of, is_filter, is_expr, are_exprs, is_sound}
 use Rattle.xq_parse.specs.Grammar as g
 use Rattle.xq_parse.specs.Grammar.{all_of, any_of, seq_of, step_tree, steps_tree, path_tree, source_tree, operand_tree, literal_tree, cond_tree, ors_tree, all_tree, ands_tree, atom_tree, clause_tree, clauses_tree, where_tree, expr_tree, inner_tree, rest_tree, tag_tree, content_tree, derivation_tree}
-use Rattle.xq_parse.specs.Places.{Scope, descent, late_behind, steps_late, path_unknown, source_unknown, operand_unknown, cond_unknown, ors_unknown, all_unknown, ands_unknown, atom_unknown, clause_unknown, clause_scope, clauses_unknown, clauses_scope, loop_scope, where_unknown, expr_unknown, inner_unknown, rest_unknown, tag_unknown, content_unknown, unknown_of, path_late, source_late, clause_late, clauses_late, expr_late, inner_late, rest_late, tag_late, content_late, late_of}
+use Rattle.xq_parse.specs.Places.{Scope, descent, late_behind, steps_late, path_unknown, source_unknown, operand_unknown, cond_unknown, ors_unknown, all_unknown, ands_unknown, atom_unknown, clauses_unknown, clauses_scope, loop_scope, where_unknown, expr_unknown, inner_unknown, rest_unknown, tag_unknown, content_unknown, unknown_of, path_late, source_late, clauses_late, expr_late, inner_late, rest_late, tag_late, content_late, late_of}
 
 abbrev pub none : List ℕ → Bool
 none [] = true

@@ -1,5 +1,5 @@
 -- The machine waits for the name of an end tag exactly behind `</`.
-use Rattle.std.proofs.Common.{ℕ, ◌≡◌, ◌+◌, Bool, true, false, ◌||◌, nat_lt, cond, List, [], ◌∷◌, ◌++◌, Option, Some, None, Result, Ok, Err, refl, sym, subst}
+use Rattle.std.proofs.Common.{ℕ, ◌≡◌, ◌+◌, Bool, true, false, ◌||◌, nat_lt, cond, List, [], Option, Some, None, Result, Ok, Err, refl, sym, subst}
 use Rattle.std.specs.Prelude.{bytes_eq}
 use Rattle.gcx_base.specs.declared.rel.Rel.{Rel}
 use Rattle.gcx_base.specs.declared.steps.Axis.{Axis}
@@ -19,10 +19,10 @@ use Rattle.xq_parse.specs.declared.route.Trail.{Trail}
 use Rattle.xq_parse.specs.declared.route.Route.{Route}
 use Rattle.xq_parse.specs.declared.marks.Marks.{Marks}
 use Rattle.xq_parse.specs.Signs.{sign_eq}
-use Rattle.xq_parse.specs.Tokens.{Token, TName, TVar, TNum, TStr, TSlash, TSlashes, TSign, for_, in_, where_, return_, if_, then_, else_, or_, and_, not_, true_, exists_, text_, node_, child_, descendant_}
+use Rattle.xq_parse.specs.Tokens.{Token, TName, TVar, TNum, TStr, TSlash, TSlashes, TSign, for_, where_, return_, if_, then_, else_, or_, and_, not_, true_, exists_, text_, node_, child_, descendant_}
 use Rattle.xq_parse.specs.Grammar.{a_step, a_clause, all_of, any_of, seq_of}
 use Rattle.xq_parse.specs.Places.{Scope}
-use Rattle.xq_parse.specs.Machine.{State, Found, done, sign, word, end_name, var, name, axis, axis_or_name, test, call_or_name, first_step, steps, source, path, rel, operand, atom, ands, ors, expr, rest, inner, clauses, condition, tag, content, added, no_trail, a_var, a_route, seen, seen_in_order, steps_behind, steps_state, with_start, side_seen, path_seen, close_list, after_brace, after_nested, more_ands, more_ors, more_rest, more_clauses, with_filter, all_state, cond_state, clause_state, for_state, head_state, if_state, elem_state, group_state, not_state, exists_state, true_state, literal_state, compare_state, braces_state, listed_state, list_state, members, kind_test, axis_named, rel_of, step, start, at_test, at_axis, at_step, at_path, at_source, at_found, at_operand, at_atom, at_expr, at_content, opens}
+use Rattle.xq_parse.specs.Machine.{State, done, sign, word, end_name, var, name, axis, axis_or_name, test, call_or_name, first_step, steps, source, path, rel, operand, atom, ands, ors, expr, rest, inner, clauses, condition, tag, content, a_var, a_route, seen, seen_in_order, steps_behind, side_seen, path_seen, close_list, after_nested, more_ands, more_ors, more_clauses, with_filter, all_state, cond_state, clause_state, for_state, head_state, if_state, elem_state, group_state, not_state, exists_state, true_state, literal_state, compare_state, members, kind_test, rel_of, step, start, at_test, at_axis, at_step, at_path, at_source, at_found, at_operand, at_atom, at_expr, at_content, opens}
 
 abbrev pub IsOther : State → Type 0
 IsOther (end_name x s) = ⊥

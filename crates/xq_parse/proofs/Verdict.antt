@@ -1,10 +1,9 @@
 -- What the machine gives is what tokens spell, or what is wrong with them.
-use Rattle.std.proofs.Common.{ℕ, suc, ◌≡◌, ◌+◌, ◌-◌, ◌≤◌, ◌*◌, Bool, true, false, ◌&&◌, List, [], ◌∷◌, ◌++◌, length, Option, Some, None, Result, Ok, Err, refl, sym, ap, ◌∙◌, subst, append_assoc, arith, inl, inr, ◌⊎◌}
+use Rattle.std.proofs.Common.{ℕ, ◌≡◌, ◌+◌, ◌-◌, Bool, true, false, ◌&&◌, List, [], ◌∷◌, ◌++◌, length, Option, Some, None, Result, Ok, Err, refl, sym, ap, ◌∙◌, subst, append_assoc, arith, inl, inr, ◌⊎◌}
 use Rattle.std.specs.Prelude.{slice_get}
 use Rattle.std.proofs.lemmas.List.{length-append}
 use Rattle.gcx_model.specs.declared.fault.QueryFault.{QueryFault}
 use Rattle.gcx_model.specs.declared.fault.QueryFault.TheVariants.{Utf8, Lex, Syntax, UnknownVar, TagMismatch, DescendantNotLast, IntegerWide, TooLarge, Memory}
-use Rattle.gcx_model.specs.declared.fault.What.{What}
 use Rattle.gcx_model.specs.declared.fault.What.TheVariants.{Text, Nesting, Loops, Steps, Conditions, Roles, Descendants}
 use Rattle.gcx_model.specs.Paths.{head}
 use Rattle.gcx_model.specs.Query.{ExprTree}
@@ -13,16 +12,16 @@ use Rattle.xq_lex.specs.declared.token.Tok.{Tok}
 use Rattle.xq_parse.specs.declared.marks.Marks.{Marks}
 use Rattle.xq_parse.specs.declared.refusal.Why.{Why}
 use Rattle.xq_parse.specs.declared.refusal.Why.TheVariants as whys
-use Rattle.xq_parse.specs.Tokens.{Token, token_of, tokens_of}
+use Rattle.xq_parse.specs.Tokens.{Token, tokens_of}
 use Rattle.xq_parse.specs.Grammar.{Derivation, Derives, Viable, derivation_tree}
 use Rattle.xq_parse.specs.Places.{unknown_of, late_of}
 use Rattle.xq_parse.specs.Spelling.{Spells}
-use Rattle.xq_parse.specs.Faults.{IsTooDeep, EndsWithTagName, IsTagMismatch, IsSyntax, HasFaultToken, EndsSoon, IsDerivedWith, BeginsAt, GrammarFault}
+use Rattle.xq_parse.specs.Faults.{IsTooDeep, IsTagMismatch, IsSyntax, HasFaultToken, EndsSoon, BeginsAt, GrammarFault}
 use Rattle.xq_parse.specs.Machine.{Found, start}
 use Rattle.xq_parse.specs.Reading.{Stop, a_stop, run}
 use Rattle.xq_parse.specs.Answering.{from_or, place_at, fault_at, stop_fault, judge_marks, judge, judged}
 use Rattle.xq_parse.proofs.Complete.{found_of}
-use Rattle.xq_parse.proofs.Refused.{IsFound, IsWhy, StopsIn, StopsBehind, Stopped, tokens_join, fault, found, derives_one}
+use Rattle.xq_parse.proofs.Refused.{IsWhy, StopsIn, StopsBehind, Stopped, tokens_join, fault, found, derives_one}
 use Rattle.xq_parse.proofs.Noted.{marks_are}
 use Rattle.xq_parse.proofs.Soundness.{none, sound_is}
 

@@ -7,7 +7,6 @@ use Rattle.gcx_base.specs.declared.steps.Axis.TheVariants as axes
 use Rattle.gcx_base.specs.declared.steps.Step.{Step}
 use Rattle.gcx_base.specs.declared.steps.Test.{Test}
 use Rattle.gcx_base.specs.declared.steps.Test.TheVariants as tests
-use Rattle.gcx_model.specs.declared.query.PathExpr.{PathExpr}
 use Rattle.gcx_model.specs.declared.query.Clause.{Clause}
 use Rattle.gcx_model.specs.declared.query.QOperand.{QOperand}
 use Rattle.gcx_model.specs.declared.query.QOperand.TheVariants as sides

@@ -1,5 +1,5 @@
 -- The tokens of a query as its grammar sees them (this project's language). A variable and a slash carry the byte where they stand, since faults name these places.
-use Rattle.std.specs.Prelude.{ℕ, ℤ, Bool, eqb, List, map}
+use Rattle.std.specs.Prelude.{ℕ, ℤ, List, map}
 use Rattle.xq_lex.specs.declared.sign.Sign.{Sign}
 use Rattle.xq_lex.specs.declared.sign.Sign.TheVariants as signs
 use Rattle.xq_lex.specs.declared.token.Tok.{Tok}

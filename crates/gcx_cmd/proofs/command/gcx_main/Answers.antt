@@ -6,22 +6,22 @@ use Rattle.gcx_cmd.proofs.command.gcx_main.Goals.{in-Some, in-None}
 
 pub returns-clause-written : goal.returns-clause-written
 returns-clause-written g c = elim c.match-command_of.branch [
-    | in-Some w ↦ λ query document query_bytes document_bytes q d run told_q told_d accepted spelled.
+  | in-Some w ↦ λ query document query_bytes document_bytes q d run told_q told_d accepted spelled.
       let names = g.F.Shelf.names c.args.files.now in
       let same = same_run c.args.words.now query document _ _ run w.in-Some.ensures.some in
       rw (w.status-is, w.out-is)
       (w.run-status.ensures.written query_bytes document_bytes q d
       (subst (λ (n : List ℕ). content_of names n ≡ Some query_bytes) same.0 told_q)
       (subst (λ (n : List ℕ). content_of names n ≡ Some document_bytes) same.1 told_d) accepted spelled)
-    | in-None w ↦ λ query document query_bytes document_bytes q d run told_q told_d accepted spelled. absurd (w.in-None.ensures.none refl query document run)
-  ]
+  | in-None w ↦ λ query document query_bytes document_bytes q d run told_q told_d accepted spelled. absurd (w.in-None.ensures.none refl query document run)
+]
 
 pub returns-clause-complete : goal.returns-clause-complete
 returns-clause-complete g c = elim c.match-command_of.branch [
-    | in-Some w ↦ λ q d query document run told_q told_d good_q good_d not_read not_write.
+  | in-Some w ↦ λ q d query document run told_q told_d good_q good_d not_read not_write.
       rw w.status-is
       (complete_run w.run-status.result (g.F.Shelf.names c.args.files.now) c.args.words.now _ _ q d query document _ _
       w.in-Some.ensures.some run told_q told_d good_q good_d w.run-status.ensures.query w.run-status.ensures.document w.run-status.ensures.read w.run-status.ensures.write
       (rw w.files-is at not_read) (rw w.out-is at not_write))
-    | in-None w ↦ λ q d query document run told_q told_d good_q good_d not_read not_write. absurd (w.in-None.ensures.none refl q d run)
-  ]
+  | in-None w ↦ λ q d query document run told_q told_d good_q good_d not_read not_write. absurd (w.in-None.ensures.none refl q d run)
+]

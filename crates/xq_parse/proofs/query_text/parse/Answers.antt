@@ -1,4 +1,4 @@
-use Rattle.std.proofs.Common.{◌≡◌, List, Result, ap, sym, ◌∙◌, subst, length}
+use Rattle.std.proofs.Common.{List, subst, length}
 use Rattle.std.proofs.lemmas.Result.{err_from_is_err_and}
 use Rattle.xq_lex.specs.declared.token.Tok.{Tok}
 use Rattle.xq_parse.specs.Answering.{Answers, judged}

@@ -1,7 +1,6 @@
-use Rattle.std.proofs.Common.{◌∙◌, ap, List, bytes_eq}
+use Rattle.std.proofs.Common.{◌∙◌, ap, bytes_eq}
 use Rattle.std.specs.List.{list_any}
 use Rattle.gcx_model.specs.Paths.{any}
-use Rattle.xq_parse.specs.Places.{Scope}
 use Rattle.xq_parse.proofs.ScopeLaws.{any_reverse}
 use Rattle.xq_parse.proofs.scope.Scope.has.Goals as goal
 

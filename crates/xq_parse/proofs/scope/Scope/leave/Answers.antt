@@ -1,4 +1,4 @@
-use Rattle.std.proofs.Common.{◌∙◌, sym, ap, ℕ, List, reverse, length, drop, ◌-◌, subst, ◌≤◌}
+use Rattle.std.proofs.Common.{◌∙◌, sym, ap, reverse, length, drop, ◌-◌, subst, ◌≤◌}
 use Rattle.xq_parse.specs.Places.{Scope}
 use Rattle.xq_parse.proofs.ScopeLaws.{left}
 use Rattle.xq_parse.proofs.scope.Scope.leave.Goals as goal
