@@ -1,5 +1,5 @@
 -- What QUERY holds, from what was read.
-use Rattle.std.proofs.Common.{◌≡◌, ℕ, ◌≤◌, ◌<◌, List, [], ◌++◌, length, refl, sym, ◌∙◌, ap, subst, arith, length-append, append-nil, true}
+use Rattle.std.proofs.Common.{◌≡◌, ℕ, ◌≤◌, ◌<◌, List, [], ◌++◌, length, refl, sym, ◌∙◌, ap, subst, arith, length-append, append-nil, inl, inr}
 use Rattle.gcx_model.specs.Query.{ExprTree}
 use Rattle.gcx_model.specs.declared.fault.QueryFault.{QueryFault}
 use Rattle.gcx_model.specs.declared.fault.QueryFault.TheVariants.{Utf8, Lex, Syntax, UnknownVar, TagMismatch, DescendantNotLast, IntegerWide, TooLarge, Memory}
@@ -19,28 +19,23 @@ use Rattle.gcx_model.specs.Document.{Nodes, tree_of}
 use Rattle.gcx_model.specs.Tree.{Tree}
 
 too_large : (bytes : List ℕ) → 1048576 < length bytes → QueryFaultOf bytes (TooLarge Text 1048576)
-too_large bytes long = (refl, refl, long)
+too_large bytes long = inl (refl, refl, long)
 
 -- the one fault of bytes that are too many
 same_fault : (bytes : List ℕ) (f : QueryFault) → 1048576 < length bytes → QueryFaultOf bytes f → f ≡ TooLarge Text 1048576
-same_fault bytes (Utf8 at) long h = absurd (let s = h.0 in omega arith)
-same_fault bytes (Lex at) long h = absurd (let s = h.short in omega arith)
-same_fault bytes (IntegerWide at) long h = absurd (let s = h.short in omega arith)
-same_fault bytes (Syntax at) long h = absurd (let s = h.lexed.short in omega arith)
-same_fault bytes (TagMismatch at) long h = absurd (let s = h.lexed.short in omega arith)
-same_fault bytes (UnknownVar at) long h = absurd (let s = h.1.lexed.short in omega arith)
-same_fault bytes (DescendantNotLast at) long h = absurd (let s = h.1.lexed.short in omega arith)
-same_fault bytes (TooLarge Text limit) long h = ap (λ (n : ℕ). TooLarge Text n) h.1
-same_fault bytes (TooLarge Nesting limit) long h = absurd (let s = h.1.lexed.short in omega arith)
-same_fault bytes (TooLarge Loops limit) long h = absurd h
-same_fault bytes (TooLarge Steps limit) long h = absurd h
-same_fault bytes (TooLarge Conditions limit) long h = absurd h
-same_fault bytes (TooLarge Roles limit) long h = absurd h
-same_fault bytes (TooLarge Descendants limit) long h = absurd h
-same_fault bytes Memory long h = absurd h
+same_fault bytes f long (inr h) = absurd (let s = h.lexed.short in omega arith)
+same_fault bytes (Utf8 at) long (inl h) = absurd (let s = h.0 in omega arith)
+same_fault bytes (Lex at) long (inl h) = absurd (let s = h.short in omega arith)
+same_fault bytes (IntegerWide at) long (inl h) = absurd (let s = h.short in omega arith)
+same_fault bytes (Syntax at) long (inl h) = absurd h
+same_fault bytes (TagMismatch at) long (inl h) = absurd h
+same_fault bytes (UnknownVar at) long (inl h) = absurd h
+same_fault bytes (DescendantNotLast at) long (inl h) = absurd h
+same_fault bytes (TooLarge what limit) long (inl h) = subst (λ (w : What). TooLarge w limit ≡ TooLarge Text 1048576) (sym h.0) (ap (λ (n : ℕ). TooLarge Text n) h.1)
+same_fault bytes Memory long (inl h) = absurd h
 
 pub long_query : (bytes read : List ℕ) → IsReadUpTo 1048576 bytes read → 1048576 < length read → SaysOfQuery (status.QueryRefused (TooLarge Text 1048576)) bytes
-long_query bytes read h over = (too_large bytes long, record { once = λ f k. same_fault bytes f long k; no_query = λ q s _. let short = s.derived.lexed.short in let over = long in omega arith })
+long_query bytes read h over = (too_large bytes long, record { once = λ f k. same_fault bytes f long k; no_query = λ q s _. let short = s.lexed.short in let over = long in omega arith })
   where
     long : 1048576 < length bytes
     long = let e = ap length h.split in let f = length-append read h.rest in omega arith

@@ -1,5 +1,9 @@
-//! Runs of the top call over objects in memory.
+//! Tests that cross crates: documents, queries and runs of the top call over objects in memory.
 #![tactic(auto)]
 
+#[cfg(test)]
+mod documents;
+#[cfg(test)]
+mod queries;
 #[cfg(test)]
 mod runs;

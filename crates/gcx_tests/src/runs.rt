@@ -1,14 +1,36 @@
+//! Runs of the top call over files in memory.
 use gcx_base::Text;
 use gcx_cmd::{Status, gcx_main};
 use gcx_io::{MemShelf, MemSink, SureShelf, SureSink};
-use gcx_model::{DocFault, QueryFault};
+use gcx_model::{DocFault, QueryFault, What};
 use std::alloc::Global;
 use std::process::Abort;
 use std::test::Fail;
 
-const NOT_A_DOCUMENT: Status = Status::DocumentRefused(DocFault::Syntax(0));
+/// The numbers of the calls that are to fail.
+#[derive(Drop)]
+struct Failing {
+    files: Vec<u64>,
+    out: Vec<u64>,
+    err: Vec<u64>,
+}
 
-const NOT_A_QUERY: Status = Status::QueryRefused(QueryFault::Syntax(0));
+/// What a run left behind.
+#[derive(Drop)]
+struct Ran {
+    status: Status,
+    out: Vec<u8>,
+    err: Vec<u8>,
+}
+
+/// No call is to fail.
+fn nothing(alloc: Global) -> Failing {
+    Failing {
+        files: Vec::new(alloc),
+        out: Vec::new(alloc),
+        err: Vec::new(alloc),
+    }
+}
 
 fn text(alloc: Global, word: &[u8]) -> Result<Text, Fail> {
     Ok(Text::from_bytes(alloc, word)?.ok_or("not a text")?)
@@ -22,152 +44,501 @@ fn words(alloc: Global, list: &[&[u8]]) -> Result<Vec<Text>, Fail> {
     Ok(words)
 }
 
-/// A run over the files `q` and `d`, each call of which moves at most `most` bytes; these reads and writes fail.
+/// A run of these words over the files `q` and `d`, each call of which moves at most `most` bytes.
 fn run(
+    rt: &impl Abort,
+    alloc: Global,
+    list: &[&[u8]],
+    query: &[u8],
+    document: &[u8],
+    most: usize,
+    failing: Failing,
+) -> Result<Ran, Fail> {
+    assert!(rt; most > 0);
+    let mut files = MemShelf::new(alloc, 0, most, failing.files);
+    files.put(text(alloc, b"q")?, query.to_vec(alloc)?)?;
+    files.put(text(alloc, b"d")?, document.to_vec(alloc)?)?;
+    let mut out = MemSink::new(alloc, 10_000, most, failing.out)?;
+    let mut err = MemSink::new(alloc, 100, most, failing.err)?;
+    let words = words(alloc, list)?;
+    let status = gcx_main(alloc, &words, &mut files, &mut out, &mut err);
+    assert!(rt; out.is_whole() && err.is_whole());
+    Ok(Ran {
+        status,
+        out: out.bytes().to_vec(alloc)?,
+        err: err.bytes().to_vec(alloc)?,
+    })
+}
+
+/// The query has this answer over the document, and `err` takes nothing.
+fn is_answered(
     rt: &impl Abort,
     alloc: Global,
     query: &[u8],
     document: &[u8],
-    most: usize,
-    reads: Vec<u64>,
-    writes: Vec<u64>,
-) -> Result<(Status, Vec<u8>), Fail> {
-    assert!(rt; most > 0);
-    let mut files = MemShelf::new(alloc, 0, most, reads);
-    files.put(text(alloc, b"q")?, query.to_vec(alloc)?)?;
-    files.put(text(alloc, b"d")?, document.to_vec(alloc)?)?;
-    let mut out = MemSink::new(alloc, 100, most, writes)?;
-    let mut err = MemSink::new(alloc, 100, most, Vec::new(alloc))?;
-    let words = words(alloc, &[b"run", b"q", b"d"])?;
-    let status = gcx_main(alloc, &words, &mut files, &mut out, &mut err);
-    assert!(rt; out.is_whole() && err.is_whole());
-    assert_eq!(rt; err.bytes(), b"".as_slice());
-    Ok((status, out.bytes().to_vec(alloc)?))
+    answer: &[u8],
+) -> Result<(), Fail> {
+    for most in [1, 7, 65_536] {
+        let ran = run(
+            rt,
+            alloc,
+            &[b"run", b"q", b"d"],
+            query,
+            document,
+            most,
+            nothing(alloc),
+        )?;
+        assert_eq!(rt; ran.status, Status::Ok, "{query:?} {document:?} {most}");
+        assert_eq!(rt; ran.out.as_slice(), answer, "{query:?} {document:?} {most}");
+        assert_eq!(rt; ran.err.as_slice(), b"".as_slice());
+    }
+    Ok(())
+}
+
+/// A run ends with this status and this line, and `out` takes nothing.
+fn is_told(
+    rt: &impl Abort,
+    alloc: Global,
+    list: &[&[u8]],
+    query: &[u8],
+    document: &[u8],
+    status: Status,
+    line: &[u8],
+) -> Result<(), Fail> {
+    for most in [1, 7, 65_536] {
+        let ran = run(rt, alloc, list, query, document, most, nothing(alloc))?;
+        assert_eq!(rt; ran.status, status, "{query:?} {document:?} {most}");
+        assert_eq!(rt; ran.err.as_slice(), line, "{query:?} {document:?} {most}");
+        assert_eq!(rt; ran.out.as_slice(), b"".as_slice());
+    }
+    Ok(())
+}
+
+/// The query, or the document under it, is refused with this line.
+fn is_refused(
+    rt: &impl Abort,
+    alloc: Global,
+    query: &[u8],
+    document: &[u8],
+    status: Status,
+    line: &[u8],
+) -> Result<(), Fail> {
+    is_told(
+        rt,
+        alloc,
+        &[b"run", b"q", b"d"],
+        query,
+        document,
+        status,
+        line,
+    )
 }
 
 #[test]
-fn each_query_has_its_answer_in_any_pieces(rt: HostRuntime) -> Result<(), Fail> {
-    let alloc = rt.alloc();
-    let table: [(&[u8], &[u8], Status, &[u8]); 21] = [
-        (
-            b"/a/b",
-            b"<a><b>1</b><b>2</b></a>",
-            Status::Ok,
-            b"<b>1</b><b>2</b>",
-        ),
-        (b"/a", b"<a> <b></b> </a>", Status::Ok, b"<a><b></b></a>"),
-        (b"/x", b"<a></a>", Status::Ok, b""),
-        (b"/a", b"<a>1 > 0</a>", Status::Ok, b"<a>1 &gt; 0</a>"),
-        (b"/a", b"<a><b></a>", NOT_A_DOCUMENT, b""),
-        (b"//a", b"<a></a>", NOT_A_QUERY, b""),
+fn each_path_has_its_answer(rt: HostRuntime) -> Result<(), Fail> {
+    let rows: &[(&[u8], &[u8], &[u8])] = &[
+        (b"/a/b", b"<a><b>1</b><b>2</b></a>", b"<b>1</b><b>2</b>"),
+        (b"/a", b"<a> <b></b> </a>", b"<a><b></b></a>"),
+        (b"/x", b"<a></a>", b""),
+        (b"/a", b"<a>1 > 0</a>", b"<a>1 &gt; 0</a>"),
+        (b"//a", b"<a><a/></a>", b"<a><a></a></a><a></a>"),
         (
             b"/a/b/c",
             b"<a><b><c>1</c></b><c>2</c><b><d><c>3</c></d><c>4</c></b></a>",
-            Status::Ok,
             b"<c>1</c><c>4</c>",
         ),
         (
-            b"/a/a",
-            b"<a><a><a>x</a></a>y</a>",
-            Status::Ok,
-            b"<a><a>x</a></a>",
+            b"/a",
+            b"\xEF\xBB\xBF<?xml version=\"1.0\"?><!-- c --><a>x<!--c-->y&lt;&#65;</a>",
+            b"<a>xy&lt;A</a>",
         ),
-        (b"/a/b", b"<a><bb></bb><b></b></a>", Status::Ok, b"<b></b>"),
-        (b"/a/b", b"<b><b></b></b>", Status::Ok, b""),
-        (b"/a", b"", NOT_A_DOCUMENT, b""),
-        (b"/a", b"<a></a>x", NOT_A_DOCUMENT, b""),
-        (b"/a", b" <a></a>", NOT_A_DOCUMENT, b""),
-        (b"/a", b"<a></ab>", NOT_A_DOCUMENT, b""),
-        (b"/a", b"<a>&lt;</a>", NOT_A_DOCUMENT, b""),
-        (b"/a", b"<a/>", NOT_A_DOCUMENT, b""),
-        (b"", b"<a></a>", NOT_A_QUERY, b""),
-        (b"/a ", b"<a></a>", NOT_A_QUERY, b""),
-        (b"/a/", b"<a></a>", NOT_A_QUERY, b""),
-        (b"a", b"<a></a>", NOT_A_QUERY, b""),
-        (b"/9", b"<a>", NOT_A_QUERY, b""),
+        (b"/a", b"<a> <b/> </a>", b"<a><b></b></a>"),
+        (b"()", b"<a/>", b""),
+        (b"//text()", b"<a>1<b>2</b>3</a>", b"123"),
+        (b"/a/node()", b"<a>1<b>2</b>3</a>", b"1<b>2</b>3"),
+        (
+            b"/a",
+            b"<a><![CDATA[<x>]]>&amp;</a>",
+            b"<a>&lt;x&gt;&amp;</a>",
+        ),
+        (b"/a", b"<a b=\"1\"/>", b"<a><b>1</b></a>"),
+        (
+            b"/a",
+            b"<a b=\" \" c='x&lt;\"'>t</a>",
+            b"<a><b></b><c>x&lt;\"</c>t</a>",
+        ),
     ];
-    for (query, document, status, answer) in table {
-        for most in [1, 2, 7, 100] {
-            let ran = run(
-                &rt,
-                alloc,
-                query,
-                document,
-                most,
-                Vec::new(alloc),
-                Vec::new(alloc),
-            )?;
-            assert_eq!(rt; ran.0, status, "{query:?} {document:?} {most}");
-            assert_eq!(rt; ran.1.as_slice(), answer, "{query:?} {document:?} {most}");
-        }
+    for &(query, document, answer) in rows {
+        is_answered(&rt, rt.alloc(), query, document, answer)?;
     }
     Ok(())
 }
 
 #[test]
-fn each_call_fails_once(rt: HostRuntime) -> Result<(), Fail> {
+fn each_query_has_its_answer(rt: HostRuntime) -> Result<(), Fail> {
+    let rows: &[(&[u8], &[u8], &[u8])] = &[
+        (
+            b"<r>{for $x in /a/b return $x}</r>",
+            b"<a><b>1</b><c/><b>2</b></a>",
+            b"<r><b>1</b><b>2</b></r>",
+        ),
+        (
+            b"for $x in //a return for $y in $x//b return <h/>",
+            b"<a><a><b/></a></a>",
+            b"<h></h><h></h>",
+        ),
+        (
+            b"for $x in /r/p return if (exists($x/k)) then <y/> else <n/>",
+            b"<r><p></p><p><k/></p></r>",
+            b"<n></n><y></y>",
+        ),
+        (
+            b"for $x in /r/p return if ($x = 7) then <y/> else <n/>",
+            b"<r><p>007</p><p>7x</p><p> 7 </p></r>",
+            b"<y></y><n></n><y></y>",
+        ),
+        (
+            b"for $x in /r/p return if ($x = \"7\") then <y/> else <n/>",
+            b"<r><p>007</p><p>7x</p><p> 7 </p></r>",
+            b"<n></n><n></n><n></n>",
+        ),
+        (
+            b"for $a in /r/x return for $b in /r/y return if ($a/k = $b/k) then <m/> else ()",
+            b"<r><x><k>1</k></x><y><k>1</k></y><y><k>2</k></y></r>",
+            b"<m></m>",
+        ),
+        (
+            b"if (exists(/a//b/c)) then <y/> else <n/>",
+            b"<a><x><b><c/></b></x></a>",
+            b"<y></y>",
+        ),
+        (
+            b"for $x in /r/p return if ($x > 9) then <y/> else <n/>",
+            b"<r><p>1000000000000000000000000000000000000000000</p><p>-0</p><p/></r>",
+            b"<y></y><n></n><n></n>",
+        ),
+        (
+            b"for $x in /r/p return if ($x >= 2.50) then <y/> else <n/>",
+            b"<r><p>2.5</p><p>2.49999999999999999999</p><p>+3.</p><p>.5</p><p>2,6</p></r>",
+            b"<y></y><n></n><y></y><n></n><n></n>",
+        ),
+        (
+            b"for $x in /r/p return if ($x = 7) then <y/> else <n/>",
+            b"<r><p>7.0</p><p>7.</p><p>.</p></r>",
+            b"<y></y><y></y><n></n>",
+        ),
+        (
+            b"for $b in /bib/book where $b/year = 1994 return $b/title",
+            b"<bib><book year=\"1994\"><title>T</title></book></bib>",
+            b"<title>T</title>",
+        ),
+        (
+            b"<out>{\n  for $b in /bib/book\n  where $b/price < 50 and not(exists($b/editor))\n  return <cheap>{$b/title}</cheap>\n}</out>\n",
+            b"<?xml version=\"1.0\" encoding=\"UTF-8\"?>\n<!DOCTYPE bib SYSTEM \"bib.dtd\">\n<!-- two books -->\n<bib>\n  <book>\n    <title>Data on the Web</title>\n    <price>39</price>\n  </book>\n  <book>\n    <title>TCP/IP &amp; more</title>\n    <price>65</price>\n  </book>\n</bib>\n",
+            b"<out><cheap><title>Data on the Web</title></cheap></out>",
+        ),
+    ];
+    for &(query, document, answer) in rows {
+        is_answered(&rt, rt.alloc(), query, document, answer)?;
+    }
+    Ok(())
+}
+
+#[test]
+fn a_document_that_is_refused_is_told(rt: HostRuntime) -> Result<(), Fail> {
+    let rows: &[(&[u8], DocFault, &[u8])] = &[
+        (
+            b"<a></a>x",
+            DocFault::Syntax(7),
+            b"gcx: document Syntax 7\n",
+        ),
+        (
+            b"<a><b></a>",
+            DocFault::Syntax(8),
+            b"gcx: document Syntax 8\n",
+        ),
+        (b"<a>\xFF", DocFault::Utf8(3), b"gcx: document Utf8 3\n"),
+        (
+            b"<a>&#0;</a>",
+            DocFault::Syntax(6),
+            b"gcx: document Syntax 6\n",
+        ),
+        (
+            b"<a>&nbsp;</a>",
+            DocFault::Syntax(4),
+            b"gcx: document Syntax 4\n",
+        ),
+        (
+            b"<!DOCTYPE a [",
+            DocFault::Syntax(12),
+            b"gcx: document Syntax 12\n",
+        ),
+        (
+            b"<a b=\"1\" b=\"2\">",
+            DocFault::Syntax(10),
+            b"gcx: document Syntax 10\n",
+        ),
+        (
+            b"<a b=\"1\"c=\"2\"/>",
+            DocFault::Syntax(8),
+            b"gcx: document Syntax 8\n",
+        ),
+        (
+            b"<a b=1/>",
+            DocFault::Syntax(5),
+            b"gcx: document Syntax 5\n",
+        ),
+        (b"<a b>", DocFault::Syntax(4), b"gcx: document Syntax 4\n"),
+        (b"", DocFault::Truncated(0), b"gcx: document Truncated 0\n"),
+    ];
+    for &(document, fault, line) in rows {
+        let status = Status::DocumentRefused(fault);
+        is_refused(&rt, rt.alloc(), b"/a", document, status, line)?;
+    }
+    Ok(())
+}
+
+#[test]
+fn a_query_that_is_refused_is_told(rt: HostRuntime) -> Result<(), Fail> {
+    let rows: &[(&[u8], QueryFault, &[u8])] = &[
+        (
+            b"for $x in /a//b/c return $x",
+            QueryFault::DescendantNotLast(12),
+            b"gcx: query DescendantNotLast 12\n",
+        ),
+        (
+            b"for $x in /a return $y",
+            QueryFault::UnknownVar(20),
+            b"gcx: query UnknownVar 20\n",
+        ),
+        (
+            b"<r></s>",
+            QueryFault::TagMismatch(5),
+            b"gcx: query TagMismatch 5\n",
+        ),
+        (b"/a ; /b", QueryFault::Lex(3), b"gcx: query Lex 3\n"),
+        (
+            b"for $x in /a",
+            QueryFault::Syntax(12),
+            b"gcx: query Syntax 12\n",
+        ),
+        (b"", QueryFault::Syntax(0), b"gcx: query Syntax 0\n"),
+        (
+            b"for $x in /a return if ($x = 9223372036854775808) then $x else ()",
+            QueryFault::IntegerWide(29),
+            b"gcx: query IntegerWide 29\n",
+        ),
+        (
+            b"if (/a = 0.1234567890123456789) then () else ()",
+            QueryFault::IntegerWide(9),
+            b"gcx: query IntegerWide 9\n",
+        ),
+        (b"/a)", QueryFault::Syntax(2), b"gcx: query Syntax 2\n"),
+        (
+            b"if (/a) then () else ()",
+            QueryFault::Syntax(6),
+            b"gcx: query Syntax 6\n",
+        ),
+        (b"<a>x</a>", QueryFault::Syntax(3), b"gcx: query Syntax 3\n"),
+        (
+            b"for $x in /a for $y in /b return $y",
+            QueryFault::Syntax(13),
+            b"gcx: query Syntax 13\n",
+        ),
+        (b"/\xFF", QueryFault::Utf8(1), b"gcx: query Utf8 1\n"),
+    ];
+    for &(query, fault, line) in rows {
+        // no document is read under a query that is refused
+        let status = Status::QueryRefused(fault);
+        is_refused(&rt, rt.alloc(), query, b"<a></b>", status, line)?;
+    }
+    Ok(())
+}
+
+/// So many copies of a piece.
+fn repeated(alloc: Global, piece: &[u8], count: usize) -> Result<Vec<u8>, Fail> {
+    let mut bytes = Vec::new(alloc);
+    for _ in 0..count {
+        bytes.extend_from_slice(piece)?;
+    }
+    Ok(bytes)
+}
+
+/// So many elements, each in the one before.
+fn tower(alloc: Global, count: usize) -> Result<Vec<u8>, Fail> {
+    let mut bytes = repeated(alloc, b"<a>", count)?;
+    bytes.extend_from_slice(&repeated(alloc, b"</a>", count)?)?;
+    Ok(bytes)
+}
+
+#[test]
+fn limits_are_told(rt: HostRuntime) -> Result<(), Fail> {
     let alloc = rt.alloc();
-    let document = b"<a><b>1</b><b>2</b></a>".as_slice();
-    let answer = b"<b>1</b><b>2</b>".as_slice();
-    let mut ended = 0u64;
-    // two calls of attach, 5 reads of the query's 4 bytes, 24 of the document's 23, all one byte at a time
-    for number in 1..40u64 {
-        let reads = vec![in alloc; number]?;
-        let ran = run(&rt, alloc, b"/a/b", document, 1, reads, Vec::new(alloc))?;
-        if ran.0 == Status::Ok {
-            ended = ended.wrapping_add(1);
-            assert_eq!(rt; ran.1.as_slice(), answer);
-        } else {
-            assert_eq!(rt; ran.0, Status::ReadFault);
-            assert_eq!(rt; ran.1.len(), 0);
-        }
-    }
-    assert_eq!(rt; ended, 8);
-    // 16 writes of one byte
-    for number in 1..20u64 {
-        let writes = vec![in alloc; number]?;
-        let ran = run(&rt, alloc, b"/a/b", document, 1, Vec::new(alloc), writes)?;
-        if number <= 16 {
-            assert_eq!(rt; ran.0, Status::WriteFault);
-            assert!(rt; answer.starts_with(&ran.1));
-            assert_eq!(rt; ran.1.len() as u64, number.wrapping_sub(1));
-        } else {
-            assert_eq!(rt; ran.0, Status::Ok);
-        }
-    }
+    let most = tower(alloc, 1_000)?;
+    is_answered(&rt, alloc, b"/a", &most, &most)?;
+    let more = tower(alloc, 1_001)?;
+    is_refused(
+        &rt,
+        alloc,
+        b"/a",
+        &more,
+        Status::DocumentRefused(DocFault::Depth(3_000)),
+        b"gcx: document Depth 3000\n",
+    )?;
+    let mut name = b"<".to_vec(alloc)?;
+    name.extend_from_slice(&repeated(alloc, b"n", 1_025)?)?;
+    is_refused(
+        &rt,
+        alloc,
+        b"/a",
+        &name,
+        Status::DocumentRefused(DocFault::NameLong(1_025)),
+        b"gcx: document NameLong 1025\n",
+    )?;
+    let mut nested = repeated(alloc, b"(", 201)?;
+    nested.extend_from_slice(&repeated(alloc, b")", 201)?)?;
+    is_refused(
+        &rt,
+        alloc,
+        &nested,
+        b"<a/>",
+        Status::QueryRefused(QueryFault::TooLarge(What::Nesting, 200)),
+        b"gcx: query TooLarge Nesting 200\n",
+    )
+}
+
+#[test]
+fn a_query_that_is_too_long_is_told(rt: HostRuntime) -> Result<(), Fail> {
+    let alloc = rt.alloc();
+    let query = vec![in alloc; b' '; 1_048_577]?;
+    let ran = run(
+        &rt,
+        alloc,
+        &[b"run", b"q", b"d"],
+        &query,
+        b"<a/>",
+        65_536,
+        nothing(alloc),
+    )?;
+    let fault = QueryFault::TooLarge(What::Text, 1_048_576);
+    assert_eq!(rt; ran.status, Status::QueryRefused(fault));
+    assert_eq!(rt;
+        ran.err.as_slice(),
+        b"gcx: query TooLarge Text 1048576\n".as_slice()
+    );
+    assert_eq!(rt; ran.out.as_slice(), b"".as_slice());
     Ok(())
 }
 
 #[test]
 fn words_and_names_are_told(rt: HostRuntime) -> Result<(), Fail> {
     let alloc = rt.alloc();
-    let table: [(&[&[u8]], Status, u8); 8] = [
-        (&[], Status::Usage, 2),
-        (&[b"run"], Status::Usage, 2),
-        (&[b"run", b"q"], Status::Usage, 2),
-        (&[b"run", b"q", b"d", b"d"], Status::Usage, 2),
-        (&[b"walk", b"q", b"d"], Status::Usage, 2),
-        (&[b"run", b"q", b"e"], Status::ReadFault, 5),
-        (&[b"run", b"e", b"d"], Status::ReadFault, 5),
-        (&[b"run", b"q", b"d"], Status::Ok, 0),
+    let usage = b"gcx: the words are not a command line\n".as_slice();
+    let lists: &[&[&[u8]]] = &[
+        &[],
+        &[b"run"],
+        &[b"run", b"q"],
+        &[b"run", b"q", b"d", b"d"],
+        &[b"walk", b"q", b"d"],
+        &[b"RUN", b"q", b"d"],
     ];
-    for (list, status, code) in table {
-        let mut files = MemShelf::new(alloc, 0, 100, Vec::new(alloc));
-        files.put(text(alloc, b"q")?, b"/a".to_vec(alloc)?)?;
-        files.put(text(alloc, b"d")?, b"<a></a>".to_vec(alloc)?)?;
-        let mut out = MemSink::new(alloc, 100, 100, Vec::new(alloc))?;
-        let mut err = MemSink::new(alloc, 100, 100, Vec::new(alloc))?;
-        let ran = gcx_main(alloc, &words(alloc, list)?, &mut files, &mut out, &mut err);
-        assert_eq!(rt; ran, status);
-        assert_eq!(rt; ran.code(), code);
+    for list in lists {
+        is_told(&rt, alloc, list, b"/a", b"<a/>", Status::Usage, usage)?;
+    }
+    let fault = b"gcx: read fault\n".as_slice();
+    let missing: &[&[&[u8]]] = &[&[b"run", b"q", b"e"], &[b"run", b"e", b"d"]];
+    for list in missing {
+        let query = b"<r>{/a}</r>";
+        is_told(&rt, alloc, list, query, b"", Status::ReadFault, fault)?;
     }
     let codes = [
-        NOT_A_QUERY.code(),
-        NOT_A_DOCUMENT.code(),
+        Status::Ok.code(),
+        Status::Usage.code(),
+        Status::QueryRefused(QueryFault::Syntax(0)).code(),
+        Status::DocumentRefused(DocFault::Syntax(0)).code(),
+        Status::ReadFault.code(),
         Status::WriteFault.code(),
         Status::Memory.code(),
     ];
-    assert_eq!(rt; codes, [3, 4, 6, 7]);
+    assert_eq!(rt; codes, [0, 2, 3, 4, 5, 6, 7]);
+    Ok(())
+}
+
+/// A run of one byte a call with the query of the loop over `b`.
+fn run_by_bytes(
+    rt: &impl Abort,
+    alloc: Global,
+    document: &[u8],
+    failing: Failing,
+) -> Result<Ran, Fail> {
+    let query = b"<r>{for $x in /a/b return $x}</r>";
+    run(
+        rt,
+        alloc,
+        &[b"run", b"q", b"d"],
+        query,
+        document,
+        1,
+        failing,
+    )
+}
+
+#[test]
+fn each_call_of_the_files_fails_once(rt: HostRuntime) -> Result<(), Fail> {
+    let alloc = rt.alloc();
+    // an attach and 34 reads of the query's 33 bytes, an attach and 28 reads of the document's 27
+    for number in 1..=65u64 {
+        let mut failing = nothing(alloc);
+        failing.files.push(number)?;
+        let ran = run_by_bytes(&rt, alloc, b"<a><b>1</b><c/><b>2</b></a>", failing)?;
+        if number <= 64 {
+            assert_eq!(rt; ran.status, Status::ReadFault, "call {number}");
+            assert_eq!(rt; ran.out.as_slice(), b"".as_slice(), "call {number}");
+            assert_eq!(rt; ran.err.as_slice(), b"gcx: read fault\n".as_slice());
+        } else {
+            assert_eq!(rt; ran.status, Status::Ok);
+            assert_eq!(rt; ran.out.as_slice(), b"<r><b>1</b><b>2</b></r>".as_slice());
+            assert_eq!(rt; ran.err.as_slice(), b"".as_slice());
+        }
+    }
+    Ok(())
+}
+
+#[test]
+fn each_write_fails_once(rt: HostRuntime) -> Result<(), Fail> {
+    let alloc = rt.alloc();
+    let answer = b"<r><b>1</b><b>2</b></r>".as_slice();
+    // 23 writes of one byte
+    for number in 1..=24usize {
+        let mut failing = nothing(alloc);
+        failing.out.push(number as u64)?;
+        let ran = run_by_bytes(&rt, alloc, b"<a><b>1</b><c/><b>2</b></a>", failing)?;
+        if number <= 23 {
+            assert_eq!(rt; ran.status, Status::WriteFault, "write {number}");
+            assert_eq!(rt; ran.out.as_slice(), &answer[..number - 1]);
+            assert_eq!(rt; ran.err.as_slice(), b"gcx: write fault\n".as_slice());
+        } else {
+            assert_eq!(rt; ran.status, Status::Ok);
+            assert_eq!(rt; ran.out.as_slice(), answer);
+        }
+    }
+    Ok(())
+}
+
+#[test]
+fn each_write_of_the_line_fails_once(rt: HostRuntime) -> Result<(), Fail> {
+    let alloc = rt.alloc();
+    let line = b"gcx: document Syntax 8\n".as_slice();
+    let status = Status::DocumentRefused(DocFault::Syntax(8));
+    // 23 writes of one byte
+    for number in 1..=24usize {
+        let mut failing = nothing(alloc);
+        failing.err.push(number as u64)?;
+        let ran = run_by_bytes(&rt, alloc, b"<a><b></a>", failing)?;
+        assert_eq!(rt; ran.status, status, "write {number}");
+        assert_eq!(rt; ran.err.as_slice(), &line[..number - 1]);
+        assert_eq!(rt; ran.out.as_slice(), b"".as_slice());
+    }
     Ok(())
 }
 
@@ -175,22 +546,21 @@ fn words_and_names_are_told(rt: HostRuntime) -> Result<(), Fail> {
 fn what_never_fails_answers_too(rt: HostRuntime) -> Result<(), Fail> {
     let alloc = rt.alloc();
     let mut files = SureShelf::new(alloc, 0);
-    files.put(text(alloc, b"q")?, b"/a/b".to_vec(alloc)?)?;
+    files.put(
+        text(alloc, b"q")?,
+        b"<r>{for $x in /a/b return $x}</r>".to_vec(alloc)?,
+    )?;
     files.put(
         text(alloc, b"d")?,
-        b"<a><b>1</b><b>2</b></a>".to_vec(alloc)?,
+        b"<a><b>1</b><c/><b>2</b></a>".to_vec(alloc)?,
     )?;
     let mut out = SureSink::new(alloc, 100)?;
     let mut err = SureSink::new(alloc, 100)?;
-    let status = gcx_main(
-        alloc,
-        &words(alloc, &[b"run", b"q", b"d"])?,
-        &mut files,
-        &mut out,
-        &mut err,
-    );
+    let words = words(alloc, &[b"run", b"q", b"d"])?;
+    let status = gcx_main(alloc, &words, &mut files, &mut out, &mut err);
     assert_eq!(rt; status, Status::Ok);
-    assert!(rt; out.is_whole());
-    assert_eq!(rt; out.bytes(), b"<b>1</b><b>2</b>".as_slice());
+    assert!(rt; out.is_whole() && err.is_whole());
+    assert_eq!(rt; out.bytes(), b"<r><b>1</b><b>2</b></r>".as_slice());
+    assert_eq!(rt; err.bytes(), b"".as_slice());
     Ok(())
 }
