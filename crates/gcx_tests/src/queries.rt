@@ -360,3 +360,6 @@ fn literals_are_printed(rt: HostRuntime) -> Result<(), Fail> {
     ];
     are_printed(&rt, rt.alloc(), rows)
 }
+
+mod nesting;
+mod refused;
