@@ -10,10 +10,10 @@ use std::test::Fail;
 
 /// A document, its tokens up to the first fault, and that fault.
 #[derive(Clone, Copy)]
-pub(crate) struct Row<'a> {
-    pub document: &'a [u8],
-    pub tokens: &'a [u8],
-    pub fault: Option<DocFault>,
+struct Row<'a> {
+    document: &'a [u8],
+    tokens: &'a [u8],
+    fault: Option<DocFault>,
 }
 
 /// Takes all tokens that wait: `<name>`, `</>`, `[text]`, and `$` for the end of the document.
@@ -80,12 +80,7 @@ fn is_told(
 }
 
 /// The reader says it of the document in one piece, and byte by byte.
-pub(crate) fn is_told_whole(
-    rt: &impl Abort,
-    alloc: Global,
-    limits: Limits,
-    row: Row<'_>,
-) -> Result<(), Fail>
+fn is_told_whole(rt: &impl Abort, alloc: Global, limits: Limits, row: Row<'_>) -> Result<(), Fail>
     requires depth { limits.depth ≤ 1000 }
     requires bytes { limits.bytes ≤ 1099511627776 }
 {
@@ -98,7 +93,7 @@ pub(crate) fn is_told_whole(
 }
 
 /// The reader says it of the document in one piece, byte by byte, and cut in two at every byte.
-pub(crate) fn is_told_in_pieces(
+fn is_told_in_pieces(
     rt: &impl Abort,
     alloc: Global,
     limits: Limits,
@@ -116,7 +111,7 @@ pub(crate) fn is_told_in_pieces(
 }
 
 /// These documents are accepted, and have these tokens.
-pub(crate) fn are_accepted(
+fn are_accepted(
     rt: &impl Abort,
     alloc: Global,
     limits: Limits,
@@ -137,7 +132,7 @@ pub(crate) fn are_accepted(
 }
 
 /// These documents are refused with these faults, behind these tokens.
-pub(crate) fn are_refused(
+fn are_refused(
     rt: &impl Abort,
     alloc: Global,
     limits: Limits,

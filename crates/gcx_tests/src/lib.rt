@@ -2,14 +2,8 @@
 #![tactic(auto)]
 
 #[cfg(test)]
-mod document_limits;
-#[cfg(test)]
 mod documents;
 #[cfg(test)]
-mod nesting;
-#[cfg(test)]
 mod queries;
-#[cfg(test)]
-mod query_faults;
 #[cfg(test)]
 mod runs;

@@ -7,7 +7,7 @@ use xq_parse::parse;
 use xq_print::print;
 
 /// The query printed, or its refusal.
-pub(crate) fn told(alloc: Global, query: &[u8]) -> Result<String, Fail> {
+fn told(alloc: Global, query: &[u8]) -> Result<String, Fail> {
     match parse(alloc, query) {
         Ok(query) => {
             let text = print(alloc, &query)?;
@@ -23,6 +23,14 @@ fn are_printed(rt: &impl Abort, alloc: Global, rows: &[(&[u8], &str)]) -> Result
     for &(query, printed) in rows {
         assert_eq!(rt; told(alloc, query)?.as_str(), printed, "{query:?}");
         assert_eq!(rt; told(alloc, printed.as_bytes())?.as_str(), printed);
+    }
+    Ok(())
+}
+
+/// These queries are refused with these faults.
+fn are_refused(rt: &impl Abort, alloc: Global, rows: &[(&[u8], QueryFault)]) -> Result<(), Fail> {
+    for &(query, fault) in rows {
+        assert_eq!(rt; parse(alloc, query).err(), Some(fault), "{query:?}");
     }
     Ok(())
 }
