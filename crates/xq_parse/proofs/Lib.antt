@@ -1,3 +1,5 @@
+pub mod Names
+mod FirstPlaces
 mod ScopeLaws
 mod Folds
 mod Lang

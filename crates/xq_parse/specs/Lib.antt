@@ -8,3 +8,4 @@ pub mod Machine
 pub mod Reading
 pub mod Behind
 pub mod Answering
+pub mod Bindings

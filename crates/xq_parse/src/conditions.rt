@@ -9,15 +9,12 @@ ghost use Rattle.xq_parse.specs.Machine.{State, all_state, alls_state, ands, ato
 ghost use Rattle.xq_parse.specs.Behind.{HasRoom, atom_behind};
 ghost use Rattle.xq_parse.specs.Reading.{Moves, Stop, run};
 
-use crate::cursor::{Cursor, is_word};
+use crate::cursor::{Cursor, MOST, is_word};
 use crate::marks::Marks;
 use crate::refusal::{Refusal, Why};
 use crate::scope::Scope;
 use gcx_model::{QCond, QConds, QOperand};
 use xq_lex::{Sign, Tok, TokKind};
-
-/// At most so many constructs are open at a token.
-pub(crate) const MOST: usize = 200;
 
 /// A parser by descent: a method for each rule.
 #[derive(Drop)]
@@ -109,66 +106,27 @@ impl<'a> Cursor<'a> {
         ensures room { IfOk result (λ s. HasRoom depth s) }
         ensures shorter { length self.new.rest.now ≤ length self.old.rest.now }
     {
-        match self.rest {
-            [
-                Tok {
-                    kind: TokKind::Name(found),
-                    ..
-                },
-                rest @ ..,
-            ] => {
-                if is_word(found, b"not") {
-                    if depth >= MOST {
-                        return Err(Refusal::At(Why::Nesting, self.rest.len()));
-                    }
-                    self.rest = rest;
-                    Ok(AtomStart::Not)
-                } else if is_word(found, b"true") {
-                    self.rest = rest;
-                    Ok(AtomStart::True)
-                } else if is_word(found, b"exists") {
-                    self.rest = rest;
-                    Ok(AtomStart::Exists)
-                } else {
-                    Err(Refusal::At(Why::Syntax, self.rest.len()))
-                }
+        let Some(next) = self.rest.first() else {
+            return Ok(AtomStart::Path);
+        };
+        let start = match &next.kind {
+            TokKind::Name(found) if is_word(found, b"not") => {
+                self.open(depth)?;
+                return Ok(AtomStart::Not);
             }
-            [
-                Tok {
-                    kind: TokKind::Sign(Sign::ParenOpen),
-                    ..
-                },
-                rest @ ..,
-            ] => {
-                if depth >= MOST {
-                    return Err(Refusal::At(Why::Nesting, self.rest.len()));
-                }
-                self.rest = rest;
-                Ok(AtomStart::Group)
+            TokKind::Sign(Sign::ParenOpen) => {
+                self.open(depth)?;
+                return Ok(AtomStart::Group);
             }
-            [
-                Tok {
-                    kind: TokKind::Str(found),
-                    ..
-                },
-                rest @ ..,
-            ] => {
-                let text = found.copy(self.alloc)?;
-                self.rest = rest;
-                Ok(AtomStart::Literal(QOperand::Str(text)))
-            }
-            [
-                Tok {
-                    kind: TokKind::Number(units),
-                    ..
-                },
-                rest @ ..,
-            ] => {
-                self.rest = rest;
-                Ok(AtomStart::Literal(QOperand::Num(*units)))
-            }
-            _ => Ok(AtomStart::Path),
-        }
+            TokKind::Name(found) if is_word(found, b"true") => AtomStart::True,
+            TokKind::Name(found) if is_word(found, b"exists") => AtomStart::Exists,
+            TokKind::Name(_) => return Err(Refusal::At(Why::Syntax, self.rest.len())),
+            TokKind::Str(found) => AtomStart::Literal(QOperand::Str(found.copy(self.alloc)?)),
+            TokKind::Number(units) => AtomStart::Literal(QOperand::Num(*units)),
+            _ => return Ok(AtomStart::Path),
+        };
+        self.rest = &self.rest[1..];
+        Ok(start)
     }
 }
 

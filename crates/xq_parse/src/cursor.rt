@@ -1,5 +1,5 @@
 //! What is left of the tokens of a query.
-ghost use Rattle.std.specs.Prelude.{◌≡◌, ◌≤◌, ◌<◌, ◌++◌, ◌∷◌, ℕ, true, false, cond, List, [], Some, length, bytes_eq, OnOk};
+ghost use Rattle.std.specs.Prelude.{◌≡◌, ◌≤◌, ◌<◌, ◌++◌, ◌∷◌, ℕ, true, false, cond, List, [], Some, drop, length, bytes_eq, IfErr, OnOk};
 ghost use Rattle.gcx_model.specs.declared.query.Clause.{Clause};
 ghost use Rattle.gcx_model.specs.Query.{ExprTree};
 ghost use Rattle.xq_parse.specs.declared.marks.Marks.{Marks};
@@ -12,6 +12,9 @@ use crate::refusal::{Refusal, Why};
 use gcx_base::Name;
 use std::alloc::Global;
 use xq_lex::{Sign, Tok, TokKind};
+
+/// At most so many constructs are open at a token.
+pub(crate) const MOST: usize = 200;
 
 /// The tokens that are left.
 #[derive(Drop)]
@@ -53,6 +56,20 @@ impl<'a> Cursor<'a> {
             }
             _ => Err(Refusal::At(Why::Syntax, self.rest.len())),
         }
+    }
+
+    /// Takes the next token, which opens a construct inside `depth` others.
+    pub(crate) fn open(&mut self, depth: usize) -> Result<(), Refusal>
+        requires { 0 < length self.now.rest.now }
+        ensures ok { OnOk result ((depth < 200) × (self.new.rest.now ≡ drop 1 self.old.rest.now)) }
+        ensures err { IfErr result (λ e. (200 ≤ depth) × (e ≡ Refusal.At Why.Nesting (length self.old.rest.now))) }
+        ensures shorter { length self.new.rest.now ≤ length self.old.rest.now }
+    {
+        if depth >= MOST {
+            return Err(Refusal::At(Why::Nesting, self.rest.len()));
+        }
+        self.rest = &self.rest[1..];
+        Ok(())
     }
 
     /// Wants no token more.

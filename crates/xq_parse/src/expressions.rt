@@ -10,8 +10,8 @@ ghost use Rattle.xq_parse.specs.Machine.{State, clause_state, clauses, clauses_s
 ghost use Rattle.xq_parse.specs.Behind.{ExprHasRoom, Extends, PartHasRoom, expr_behind, part_behind};
 ghost use Rattle.xq_parse.specs.Reading.{Moves, Stop, run};
 
-use crate::conditions::{MOST, Parser};
-use crate::cursor::{Cursor, is_word};
+use crate::conditions::Parser;
+use crate::cursor::{Cursor, MOST, is_word};
 use crate::refusal::{Refusal, Why};
 use gcx_base::{Memory, Name};
 use gcx_model::{Clause, Clauses, Expr, Exprs, QCond};
@@ -43,58 +43,19 @@ impl<'a> Cursor<'a> {
         ensures room { IfOk result (λ s. ExprHasRoom depth s) }
         ensures shorter { length self.new.rest.now ≤ length self.old.rest.now }
     {
-        match self.rest {
-            [
-                Tok {
-                    kind: TokKind::Name(found),
-                    ..
-                },
-                rest @ ..,
-            ] => {
-                if is_word(found, b"for") {
-                    if depth >= MOST {
-                        return Err(Refusal::At(Why::Nesting, self.rest.len()));
-                    }
-                    self.rest = rest;
-                    Ok(ExprStart::For)
-                } else if is_word(found, b"if") {
-                    if depth >= MOST {
-                        return Err(Refusal::At(Why::Nesting, self.rest.len()));
-                    }
-                    self.rest = rest;
-                    Ok(ExprStart::If)
-                } else {
-                    Err(Refusal::At(Why::Syntax, self.rest.len()))
-                }
-            }
-            [
-                Tok {
-                    kind: TokKind::Sign(Sign::Lt),
-                    ..
-                },
-                rest @ ..,
-            ] => {
-                if depth >= MOST {
-                    return Err(Refusal::At(Why::Nesting, self.rest.len()));
-                }
-                self.rest = rest;
-                Ok(ExprStart::Elem)
-            }
-            [
-                Tok {
-                    kind: TokKind::Sign(Sign::ParenOpen),
-                    ..
-                },
-                rest @ ..,
-            ] => {
-                if depth >= MOST {
-                    return Err(Refusal::At(Why::Nesting, self.rest.len()));
-                }
-                self.rest = rest;
-                Ok(ExprStart::Paren)
-            }
-            _ => Ok(ExprStart::Path),
-        }
+        let Some(next) = self.rest.first() else {
+            return Ok(ExprStart::Path);
+        };
+        let start = match &next.kind {
+            TokKind::Name(found) if is_word(found, b"for") => ExprStart::For,
+            TokKind::Name(found) if is_word(found, b"if") => ExprStart::If,
+            TokKind::Name(_) => return Err(Refusal::At(Why::Syntax, self.rest.len())),
+            TokKind::Sign(Sign::Lt) => ExprStart::Elem,
+            TokKind::Sign(Sign::ParenOpen) => ExprStart::Paren,
+            _ => return Ok(ExprStart::Path),
+        };
+        self.open(depth)?;
+        Ok(start)
     }
 
     /// Takes the `)` of an empty parenthesis.
@@ -155,42 +116,20 @@ impl<'a> Cursor<'a> {
         ensures shorter { length self.new.rest.now ≤ length self.old.rest.now }
         ensures some { OnOk result (length self.new.rest.now < length self.old.rest.now) }
     {
-        match self.rest {
-            [
-                Tok {
-                    kind: TokKind::Sign(Sign::EndTag),
-                    ..
-                },
-                rest @ ..,
-            ] => {
-                self.rest = rest;
-                Ok(Part::End)
+        let Some(next) = self.rest.first() else {
+            return Err(Refusal::At(Why::Syntax, 0));
+        };
+        let part = match next.kind {
+            TokKind::Sign(Sign::EndTag) => Part::End,
+            TokKind::Sign(Sign::BraceOpen) => Part::Braced,
+            TokKind::Sign(Sign::Lt) => {
+                self.open(depth)?;
+                return Ok(Part::Nested);
             }
-            [
-                Tok {
-                    kind: TokKind::Sign(Sign::Lt),
-                    ..
-                },
-                rest @ ..,
-            ] => {
-                if depth >= MOST {
-                    return Err(Refusal::At(Why::Nesting, self.rest.len()));
-                }
-                self.rest = rest;
-                Ok(Part::Nested)
-            }
-            [
-                Tok {
-                    kind: TokKind::Sign(Sign::BraceOpen),
-                    ..
-                },
-                rest @ ..,
-            ] => {
-                self.rest = rest;
-                Ok(Part::Braced)
-            }
-            _ => Err(Refusal::At(Why::Syntax, self.rest.len())),
-        }
+            _ => return Err(Refusal::At(Why::Syntax, self.rest.len())),
+        };
+        self.rest = &self.rest[1..];
+        Ok(part)
     }
 }
 

@@ -9,8 +9,8 @@ ghost use Rattle.xq_parse.specs.Machine.{start};
 ghost use Rattle.xq_parse.specs.Reading.{Moves, Stop, a_found, run};
 ghost use Rattle.xq_parse.specs.Answering.{Answers, fault_from, judge_marks, judged, place_at};
 
-use crate::conditions::{MOST, Parser};
-use crate::cursor::Cursor;
+use crate::conditions::Parser;
+use crate::cursor::{Cursor, MOST};
 use crate::marks::Marks;
 use crate::refusal::{Refusal, Why};
 use crate::scope::Scope;

@@ -1,32 +1,69 @@
 //! The variables in scope.
-ghost use Rattle.std.specs.Prelude.{◌≡◌, ◌∷◌, ◌-◌, ◌≤◌, [], length, drop, bytes_eq, OnOk};
-ghost use Rattle.std.specs.List.{list_any};
+ghost use Rattle.std.specs.Prelude.{◌≡◌, ◌∷◌, ◌-◌, ◌≤◌, ℕ, List, [], None, Some, length, drop, bytes_eq, OnOk, OnErr, if◌then◌else◌};
+ghost use Rattle.std.specs.BTreeMap.{get_by_text};
 ghost use Rattle.gcx_model.specs.Paths.{any};
+ghost use Rattle.xq_parse.specs.Bindings.{or_else, unless_at};
 
 use gcx_base::{Memory, Name};
 use std::alloc::Global;
+use std::collections::BTreeMap;
 use std::marker::Model;
+use std::str::from_utf8;
 
 /// The names that clauses bind, seen as a list with the innermost first.
 #[derive(Drop)]
 pub(crate) struct Scope {
+    alloc: Global,
+    /// The outermost first.
     names: Vec<Name>,
+    /// For each name where it stands first in `names`, so that no look-up reads them all.
+    first: BTreeMap<String, usize>,
 }
 
 impl Model for Scope {
-    ghost use Rattle.std.specs.Prelude.{List, ℕ, reverse};
+    ghost use Rattle.std.specs.Prelude.{List, ℕ, ◌≡◌, reverse};
+    ghost use Rattle.std.specs.BTreeMap.{get_by_text};
+    ghost use Rattle.xq_parse.specs.Bindings.{first_of};
 
     ghost Value = { List (List ℕ) };
 
     ghost view = { λ s. reverse s.names.items };
+
+    ghost invariant = { λ s. (name : List ℕ) → get_by_text s.first name ≡ first_of name s.names.items };
 }
 
-fn is_among(names: &[Name], name: &Name) -> bool
-    ensures { result ≡ list_any (bytes_eq name.now) names.now }
+fn text_of(name: &Name) -> &str
+    ensures { result.now ≡ name.now }
 {
-    names
-        .iter()
-        .any(|bound| name.as_bytes() == bound.as_bytes())
+    match from_utf8(name.as_bytes()) {
+        Ok(text) => text,
+        Err(_) => unreachable!(),
+    }
+}
+
+/// Notes the place of a name, if it has none yet.
+fn put_first(
+    alloc: Global,
+    first: &mut BTreeMap<String, usize>,
+    name: &Name,
+    place: usize,
+) -> Result<(), Memory>
+    ensures ok { OnOk result ((q : List ℕ) → get_by_text first.new q ≡ or_else (get_by_text first.old q) (if bytes_eq q name.now then Some place else None)) }
+    ensures err { OnErr result ((q : List ℕ) → get_by_text first.new q ≡ get_by_text first.old q) }
+{
+    let key = String::from_str(alloc, text_of(name))?;
+    let _ = first.entry(key)?.or_insert(place);
+    Ok(())
+}
+
+/// Takes back the place of a name, if it is this one.
+fn take_first(first: &mut BTreeMap<String, usize>, name: &Name, place: usize)
+    ensures { (q : List ℕ) → get_by_text first.new q ≡ (if bytes_eq q name.now then unless_at place (get_by_text first.old q) else get_by_text first.old q) }
+{
+    let text = text_of(name);
+    if first.get(text).copied() == Some(place) {
+        let _ = first.remove(text);
+    }
 }
 
 impl Scope {
@@ -34,7 +71,9 @@ impl Scope {
         ensures { result ≡ [] }
     {
         Scope {
+            alloc,
             names: Vec::new(alloc),
+            first: BTreeMap::new(alloc),
         }
     }
 
@@ -48,14 +87,25 @@ impl Scope {
     pub(crate) fn has(&self, name: &Name) -> bool
         ensures { result ≡ any (bytes_eq name.now) self.now }
     {
-        is_among(&self.names, name)
+        self.first.contains_key(text_of(name))
     }
 
     pub(crate) fn bind(&mut self, name: Name) -> Result<(), Memory>
         ensures { OnOk result (self.new ≡ name ∷ self.old) }
     {
-        self.names.push(name)?;
+        self.names.reserve(1)?;
+        put_first(self.alloc, &mut self.first, &name, self.names.len())?;
+        self.names.push_reserved(name);
         Ok(())
+    }
+
+    /// Leaves the scope of the innermost name.
+    fn unbind(&mut self)
+        ensures { self.new ≡ drop 1 self.old }
+    {
+        if let Some(name) = self.names.pop() {
+            take_first(&mut self.first, &name, self.names.len());
+        }
     }
 
     /// Leaves the scope of all but the outermost `count` names.
@@ -63,6 +113,8 @@ impl Scope {
         requires { count ≤ length self.now }
         ensures { self.new ≡ drop (length self.old - count) self.old }
     {
-        self.names.truncate(count);
+        while self.len() > count {
+            self.unbind();
+        }
     }
 }

@@ -1,11 +1,13 @@
-use Rattle.std.proofs.Common.{◌∙◌, sym, ap, reverse, length, drop, ◌-◌, subst, ◌≤◌}
-use Rattle.xq_parse.specs.Places.{Scope}
-use Rattle.xq_parse.proofs.ScopeLaws.{left}
+use Rattle.std.proofs.Common.{ℕ, ◌≡◌, ◌∙◌, ap, length, drop, ◌-◌, arith}
+use Rattle.std.proofs.lemmas.List.{length-drop, drop-drop}
 use Rattle.xq_parse.proofs.scope.Scope.leave.Goals as goal
 
-pub returns : goal.returns
-returns c =
-    let xs = c.self.inside.names.items in
-    ap reverse c.truncate.ensures.items
-    ∙ left xs c.args.count (subst (λ (l : Scope). c.args.count ≤ length l) (sym c.self.view_is) c.requires)
-    ∙ ap (λ (l : Scope). drop (length l - c.args.count) l) c.self.view_is
+pub loop-self-preserved : goal.loop-self-preserved
+loop-self-preserved c =
+    let was = c.loop-self.invariant in
+    let now : length c.unbind.new.self ≡ length c.loop-self.self - 1 = ap length c.unbind.ensures ∙ length-drop 1 c.loop-self.self in
+    record {
+      down = omega arith;
+      left = c.unbind.ensures ∙ ap (drop 1) was.left ∙ drop-drop 1 (length c.args.self.now - length c.loop-self.self) c.args.self.now ∙ ap (λ (n : ℕ). drop n c.args.self.now) (omega arith);
+      within = omega arith;
+    }

@@ -1,0 +1,20 @@
+-- Where a name stands first among those that clauses bind.
+use Rattle.std.specs.Prelude.{ℕ, suc, ◌==◌, List, [], ◌∷◌, Option, Some, None, bytes_eq, if◌then◌else◌}
+
+-- in a list of which the first has the place `at`
+abbrev pub first_from : (at : ℕ) → List ℕ → List (List ℕ) → Option ℕ
+first_from at name [] = None
+first_from at name (n ∷ ns) = if bytes_eq name n then Some at else first_from (suc at) name ns
+
+abbrev pub first_of : List ℕ → List (List ℕ) → Option ℕ
+first_of name ns = first_from 0 name ns
+
+-- the first place, or else the second
+abbrev pub or_else : Option ℕ → Option ℕ → Option ℕ
+or_else None b = b
+or_else (Some k) b = Some k
+
+-- the place, unless it is this one
+abbrev pub unless_at : (place : ℕ) → Option ℕ → Option ℕ
+unless_at place None = None
+unless_at place (Some k) = if k == place then None else Some k
