@@ -49,7 +49,7 @@ kept_digit : (d : ℕ) (xs : List ℕ) → (d == 48) ≡ false → kept_before d
 kept_digit d [] e = rw e refl
 kept_digit d (x ∷ xs) e = refl
 
-top_digit : (k n : ℕ) → n < 10 ^ suc k → n / 10 ^ k < 10
+pub top_digit : (k n : ℕ) → n < 10 ^ suc k → n / 10 ^ k < 10
 top_digit k n h = (div-lt_iff_lt-mul {x = n} {y = 10} (one-le-pow k 10 (omega arith))).1 (omega (arith, pow-suc 10 k))
 
 -- the first digit, and those of what is left

@@ -3,6 +3,7 @@ ghost use Rattle.std.specs.Prelude.{◌≡◌, ◌++◌, ◌∷◌, [], Bool, ma
 ghost use Rattle.gcx_model.specs.Query.{cond_tree, expr_tree, expr_trees, exprs_of, on_some, query_trees};
 ghost use Rattle.gcx_model.specs.Written.{end_tag, start_tag};
 ghost use Rattle.xq_print.specs.Printed.{clause_text, cond_text, expr_text, expr_texts, filter_text, joined, printed_query};
+ghost use Rattle.xq_print.specs.ReadsBack.{ReadsBack};
 
 use crate::cond::{put_cond, put_where};
 use crate::path::{put_name, put_path};
@@ -137,9 +138,11 @@ fn put_exprs(out: &mut String, exprs: &Exprs) -> Result<(), Memory>
 }
 
 /// The text of a query. Parts, members of a sequence and parts of a constructor's body are joined by
-/// `, `.
+/// `, `. A query that some text spells is spelled by this text too, where it is no longer than a query
+/// may be.
 pub fn print(alloc: Global, query: &Query) -> Result<Text, Memory>
-    ensures { IfOk result (λ text. text ≡ printed_query (query_trees query.now)) }
+    ensures text { IfOk result (λ text. text ≡ printed_query (query_trees query.now)) }
+    ensures reads_back { IfOk result (λ text. ReadsBack text (query_trees query.now)) }
 {
     let mut out = String::new(alloc);
     put_exprs(&mut out, &query.parts)?;

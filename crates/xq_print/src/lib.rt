@@ -8,6 +8,7 @@ mod path;
 
 pub use expr::print;
 pub use literal::{put_number, put_string};
+pub use path::{put_name, put_test};
 
 #[cfg(test)]
 mod tests;

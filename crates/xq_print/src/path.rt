@@ -6,7 +6,8 @@ use gcx_base::{Axis, Memory, Name, Step, Test};
 use gcx_model::PathExpr;
 use std::str::from_utf8;
 
-pub(crate) fn put_name(out: &mut String, name: &Name) -> Result<(), Memory>
+/// Appends a name.
+pub fn put_name(out: &mut String, name: &Name) -> Result<(), Memory>
     ensures { OnOk result (string_bytes out.new ≡ string_bytes out.old ++ name.now) }
 {
     match from_utf8(name.as_bytes()) {
@@ -27,7 +28,8 @@ fn axis_text(axis: Axis) -> &'static str
     }
 }
 
-fn put_test(out: &mut String, test: &Test) -> Result<(), Memory>
+/// Appends the test of a step.
+pub fn put_test(out: &mut String, test: &Test) -> Result<(), Memory>
     ensures { OnOk result (string_bytes out.new ≡ string_bytes out.old ++ test_text test.now) }
 {
     match test {

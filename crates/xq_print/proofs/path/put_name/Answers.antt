@@ -1,5 +1,5 @@
 use Rattle.std.proofs.Common.{ℕ, List, IsUtf8, sym, subst}
-use Rattle.xq_print.proofs.Names.{name_utf8}
+use Rattle.xq_parse.proofs.Names.{name_utf8}
 use Rattle.xq_print.proofs.path.put_name.Goals as goal
 
 pub unreachable-requires : goal.unreachable-requires
