@@ -1,0 +1,5 @@
+pub mod ConditionText
+pub mod Sums
+pub mod Raw
+pub mod Scopes
+pub mod Shapes
