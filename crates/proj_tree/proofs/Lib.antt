@@ -1,0 +1,6 @@
+pub mod Falls
+pub mod Reading
+pub mod Owned
+pub mod Growth
+pub mod Scope
+pub mod RolePaths
