@@ -1,11 +1,15 @@
 -- Completeness, from what each status says and from the causes of faults.
-use Rattle.std.proofs.Common.{◌≡◌, ◌⊎◌, ℕ, true, List, inl, inr, ⊎_elim, refl, subst}
+use Rattle.std.proofs.Common.{◌≡◌, ◌⊎◌, ℕ, true, List, inl, inr, ⊎_elim, refl, sym, ◌∙◌, subst}
 use Rattle.std.specs.declared.option.Option.TheVariants as o
 use Rattle.gcx_base.specs.Limits.{full_limits}
 use Rattle.gcx_model.specs.declared.fault.DocFault.{DocFault}
+use Rattle.gcx_model.specs.declared.fault.QueryFault.{QueryFault}
+use Rattle.gcx_model.specs.Normal.{normal}
+use Rattle.gcx_model.specs.Query.{ExprTree}
+use Rattle.signoff_place.specs.Refused.{refusal_of}
 use Rattle.doc_laws.proofs.Unique.{fault_one}
 use Rattle.gcx_io.specs.Shelf.{Names, content_of, IsMissing}
-use Rattle.gcx_cmd.specs.Main.{IsRun, IsQuery, IsOneQuery, IsDocument, IsDocumentRefusal, SaysOfQuery, SaysOfDocument, StopsDocument}
+use Rattle.gcx_cmd.specs.Main.{IsRun, IsQuery, IsOneQuery, IsDocument, IsDocumentRefusal, SaysOfQuery, SaysOfDocument, StopsDocument, IsRefusedFor}
 use Rattle.gcx_cmd.specs.declared.status.Status.{Status}
 use Rattle.gcx_cmd.specs.declared.status.Status.TheVariants.{Ok, Usage, QueryRefused, DocumentRefused, ReadFault, WriteFault, Memory}
 
@@ -13,14 +17,23 @@ there : (names : Names) (name bytes : List ℕ) → content_of names name ≡ o.
 there o.None name bytes told missing = missing
 there (o.Some holds) name bytes told missing = cc
 
+no_fault_some : (f : QueryFault) → o.None ≡ o.Some f → ⊥
+no_fault_some f e = cc
+
 no_some : (f : DocFault) → o.None ≡ o.Some f → ⊥
 no_some f e = cc
+
+-- an accepted query isn't refused
+refused_not : (query : List ℕ) (f : QueryFault) → IsRefusedFor query f → IsQuery query → ⊥
+refused_not query f (inl h) good = h.1.no_query good.0 good.1.spells good.1.sound
+refused_not query f (inr h) good =
+    no_fault_some f (sym (subst (λ (q : List ExprTree). refusal_of (normal q) ≡ o.None) (h.only.once good.0 good.1.spells) good.1.within) ∙ h.limit)
 
 complete_from : (status : Status) (query document : List ℕ) → SaysOfQuery status query → SaysOfDocument status document → IsQuery query → IsDocument document
     → (status ≡ ReadFault → ⊥) → (status ≡ WriteFault → ⊥) → (status ≡ Ok) ⊎ (status ≡ Memory)
 complete_from Ok q d says_q says_d good_q good_d not_read not_write = inl refl
 complete_from Usage q d says_q says_d good_q good_d not_read not_write = absurd says_q
-complete_from (QueryRefused f) q d says_q says_d good_q good_d not_read not_write = absurd (says_q.1.no_query good_q.0 good_q.1.spells good_q.1.sound)
+complete_from (QueryRefused f) q d says_q says_d good_q good_d not_read not_write = absurd (refused_not q f says_q good_q)
 complete_from (DocumentRefused f) q d says_q says_d good_q good_d not_read not_write = absurd (no_some f (fault_one full_limits d true o.None (o.Some f) good_d says_d))
 complete_from ReadFault q d says_q says_d good_q good_d not_read not_write = absurd (not_read refl)
 complete_from WriteFault q d says_q says_d good_q good_d not_read not_write = absurd (not_write refl)

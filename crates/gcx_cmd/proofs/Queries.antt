@@ -1,6 +1,11 @@
 -- What QUERY holds, from what was read.
-use Rattle.std.proofs.Common.{◌≡◌, ℕ, ◌≤◌, ◌<◌, List, [], ◌++◌, length, refl, sym, ◌∙◌, ap, subst, arith, length-append, append-nil, inl, inr}
+use Rattle.std.proofs.Common.{◌≡◌, ℕ, ◌≤◌, ◌<◌, true, List, [], ◌++◌, length, refl, sym, ◌∙◌, ap, subst, arith, length-append, append-nil, inl, inr}
+use Rattle.std.specs.declared.option.Option.TheVariants.{None, Some}
+use Rattle.gcx_model.specs.Normal.{normal}
 use Rattle.gcx_model.specs.Query.{ExprTree}
+use Rattle.gcx_model.specs.Sound.{is_sound}
+use Rattle.signoff_place.specs.Refused as limits
+use Rattle.signoff_place.specs.Refused.{refusal_of}
 use Rattle.gcx_model.specs.declared.fault.QueryFault.{QueryFault}
 use Rattle.gcx_model.specs.declared.fault.QueryFault.TheVariants.{Utf8, Lex, Syntax, UnknownVar, TagMismatch, DescendantNotLast, IntegerWide, TooLarge, Memory}
 use Rattle.gcx_model.specs.declared.fault.What.{What}
@@ -10,7 +15,7 @@ use Rattle.xq_parse.specs.Spelling.{QuerySpells}
 use Rattle.xq_lex.specs.Answer.{UnlessMemory}
 use Rattle.gcx_cmd.specs.declared.status.Status.{Status}
 use Rattle.gcx_cmd.specs.declared.status.Status.TheVariants as status
-use Rattle.gcx_cmd.specs.Main.{Accepts, SaysOfQuery, IsQueryRefusal, IsOneQuery}
+use Rattle.gcx_cmd.specs.Main.{Accepts, SaysOfQuery, IsOneQuery, PassesLimit}
 use Rattle.gcx_cmd.specs.ReadEnd.{query_status}
 use Rattle.gcx_cmd.specs.Reading.{IsReadUpTo}
 use Rattle.gcx_cmd.specs.Document.{BytesSpell, IsWhole}
@@ -35,7 +40,7 @@ same_fault bytes (TooLarge what limit) long (inl h) = subst (λ (w : What). TooL
 same_fault bytes Memory long (inl h) = absurd h
 
 pub long_query : (bytes read : List ℕ) → IsReadUpTo 1048576 bytes read → 1048576 < length read → SaysOfQuery (status.QueryRefused (TooLarge Text 1048576)) bytes
-long_query bytes read h over = (too_large bytes long, record { once = λ f k. same_fault bytes f long k; no_query = λ q s _. let short = s.lexed.short in let over = long in omega arith })
+long_query bytes read h over = inl (too_large bytes long, record { once = λ f k. same_fault bytes f long k; no_query = λ q s _. let short = s.lexed.short in let over = long in omega arith })
   where
     long : 1048576 < length bytes
     long = let e = ap length h.split in let f = length-append read h.rest in omega arith
@@ -43,18 +48,43 @@ long_query bytes read h over = (too_large bytes long, record { once = λ f k. sa
 whole_query : (bytes read : List ℕ) → IsReadUpTo 1048576 bytes read → length read ≤ 1048576 → read ≡ bytes
 whole_query bytes read h short = sym (h.split ∙ ap (λ (l : List ℕ). read ++ l) (h.whole short) ∙ append-nil read)
 
-pub query_found : (bytes read : List ℕ) (q : List ExprTree) → IsReadUpTo 1048576 bytes read → length read ≤ 1048576 → Accepts read q → HasOnlyQuery read q → Accepts bytes q × HasOnlyQuery bytes q
-query_found bytes read q h short a o = subst (λ (l : List ℕ). Accepts l q × HasOnlyQuery l q) (whole_query bytes read h short) (a, o)
+-- the text of one sound query
+pub record SpellsOne (bytes : List ℕ) (q : List ExprTree) : Type 0 where
+  pub spells : QuerySpells bytes q
+  pub sound : is_sound q ≡ true
+  pub only : HasOnlyQuery bytes q
+
+pub query_read : (bytes read : List ℕ) (q : List ExprTree) → IsReadUpTo 1048576 bytes read → length read ≤ 1048576 → SpellsOne read q → SpellsOne bytes q
+query_read bytes read q h short one = subst (λ (l : List ℕ). SpellsOne l q) (whole_query bytes read h short) one
+
+pub query_found : (bytes : List ℕ) (parsed kept : List ExprTree) → SpellsOne bytes parsed → kept ≡ parsed → refusal_of (normal parsed) ≡ None → Accepts bytes kept × HasOnlyQuery bytes kept
+query_found bytes parsed kept one same within =
+    subst (λ (q : List ExprTree). Accepts bytes q × HasOnlyQuery bytes q) (sym same) (record { spells = one.spells; sound = one.sound; within = within }, one.only)
+
+passes : (bytes : List ℕ) (q : List ExprTree) (f : QueryFault) → SpellsOne bytes q → refusal_of (normal q) ≡ Some f → PassesLimit bytes f
+passes bytes q f one limit = record { query = q; spells = one.spells; sound = one.sound; only = one.only; limit = limit }
+
+-- the first limit that the core of the one query passes
+pub limit_passed : (bytes : List ℕ) (q : List ExprTree) (f : QueryFault) → SpellsOne bytes q → UnlessMemory (limits.IsRefusedFor (normal q)) f → SaysOfQuery (query_status f) bytes
+limit_passed bytes q (Utf8 at) one h = inr (passes bytes q (Utf8 at) one h)
+limit_passed bytes q (Lex at) one h = inr (passes bytes q (Lex at) one h)
+limit_passed bytes q (IntegerWide at) one h = inr (passes bytes q (IntegerWide at) one h)
+limit_passed bytes q (Syntax at) one h = inr (passes bytes q (Syntax at) one h)
+limit_passed bytes q (TagMismatch at) one h = inr (passes bytes q (TagMismatch at) one h)
+limit_passed bytes q (UnknownVar at) one h = inr (passes bytes q (UnknownVar at) one h)
+limit_passed bytes q (DescendantNotLast at) one h = inr (passes bytes q (DescendantNotLast at) one h)
+limit_passed bytes q (TooLarge what limit) one h = inr (passes bytes q (TooLarge what limit) one h)
+limit_passed bytes q Memory one h = tt
 
 refused_by : (bytes : List ℕ) (f : QueryFault) → UnlessMemory (QueryFaultOf bytes) f → UnlessMemory (HasOnlyRefusal bytes) f → SaysOfQuery (query_status f) bytes
-refused_by bytes (Utf8 at) h k = (h, k)
-refused_by bytes (Lex at) h k = (h, k)
-refused_by bytes (IntegerWide at) h k = (h, k)
-refused_by bytes (Syntax at) h k = (h, k)
-refused_by bytes (TagMismatch at) h k = (h, k)
-refused_by bytes (UnknownVar at) h k = (h, k)
-refused_by bytes (DescendantNotLast at) h k = (h, k)
-refused_by bytes (TooLarge what limit) h k = (h, k)
+refused_by bytes (Utf8 at) h k = inl (h, k)
+refused_by bytes (Lex at) h k = inl (h, k)
+refused_by bytes (IntegerWide at) h k = inl (h, k)
+refused_by bytes (Syntax at) h k = inl (h, k)
+refused_by bytes (TagMismatch at) h k = inl (h, k)
+refused_by bytes (UnknownVar at) h k = inl (h, k)
+refused_by bytes (DescendantNotLast at) h k = inl (h, k)
+refused_by bytes (TooLarge what limit) h k = inl (h, k)
 refused_by bytes Memory h k = tt
 
 pub query_refused : (bytes read : List ℕ) (f : QueryFault) → IsReadUpTo 1048576 bytes read → length read ≤ 1048576 → UnlessMemory (QueryFaultOf read) f → UnlessMemory (HasOnlyRefusal read) f → SaysOfQuery (query_status f) bytes

@@ -9,6 +9,7 @@ use Rattle.gcx_io.specs.Shelf.{Names, IsMissing}
 use Rattle.gcx_io.specs.Bytes.{Grows, GrowsWithin}
 use Rattle.gcx_model.specs.Query.{ExprTree}
 use Rattle.gcx_model.specs.Sound.{is_sound}
+use Rattle.gcx_model.specs.Normal.{normal}
 use Rattle.gcx_model.specs.Faults.{FaultIs}
 use Rattle.gcx_model.specs.declared.fault.DocFault.{DocFault}
 use Rattle.gcx_model.specs.declared.fault.DocFault.TheVariants as doc_fault
@@ -16,6 +17,7 @@ use Rattle.gcx_model.specs.declared.fault.QueryFault.{QueryFault}
 use Rattle.gcx_model.specs.declared.fault.QueryFault.TheVariants as query_fault
 use Rattle.xq_parse.specs.Spelling.{QuerySpells}
 use Rattle.xq_parse.specs.Faults.{QueryFaultOf, HasOnlyQuery, HasOnlyRefusal}
+use Rattle.signoff_place.specs.Refused.{refusal_of}
 use Rattle.gcx_cmd.specs.declared.status.Status.{Status}
 use Rattle.gcx_cmd.specs.declared.status.Status.TheVariants.{Ok, Usage, QueryRefused, DocumentRefused, ReadFault, WriteFault, Memory}
 
@@ -23,18 +25,35 @@ use Rattle.gcx_cmd.specs.declared.status.Status.TheVariants.{Ok, Usage, QueryRef
 abbrev pub IsRun : List (List ℕ) → List ℕ → List ℕ → Type 0
 IsRun words query document = words ≡ codes "run" ∷ query ∷ document ∷ []
 
--- The bytes spell the query, which is sound.
+-- The bytes spell the query, which is sound, and its core passes no limit.
 pub record Accepts (bytes : List ℕ) (q : List ExprTree) : Type 0 where
   pub spells : QuerySpells bytes q
   pub sound : is_sound q ≡ true
+  pub within : refusal_of (normal q) ≡ option.None
 
--- the bytes spell a query
+-- the bytes are an accepted query
 abbrev pub IsQuery : List ℕ → Type 0
 IsQuery bytes = (q : List ExprTree) × Accepts bytes q
 
--- The bytes spell a query, no other one, and nothing is wrong with them.
+-- The bytes are an accepted query, they spell no other one, and nothing is wrong with them.
 abbrev pub IsOneQuery : List ℕ → Type 0
 IsOneQuery bytes = (q : List ExprTree) × Accepts bytes q × HasOnlyQuery bytes q
+
+-- Something is wrong with the text: this, and nothing else.
+abbrev pub HasTextFault : List ℕ → QueryFault → Type 0
+HasTextFault bytes f = QueryFaultOf bytes f × HasOnlyRefusal bytes f
+
+-- The bytes spell one sound query, and this is the first limit that its core passes.
+pub record PassesLimit (bytes : List ℕ) (f : QueryFault) : Type 0 where
+  pub query : List ExprTree
+  pub spells : QuerySpells bytes query
+  pub sound : is_sound query ≡ true
+  pub only : HasOnlyQuery bytes query
+  pub limit : refusal_of (normal query) ≡ option.Some f
+
+-- why the bytes are no accepted query
+abbrev pub IsRefusedFor : List ℕ → QueryFault → Type 0
+IsRefusedFor bytes f = HasTextFault bytes f ⊎ PassesLimit bytes f
 
 -- the whole bytes have no fault: they spell a document within the limits
 abbrev pub IsDocument : List ℕ → Type 0
@@ -44,7 +63,7 @@ IsDocument bytes = FaultIs full_limits bytes true option.None
 abbrev pub SaysOfQuery : Status → List ℕ → Type 0
 SaysOfQuery Ok query = IsOneQuery query
 SaysOfQuery Usage query = ⊥
-SaysOfQuery (QueryRefused f) query = QueryFaultOf query f × HasOnlyRefusal query f
+SaysOfQuery (QueryRefused f) query = IsRefusedFor query f
 SaysOfQuery (DocumentRefused f) query = IsOneQuery query
 SaysOfQuery ReadFault query = ⊤
 SaysOfQuery WriteFault query = IsOneQuery query

@@ -1,8 +1,12 @@
 //! QUERY and DOC, read and judged.
-ghost use Rattle.std.specs.Prelude.{◌≡◌, ◌⊎◌, ◌≤◌, ◌+◌, ℕ, List, Some, IfOk, OnOk, IsErrOf, MatchResult};
+ghost use Rattle.std.specs.Prelude.{◌≡◌, ◌⊎◌, ◌≤◌, ◌+◌, ℕ, List, true, None, Some, IfErr, IfOk, OnOk, IsErrOf, MatchResult};
 ghost use Rattle.gcx_io.specs.Causes.{Rose};
 ghost use Rattle.gcx_io.specs.Shelf.{content_of, IsMissing};
+ghost use Rattle.gcx_model.specs.Normal.{normal};
 ghost use Rattle.gcx_model.specs.Query.{query_trees};
+ghost use Rattle.gcx_model.specs.Sound.{is_sound};
+ghost use Rattle.signoff_place.specs.Refused.{IsRefusedFor, refusal_of};
+ghost use Rattle.xq_lex.specs.Answer.{UnlessMemory};
 ghost use Rattle.xq_parse.specs.Faults.{HasOnlyQuery};
 ghost use Rattle.gcx_cmd.specs.Document.{IsWhole};
 ghost use Rattle.gcx_cmd.specs.Reading.{IsReadUpTo};
@@ -14,6 +18,7 @@ use crate::reading::{ReadEnd, attach, read_up_to};
 use gcx_base::Text;
 use gcx_io::{Opened, Shelf};
 use gcx_model::{Query, QueryFault, What};
+use signoff_place::compile;
 use std::alloc::Global;
 use tree_eval::Tree;
 use xq_parse::parse;
@@ -68,7 +73,18 @@ fn read_file<F: Shelf>(
     read_up_to(alloc, &mut source, limit)
 }
 
-/// Reads a query, or the status to end with.
+/// The query again, where its core passes no limit. Its plan isn't kept: the answer comes from the whole tree.
+fn within_limits(alloc: Global, query: Query) -> Result<Query, QueryFault>
+    requires sound { is_sound (query_trees query) ≡ true }
+    ensures same { IfOk result (λ kept. query_trees kept ≡ query_trees query) }
+    ensures within { IfOk result (λ kept. refusal_of (normal (query_trees query)) ≡ None) }
+    ensures refused { IfErr result (UnlessMemory (IsRefusedFor (normal (query_trees query)))) }
+{
+    let _ = compile(alloc, &query)?;
+    Ok(query)
+}
+
+/// Reads a query and compiles it, or the status to end with.
 pub(crate) fn read_query<F: Shelf>(
     alloc: Global,
     files: &mut F,
@@ -85,7 +101,8 @@ pub(crate) fn read_query<F: Shelf>(
     if LIMIT < bytes.len() {
         return Err(Status::QueryRefused(QueryFault::TooLarge(What::Text, LIMIT as u64)));
     }
-    let query = parse(alloc, &bytes)?;
+    let parsed = parse(alloc, &bytes)?;
+    let query = within_limits(alloc, parsed)?;
     Ok(query)
 }
 

@@ -1,8 +1,10 @@
-//! Tests that cross crates: documents, queries and runs of the top call over objects in memory.
+//! Tests that cross crates: documents, queries, plans and runs of the top call over objects in memory.
 #![tactic(auto)]
 
 #[cfg(test)]
 mod documents;
+#[cfg(test)]
+mod plans;
 #[cfg(test)]
 mod queries;
 #[cfg(test)]

@@ -1,4 +1,6 @@
 //! Runs of the top call over files in memory.
+mod limits;
+
 use gcx_base::Text;
 use gcx_cmd::{Status, gcx_main};
 use gcx_io::{MemShelf, MemSink, SureShelf, SureSink};

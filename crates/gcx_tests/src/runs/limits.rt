@@ -1,0 +1,184 @@
+//! Queries at the limits of a plan.
+use super::{is_answered, is_refused, repeated};
+use gcx_cmd::Status;
+use gcx_model::{QueryFault, What};
+use std::alloc::Global;
+use std::process::Abort;
+use std::test::Fail;
+
+const SIX: &[u8] =
+    b"for $a in //x return for $b in $a//x return for $c in $b//x return for $d in $c//x return for $e in $d//x return for $f in $e//x return ()";
+
+const SEVEN: &[u8] =
+    b"for $a in //x return for $b in $a//x return for $c in $b//x return for $d in $c//x return for $e in $d//x return for $f in $e//x return for $g in $f//x return ()";
+
+const LOOKING: &[u8] = b"if (exists(/a)) then () else ()";
+
+/// These parts, one behind the other.
+fn joined(alloc: Global, parts: &[&[u8]]) -> Result<Vec<u8>, Fail> {
+    let mut bytes = Vec::new(alloc);
+    for part in parts {
+        bytes.extend_from_slice(part)?;
+    }
+    Ok(bytes)
+}
+
+/// So many copies of a part of a query.
+fn listed(alloc: Global, part: &[u8], count: usize) -> Result<Vec<u8>, Fail> {
+    let more = joined(alloc, &[b", ", part])?;
+    let behind = repeated(alloc, &more, count.saturating_sub(1))?;
+    joined(alloc, &[part, &behind])
+}
+
+/// `if (exists(P)) then () else ()`, where P has so many steps.
+fn looking_far(alloc: Global, steps: usize) -> Result<Vec<u8>, Fail> {
+    let path = repeated(alloc, b"/a", steps)?;
+    joined(alloc, &[b"if (exists(", &path, b")) then () else ()"])
+}
+
+/// A string of a million letters, compared before so many loops.
+fn copied(alloc: Global, loops: usize) -> Result<Vec<u8>, Fail> {
+    let letters = repeated(alloc, b"x", 1_000_000)?;
+    let paths = listed(alloc, b"/b", loops)?;
+    joined(
+        alloc,
+        &[
+            b"if (/a = \"",
+            &letters,
+            b"\") then (",
+            &paths,
+            b") else ()",
+        ],
+    )
+}
+
+/// The query is accepted, and writes nothing.
+fn is_within(rt: &impl Abort, alloc: Global, query: &[u8]) -> Result<(), Fail> {
+    is_answered(rt, alloc, query, b"<x/>", b"")
+}
+
+/// This limit is the first that the query passes.
+fn is_past(
+    rt: &impl Abort,
+    alloc: Global,
+    query: &[u8],
+    what: What,
+    limit: u64,
+    line: &[u8],
+) -> Result<(), Fail> {
+    let status = Status::QueryRefused(QueryFault::TooLarge(what, limit));
+    is_refused(rt, alloc, query, b"<x/>", status, line)
+}
+
+#[test]
+fn a_core_has_at_most_500_loops(rt: HostRuntime) -> Result<(), Fail> {
+    let alloc = rt.alloc();
+    let line = b"gcx: query TooLarge Loops 500\n";
+    is_within(&rt, alloc, &repeated(alloc, b"/a", 500)?)?;
+    is_past(
+        &rt,
+        alloc,
+        &repeated(alloc, b"/a", 501)?,
+        What::Loops,
+        500,
+        line,
+    )
+}
+
+#[test]
+fn conditions_have_at_most_8000_steps(rt: HostRuntime) -> Result<(), Fail> {
+    let alloc = rt.alloc();
+    let line = b"gcx: query TooLarge Steps 8000\n";
+    is_within(&rt, alloc, &looking_far(alloc, 8_000)?)?;
+    is_past(
+        &rt,
+        alloc,
+        &looking_far(alloc, 8_001)?,
+        What::Steps,
+        8_000,
+        line,
+    )
+}
+
+#[test]
+fn conditions_have_at_most_8388608_bytes(rt: HostRuntime) -> Result<(), Fail> {
+    let alloc = rt.alloc();
+    let line = b"gcx: query TooLarge Conditions 8388608\n";
+    is_within(&rt, alloc, &copied(alloc, 8)?)?;
+    is_past(
+        &rt,
+        alloc,
+        &copied(alloc, 9)?,
+        What::Conditions,
+        8_388_608,
+        line,
+    )
+}
+
+#[test]
+fn a_plan_has_at_most_2000_roles(rt: HostRuntime) -> Result<(), Fail> {
+    let alloc = rt.alloc();
+    let line = b"gcx: query TooLarge Roles 2000\n";
+    is_within(&rt, alloc, &listed(alloc, LOOKING, 1_999)?)?;
+    is_past(
+        &rt,
+        alloc,
+        &listed(alloc, LOOKING, 2_000)?,
+        What::Roles,
+        2_000,
+        line,
+    )
+}
+
+#[test]
+fn a_role_has_at_most_6_descendant_steps(rt: HostRuntime) -> Result<(), Fail> {
+    let alloc = rt.alloc();
+    let line = b"gcx: query TooLarge Descendants 6\n";
+    is_within(&rt, alloc, SIX)?;
+    is_past(&rt, alloc, SEVEN, What::Descendants, 6, line)
+}
+
+#[test]
+fn the_first_limit_in_order_is_told(rt: HostRuntime) -> Result<(), Fail> {
+    let alloc = rt.alloc();
+    let many_loops = repeated(alloc, b"/a", 501)?;
+    let many_steps = looking_far(alloc, 8_001)?;
+    let many_bytes = copied(alloc, 9)?;
+    let many_roles = listed(alloc, LOOKING, 2_000)?;
+    let loops = joined(alloc, &[&many_steps, b", ", &many_loops])?;
+    is_past(
+        &rt,
+        alloc,
+        &loops,
+        What::Loops,
+        500,
+        b"gcx: query TooLarge Loops 500\n",
+    )?;
+    let steps = joined(alloc, &[&many_bytes, b", ", &many_steps])?;
+    is_past(
+        &rt,
+        alloc,
+        &steps,
+        What::Steps,
+        8_000,
+        b"gcx: query TooLarge Steps 8000\n",
+    )?;
+    let bytes = joined(alloc, &[SEVEN, b", ", &many_bytes])?;
+    is_past(
+        &rt,
+        alloc,
+        &bytes,
+        What::Conditions,
+        8_388_608,
+        b"gcx: query TooLarge Conditions 8388608\n",
+    )?;
+    let roles = joined(alloc, &[SEVEN, b", ", &many_roles])?;
+    is_past(
+        &rt,
+        alloc,
+        &roles,
+        What::Roles,
+        2_000,
+        b"gcx: query TooLarge Roles 2000\n",
+    )
+}
