@@ -14,7 +14,7 @@ mod shape;
 mod text;
 
 pub use normal::normalise;
-pub use text::{put_cond, put_step, put_steps, put_where};
+pub use text::{put_cond, put_step, put_steps};
 
 #[cfg(test)]
 mod tests;

@@ -1,5 +1,5 @@
 //! The text of a core's condition.
-ghost use Rattle.std.specs.Prelude.{◌≡◌, ◌++◌, [], map, string_bytes, codes, OnOk, if◌then◌else◌};
+ghost use Rattle.std.specs.Prelude.{◌≡◌, ◌++◌, [], map, string_bytes, codes, OnOk};
 ghost use Rattle.gcx_model.specs.CondView.{core_cond_tree, core_cond_trees, core_conds_of, operand_tree};
 ghost use Rattle.xq_print.specs.Printed.{joined, rel_text};
 ghost use Rattle.xq_normal.specs.ConditionText.{axis_text, cond_text, cond_texts, operand_text, path_text, step_text, steps_text};
@@ -8,17 +8,7 @@ ghost use Rattle.gcx_model.specs.Core.{Path};
 
 use gcx_base::{Axis, Memory, Rel, Step, VarId};
 use gcx_model::{Cond, Conds, Operand};
-use xq_print::{put_number, put_string, put_test};
-
-/// Appends the text where it is wanted, and else nothing.
-pub fn put_where(out: &mut String, wanted: bool, text: &str) -> Result<(), Memory>
-    ensures { OnOk result (string_bytes out.new ≡ string_bytes out.old ++ (if wanted then text.now else [])) }
-{
-    if wanted {
-        out.push_str(text)?;
-    }
-    Ok(())
-}
+use xq_print::{put_number, put_string, put_test, put_where, rel_text};
 
 fn axis_text(axis: Axis) -> &'static str
     ensures { result.now ≡ axis_text axis }
@@ -92,19 +82,6 @@ fn put_operand(out: &mut String, operand: &Operand) -> Result<(), Memory>
         Operand::Path { var, steps } => put_path_operand(out, *var, steps.items()),
         Operand::Str(text) => put_string(out, text),
         Operand::Num(units) => put_number(out, *units),
-    }
-}
-
-fn rel_text(rel: Rel) -> &'static str
-    ensures { result.now ≡ rel_text rel }
-{
-    match rel {
-        Rel::Eq => " = ",
-        Rel::Ne => " != ",
-        Rel::Lt => " < ",
-        Rel::Le => " <= ",
-        Rel::Gt => " > ",
-        Rel::Ge => " >= ",
     }
 }
 

@@ -37,8 +37,8 @@ impl Joint {
     }
 }
 
-/// Appends the text where it is wanted.
-pub(crate) fn put_where(out: &mut String, wanted: bool, text: &str) -> Result<(), Memory>
+/// Appends the text where it is wanted, and else nothing.
+pub fn put_where(out: &mut String, wanted: bool, text: &str) -> Result<(), Memory>
     ensures { OnOk result (string_bytes out.new ≡ string_bytes out.old ++ (if wanted then text.now else [])) }
 {
     if wanted {
@@ -47,7 +47,8 @@ pub(crate) fn put_where(out: &mut String, wanted: bool, text: &str) -> Result<()
     Ok(())
 }
 
-fn rel_text(rel: Rel) -> &'static str
+/// How a relation is written, with a space on each side.
+pub fn rel_text(rel: Rel) -> &'static str
     ensures { result.now ≡ rel_text rel }
 {
     match rel {
