@@ -2,7 +2,7 @@
 use Rattle.std.proofs.Common.{ℕ, zero, suc, ◌≡◌, ◌+◌, ◌<◌, ◌≤◌, Bool, true, false, cond, List, [], ◌∷◌, ◌++◌, map, length, get_or, refl, sym, ap, ◌∙◌, subst, arith}
 use Rattle.std.proofs.lemmas.List.{map-append, length-map}
 use Rattle.gcx_base.specs.declared.steps.Step.{Step}
-use Rattle.gcx_model.specs.Core.{ItemTree, Write, Copy, For, If, Off, BodyTree, Nil, Then, RoleRowTree, OffTree}
+use Rattle.gcx_model.specs.Core.{ItemTree, Write, Copy, For, If, Off, BodyTree, Nil, Then, RoleRowTree}
 use Rattle.gcx_model.specs.declared.plan.VarRow.{VarRow}
 use Rattle.gcx_model.specs.Cores.{Good}
 use Rattle.gcx_model.specs.PlanView.{var_row_tree}

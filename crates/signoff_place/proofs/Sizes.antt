@@ -1,9 +1,8 @@
 -- The lists of a core's plan fit together, and are short.
-use Rattle.std.proofs.Common.{◌≡◌, ◌+◌, ◌<◌, ◌≤◌, ◌^◌, Bool, true, false, cond, ltb, length, map, Option, Some, None, sym, ◌∙◌, ap, refl, arith}
+use Rattle.std.proofs.Common.{◌≡◌, ◌≤◌, Bool, true, false, cond, ltb, length, Some, None, sym, ◌∙◌, ap, refl, arith}
 use Rattle.std.proofs.lemmas.Bool.{ltb-false}
 use Rattle.std.proofs.lemmas.List.{length-map}
 use Rattle.gcx_base.specs.declared.ids.VarId.{VarId}
-use Rattle.gcx_model.specs.declared.fault.QueryFault.{QueryFault}
 use Rattle.gcx_model.specs.declared.fault.QueryFault.TheVariants.{TooLarge}
 use Rattle.gcx_model.specs.declared.fault.What.TheVariants.{Loops}
 use Rattle.gcx_model.specs.declared.plan.Plan.{Plan}

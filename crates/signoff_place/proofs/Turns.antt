@@ -1,15 +1,11 @@
 -- The statements of one turn, role by role.
-use Rattle.std.proofs.Common.{ℕ, zero, suc, ◌≡◌, ◌+◌, ◌<◌, ◌==◌, Bool, true, false, cond, not, ◌&&◌, List, [], ◌∷◌, ◌++◌, map, length, take, get_or, refl, sym, ap, ◌∙◌, arith, append_assoc, append-nil}
-use Rattle.std.specs.List.{filter}
+use Rattle.std.proofs.Common.{ℕ, suc, ◌≡◌, ◌+◌, ◌<◌, ◌==◌, Bool, true, false, cond, not, ◌&&◌, List, [], ◌∷◌, ◌++◌, map, length, take, get_or, refl, sym, ap, ◌∙◌, arith, append_assoc, append-nil}
 use Rattle.std.proofs.lemmas.List.{map_more, length-map, length-take}
 use Rattle.std.proofs.lemmas.List.Elements.{filter-append}
-use Rattle.gcx_model.specs.declared.item.Off.{Off}
 use Rattle.gcx_model.specs.declared.plan.RoleRow.{RoleRow}
 use Rattle.gcx_model.specs.Core.{OffTree, RoleRowTree}
-use Rattle.gcx_model.specs.ItemView.{off_tree}
 use Rattle.gcx_model.specs.Placed.{at_end, is_own}
 use Rattle.gcx_model.specs.PlanView.{role_row_tree}
-use Rattle.signoff_place.specs.Ends.{ends_of}
 use Rattle.signoff_place.specs.Spread.{Tables, is_turn, ends_at, stated, all_stated}
 
 -- ---- One statement

@@ -1,4 +1,4 @@
-use Rattle.std.proofs.Common.{◌≡◌, arith, rules, ap, sym, ◌∙◌}
+use Rattle.std.proofs.Common.{◌≡◌, arith, ap, sym, ◌∙◌}
 use Rattle.gcx_model.specs.declared.item.Item.{the_lemmas}
 use Rattle.gcx_model.specs.declared.item.Item as code
 use Rattle.gcx_model.specs.Core.{BodyTree, For}

@@ -1,4 +1,4 @@
-use Rattle.std.proofs.Common.{ℕ, ◌≡◌, List, [], ◌∷◌, map, ap, sym, ◌∙◌}
+use Rattle.std.proofs.Common.{ℕ, ◌≡◌, List, [], ◌∷◌, map, ap, ◌∙◌}
 use Rattle.gcx_base.specs.declared.ids.Role.{Role}
 use Rattle.gcx_base.specs.declared.ids.VarId.{VarId}
 use Rattle.gcx_model.specs.declared.item.Off.{Off}

@@ -1,4 +1,4 @@
-use Rattle.std.proofs.Common.{◌++◌, List, map, string_bytes, ap, ◌∙◌}
+use Rattle.std.proofs.Common.{◌++◌, map, string_bytes, ◌∙◌}
 use Rattle.gcx_base.specs.declared.ids.VarId.{VarId}
 use Rattle.gcx_model.specs.ItemView.{body_tree}
 use Rattle.gcx_model.specs.PlanView.{role_row_tree, var_row_tree}
