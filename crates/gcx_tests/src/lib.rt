@@ -1,8 +1,15 @@
-//! Tests that cross crates: documents, queries, plans and runs of the top call over objects in memory.
+//! Tests that cross crates: documents, queries and their meaning, cores and plans, and runs of the top call over objects in
+//! memory.
 #![tactic(auto)]
 
 #[cfg(test)]
+mod answers;
+#[cfg(test)]
+mod cores;
+#[cfg(test)]
 mod documents;
+#[cfg(test)]
+mod large;
 #[cfg(test)]
 mod plans;
 #[cfg(test)]

@@ -2,8 +2,8 @@
 mod branches;
 mod conditions;
 mod loops;
+mod vectors;
 
-use gcx_model::{QueryFault, What};
 use signoff_place::{compile, explain};
 use std::alloc::Global;
 use std::process::Abort;

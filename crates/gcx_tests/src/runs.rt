@@ -1,6 +1,7 @@
 //! Runs of the top call over files in memory.
 mod limits;
 
+use crate::large::repeated;
 use gcx_base::Text;
 use gcx_cmd::{Status, gcx_main};
 use gcx_io::{MemShelf, MemSink, SureShelf, SureSink};
@@ -355,15 +356,6 @@ fn a_query_that_is_refused_is_told(rt: HostRuntime) -> Result<(), Fail> {
         is_refused(&rt, rt.alloc(), query, b"<a></b>", status, line)?;
     }
     Ok(())
-}
-
-/// So many copies of a piece.
-fn repeated(alloc: Global, piece: &[u8], count: usize) -> Result<Vec<u8>, Fail> {
-    let mut bytes = Vec::new(alloc);
-    for _ in 0..count {
-        bytes.extend_from_slice(piece)?;
-    }
-    Ok(bytes)
 }
 
 /// So many elements, each in the one before.

@@ -7,8 +7,6 @@ mod copies;
 mod row;
 mod scope;
 mod sets;
-#[cfg(test)]
-mod tests;
 mod texts;
 mod tree;
 

@@ -1,5 +1,6 @@
 //! Queries at the limits of a plan.
-use super::{is_answered, is_refused, repeated};
+use super::{is_answered, is_refused};
+use crate::large::{LOOKING, copied, joined, listed, looking_far, repeated};
 use gcx_cmd::Status;
 use gcx_model::{QueryFault, What};
 use std::alloc::Global;
@@ -11,46 +12,6 @@ const SIX: &[u8] =
 
 const SEVEN: &[u8] =
     b"for $a in //x return for $b in $a//x return for $c in $b//x return for $d in $c//x return for $e in $d//x return for $f in $e//x return for $g in $f//x return ()";
-
-const LOOKING: &[u8] = b"if (exists(/a)) then () else ()";
-
-/// These parts, one behind the other.
-fn joined(alloc: Global, parts: &[&[u8]]) -> Result<Vec<u8>, Fail> {
-    let mut bytes = Vec::new(alloc);
-    for part in parts {
-        bytes.extend_from_slice(part)?;
-    }
-    Ok(bytes)
-}
-
-/// So many copies of a part of a query.
-fn listed(alloc: Global, part: &[u8], count: usize) -> Result<Vec<u8>, Fail> {
-    let more = joined(alloc, &[b", ", part])?;
-    let behind = repeated(alloc, &more, count.saturating_sub(1))?;
-    joined(alloc, &[part, &behind])
-}
-
-/// `if (exists(P)) then () else ()`, where P has so many steps.
-fn looking_far(alloc: Global, steps: usize) -> Result<Vec<u8>, Fail> {
-    let path = repeated(alloc, b"/a", steps)?;
-    joined(alloc, &[b"if (exists(", &path, b")) then () else ()"])
-}
-
-/// A string of a million letters, compared before so many loops.
-fn copied(alloc: Global, loops: usize) -> Result<Vec<u8>, Fail> {
-    let letters = repeated(alloc, b"x", 1_000_000)?;
-    let paths = listed(alloc, b"/b", loops)?;
-    joined(
-        alloc,
-        &[
-            b"if (/a = \"",
-            &letters,
-            b"\") then (",
-            &paths,
-            b") else ()",
-        ],
-    )
-}
 
 /// The query is accepted, and writes nothing.
 fn is_within(rt: &impl Abort, alloc: Global, query: &[u8]) -> Result<(), Fail> {

@@ -1,0 +1,123 @@
+//! Queries and their cores.
+use crate::large::{copied, looking_far, repeated};
+use gcx_model::{Body, Item, QueryFault, What};
+use std::alloc::Global;
+use std::process::Abort;
+use std::test::Fail;
+use xq_normal::{normalise, put_cond, put_step};
+use xq_parse::parse;
+
+fn put_shown(out: &mut String, body: &Body) -> Result<(), Fail> {
+    for item in body.items() {
+        match item {
+            Item::Write(text) => write!(out, "{} ", text.as_str())?,
+            Item::Copy(var) => write!(out, "copy {} ", var.0)?,
+            Item::For {
+                var,
+                from,
+                step,
+                body,
+            } => {
+                write!(out, "for {} in {}/", var.0, from.0)?;
+                put_step(out, step)?;
+                out.push_str(" { ")?;
+                put_shown(out, body)?;
+                out.push_str("} ")?;
+            }
+            Item::If { cond, then, other } => {
+                out.push_str("if ")?;
+                put_cond(out, cond)?;
+                out.push_str(" { ")?;
+                put_shown(out, then)?;
+                out.push_str("} else { ")?;
+                put_shown(out, other)?;
+                out.push_str("} ")?;
+            }
+            Item::Off(_) => out.push_str("off ")?,
+        }
+    }
+    Ok(())
+}
+
+/// The core of the query.
+fn shown(alloc: Global, query: &[u8]) -> Result<String, Fail> {
+    let query = parse(alloc, query)?;
+    let core = normalise(alloc, &query)?;
+    let mut out = String::new(alloc);
+    put_shown(&mut out, &core.body)?;
+    Ok(out)
+}
+
+/// Why the query has no core.
+fn refusal(alloc: Global, query: &[u8]) -> Result<Option<QueryFault>, Fail> {
+    let query = parse(alloc, query)?;
+    match normalise(alloc, &query) {
+        Ok(_) => Ok(None),
+        Err(QueryFault::Memory) => Err(QueryFault::Memory)?,
+        Err(fault) => Ok(Some(fault)),
+    }
+}
+
+/// These queries have these cores.
+fn are_shown(rt: &impl Abort, alloc: Global, rows: &[(&[u8], &str)]) -> Result<(), Fail> {
+    for &(query, core) in rows {
+        assert_eq!(rt; shown(alloc, query)?.as_str(), core, "{query:?}");
+    }
+    Ok(())
+}
+
+#[test]
+fn paths_become_loops(rt: HostRuntime) -> Result<(), Fail> {
+    let rows: &[(&[u8], &str)] = &[
+        (
+            b"for $x in /a/b where exists($x) return $x",
+            "for 1 in 0/child::a { for 2 in 1/child::b { if true() { copy 2 } else { } } } ",
+        ),
+        (
+            b"for $x in /a return for $x in $x/b return $x",
+            "for 1 in 0/child::a { for 2 in 1/child::b { copy 2 } } ",
+        ),
+    ];
+    are_shown(&rt, rt.alloc(), rows)
+}
+
+#[test]
+fn branches_go_into_loops(rt: HostRuntime) -> Result<(), Fail> {
+    let rows: &[(&[u8], &str)] = &[
+        (
+            b"for $x in /r/p return if (exists($x/k)) then for $y in $x/j return $y else ()",
+            "for 1 in 0/child::r { for 2 in 1/child::p { for 3 in 2/child::j { if exists(2/child::k) { copy 3 } else { } } } } ",
+        ),
+        (
+            b"for $x in /r/p return if (exists($x/k)) then (<a/>, $x/j, <b/>) else $x/k",
+            "for 1 in 0/child::r { for 2 in 1/child::p { if exists(2/child::k) { <a> </a> } else { } for 3 in 2/child::j { if exists(2/child::k) { copy 3 } else { } } if exists(2/child::k) { <b> </b> } else { } for 4 in 2/child::k { if exists(2/child::k) { } else { copy 4 } } } } ",
+        ),
+    ];
+    are_shown(&rt, rt.alloc(), rows)
+}
+
+/// This limit is refused, as the first that the query passes.
+fn is_past(
+    rt: &impl Abort,
+    alloc: Global,
+    query: &[u8],
+    what: What,
+    limit: u64,
+) -> Result<(), Fail> {
+    assert_eq!(rt;
+        refusal(alloc, query)?,
+        Some(QueryFault::TooLarge(what, limit))
+    );
+    Ok(())
+}
+
+#[test]
+fn a_core_that_is_too_large_is_refused(rt: HostRuntime) -> Result<(), Fail> {
+    let alloc = rt.alloc();
+    assert_eq!(rt; refusal(alloc, &repeated(alloc, b"/a", 500)?)?, None);
+    is_past(&rt, alloc, &repeated(alloc, b"/a", 501)?, What::Loops, 500)?;
+    assert_eq!(rt; refusal(alloc, &looking_far(alloc, 8_000)?)?, None);
+    is_past(&rt, alloc, &looking_far(alloc, 8_001)?, What::Steps, 8_000)?;
+    assert_eq!(rt; refusal(alloc, &copied(alloc, 8)?)?, None);
+    is_past(&rt, alloc, &copied(alloc, 9)?, What::Conditions, 8_388_608)
+}
