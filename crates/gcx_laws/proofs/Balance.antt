@@ -6,7 +6,7 @@ use Rattle.gcx_model.specs.Tree.{Node, Root, serial_of, Tree, is_closed}
 use Rattle.gcx_model.specs.Paths.{any, matches}
 use Rattle.gcx_base.specs.declared.steps.Step.{Step}
 use Rattle.gcx_model.specs.Core.{For, Off, BodyTree, OffTree, RoleRowTree}
-use Rattle.gcx_model.specs.Truth.{Env, bind}
+use Rattle.gcx_model.specs.Truth.{Env, bind_var}
 use Rattle.gcx_model.specs.Run.{env0, Action, Wrote, Offed, Out, loop, seq, seq_if, run_item, run}
 use Rattle.gcx_laws.proofs.Reading.{Reading, given, signed, taken}
 use Rattle.gcx_model.specs.Held.{gives, is_off}
@@ -14,7 +14,7 @@ use Rattle.gcx_laws.proofs.Lists.{In, In-left, In-right}
 use Rattle.gcx_laws.proofs.Matches.{Grown, Matches-in}
 use Rattle.gcx_laws.proofs.Chains.{chain_at, In-flat_map, chain_from}
 use Rattle.gcx_laws.proofs.Signs.{sig, sig-append}
-use Rattle.gcx_laws.proofs.Stands.{body_at}
+use Rattle.gcx_laws.proofs.PointForms.{body_at}
 use Rattle.gcx_laws.proofs.Needed.{Own, Before, Itself, Way, Top, Skip, Here, bound_at}
 use Rattle.gcx_laws.proofs.Stays.{all_from}
 
@@ -59,7 +59,7 @@ module _ (P : Tree) (w : Grown P) (p : OffTree → Bool) (b : ℕ) where
       let r = In-flat_map (λ (j : Node). chain_at P j path') n (matches P (serial_of (env y)) (s ∷ [])) i in
       seq_left p (serial_of n) (run_item (For x y s e) env P) (run rest env P) q.0
       (loop_has p (serial_of n) (body_at e x env P) (matches P (serial_of (env y)) (s ∷ [])) (is_closed P (env y)) q.0 r.0 r.1
-      (λ d. way_signs x e path' wy (bind env x r.0) d n (subst (λ (z : Node). In n (chain_at P z path')) (sym (bound_at P w p b env x r.0)) r.2)))
+      (λ d. way_signs x e path' wy (bind_var env x r.0) d n (subst (λ (z : Node). In n (chain_at P z path')) (sym (bound_at P w p b env x r.0)) r.2)))
 
 -- p picks the statement of one role
 pub sig_any : (r m : ℕ) (xs : List Action) → In m (sig (of_role r) xs) → any (is_off r m) xs ≡ true

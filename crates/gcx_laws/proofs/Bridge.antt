@@ -1,5 +1,6 @@
 -- The definitions on a core's plan are those on its reading.
 use Rattle.std.proofs.Common.{◌≡◌, ℕ, zero, suc, ◌+◌, ◌<◌, ◌≤◌, Bool, true, false, not, ◌&&◌, ◌||◌, List, [], ◌∷◌, ◌++◌, length, map, refl, sym, ◌∙◌, ap, subst, inl, inr, arith, add-zero, Some}
+use Rattle.std.specs.Prelude.{slice_index_or}
 use Rattle.std.proofs.lemmas.List.{map-append, length-append}
 use Rattle.std.proofs.lemmas.Bool.{false≢true}
 use Rattle.gcx_base.specs.declared.steps.Step.{Step}
@@ -12,7 +13,7 @@ use Rattle.gcx_model.specs.Roles.{roles_of}
 use Rattle.gcx_model.specs.Cores.{BodyIn, Good}
 use Rattle.gcx_model.specs.Placed.{row_at, statement, statements, offs_of, plan_of}
 use Rattle.gcx_model.specs.Members.{In, count}
-use Rattle.gcx_model.specs.Held.{path_at, paths_from, path_of, statement_of, gives, given, all_signed, on_off, taken, live, is_live, is_held, held, reaches, signed}
+use Rattle.gcx_model.specs.Held.{paths_from, path_of, statement_of, gives, given, all_signed, on_off, taken, live, is_live, is_held, held, reaches, signed}
 use Rattle.gcx_laws.proofs.Reading as old
 use Rattle.gcx_laws.proofs.Reading.{reading}
 use Rattle.gcx_laws.proofs.Lists.{filter_same}
@@ -21,12 +22,12 @@ use Rattle.gcx_laws.proofs.Placed.{one_statement}
 
 -- lists of paths
 
-at_below : (f : ℕ → List Step) (j n y : ℕ) → y < n → path_at (map f (count j n)) y ≡ f (j + y)
+at_below : (f : ℕ → List Step) (j n y : ℕ) → y < n → slice_index_or (map f (count j n)) y [] ≡ f (j + y)
 at_below f j zero y l = absurd (omega arith)
 at_below f j (suc n) zero l = ap f (sym (add-zero j))
 at_below f j (suc n) (suc y) l = let e : suc j + y ≡ j + suc y = omega arith in at_below f (suc j) n y (omega arith) ∙ ap f e
 
-at_all : (f : ℕ → List Step) (j n y : ℕ) → ((z : ℕ) → n ≤ z → f (j + z) ≡ []) → path_at (map f (count j n)) y ≡ f (j + y)
+at_all : (f : ℕ → List Step) (j n y : ℕ) → ((z : ℕ) → n ≤ z → f (j + z) ≡ []) → slice_index_or (map f (count j n)) y [] ≡ f (j + y)
 at_all f j zero y h = sym (h y (omega arith))
 at_all f j (suc n) zero h = ap f (sym (add-zero j))
 at_all f j (suc n) (suc y) h =
@@ -59,7 +60,7 @@ split_count (x ∷ xs) ys k e =
 
 paths_from-append : (ps : List (List Step)) (a b : List VarRowTree) → paths_from ps (a ++ b) ≡ paths_from (paths_from ps a) b
 paths_from-append ps [] b = refl
-paths_from-append ps (r ∷ a) b = paths_from-append (ps ++ (path_at ps r.parent ++ r.step ∷ []) ∷ []) a b
+paths_from-append ps (r ∷ a) b = paths_from-append (ps ++ (slice_index_or ps r.parent [] ++ r.step ∷ []) ∷ []) a b
 
 -- a branch has no loops
 pub none_in : (L : List ℕ) (d : BodyTree) → BodyIn false L d → (var_rows d ≡ []) × (vars d ≡ [])
@@ -98,10 +99,10 @@ module _ (F : ℕ → Var) where
       let h : x ≡ k = cc in
       let t : vars e ++ vars d ≡ count (suc k) (length (vars e ++ vars d)) = cc in
       let sp = split_count (vars e) (vars d) (suc k) t in
-      let path : path_at (upto k) y ++ s ∷ [] ≡ (F k).path =
+      let path : slice_index_or (upto k) y [] ++ s ∷ [] ≡ (F k).path =
       ap (λ z. z ++ s ∷ []) (at_below (λ z. (F z).path) 0 k y (l y q.0.1) ∙ ap (λ (z : ℕ). (F z).path) (let g : 0 + y ≡ y = omega arith in g)) ∙ (sym (ap (λ (v : Var). v.path) f.0.0) ∙ ap (λ (z : ℕ). (F z).path) h) in
       let m : ℕ = length (vars e) in
-      let first : upto k ++ (path_at (upto k) y ++ s ∷ []) ∷ [] ≡ upto (suc k) = ap (λ z. upto k ++ z ∷ []) path ∙ sym (upto_push k) in
+      let first : upto k ++ (slice_index_or (upto k) y [] ++ s ∷ []) ∷ [] ≡ upto (suc k) = ap (λ z. upto k ++ z ∷ []) path ∙ sym (upto_push k) in
       let len : suc k + m + length (vars d) ≡ k + suc (length (vars e ++ vars d)) = rw length-append (omega arith) in
       ap (λ z. paths_from z (var_rows e ++ var_rows d)) first
       ∙ (paths_from-append (upto (suc k)) (var_rows e) (var_rows d)
@@ -131,7 +132,7 @@ module _ (core : BodyTree) (good : Good core) where
       let beyond : (z : ℕ) → 1 + n ≤ z → (V (0 + z)).path ≡ [] = λ z l.
       let e : 0 + z ≡ z = omega arith in
       ap (λ (y : ℕ). (V y).path) e ∙ ap (λ (v : Var). v.path) (away_body core 0 (λ y. var0) z (λ i. let h = In-count-high 1 n z (subst (λ (y : List ℕ). In z y) good.numbered i) in omega arith)) in
-      ap (λ z. path_at z x) ps ∙ (at_all (λ z. (V z).path) 0 (1 + n) x beyond ∙ ap (λ (z : ℕ). (V z).path) zero_add)
+      ap (λ z. slice_index_or z x []) ps ∙ (at_all (λ z. (V z).path) 0 (1 + n) x beyond ∙ ap (λ (z : ℕ). (V z).path) zero_add)
 
   at_statements : (k : ℕ) (rs : List RoleRowTree) (r : ℕ) (row : RoleRowTree) → row_at rs r ≡ Some row → At_row row (statement V (roles_of core) (k + r) row) rs (statements V (roles_of core) k rs) × In (statement V (roles_of core) (k + r) row) (statements V (roles_of core) k rs)
   at_statements k [] r row e = absurd (cc)

@@ -9,7 +9,7 @@ use Rattle.gcx_base.specs.declared.kind.Kind.TheVariants.{Document, Element, Tex
 use Rattle.gcx_model.specs.Tree.{Node, Root, Under, serial_of, kind_of, within, is_open_at, Tree, Token, opening, grow, grow_all, is_closed}
 use Rattle.gcx_model.specs.Paths.{any, all, matches}
 use Rattle.gcx_model.specs.Core.{ItemTree, Write, Copy, For, If, Off, BodyTree, Nil, Then, OffTree, RoleRowTree}
-use Rattle.gcx_model.specs.Truth.{Verdict, True, False, Unknown, Env, bind, truth}
+use Rattle.gcx_model.specs.Truth.{Verdict, True, False, Unknown, Env, bind_var, truth}
 use Rattle.gcx_model.specs.Run.{env0, Action, Wrote, Offed, Out, wrote, loop, seq, seq_if, choose, copy, copy_with, run_item, run}
 use Rattle.gcx_laws.proofs.Reading.{Reading, given, signed, taken, live_some, is_live, is_held, held, reading}
 use Rattle.gcx_model.specs.Answer.{children}
@@ -29,7 +29,7 @@ use Rattle.gcx_laws.proofs.Needed.{Way, way_sig}
 use Rattle.gcx_laws.proofs.Balance.{of_role, balance}
 use Rattle.gcx_laws.proofs.Stays.{taken_stays as taken_fed, all_in, all_from}
 use Rattle.gcx_laws.proofs.Once.{way_once}
-use Rattle.gcx_laws.proofs.Stands.{Frame, Stands}
+use Rattle.gcx_laws.proofs.PointForms.{Frame, IsPoint}
 use Rattle.gcx_laws.proofs.Points.{point}
 use Rattle.gcx_laws.proofs.Plans.{At_row, row_is, end_in, good_based, roles_known, way_of}
 use Rattle.gcx_laws.proofs.Waits.{nodes_stay, root_bound}
@@ -54,11 +54,11 @@ pub root_in : (ts : List Token) → In Root (tree ts).nodes
 root_in ts = nodes_stay ts opening Root (inl refl)
 
 -- Behind the first k actions there is a point.
-pub points : (core : BodyTree) (P : Tree) (k : ℕ) → (fs : List Frame) × Stands P (reading core).body env0 (so_far core P k) fs
+pub points : (core : BodyTree) (P : Tree) (k : ℕ) → (fs : List Frame) × IsPoint P (reading core).body env0 (so_far core P k) fs
 points core P k = point P (reading core).body env0 (so_far core P k) (drop k (actions core P)) (sym (take-append-drop k (actions core P)))
 
 -- The need law. At each point behind the first k actions, what the point needs is held.
-pub need : (core : BodyTree) → Good core → (ts : List Token) (k : ℕ) (fs : List Frame) → Stands (tree ts) (reading core).body env0 (so_far core (tree ts) k) fs
+pub need : (core : BodyTree) → Good core → (ts : List Token) (k : ℕ) (fs : List Frame) → IsPoint (tree ts) (reading core).body env0 (so_far core (tree ts) k) fs
     → (m : Node) → In m (tree ts).nodes → Needs (tree ts) [] fs m → In m (held (reading core) (tree ts) (so_far core (tree ts) k))
 need core good ts k fs st m i h =
     In-kept (is_held (reading core) (tree ts) (so_far core (tree ts) k)) m (tree ts).nodes i
@@ -116,7 +116,7 @@ module _ (Q : OffTree → Type 0) where
       item_only : (i : ItemTree) (env : Env) (o : OffTree) (n : ℕ) → Only_item i → In (Offed o n) (run_item i env P).acts → Q o
       item_only (Write s) env o n q h = absurd (not_wrote o n s h)
       item_only (Copy x) env o n q h = absurd (no_copy o n (length P.nodes) (env x) h)
-      item_only (For x y s d) env o n q h = let r = In-loop (Offed o n) (λ m. run d (bind env x m) P) (matches P (serial_of (env y)) (s ∷ [])) (is_closed P (env y)) h in run_only d (bind env x r.0) o n q r.2
+      item_only (For x y s d) env o n q h = let r = In-loop (Offed o n) (λ m. run d (bind_var env x m) P) (matches P (serial_of (env y)) (s ∷ [])) (is_closed P (env y)) h in run_only d (bind_var env x r.0) o n q r.2
       item_only (If c a b) env o n q h = elim (In-choose (Offed o n) (truth c env P) (run a env P) (run b env P) h) [ inl i ↦ run_only a env o n q.0 i | inr i ↦ run_only b env o n q.1 i ]
       item_only (Off t) env o n q (inl e) = subst Q (same t o (serial_of (env t.base)) n e) q
         where

@@ -6,7 +6,7 @@ use Rattle.gcx_model.specs.Tree.{Node, serial_of, Tree, Token}
 use Rattle.gcx_base.specs.declared.steps.Step.{Step}
 use Rattle.gcx_model.specs.Paths.{hits, matches}
 use Rattle.gcx_model.specs.Core.{CondTree, For, If, Off, BodyTree, Nil, Then, OffTree, ItemTree, Write, Copy}
-use Rattle.gcx_model.specs.Truth.{Env, bind, truth}
+use Rattle.gcx_model.specs.Truth.{Env, bind_var, truth}
 use Rattle.gcx_model.specs.Run.{env0, Offed, copy}
 use Rattle.gcx_laws.proofs.Reading.{is_held, reading}
 use Rattle.gcx_model.specs.Variables.{var_tree}
@@ -15,7 +15,7 @@ use Rattle.gcx_model.specs.Roles.{whole_row, roles_of}
 use Rattle.gcx_model.specs.Cores.{Good}
 use Rattle.gcx_laws.proofs.Lists.{In, In-filter}
 use Rattle.gcx_laws.proofs.Matches.{Matches-in, Grown}
-use Rattle.gcx_laws.proofs.Stands.{Frame, Rest, Round, Part, Stands, later}
+use Rattle.gcx_laws.proofs.PointForms.{Frame, Rest, Round, Part, IsPoint, later}
 use Rattle.gcx_laws.proofs.Waits.{Waits, waits_unsigned, Waits-right}
 use Rattle.gcx_laws.proofs.Frames.{waits_bound, Here, Bound_in, Turn, Fact, Facts, facts, hit_on, Last, Loop, Fact_item, bound_hit}
 use Rattle.gcx_laws.proofs.Need.{Frame_needs, Needs, needs_held}
@@ -38,7 +38,7 @@ held_tree core P k = pruned (is_held (reading core) P (so_far core P k)) P
 
 module _ (core : BodyTree) (good : Good core) (ts : List Token) (k : ℕ) (top : List Frame) (below : List Frame) where
   abbrev pub At : Frame → Type 0
-  At f = Stands (tree ts) (reading core).body env0 (so_far core (tree ts) k) (top ++ f ∷ below)
+  At f = IsPoint (tree ts) (reading core).body env0 (so_far core (tree ts) k) (top ++ f ∷ below)
 
   frame_held : (f : Frame) → At f → (m : Node) → In m (tree ts).nodes → Frame_needs (tree ts) top f m → is_held (reading core) (tree ts) (so_far core (tree ts) k) m ≡ true
   frame_held f st m i h = needs_held (tree ts) (grown ts) (root_in ts) core good (so_far core (tree ts) k) (top ++ f ∷ below) st m i (frame_needs (tree ts) [] top f below m h)
@@ -87,7 +87,7 @@ module _ (core : BodyTree) (good : Good core) (ts : List Token) (k : ℕ) (top :
   turn_waits x y s e env n st = let t : Turn (tree ts) (grown ts) core good top x y s e env n below = fact (Round x y s e env n) st in (t.parent.env, t.parent.waiting, t.parent.reached)
 
   -- above a round the last statement of its variable waits, until the body is over
-  pub turn_last : (x y : ℕ) (s : Step) (e : BodyTree) (env : Env) (n : Node) → At (Round x y s e env n) → (o : OffTree) → Last o (at_end (offs_of core) x) → Waits o (bind env x n) top ⊎ (top ≡ Rest Nil (bind env x n) ∷ [])
+  pub turn_last : (x y : ℕ) (s : Step) (e : BodyTree) (env : Env) (n : Node) → At (Round x y s e env n) → (o : OffTree) → Last o (at_end (offs_of core) x) → Waits o (bind_var env x n) top ⊎ (top ≡ Rest Nil (bind_var env x n) ∷ [])
   turn_last x y s e env n st o l = let t : Turn (tree ts) (grown ts) core good top x y s e env n below = fact (Round x y s e env n) st in t.last o l
 
   -- a copy of the held nodes is one of the tree
@@ -97,12 +97,12 @@ module _ (core : BodyTree) (good : Good core) (ts : List Token) (k : ℕ) (top :
       copy_kept (tree ts) (grown ts) (is_held (reading core) (tree ts) (so_far core (tree ts) k)) most (env x) f.1.0.inside (λ m i h. frame_held (Part x env made) st m i h)
 
 -- At each point, a statement waits only where its base is bound, to the node at which it will be carried out.
-pub waits_only : (core : BodyTree) (good : Good core) (ts : List Token) (k : ℕ) (fs : List Frame) → Stands (tree ts) (reading core).body env0 (so_far core (tree ts) k) fs
+pub waits_only : (core : BodyTree) (good : Good core) (ts : List Token) (k : ℕ) (fs : List Frame) → IsPoint (tree ts) (reading core).body env0 (so_far core (tree ts) k) fs
     → (o : OffTree) (v : Env) → Waits o v fs → In o (reading core).offs × Bound_in o.base (v o.base) fs
 waits_only core good ts k fs st o v h = waits_bound (tree ts) (grown ts) core good [] fs o v (facts (tree ts) (grown ts) core good (root_in ts) (so_far core (tree ts) k) fs st) h
 
 -- While it waits, the base's node isn't signed for it.
-pub waits_unsigned_at : (core : BodyTree) (good : Good core) (ts : List Token) (k : ℕ) (fs : List Frame) → Stands (tree ts) (reading core).body env0 (so_far core (tree ts) k) fs
+pub waits_unsigned_at : (core : BodyTree) (good : Good core) (ts : List Token) (k : ℕ) (fs : List Frame) → IsPoint (tree ts) (reading core).body env0 (so_far core (tree ts) k) fs
     → (o : OffTree) (v : Env) → Waits o v fs → In (Offed o (serial_of (v o.base))) (so_far core (tree ts) k) → ⊥
 waits_unsigned_at core good ts k fs st o v h i =
     let y = plan_way core good o (waits_only core good ts k fs st o v h).0 in

@@ -7,7 +7,7 @@ use Rattle.gcx_model.specs.Tree.{Node, Root, serial_of, above, Tree}
 use Rattle.gcx_base.specs.declared.steps.Step.{Step}
 use Rattle.gcx_model.specs.Paths.{reach, hits, matches, first}
 use Rattle.gcx_model.specs.Core.{ItemTree, Write, Copy, For, If, Off, BodyTree, Nil, Then, OffTree, RoleKind, Own, First, Whole, RoleRowTree}
-use Rattle.gcx_model.specs.Truth.{Env, bind}
+use Rattle.gcx_model.specs.Truth.{Env, bind_var}
 use Rattle.gcx_model.specs.Run.{env0, Action}
 use Rattle.gcx_model.specs.Held.{is_node, gives}
 use Rattle.gcx_model.specs.Variables.{Var, var0, is_straight, child_var, var_tree, vars}
@@ -18,7 +18,7 @@ use Rattle.gcx_model.specs.Cores.{BodyIn, Good}
 use Rattle.gcx_laws.proofs.Lists.{In, Once, In-left, In-right, any_in, any_from}
 use Rattle.gcx_laws.proofs.Matches.{Grown, Matches-in, Matches-from}
 use Rattle.gcx_laws.proofs.Chains.{above_in, above_trans, hits_above}
-use Rattle.gcx_laws.proofs.Stands.{Frame, Rest, Round, Part, Stands, Begins, Past, InLoop, InYes, InNo, InCopy}
+use Rattle.gcx_laws.proofs.PointForms.{Frame, Rest, Round, Part, IsPoint, Begins, Past, InLoop, InYes, InNo, InCopy}
 use Rattle.gcx_laws.proofs.Plans.{Fits, Once-left, Once-right, good_once, good_not_zero, good_fits, good_zero, cond_rows_in, end_in}
 use Rattle.gcx_laws.proofs.Waits.{Has, Waits, Waits-over, Waits-right}
 
@@ -155,7 +155,7 @@ module _ (P : Tree) (w : Grown P) (core : BodyTree) (good : Good core) where
     pub bound : Bound_in y (env y) below
     pub body : (o : OffTree) → In o (ends x) → Has o e
     -- the last statement waits, or the body is over
-    pub last : (o : OffTree) → Last o (ends x) → Waits o (bind env x n) top ⊎ (top ≡ Rest Nil (bind env x n) ∷ [])
+    pub last : (o : OffTree) → Last o (ends x) → Waits o (bind_var env x n) top ⊎ (top ≡ Rest Nil (bind_var env x n) ∷ [])
 
   -- and of a loop that comes next
   pub record Loop (x y : ℕ) (s : Step) (e : BodyTree) (env : Env) (fs : List Frame) : Type 0 where
@@ -191,7 +191,7 @@ module _ (P : Tree) (w : Grown P) (core : BodyTree) (good : Good core) where
   Facts top (f ∷ fs) = Fact top f fs × Facts (top ++ f ∷ []) fs
 
   -- the last of the statements at the end of a body waits at each point in it but the one behind it
-  own_offs : (os : List OffTree) (env : Env) (before : List Action) (fs : List Frame) (o : OffTree) → Stands P (offs_body os) env before fs → Last o os → Waits o env fs ⊎ (fs ≡ Rest Nil env ∷ [])
+  own_offs : (os : List OffTree) (env : Env) (before : List Action) (fs : List Frame) (o : OffTree) → IsPoint P (offs_body os) env before fs → Last o os → Waits o env fs ⊎ (fs ≡ Rest Nil env ∷ [])
   own_offs [] env before fs o st l = absurd l
   own_offs (q ∷ os) env before fs o Begins l = inl (inl (Has-offs o (q ∷ os) (Last-in o (q ∷ os) l), refl))
   own_offs (q ∷ []) env before fs o (Past e Begins) l = inr refl
@@ -203,7 +203,7 @@ module _ (P : Tree) (w : Grown P) (core : BodyTree) (good : Good core) where
   begun_waits : (i : ItemTree) (d : BodyTree) (os : List OffTree) (env : Env) (o : OffTree) → Last o os → Waits o env (Rest (Then i (add_offs d os)) env ∷ []) ⊎ (Rest (Then i (add_offs d os)) env ∷ [] ≡ Rest Nil env ∷ [])
   begun_waits i d os env o l = inl (inl (inr (Has-end o d os (Last-in o os l)), refl))
 
-  pub own_waits : (d : BodyTree) (os : List OffTree) (env : Env) (before : List Action) (fs : List Frame) (o : OffTree) → Stands P (add_offs (place ends d) os) env before fs → Last o os → Waits o env fs ⊎ (fs ≡ Rest Nil env ∷ [])
+  pub own_waits : (d : BodyTree) (os : List OffTree) (env : Env) (before : List Action) (fs : List Frame) (o : OffTree) → IsPoint P (add_offs (place ends d) os) env before fs → Last o os → Waits o env fs ⊎ (fs ≡ Rest Nil env ∷ [])
   own_waits Nil os env before fs o st l = own_offs os env before fs o st l
   own_waits (Then (Write s) d) os env before fs o Begins l = begun_waits (Write s) (place ends d) os env o l
   own_waits (Then (Write s) d) os env before fs o (Past {before = before'} e st) l = own_waits d os env before' fs o st l
@@ -256,7 +256,7 @@ module _ (P : Tree) (w : Grown P) (core : BodyTree) (good : Good core) where
   under fs g gs h = subst (λ (z : List Frame). Facts [] z) (sym (append_assoc fs g gs)) h
 
   -- in a branch of an If
-  branch : (d : BodyTree) (L : List ℕ) (env : Env) (before : List Action) (fs gs : List Frame) → Stands P d env before fs → BodyIn false L d → Known_rows d → ((x : ℕ) → In x L → Here x (env x) gs) → Facts fs gs → Facts [] (fs ++ gs)
+  branch : (d : BodyTree) (L : List ℕ) (env : Env) (before : List Action) (fs gs : List Frame) → IsPoint P d env before fs → BodyIn false L d → Known_rows d → ((x : ℕ) → In x L → Here x (env x) gs) → Facts fs gs → Facts [] (fs ++ gs)
   branch d L env before fs gs Begins q k inv h = (branch_fact d L env gs q k (λ x i. here_over x (env x) (Rest d env) gs (inv x i)), h)
   branch (Then i d) L env before fs gs (Past {before = before'} e st) q k inv h = branch d L env before' fs gs st q.1 (known_rest i d k) inv h
   branch (Then (If c a b) d) L env before fs gs (InYes {fs = fs'} e st) q k inv h =
@@ -302,7 +302,7 @@ module _ (P : Tree) (w : Grown P) (core : BodyTree) (good : Good core) where
   offs_begun [] env gs h = tt
   offs_begun (o ∷ os) env gs h = (h o (inl refl)).1
 
-  offs_facts : (os : List OffTree) (env : Env) (before : List Action) (fs gs : List Frame) → Stands P (offs_body os) env before fs → Bases os env gs → Facts fs gs → Facts [] (fs ++ gs)
+  offs_facts : (os : List OffTree) (env : Env) (before : List Action) (fs gs : List Frame) → IsPoint P (offs_body os) env before fs → Bases os env gs → Facts fs gs → Facts [] (fs ++ gs)
   offs_facts [] env before fs gs Begins ob h = ((tt, λ o i. absurd i), h)
   offs_facts (o ∷ os) env before fs gs Begins ob h = (((ob o (inl refl)).1, λ t i. ob t (in_offs t (o ∷ os) i)), h)
   offs_facts (o ∷ os) env before fs gs (Past {before = before'} e st) ob h = offs_facts os env before' fs gs st (λ t i. ob t (inr i)) h
@@ -332,32 +332,32 @@ module _ (P : Tree) (w : Grown P) (core : BodyTree) (good : Good core) where
 
   inner : (x y : ℕ) (s : Step) (c : Bool) (E d : BodyTree) (L : List ℕ) (os : List OffTree) (env : Env) (n : Node) (gs : List Frame)
       → F x ≡ child_var c x s (F y) → In y L → (In x L → ⊥) → In n (matches P (serial_of (env y)) (s ∷ [])) → Open L os env gs
-      → Open (x ∷ L) (ends x) (bind env x n) (Round x y s E env n ∷ Rest (add_offs d os) env ∷ gs)
+      → Open (x ∷ L) (ends x) (bind_var env x n) (Round x y s E env n ∷ Rest (add_offs d os) env ∷ gs)
   inner x y s c E d L os env n gs e iy nx m inv z i d' = go i
     where
-      here : bind env x n x ≡ n
+      here : bind_var env x n x ≡ n
       here = rw (eq-eqb x x refl) refl
 
-      own : Here x (bind env x n x) (Rest (add_offs d' (ends x)) (bind env x n) ∷ Round x y s E env n ∷ Rest (add_offs d os) env ∷ gs)
-      own = subst (λ (a : Node). Here x a (Rest (add_offs d' (ends x)) (bind env x n) ∷ Round x y s E env n ∷ Rest (add_offs d os) env ∷ gs)) (sym here)
+      own : Here x (bind_var env x n x) (Rest (add_offs d' (ends x)) (bind_var env x n) ∷ Round x y s E env n ∷ Rest (add_offs d os) env ∷ gs)
+      own = subst (λ (a : Node). Here x a (Rest (add_offs d' (ends x)) (bind_var env x n) ∷ Round x y s E env n ∷ Rest (add_offs d os) env ∷ gs)) (sym here)
           ((
-            ready_child x y s c e (env y) n (Rest (add_offs d os) env ∷ gs) (Rest (add_offs d' (ends x)) (bind env x n) ∷ Round x y s E env n ∷ Rest (add_offs d os) env ∷ gs) (bind env x n) here (inv y iy d).0 m
+            ready_child x y s c e (env y) n (Rest (add_offs d os) env ∷ gs) (Rest (add_offs d' (ends x)) (bind_var env x n) ∷ Round x y s E env n ∷ Rest (add_offs d os) env ∷ gs) (bind_var env x n) here (inv y iy d).0 m
                 (λ o j. inl (Has-end o d' (ends x) j, refl)) (λ o u h. inr h),
             inl (refl, refl),
           ))
 
-      go : In z (x ∷ L) → Here z (bind env x n z) (Rest (add_offs d' (ends x)) (bind env x n) ∷ Round x y s E env n ∷ Rest (add_offs d os) env ∷ gs)
-      go (inl f) = subst (λ (a : ℕ). Here a (bind env x n a) (Rest (add_offs d' (ends x)) (bind env x n) ∷ Round x y s E env n ∷ Rest (add_offs d os) env ∷ gs)) f own
+      go : In z (x ∷ L) → Here z (bind_var env x n z) (Rest (add_offs d' (ends x)) (bind_var env x n) ∷ Round x y s E env n ∷ Rest (add_offs d os) env ∷ gs)
+      go (inl f) = subst (λ (a : ℕ). Here a (bind_var env x n a) (Rest (add_offs d' (ends x)) (bind_var env x n) ∷ Round x y s E env n ∷ Rest (add_offs d os) env ∷ gs)) f own
       go (inr j) =
-          let same : env z ≡ bind env x n z = rw (ne_eqb z x (λ f. nx (subst (λ (a : ℕ). In a L) f j))) refl in
-          subst (λ (a : Node). Here z a (Rest (add_offs d' (ends x)) (bind env x n) ∷ Round x y s E env n ∷ Rest (add_offs d os) env ∷ gs)) same
-          (here_over z (env z) (Rest (add_offs d' (ends x)) (bind env x n)) (Round x y s E env n ∷ Rest (add_offs d os) env ∷ gs)
+          let same : env z ≡ bind_var env x n z = rw (ne_eqb z x (λ f. nx (subst (λ (a : ℕ). In a L) f j))) refl in
+          subst (λ (a : Node). Here z a (Rest (add_offs d' (ends x)) (bind_var env x n) ∷ Round x y s E env n ∷ Rest (add_offs d os) env ∷ gs)) same
+          (here_over z (env z) (Rest (add_offs d' (ends x)) (bind_var env x n)) (Round x y s E env n ∷ Rest (add_offs d os) env ∷ gs)
           (here_over z (env z) (Round x y s E env n) (Rest (add_offs d os) env ∷ gs) (inv z j d)))
 
   at : (d : BodyTree) (os : List OffTree) (L : List ℕ) (env : Env) (gs : List Frame) → Open L os env gs → (x : ℕ) → In x L → Here x (env x) (Rest (add_offs d os) env ∷ gs)
   at d os L env gs inv x i = inv x i d
 
-  main : (d : BodyTree) (u : ℕ) (L : List ℕ) (os : List OffTree) (env : Env) (before : List Action) (fs gs : List Frame) → Stands P (add_offs (place ends d) os) env before fs
+  main : (d : BodyTree) (u : ℕ) (L : List ℕ) (os : List OffTree) (env : Env) (before : List Action) (fs gs : List Frame) → IsPoint P (add_offs (place ends d) os) env before fs
       → BodyIn true L d → Fits F u d → Known_rows d → Bases os env gs → Once (vars d) → ((z : ℕ) → In z L → In z (vars d) → ⊥) → Open L os env gs → Facts fs gs → Facts [] (fs ++ gs)
   main Nil u L os env before fs gs st q f k ob o a inv h = offs_facts os env before fs gs st ob h
   main (Then (Write s) d) u L os env before fs gs Begins q f k ob o a inv h = (placed_fact (Then (Write s) d) u os true L env gs q f k ob (at (Then (Write s) (place ends d)) os L env gs inv), h)
@@ -399,12 +399,12 @@ module _ (P : Tree) (w : Grown P) (core : BodyTree) (good : Good core) where
         parent = (inv y q.0.1 (place ends d)).0;
         bound = (inv y q.0.1 (place ends d)).1;
         body = λ t i. Has-end t (place ends e) (ends x) i;
-        last = λ t l. own_waits e (ends x) (bind env x n) before' fs' t st l;
+        last = λ t l. own_waits e (ends x) (bind_var env x n) before' fs' t st l;
       } in
       under fs' (Round x y s E env n ∷ Rest rest env ∷ []) gs
-      (main e x (x ∷ L) (ends x) (bind env x n) before' fs' (Round x y s E env n ∷ Rest rest env ∷ gs) st q.0.2 f.0.1
+      (main e x (x ∷ L) (ends x) (bind_var env x n) before' fs' (Round x y s E env n ∷ Rest rest env ∷ gs) st q.0.2 f.0.1
       (λ r i. k r (inr (In-left r (rows e) (rows d) i)))
-      (λ t i. let b = end_in (offs_of core) x t i in (b.0, inl (sym b.1, sym (ap (bind env x n) b.1 ∙ rw (eq-eqb x x refl) refl)))) oe.1
+      (λ t i. let b = end_in (offs_of core) x t i in (b.0, inl (sym b.1, sym (ap (bind_var env x n) b.1 ∙ rw (eq-eqb x x refl) refl)))) oe.1
       (λ z i j. elim i [ inl g ↦ oe.0 (subst (λ (b : ℕ). In b (vars e)) (sym g) j) | inr i' ↦ a z i' (inr (In-left z (vars e) (vars d) j)) ])
       (inner x y s (is_straight u y s (F y)) E (place ends d) L os env n gs f.0.0 q.0.1 not_x n_in inv) (
         turn,
@@ -433,12 +433,12 @@ module _ (P : Tree) (w : Grown P) (core : BodyTree) (good : Good core) where
       ))
 
   -- at each point of the plan's run
-  pub facts : In Root P.nodes → (before : List Action) (fs : List Frame) → Stands P (reading core).body env0 before fs → Facts [] fs
+  pub facts : In Root P.nodes → (before : List Action) (fs : List Frame) → IsPoint P (reading core).body env0 before fs → Facts [] fs
   facts root before fs st = subst (λ (z : List Frame). Facts [] z) (append-nil fs)
       (main core 0 (0 ∷ []) (ends 0) env0 before fs [] st good.inside (good_fits core good) (λ r i. inr i) (λ t i. let b = end_in (offs_of core) 0 t i in (b.0, (b.1, refl))) (good_once core good)
       (λ z i j. elim i [ inl e ↦ good_not_zero core good (subst (λ (a : ℕ). In a (vars core)) (sym e) j) | inr n ↦ n ]) (opened root) tt)
 
-  pub last_waits : In Root P.nodes → (before : List Action) (fs : List Frame) (o : OffTree) → Stands P (reading core).body env0 before fs → Last o (ends 0) → Waits o env0 fs ⊎ (fs ≡ Rest Nil env0 ∷ [])
+  pub last_waits : In Root P.nodes → (before : List Action) (fs : List Frame) (o : OffTree) → IsPoint P (reading core).body env0 before fs → Last o (ends 0) → Waits o env0 fs ⊎ (fs ≡ Rest Nil env0 ∷ [])
   last_waits root before fs o st l = own_waits core (ends 0) env0 before fs o st l
 
   -- where a statement waits, it is one of the plan's, and its base is bound below to the node that it will be carried out at

@@ -9,7 +9,7 @@ pub mod Chains
 pub mod Signs
 pub mod Stays
 pub mod Order
-pub mod Stands
+pub mod PointForms
 pub mod Needed
 pub mod Balance
 pub mod Local

@@ -11,7 +11,7 @@ use Rattle.gcx_laws.proofs.Lists.{In, any_in, any_from}
 use Rattle.gcx_laws.proofs.Matches.{Grown, Numbered-same}
 use Rattle.gcx_laws.proofs.Freeze.{within_self, within_above}
 use Rattle.gcx_laws.proofs.Chains.{above_in}
-use Rattle.gcx_laws.proofs.Stands.{later}
+use Rattle.gcx_laws.proofs.PointForms.{later}
 use Rattle.gcx_laws.proofs.Held.{filter_comm}
 
 -- a node below n is n, or lies in a child of n

@@ -20,14 +20,14 @@ use Rattle.gcx_model.specs.Written.{start_tag, end_tag, escaped}
 use Rattle.gcx_model.specs.Answer as meaning
 use Rattle.gcx_model.specs.Answer.{child_step, children, copied_with, copied, copy_of, Scope, start_of, found, some_pair, is_any, holds, holds_all, holds_any, turns, answer_expr, answer_exprs, no_scope, answer}
 use Rattle.gcx_model.specs.Core.{OperandTree, Path, Str, Num, CondTree, CondTrees, Always, Exists, Compare, Not, All, Any, no_cond, more_conds, ItemTree, Write, Copy, For, If, Off, BodyTree, Nil, Then}
-use Rattle.gcx_model.specs.Truth.{Verdict, True, False, Env, bind, node_value, values, is_over, settle, negate, both, either, truth, truth_all, truth_any}
+use Rattle.gcx_model.specs.Truth.{Verdict, True, False, Env, bind_var, node_value, settled_values, is_over, settle, negate, both, either, truth, truth_all, truth_any}
 use Rattle.gcx_model.specs.Run.{Out, wrote, seq, loop, copy_with, copy, choose, run_item, run, env0, bytes_of}
 use Rattle.gcx_model.specs.Members.{In, count}
 use Rattle.gcx_model.specs.Nodes.{Grown, Ordered, chain_at}
 use Rattle.gcx_model.specs.Variables.{vars}
 use Rattle.gcx_model.specs.Cores.{operand_in, cond_in, conds_in}
 use Rattle.gcx_model.specs.Sound.{only_last, is_path, is_ordered_path, are_clauses, scope_of, has_step, has_clause, is_filter, is_cond, is_expr, are_exprs, two_exprs, has_expr}
-use Rattle.gcx_model.specs.Normal.{join, one, Names, named, start_var, normal_exists, normal_operand, normal_cond, normal_conds, has_loop, half, flush, spread, branch, nest, normal_clauses, filtered, clause_loops, loops, normal_expr, normal_exprs, no_names}
+use Rattle.gcx_model.specs.Normal.{join, one, Names, named, start_var, normal_exists, normal_operand, normal_cond, normal_conds, has_loop, half, flush, spread, branch, nest, normal_clauses, guarded, clause_loops, loops, normal_expr, normal_exprs, no_names}
 use Rattle.gcx_laws.specs.Laws.{NormalLaw}
 use Rattle.gcx_laws.proofs.Lists.{In-left, In-right}
 use Rattle.gcx_laws.proofs.Matches.{Matches-in, Matches-from, Numbered-high, Grown-opening}
@@ -71,7 +71,7 @@ in_below j (suc n) v (inr i) = let h = in_below (suc j) n v i in omega arith
 -- conditions see only the variables that they use
 
 module _ (P : Tree) (L : List ℕ) (env env' : Env) (same : (z : ℕ) → In z L → env z ≡ env' z) where
-  values_same : (o : OperandTree) → operand_in L o → values P env o ≡ values P env' o
+  values_same : (o : OperandTree) → operand_in L o → settled_values P env o ≡ settled_values P env' o
   values_same (Path x steps) i = ap (λ (n : Node). map (node_value P) (filter (is_closed P) (matches P (serial_of n) steps))) (same x i)
   values_same (Str b) i = refl
   values_same (Num l) i = refl
@@ -86,10 +86,10 @@ module _ (P : Tree) (L : List ℕ) (env env' : Env) (same : (z : ℕ) → In z L
     truth_same Always i = refl
     truth_same (Exists x steps) i = ap (λ (n : Node). settle (is_any (matches P (serial_of n) steps)) (is_closed P n)) (same x i)
     truth_same (Compare l rel r) i =
-        ap (λ vs. settle (some_pair (compare rel) vs (values P env r)) (is_over P env l && is_over P env r)) (values_same l i.0)
-        ∙ (ap (λ vs. settle (some_pair (compare rel) (values P env' l) vs) (is_over P env l && is_over P env r)) (values_same r i.1)
-        ∙ (ap (λ b. settle (some_pair (compare rel) (values P env' l) (values P env' r)) (b && is_over P env r)) (over_same l i.0)
-        ∙ ap (λ b. settle (some_pair (compare rel) (values P env' l) (values P env' r)) (is_over P env' l && b)) (over_same r i.1)))
+        ap (λ vs. settle (some_pair (compare rel) vs (settled_values P env r)) (is_over P env l && is_over P env r)) (values_same l i.0)
+        ∙ (ap (λ vs. settle (some_pair (compare rel) (settled_values P env' l) vs) (is_over P env l && is_over P env r)) (values_same r i.1)
+        ∙ (ap (λ b. settle (some_pair (compare rel) (settled_values P env' l) (settled_values P env' r)) (b && is_over P env r)) (over_same l i.0)
+        ∙ ap (λ b. settle (some_pair (compare rel) (settled_values P env' l) (settled_values P env' r)) (is_over P env' l && b)) (over_same r i.1)))
     truth_same (Not c) i = ap negate (truth_same c i)
     truth_same (All cs) i = all_same cs i
     truth_same (Any cs) i = any_same cs i
@@ -137,23 +137,23 @@ module _ (P : Tree) (w : Grown P) (o : Ordered P) (over : P.at ≡ None) where
   said-loop f [] ov h = refl
   said-loop f (n ∷ ns) ov h = said-seq (f n) (loop f ns ov) (h n (inl refl)) ∙ ap (λ z. flat_map bytes_of (f n).acts ++ z) (said-loop f ns ov (λ m i. h m (inr i)))
 
-  in_bind : (env : Env) (x : ℕ) (n : Node) → In_P env → In n P.nodes → In_P (bind env x n)
+  in_bind : (env : Env) (x : ℕ) (n : Node) → In_P env → In n P.nodes → In_P (bind_var env x n)
   in_bind env x n h i z = go (eqb z x)
     where
       go : (t : Bool) → In (cond t n (env z)) P.nodes
       go true = i
       go false = h z
 
-  bind_other : (env : Env) (x v : ℕ) (n : Node) → (v ≡ x → ⊥) → bind env x n v ≡ env v
+  bind_other : (env : Env) (x v : ℕ) (n : Node) → (v ≡ x → ⊥) → bind_var env x n v ≡ env v
   bind_other env x v n h = rw (ne_eqb v x h) refl
 
-  bind_here : (env : Env) (x : ℕ) (n : Node) → bind env x n x ≡ n
+  bind_here : (env : Env) (x : ℕ) (n : Node) → bind_var env x n x ≡ n
   bind_here env x n = rw (eq-eqb x x refl) refl
 
   -- a loop says what its body says at each match
-  said_for : (x y : ℕ) (s : Step) (d : BodyTree) (env : Env) → In_P env → said_item (For x y s d) env ≡ flat_map (λ n. said d (bind env x n)) (matches P (serial_of (env y)) (s ∷ []))
-  said_for x y s d env h = said-loop (λ n. run d (bind env x n) P) (matches P (serial_of (env y)) (s ∷ [])) (is_closed P (env y))
-      (λ n i. run_is_done P w over d (bind env x n) (in_bind env x n h (Matches-in P (serial_of (env y)) (s ∷ []) n i).0))
+  said_for : (x y : ℕ) (s : Step) (d : BodyTree) (env : Env) → In_P env → said_item (For x y s d) env ≡ flat_map (λ n. said d (bind_var env x n)) (matches P (serial_of (env y)) (s ∷ []))
+  said_for x y s d env h = said-loop (λ n. run d (bind_var env x n) P) (matches P (serial_of (env y)) (s ∷ [])) (is_closed P (env y))
+      (λ n i. run_is_done P w over d (bind_var env x n) (in_bind env x n h (Matches-in P (serial_of (env y)) (s ∷ []) n i).0))
 
   -- Copies
 
@@ -186,11 +186,11 @@ module _ (P : Tree) (w : Grown P) (o : Ordered P) (over : P.at ≡ None) where
   said-nest (s ∷ ss) y k inner env G l h f =
       let ms : List Node = matches P (serial_of (env y)) (s ∷ []) in
       let d : BodyTree = nest k ss (suc k) inner in
-      let in_P : (n : Node) → In n ms → In_P (bind env k n) = λ n i. in_bind env k n h (Matches-in P (serial_of (env y)) (s ∷ []) n i).0 in
+      let in_P : (n : Node) → In n ms → In_P (bind_var env k n) = λ n i. in_bind env k n h (Matches-in P (serial_of (env y)) (s ∷ []) n i).0 in
       said-one (For k y s d) env h
       ∙ (said_for k y s d env h
-      ∙ (flat_map-same (λ n. said d (bind env k n)) (λ n. flat_map G (chain_at P n ss)) ms
-      (λ n i. said-nest ss k (suc k) inner (bind env k n) G (omega arith) (in_P n i)
+      ∙ (flat_map-same (λ n. said d (bind_var env k n)) (λ n. flat_map G (chain_at P n ss)) ms
+      (λ n i. said-nest ss k (suc k) inner (bind_var env k n) G (omega arith) (in_P n i)
       (λ z env' m j g. f z env' (omega arith) j (λ v q. g v (omega arith) ∙ bind_other env k v n (λ e. omega arith)))
       ∙ ap (λ z. flat_map G (chain_at P z ss)) (bind_here env k n))
       ∙ sym (flat_map-flat_map G (λ n. chain_at P n ss) ms)))
@@ -223,7 +223,7 @@ module _ (P : Tree) (w : Grown P) (o : Ordered P) (over : P.at ≡ None) where
   exists_is x [] env h = ap Known_as (sym (self_match (env x) (h x)))
   exists_is x (s ∷ rest) env h = settle_is _ _ (closed (env x))
 
-  values_are : (q : QOperand) (names : Names) (env : Env) → env 0 ≡ Root → values P env (normal_operand q names) ≡ meaning.values q (λ x. env (names x)) P
+  values_are : (q : QOperand) (names : Names) (env : Env) → env 0 ≡ Root → settled_values P env (normal_operand q names) ≡ meaning.values q (λ x. env (names x)) P
   values_are (operand.Path path) names env e =
       ap (map (node_value P)) (filter_all (is_closed P) (matches P (serial_of (env (start_var names path.start))) path.steps) closed)
       ∙ ap (λ (n : Node). map (node_value P) (matches P (serial_of n) path.steps)) (sym (start_is names env path.start e))
@@ -253,7 +253,7 @@ module _ (P : Tree) (w : Grown P) (o : Ordered P) (over : P.at ≡ None) where
     truth_is (query.Exists path) names env h e = exists_is (start_var names path.start) path.steps env h ∙ ap (λ (n : Node). Known_as (is_any (matches P (serial_of n) path.steps))) (sym (start_is names env path.start e))
     truth_is (query.Compare l rel r) names env h e =
         settle_is _ _ (ap (λ b. b && is_over P env (normal_operand r names)) (over_is l names env) ∙ over_is r names env)
-        ∙ (ap (λ vs. Known_as (some_pair (compare rel) vs (values P env (normal_operand r names)))) (values_are l names env e)
+        ∙ (ap (λ vs. Known_as (some_pair (compare rel) vs (settled_values P env (normal_operand r names)))) (values_are l names env e)
         ∙ ap (λ vs. Known_as (some_pair (compare rel) (meaning.values l (λ x. env (names x)) P) vs)) (values_are r names env e))
     truth_is (query.Not c) names env h e = ap negate (truth_is c names env h e) ∙ negate_is (holds c (λ x. env (names x)) P)
     truth_is (query.All cs) names env h e = all_is cs names env h e
@@ -323,13 +323,13 @@ module _ (P : Tree) (w : Grown P) (o : Ordered P) (over : P.at ≡ None) where
       let E : BodyTree = cond (has_loop e) (spread c first Nil e) (one (half c first e)) in
       let D : BodyTree = spread c first Nil d in
       let ms : List Node = matches P (serial_of (env y)) (s ∷ []) in
-      let t' : (n : Node) → truth c (bind env x n) P ≡ Known_as h = λ n. truth_same P L (bind env x n) env (λ z i. bind_other env x z n (λ q. f z (inl (sym q)) i)) c u ∙ t in
-      let inner : (n : Node) → In n ms → said E (bind env x n) ≡ cond g (said e (bind env x n)) [] = λ n i.
-      let p' : In_P (bind env x n) = in_bind env x n p (Matches-in P (serial_of (env y)) (s ∷ []) n i).0 in
-      go (has_loop e) (bind env x n) p' (t' n) (said_spread c first h L u Nil e (bind env x n) p' (λ z j. f z (inr (In-left z (vars e) (vars d) j))) (t' n)) in
+      let t' : (n : Node) → truth c (bind_var env x n) P ≡ Known_as h = λ n. truth_same P L (bind_var env x n) env (λ z i. bind_other env x z n (λ q. f z (inl (sym q)) i)) c u ∙ t in
+      let inner : (n : Node) → In n ms → said E (bind_var env x n) ≡ cond g (said e (bind_var env x n)) [] = λ n i.
+      let p' : In_P (bind_var env x n) = in_bind env x n p (Matches-in P (serial_of (env y)) (s ∷ []) n i).0 in
+      go (has_loop e) (bind_var env x n) p' (t' n) (said_spread c first h L u Nil e (bind_var env x n) p' (λ z j. f z (inr (In-left z (vars e) (vars d) j))) (t' n)) in
       said_flush c first h r (Then (For x y s E) D) env p t
       ∙ (ap (λ z. cond g (said r env) [] ++ z) (said-then (For x y s E) D env p
-      ∙ (ap (λ z. z ++ said D env) (said_for x y s E env p ∙ (flat_map-same (λ n. said E (bind env x n)) (λ n. cond g (said e (bind env x n)) []) ms inner ∙ (all_or_none g (λ n. said e (bind env x n)) ms ∙ ap (λ z. cond g z []) (sym (said_for x y s e env p)))))
+      ∙ (ap (λ z. z ++ said D env) (said_for x y s E env p ∙ (flat_map-same (λ n. said E (bind_var env x n)) (λ n. cond g (said e (bind_var env x n)) []) ms inner ∙ (all_or_none g (λ n. said e (bind_var env x n)) ms ∙ ap (λ z. cond g z []) (sym (said_for x y s e env p)))))
       ∙ ap (λ z. cond g (said_item (For x y s e) env) [] ++ z) (said_spread c first h L u Nil d env p (λ z i. f z (inr (In-right z (vars e) (vars d) i))) t)))
       ∙ (three g (said r env) (said_item (For x y s e) env) (said d env)
       ∙ ap (λ z. cond g (said r env ++ z) []) (sym (said-then (For x y s e) d env p))))
@@ -407,7 +407,7 @@ module _ (P : Tree) (w : Grown P) (o : Ordered P) (over : P.at ≡ None) where
       ∙ sym (flat_map-flat_map G (λ m. turns cs (meaning.bind (λ x. env (names x)) c.var m) P) (found c.path (λ x. env (names x)) P))))
 
   said_filtered : (f : Option query.CondTree) (e : ExprTree) (ns : Names) (j : ℕ) (v : Env) → Low ns j → In_P v → v 0 ≡ Root → said (normal_expr e ns j) v ≡ answer_expr e (λ x. v (ns x)) P
-      → said (filtered f ns (normal_expr e ns j)) v ≡ cond (meaning.filtered f (λ x. v (ns x)) P) (answer_expr e (λ x. v (ns x)) P) []
+      → said (guarded f ns (normal_expr e ns j)) v ≡ cond (meaning.filtered f (λ x. v (ns x)) P) (answer_expr e (λ x. v (ns x)) P) []
   said_filtered None e ns j v l h z m = m
   said_filtered (Some c) e ns j v l h z m =
       said_branch (normal_cond c ns) (holds c (λ x. v (ns x)) P) (count 0 j) (cond_low c ns j l) (normal_expr e ns j) Nil v h (fresh e ns j j (omega arith)) (λ y i. absurd i) (truth_is c ns v h z)
@@ -431,7 +431,7 @@ module _ (P : Tree) (w : Grown P) (o : Ordered P) (over : P.at ≡ None) where
         let q = and_parts (has_clause cs && are_clauses scope cs) (is_filter (scope_of scope cs) f && is_expr (scope_of scope cs) e) s in
         let a = (and_parts (has_clause cs) (are_clauses scope cs) q.0).1 in
         let b = (and_parts (is_filter (scope_of scope cs) f) (is_expr (scope_of scope cs) e) q.1).1 in
-        said-clauses cs scope names k (λ inner j. filtered f inner (normal_expr e inner j)) env (λ r. cond (meaning.filtered f r P) (answer_expr e r P) []) a l h z
+        said-clauses cs scope names k (λ inner j. guarded f inner (normal_expr e inner j)) env (λ r. cond (meaning.filtered f r P) (answer_expr e r P) []) a l h z
         (λ ns j v i low p y. said_filtered f e ns j v low p y (means e (scope_of scope cs) ns j v b low p y))
     means (query.If c a b) scope names k env s l h z =
         let q = and_parts (is_cond scope c) (is_expr scope a && is_expr scope b) s in

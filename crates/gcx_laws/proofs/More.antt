@@ -22,7 +22,7 @@ use Rattle.gcx_model.specs.Cores.{Good}
 use Rattle.gcx_model.specs.Placed.{row_at, offs_in, of_role, offs_of, plan_of}
 use Rattle.gcx_model.specs.Held.{is_node, path_of, statement_of, on_row, given_row, given, is_off, signed, held, is_held}
 use Rattle.gcx_model.specs.Growth.{may_come, may_all}
-use Rattle.gcx_model.specs.Points.{actions, so_far, ReachedFrom, here, fed, acted, Reached, Rest, Round, PointAt, Bound_in}
+use Rattle.gcx_model.specs.Points.{actions, so_far, ReachedFrom, here, fed, acted, CoreState, Rest, Round, PointAt, Bound_in}
 use Rattle.gcx_laws.specs.Bridges.{GivesByKind, SignedIsOff, OneStatement, PathsByRows, DemandIsReached}
 use Rattle.gcx_laws.specs.Laws.{GivenStays, GoneStays, BoundLaw, TurnLaw, UnsignedLaw, is_write, PlanBytes, KnownIsFront, HeldByFeed, HeldByAct}
 use Rattle.gcx_laws.proofs.Reading as old
@@ -211,31 +211,31 @@ module _ (plan : PlanTree) where
   long P = length (actions plan P)
 
   -- some more actions
-  act_on : (P : Tree) (k n : ℕ) → k + n ≤ long P → Reached plan P k → Reached plan P (k + n)
-  act_on P k zero l r = subst (λ (z : ℕ). Reached plan P z) (sym (add-zero k)) r
-  act_on P k (suc n) l r = let e : suc k + n ≡ k + suc n = omega arith in subst (λ (z : ℕ). Reached plan P z) e (act_on P (suc k) n (omega arith) (acted r (omega arith)))
+  act_on : (P : Tree) (k n : ℕ) → k + n ≤ long P → CoreState plan P k → CoreState plan P (k + n)
+  act_on P k zero l r = subst (λ (z : ℕ). CoreState plan P z) (sym (add-zero k)) r
+  act_on P k (suc n) l r = let e : suc k + n ≡ k + suc n = omega arith in subst (λ (z : ℕ). CoreState plan P z) e (act_on P (suc k) n (omega arith) (acted r (omega arith)))
 
   longer : (ts : List Token) (t : Token) → (rest : List Action) × (actions plan (grow t (tree ts)) ≡ actions plan (tree ts) ++ rest)
   longer ts t = front (run plan.body env0 (tree ts)) (run plan.body env0 (grow t (tree ts))) (prefix ts (t ∷ []) plan.body)
 
-  reached_on : (ts : List Token) (t : Token) → may_come t (tree ts) ≡ true → Reached plan (tree ts) (long (tree ts)) → Reached plan (grow t (tree ts)) (long (grow t (tree ts)))
+  reached_on : (ts : List Token) (t : Token) → may_come t (tree ts) ≡ true → CoreState plan (tree ts) (long (tree ts)) → CoreState plan (grow t (tree ts)) (long (grow t (tree ts)))
   reached_on ts t m r =
       let h = longer ts t in
       let l : long (grow t (tree ts)) ≡ long (tree ts) + length h.0 = ap length h.1 ∙ length-append (actions plan (tree ts)) h.0 in
-      subst (λ (z : ℕ). Reached plan (grow t (tree ts)) z) (sym l) (act_on (grow t (tree ts)) (long (tree ts)) (length h.0) (omega arith) (fed r (grows t (tree ts) m)))
+      subst (λ (z : ℕ). CoreState plan (grow t (tree ts)) z) (sym l) (act_on (grow t (tree ts)) (long (tree ts)) (length h.0) (omega arith) (fed r (grows t (tree ts) m)))
 
-  reached_from : (ts us : List Token) → may_all us (tree ts) ≡ true → Reached plan (tree ts) (long (tree ts)) → Reached plan (grow_all us (tree ts)) (long (grow_all us (tree ts)))
+  reached_from : (ts us : List Token) → may_all us (tree ts) ≡ true → CoreState plan (tree ts) (long (tree ts)) → CoreState plan (grow_all us (tree ts)) (long (grow_all us (tree ts)))
   reached_from ts [] m r = r
   reached_from ts (t ∷ us) m r =
       let a = and_parts (may_come t (tree ts)) (may_all us (grow t (tree ts))) m in
       let e : grow t (tree ts) ≡ tree (ts ++ t ∷ []) = grow_last ts t in
-      let q : Reached plan (tree (ts ++ t ∷ [])) (long (tree (ts ++ t ∷ []))) = subst (λ (z : Tree). Reached plan z (long z)) e (reached_on ts t a.0 r) in
-      subst (λ (z : Tree). Reached plan (grow_all us z) (long (grow_all us z))) (sym e) (reached_from (ts ++ t ∷ []) us (subst (λ (z : Tree). may_all us z ≡ true) e a.1) q)
+      let q : CoreState plan (tree (ts ++ t ∷ [])) (long (tree (ts ++ t ∷ []))) = subst (λ (z : Tree). CoreState plan z (long z)) e (reached_on ts t a.0 r) in
+      subst (λ (z : Tree). CoreState plan (grow_all us z) (long (grow_all us z))) (sym e) (reached_from (ts ++ t ∷ []) us (subst (λ (z : Tree). may_all us z ≡ true) e a.1) q)
 
 pub demand_is_reached : DemandIsReached
 demand_is_reached plan ts m =
-    let start : Reached plan opening (long plan opening) = let e : 0 + long plan opening ≡ long plan opening = omega arith in subst (λ (z : ℕ). Reached plan opening z) e (act_on plan opening 0 (long plan opening) (omega arith) here) in
-    let all : Reached plan (tree ts) (long plan (tree ts)) = reached_from plan [] ts m start in
+    let start : CoreState plan opening (long plan opening) = let e : 0 + long plan opening ≡ long plan opening = omega arith in subst (λ (z : ℕ). CoreState plan opening z) e (act_on plan opening 0 (long plan opening) (omega arith) here) in
+    let all : CoreState plan (tree ts) (long plan (tree ts)) = reached_from plan [] ts m start in
     (all, λ t h. (fed all (grows t (tree ts) h), (let q = longer plan ts t in ap (take (long plan (tree ts))) q.1 ∙ take_front (actions plan (tree ts)) q.0)))
 
 -- what is bound

@@ -13,7 +13,7 @@ use Rattle.gcx_model.specs.Core.{OperandTree, Path, Str, Num, CondTree, CondTree
 use Rattle.gcx_model.specs.Members.{In, count}
 use Rattle.gcx_model.specs.Variables.{vars, item_vars}
 use Rattle.gcx_model.specs.Cores.{operand_in, cond_in, conds_in, ItemIn, BodyIn}
-use Rattle.gcx_model.specs.Normal.{join, one, Names, named, start_var, normal_exists, normal_operand, normal_cond, normal_conds, has_loop, half, flush, spread, branch, nest, normal_clauses, filtered, clause_loops, loops, all_loops, normal_expr, normal_exprs, no_names, normal}
+use Rattle.gcx_model.specs.Normal.{join, one, Names, named, start_var, normal_exists, normal_operand, normal_cond, normal_conds, has_loop, half, flush, spread, branch, nest, normal_clauses, guarded, clause_loops, loops, all_loops, normal_expr, normal_exprs, no_names, normal}
 use Rattle.gcx_laws.specs.Laws.{NormalIsGood}
 use Rattle.gcx_laws.proofs.Bridge.{count-append, length-count}
 
@@ -67,7 +67,7 @@ vars-clauses (c ∷ cs) names k inner vs h =
     (λ z. vars-clauses cs (named names c.var z) (k + n) inner vs (λ ns. ap (λ (j : ℕ). vars (inner ns j)) (add_assoc k n (clause_loops cs)) ∙ h ns))
     ∙ (sym (append_assoc (count k n) (count (k + n) (clause_loops cs)) vs) ∙ ap (λ z. z ++ vs) (sym (count-append k n (clause_loops cs))))
 
-vars-filtered : (f : Option query.CondTree) (names : Names) (d : BodyTree) → vars (filtered f names d) ≡ vars d
+vars-filtered : (f : Option query.CondTree) (names : Names) (d : BodyTree) → vars (guarded f names d) ≡ vars d
 vars-filtered None names d = refl
 vars-filtered (Some c) names d = vars-branch (normal_cond c names) d Nil ∙ append-nil (vars d)
 
@@ -78,7 +78,7 @@ mutual
   vars-expr (query.Elem name es) names k = vars-join (normal_exprs es names k) (one (Write _)) ∙ (append-nil (vars (normal_exprs es names k)) ∙ vars-exprs es names k)
   vars-expr (query.Path path) names k = vars-nest (start_var names path.start) path.steps k (λ y. one (Copy y)) [] (λ z. refl) ∙ append-nil _
   vars-expr (query.For cs f e) names k =
-      vars-clauses cs names k (λ inner j. filtered f inner (normal_expr e inner j)) (count (k + clause_loops cs) (loops e)) (λ ns. vars-filtered f ns (normal_expr e ns (k + clause_loops cs)) ∙ vars-expr e ns (k + clause_loops cs))
+      vars-clauses cs names k (λ inner j. guarded f inner (normal_expr e inner j)) (count (k + clause_loops cs) (loops e)) (λ ns. vars-filtered f ns (normal_expr e ns (k + clause_loops cs)) ∙ vars-expr e ns (k + clause_loops cs))
       ∙ sym (count-append k (clause_loops cs) (loops e))
   vars-expr (query.If c a b) names k =
       vars-branch (normal_cond c names) (normal_expr a names k) (normal_expr b names (k + loops a))
@@ -206,7 +206,7 @@ clauses_in (c ∷ cs) names k inner L s h =
     nest_in (start_var names c.path.start) c.path.steps k (λ y. normal_clauses cs (named names c.var y) (k + length c.path.steps) inner) L (start_in names L c.path.start s)
     (λ z M i g. clauses_in cs (named names c.var z) (k + length c.path.steps) inner M (scoped_named names L M c.var z s g i) h)
 
-filtered_in : (f : Option query.CondTree) (names : Names) (d : BodyTree) (L : List ℕ) → Scoped names L → BodyIn true L d → BodyIn true L (filtered f names d)
+filtered_in : (f : Option query.CondTree) (names : Names) (d : BodyTree) (L : List ℕ) → Scoped names L → BodyIn true L d → BodyIn true L (guarded f names d)
 filtered_in None names d L s q = q
 filtered_in (Some c) names d L s q = branch_in L (normal_cond c names) d Nil (cond_scoped c names L s) q tt
 
@@ -216,7 +216,7 @@ mutual
   expr_in (query.Seq es) names k L s = exprs_in es names k L s
   expr_in (query.Elem name es) names k L s = (tt, join_in true L (normal_exprs es names k) (one (Write _)) (exprs_in es names k L s) (tt, tt))
   expr_in (query.Path path) names k L s = nest_in (start_var names path.start) path.steps k (λ y. one (Copy y)) L (start_in names L path.start s) (λ z M i g. (i, tt))
-  expr_in (query.For cs f e) names k L s = clauses_in cs names k (λ inner j. filtered f inner (normal_expr e inner j)) L s (λ ns j M t. filtered_in f ns (normal_expr e ns j) M t (expr_in e ns j M t))
+  expr_in (query.For cs f e) names k L s = clauses_in cs names k (λ inner j. guarded f inner (normal_expr e inner j)) L s (λ ns j M t. filtered_in f ns (normal_expr e ns j) M t (expr_in e ns j M t))
   expr_in (query.If c a b) names k L s = branch_in L (normal_cond c names) (normal_expr a names k) (normal_expr b names (k + loops a)) (cond_scoped c names L s) (expr_in a names k L s) (expr_in b names (k + loops a) L s)
 
   exprs_in : (es : ExprTrees) (names : Names) (k : ℕ) (L : List ℕ) → Scoped names L → BodyIn true L (normal_exprs es names k)

@@ -8,7 +8,7 @@ use Rattle.gcx_model.specs.Tree.{Node, Root, serial_of, above, within, Tree}
 use Rattle.gcx_model.specs.Paths.{any, all, hits, matches, first}
 use Rattle.gcx_base.specs.declared.steps.Step.{Step}
 use Rattle.gcx_model.specs.Core.{CondTree, Always, Exists, Compare, Not, All, Any, CondTrees, no_cond, more_conds, OperandTree, Path, Str, Num, Write, Copy, For, If, Off, BodyTree, Nil, Then, OffTree, RoleKind, Own, First, Whole, RoleRowTree}
-use Rattle.gcx_model.specs.Truth.{Env, bind}
+use Rattle.gcx_model.specs.Truth.{Env, bind_var}
 use Rattle.gcx_model.specs.Run.{env0, Action, Wrote, Offed, idle}
 use Rattle.gcx_laws.proofs.Reading.{Reading, given, signed, taken, live_some, is_live, is_held, reading}
 use Rattle.gcx_model.specs.Held.{is_node, gives, is_off}
@@ -25,7 +25,7 @@ use Rattle.gcx_laws.proofs.Signs.{sig}
 use Rattle.gcx_laws.proofs.Balance.{of_role}
 use Rattle.gcx_laws.proofs.Needed.{Way}
 use Rattle.gcx_laws.proofs.Stays.{all_in}
-use Rattle.gcx_laws.proofs.Stands.{Frame, Rest, Round, Part, Stands, later, to_come}
+use Rattle.gcx_laws.proofs.PointForms.{Frame, Rest, Round, Part, IsPoint, later, to_come}
 use Rattle.gcx_laws.proofs.Plans.{At_row, row_has, row_is, in_end, good_based, roles_known, way_of, good_zero}
 use Rattle.gcx_laws.proofs.Waits.{Waits, Waits-left, waits_unsigned, later_unsigned, loop_unsigned}
 use Rattle.gcx_laws.proofs.Frames.{Bound_in, gives_behind, Last, Ready, ready_over, ready_under, ready_far, hit_on, Loop, Turn, Fact_rest, Facts, facts, last_waits}
@@ -108,7 +108,7 @@ solid_last (g ∷ g' ∷ fs) f h = tt
 solid_open : (v : Env) (top : List Frame) → Solid top → top ≡ Rest Nil v ∷ [] → ⊥
 solid_open v top h e = subst (λ (z : List Frame). Solid z) e h
 
-module _ (P : Tree) (w : Grown P) (root : In Root P.nodes) (core : BodyTree) (good : Good core) (before : List Action) (fs : List Frame) (st : Stands P (reading core).body env0 before fs) where
+module _ (P : Tree) (w : Grown P) (root : In Root P.nodes) (core : BodyTree) (good : Good core) (before : List Action) (fs : List Frame) (st : IsPoint P (reading core).body env0 before fs) where
   abbrev V : ℕ → Var
   V = var_tree core
 
@@ -224,18 +224,18 @@ module _ (P : Tree) (w : Grown P) (root : In Root P.nodes) (core : BodyTree) (go
 
   -- the present match, unless the body is over, and the later ones
   turn_held : (top below : List Frame) (x y : ℕ) (s : Step) (e : BodyTree) (env : Env) (n m : Node) → fs ≡ top ++ Round x y s e env n ∷ below → Turn P w core good top x y s e env n below
-      → ((top ≡ Rest Nil (bind env x n) ∷ [] → ⊥) × (n ≡ m)) ⊎ In m (later n (matches P (serial_of (env y)) (s ∷ []))) → is_held (reading core) P before m ≡ true
+      → ((top ≡ Rest Nil (bind_var env x n) ∷ [] → ⊥) × (n ≡ m)) ⊎ In m (later n (matches P (serial_of (env y)) (s ∷ []))) → is_held (reading core) P before m ≡ true
   turn_held top below x y s e env n m are t h = go t.straight t.var h
     where
       far : Ready P w core good y (env y) below → Ready P w core good y (env y) fs
       far r = subst (λ (z : List Frame). Ready P w core good y (env y) z) (sym are) (ready_under P w core good y (env y) top (Round x y s e env n ∷ below) (ready_over P w core good y (env y) (Round x y s e env n) below r))
 
-      up : (o : OffTree) → Waits o (bind env x n) top → Waits o (bind env x n) fs
-      up o k = subst (λ (z : List Frame). Waits o (bind env x n) z) (sym are) (Waits-left o (bind env x n) top (Round x y s e env n ∷ below) k)
+      up : (o : OffTree) → Waits o (bind_var env x n) top → Waits o (bind_var env x n) fs
+      up o k = subst (λ (z : List Frame). Waits o (bind_var env x n) z) (sym are) (Waits-left o (bind_var env x n) top (Round x y s e env n ∷ below) k)
 
-      present : V x ≡ child_var true x s (V y) → (top ≡ Rest Nil (bind env x n) ∷ [] → ⊥) → is_held (reading core) P before n ≡ true
+      present : V x ≡ child_var true x s (V y) → (top ≡ Rest Nil (bind_var env x n) ∷ [] → ⊥) → is_held (reading core) P before n ≡ true
       present c open' =
-          last_held x n (bind env x n) (rw (eq-eqb x x refl) refl) (Matches-in P (serial_of (env y)) (s ∷ []) n t.match).0
+          last_held x n (bind_var env x n) (rw (eq-eqb x x refl) refl) (Matches-in P (serial_of (env y)) (s ∷ []) n t.match).0
           (hit_on P w core good x y s true c (env y) n t.parent.inside t.parent.hit t.match)
           (ap (λ (z : Var). z.base) c) (ap (λ (z : Var). z.rel) c) t.row
           (λ l k. elim (t.last l k) [
@@ -257,7 +257,7 @@ module _ (P : Tree) (w : Grown P) (root : In Root P.nodes) (core : BodyTree) (go
           (later_unsigned P w root (reading core).body o (V o.base).path y'.0 y'.1 before fs st top below x y s e env n m are (t.body o (in_end (offs_of core) x o q.2 base)) base k)
           m im (subst (λ (z : List Step). gives P (serial_of m) z [] Own m ≡ true) (sym rel) (own_gives m []))
 
-      go : (c : Bool) → V x ≡ child_var c x s (V y) → ((top ≡ Rest Nil (bind env x n) ∷ [] → ⊥) × (n ≡ m)) ⊎ In m (later n (matches P (serial_of (env y)) (s ∷ []))) → is_held (reading core) P before m ≡ true
+      go : (c : Bool) → V x ≡ child_var c x s (V y) → ((top ≡ Rest Nil (bind_var env x n) ∷ [] → ⊥) × (n ≡ m)) ⊎ In m (later n (matches P (serial_of (env y)) (s ∷ []))) → is_held (reading core) P before m ≡ true
       go true c (inl k) = subst (λ (z : Node). is_held (reading core) P before z ≡ true) k.1 (present c k.0)
       go true c (inr k) = next c k
       go false c (inl k) =
@@ -282,7 +282,7 @@ module _ (P : Tree) (w : Grown P) (root : In Root P.nodes) (core : BodyTree) (go
   bound_held x n top [] are so f h = subst (λ (z : Node). is_held (reading core) P before z ≡ true) (sym h.1) (root_held (λ e. solid_open env0 top so (sym (are ∙ append-nil top) ∙ e)))
   bound_held x n top (Rest d env ∷ gs) are so f h = bound_held x n (top ++ Rest d env ∷ []) gs (are ∙ sym (append_assoc top (Rest d env ∷ []) gs)) (solid_more top (Rest d env) so) f.1 h
   bound_held x n top (Part z env k ∷ gs) are so f h = bound_held x n (top ++ Part z env k ∷ []) gs (are ∙ sym (append_assoc top (Part z env k ∷ []) gs)) (solid_more top (Part z env k) so) f.1 h
-  bound_held x n top (Round z y s e env m ∷ gs) are so f (inl h) = turn_held top gs z y s e env m n are f.0 (inl ((λ e'. solid_open (bind env z m) top so e'), h.1))
+  bound_held x n top (Round z y s e env m ∷ gs) are so f (inl h) = turn_held top gs z y s e env m n are f.0 (inl ((λ e'. solid_open (bind_var env z m) top so e'), h.1))
   bound_held x n top (Round z y s e env m ∷ gs) are so f (inr h) = bound_held x n (top ++ Round z y s e env m ∷ []) gs (are ∙ sym (append_assoc top (Round z y s e env m ∷ []) gs)) (solid_more top (Round z y s e env m) so) f.1 h
 
   part_held : (top below : List Frame) (f : Frame) (x : ℕ) (env : Env) (m : Node) → fs ≡ top ++ f ∷ below → In m P.nodes → In (whole_row x) (roles_of core) → Ready P w core good x (env x) (f ∷ below) → within (serial_of (env x)) m ≡ true → is_held (reading core) P before m ≡ true

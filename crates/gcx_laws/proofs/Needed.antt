@@ -5,13 +5,13 @@ use Rattle.gcx_model.specs.Tree.{Node, serial_of, Tree, is_closed}
 use Rattle.gcx_base.specs.declared.steps.Step.{Step}
 use Rattle.gcx_model.specs.Paths.{matches}
 use Rattle.gcx_model.specs.Core.{ItemTree, Write, Copy, For, If, Off, BodyTree, Nil, Then, OffTree}
-use Rattle.gcx_model.specs.Truth.{Env, bind, truth}
+use Rattle.gcx_model.specs.Truth.{Env, bind_var, truth}
 use Rattle.gcx_model.specs.Run.{run_item, run}
 use Rattle.gcx_laws.proofs.Lists.{In}
 use Rattle.gcx_laws.proofs.Matches.{Grown}
 use Rattle.gcx_laws.proofs.Chains.{chain_at, In-flat_map_from}
 use Rattle.gcx_laws.proofs.Signs.{sig, sig-loop, sig-seq, sig-copy, sig-choose}
-use Rattle.gcx_laws.proofs.Stands.{body_at}
+use Rattle.gcx_laws.proofs.PointForms.{body_at}
 
 -- no statement that p picks stands in it
 abbrev mutual
@@ -44,7 +44,7 @@ module _ (P : Tree) (w : Grown P) (p : OffTree → Bool) (b : ℕ) where
     quiet_item_sig (Copy x) env m a h = sig-copy p m (length P.nodes) P (env x) h
     quiet_item_sig (For x y s d) env m a h =
         let r = sig-loop p m (body_at d x env P) (matches P (serial_of (env y)) (s ∷ [])) (is_closed P (env y)) h in
-        quiet_sig d (bind env x r.0) m a r.2
+        quiet_sig d (bind_var env x r.0) m a r.2
     quiet_item_sig (If c d e) env m a h =
         let q = and_parts (quiet p d) (quiet p e) a in
         elim (sig-choose p m (truth c env P) (run d env P) (run e env P) h) [
@@ -72,7 +72,7 @@ module _ (P : Tree) (w : Grown P) (p : OffTree → Bool) (b : ℕ) where
     | inr k ↦ absurd (quiet_sig rest env m a k)
   ]
 
-  pub bound_at : (env : Env) (x : ℕ) (n : Node) → bind env x n x ≡ n
+  pub bound_at : (env : Env) (x : ℕ) (n : Node) → bind_var env x n x ≡ n
   bound_at env x n = rw (eq-eqb x x refl) refl
 
   pub way_sig : (y : ℕ) (d : BodyTree) (path : List Step) → Way p b y d path → (env : Env) (m : ℕ) → In m (sig p (run d env P).acts) → (n : Node) × In n (chain_at P (env y) path) × (m ≡ serial_of n)
@@ -84,7 +84,7 @@ module _ (P : Tree) (w : Grown P) (p : OffTree → Bool) (b : ℕ) where
   way_sig y d path (Here {x = x} {s = s} {e = e} {d = rest} {path = path'} wy a) env m h = elim (sig-seq p m (run_item (For x y s e) env P) (run rest env P) h) [
     | inl k ↦ (
         let r = sig-loop p m (body_at e x env P) (matches P (serial_of (env y)) (s ∷ [])) (is_closed P (env y)) k in
-        let q = way_sig x e path' wy (bind env x r.0) m r.2 in (
+        let q = way_sig x e path' wy (bind_var env x r.0) m r.2 in (
           q.0,
           In-flat_map_from (λ (j : Node). chain_at P j path') q.0 r.0 (matches P (serial_of (env y)) (s ∷ [])) r.1
               (subst (λ (z : Node). In q.0 (chain_at P z path')) (bound_at env x r.0) q.1),

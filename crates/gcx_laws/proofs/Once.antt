@@ -4,13 +4,13 @@ use Rattle.gcx_model.specs.Tree.{Node, serial_of, Tree, is_closed}
 use Rattle.gcx_base.specs.declared.steps.Step.{Step}
 use Rattle.gcx_model.specs.Paths.{hits, matches}
 use Rattle.gcx_model.specs.Core.{ItemTree, For, Off, BodyTree, Then, OffTree}
-use Rattle.gcx_model.specs.Truth.{Env, bind}
+use Rattle.gcx_model.specs.Truth.{Env, bind_var}
 use Rattle.gcx_model.specs.Run.{Out, loop, seq, seq_if, run_item, run}
 use Rattle.gcx_laws.proofs.Lists.{In}
 use Rattle.gcx_laws.proofs.Matches.{Grown, Rising-filter, Numbered-same, Matches-in}
 use Rattle.gcx_laws.proofs.Chains.{chain_at, chain_hits, one_desc, one_way, one_desc_rest, Once, Once-append, Once-rising}
 use Rattle.gcx_laws.proofs.Signs.{sig, sig-append, sig-loop}
-use Rattle.gcx_laws.proofs.Stands.{body_at}
+use Rattle.gcx_laws.proofs.PointForms.{body_at}
 use Rattle.gcx_laws.proofs.Needed.{Own, Before, Itself, Way, Top, Skip, Here, quiet, quiet_item, quiet_sig, quiet_item_sig, way_sig, bound_at}
 
 pub none_is : {X : Type 0} (xs : List X) → ((x : X) → In x xs → ⊥) → xs ≡ []
@@ -56,10 +56,10 @@ module _ (P : Tree) (w : Grown P) (p : OffTree → Bool) (b : ℕ) where
       Once-last (For x y s e) rest env q
       (Once-loop p (body_at e x env P) ms (is_closed P (env y))
       (Once-rising _ (Rising-filter 0 (hits (serial_of (env y)) (s ∷ [])) P.nodes w.numbered))
-      (λ n j. way_once x e path' wy (bind env x n) (subst (λ (z : Node). In z P.nodes) (sym (bound_at P w p b env x n)) (Matches-in P (serial_of (env y)) (s ∷ []) n j).0) (one_desc_rest P w s path' c))
+      (λ n j. way_once x e path' wy (bind_var env x n) (subst (λ (z : Node). In z P.nodes) (sym (bound_at P w p b env x n)) (Matches-in P (serial_of (env y)) (s ∷ []) n j).0) (one_desc_rest P w s path' c))
       (λ a a' m ia ib ja jb.
-      let qa = way_sig P w p b x e path' wy (bind env x a) m ja in
-      let qb = way_sig P w p b x e path' wy (bind env x a') m jb in
+      let qa = way_sig P w p b x e path' wy (bind_var env x a) m ja in
+      let qb = way_sig P w p b x e path' wy (bind_var env x a') m jb in
       let ca : In qa.0 (chain_at P a path') = subst (λ (z : Node). In qa.0 (chain_at P z path')) (bound_at P w p b env x a) qa.1 in
       let cb : In qb.0 (chain_at P a' path') = subst (λ (z : Node). In qb.0 (chain_at P z path')) (bound_at P w p b env x a') qb.1 in
       let ha = chain_hits P w a path' qa.0 (Matches-in P (serial_of (env y)) (s ∷ []) a ia).0 ca in

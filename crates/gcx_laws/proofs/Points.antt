@@ -4,9 +4,9 @@ use Rattle.std.proofs.lemmas.List.{append-nil}
 use Rattle.gcx_model.specs.Tree.{Node, serial_of, Tree, is_closed}
 use Rattle.gcx_model.specs.Paths.{matches}
 use Rattle.gcx_model.specs.Core.{ItemTree, Write, Copy, For, If, Off, BodyTree, Nil, Then}
-use Rattle.gcx_model.specs.Truth.{Verdict, True, False, Unknown, Env, bind, truth}
+use Rattle.gcx_model.specs.Truth.{Verdict, True, False, Unknown, Env, bind_var, truth}
 use Rattle.gcx_model.specs.Run.{Action, Wrote, Offed, Out, loop, seq, seq_if, choose, run_item, run}
-use Rattle.gcx_laws.proofs.Stands.{Frame, Rest, Round, Part, Stands, Begins, Past, InLoop, InYes, InNo, InCopy, body_at}
+use Rattle.gcx_laws.proofs.PointForms.{Frame, Rest, Round, Part, IsPoint, Begins, Past, InLoop, InYes, InNo, InCopy, body_at}
 
 -- a list cut in two, of a list that comes in two pieces: the cut lies in the one or in the other
 pub data Cut {X : Type 0} (xs ys before rest : List X) : Type 0 where
@@ -30,7 +30,7 @@ cut {X} (x ∷ xs) ys (b ∷ before) rest e = go (cut xs ys before rest tails)
 
 module _ (P : Tree) where
   abbrev pub Point : BodyTree → Env → List Action → Type 0
-  Point d env before = (fs : List Frame) × Stands P d env before fs
+  Point d env before = (fs : List Frame) × IsPoint P d env before fs
 
   -- where the cut lies in an output that goes on with another
   pub data Cut_seq (a b : Out) (before rest : List Action) : Type 0 where
@@ -84,10 +84,10 @@ module _ (P : Tree) where
       inr (ap (λ (z : Action). z ∷ ys) (sym h) ∙ ap (λ z. x ∷ z) (none_left ys r t))
 
   begins : (d : BodyTree) (env : Env) (before : List Action) → before ≡ [] → Point d env before
-  begins d env before e = (Rest d env ∷ [], subst (λ (z : List Action). Stands P d env z (Rest d env ∷ [])) (sym e) Begins)
+  begins d env before e = (Rest d env ∷ [], subst (λ (z : List Action). IsPoint P d env z (Rest d env ∷ [])) (sym e) Begins)
 
   behind_item : (i : ItemTree) (d : BodyTree) (env : Env) (before c : List Action) → (run_item i env P).done ≡ true → before ≡ (run_item i env P).acts ++ c → Point d env c → Point (Then i d) env before
-  behind_item i d env before c dn e p = (p.0, subst (λ (z : List Action). Stands P (Then i d) env z p.0) (sym e) (Past dn p.1))
+  behind_item i d env before c dn e p = (p.0, subst (λ (z : List Action). IsPoint P (Then i d) env z p.0) (sym e) (Past dn p.1))
 
   behind_one : (i : ItemTree) (d : BodyTree) (env : Env) (before : List Action) (x : Action) (r : List Action) → (run_item i env P).done ≡ true → (run_item i env P).acts ≡ x ∷ [] → x ∷ [] ≡ before ++ r → Point (Then i d) env before
   behind_one i d env before x r dn e f = elim (one_action before x r f) [
@@ -106,14 +106,14 @@ module _ (P : Tree) where
         go yes' no' True t f = let p = yes' f in (p.0 ++ Rest d env ∷ [], InYes t p.1)
         go yes' no' False t f = let p = no' f in (p.0 ++ Rest d env ∷ [], InNo t p.1)
         go yes' no' Unknown t f = begins (Then (If c a b) d) env before (none_left before r f)
-    in_item (For x y s e) d env before r f = go (λ n c rest' k. point e (bind env x n) c rest' k) (cut_loop (body_at e x env P) (matches P (serial_of (env y)) (s ∷ [])) (is_closed P (env y)) before r f)
+    in_item (For x y s e) d env before r f = go (λ n c rest' k. point e (bind_var env x n) c rest' k) (cut_loop (body_at e x env P) (matches P (serial_of (env y)) (s ∷ [])) (is_closed P (env y)) before r f)
       where
-        go : ((n : Node) (c rest' : List Action) → (run e (bind env x n) P).acts ≡ c ++ rest' → Point e (bind env x n) c) → Cut_loop (body_at e x env P) (matches P (serial_of (env y)) (s ∷ [])) before → Point (Then (For x y s e) d) env before
+        go : ((n : Node) (c rest' : List Action) → (run e (bind_var env x n) P).acts ≡ c ++ rest' → Point e (bind_var env x n) c) → Cut_loop (body_at e x env P) (matches P (serial_of (env y)) (s ∷ [])) before → Point (Then (For x y s e) d) env before
         go ih (Outside g) = begins (Then (For x y s e) d) env before g
         go ih (Within pre n post c rest' g dn h k) =
             let p = ih n c rest' k in (
               p.0 ++ Round x y s e env n ∷ Rest d env ∷ [],
-              subst (λ (z : List Action). Stands P (Then (For x y s e) d) env z (p.0 ++ Round x y s e env n ∷ Rest d env ∷ [])) (sym h) (InLoop pre n post g dn p.1),
+              subst (λ (z : List Action). IsPoint P (Then (For x y s e) d) env z (p.0 ++ Round x y s e env n ∷ Rest d env ∷ [])) (sym h) (InLoop pre n post g dn p.1),
             )
 
     -- where the run's actions are cut in two, there is a point behind the first part

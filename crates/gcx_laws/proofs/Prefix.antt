@@ -10,7 +10,7 @@ use Rattle.gcx_model.specs.Paths.{any, hits, matches}
 use Rattle.gcx_base.specs.declared.steps.Step.{Step}
 use Rattle.gcx_model.specs.Values.{Value, Bytes, compare}
 use Rattle.gcx_model.specs.Core.{CondTree, Always, Exists, Compare, Not, All, Any, CondTrees, no_cond, more_conds, OperandTree, Path, Str, Num, ItemTree, Write, Copy, For, If, Off, BodyTree, Nil, Then}
-use Rattle.gcx_model.specs.Truth.{node_value, Verdict, True, False, Unknown, Env, bind, values, is_over, settle, negate, both, either, truth, truth_all, truth_any}
+use Rattle.gcx_model.specs.Truth.{node_value, Verdict, True, False, Unknown, Env, bind_var, settled_values, is_over, settle, negate, both, either, truth, truth_all, truth_any}
 use Rattle.gcx_model.specs.Answer.{some_pair, is_any, child_step}
 use Rattle.gcx_model.specs.Run.{Action, Out, wrote, idle, seq, seq_if, loop, copy_with, copy, choose, run_item, run}
 use Rattle.gcx_model.specs.Written.{start_tag, end_tag}
@@ -108,7 +108,7 @@ module _ (t : Token) (P : Tree) (w : Grown P) where
   abbrev pub Bound : Env → Type 0
   Bound env = (x : ℕ) → serial_of (env x) < length P.nodes
 
-  pub Bound-bind : (env : Env) (x : ℕ) (n : Node) → Bound env → In n P.nodes → Bound (bind env x n)
+  pub Bound-bind : (env : Env) (x : ℕ) (n : Node) → Bound env → In n P.nodes → Bound (bind_var env x n)
   Bound-bind env x n h i y = go (eqb y x)
     where
       go : (b : Bool) → serial_of (cond b n (env y)) < length P.nodes
@@ -156,7 +156,7 @@ module _ (t : Token) (P : Tree) (w : Grown P) where
   map_same f g [] h = refl
   map_same f g (x ∷ xs) h = rw (h x (inl refl), map_same f g xs (λ y i. h y (inr i))) refl
 
-  values_more : (env : Env) → Bound env → (o : OperandTree) (v : Value) → In v (values P env o) → In v (values (grow t P) env o)
+  values_more : (env : Env) → Bound env → (o : OperandTree) (v : Value) → In v (settled_values P env o) → In v (settled_values (grow t P) env o)
   values_more env b (Path x tail) v h =
       let r = In-map (node_value P) v (filter (is_closed P) (matches P (serial_of (env x)) tail)) h in
       let q = In-filter (is_closed P) r.0 (matches P (serial_of (env x)) tail) r.1 in
@@ -169,7 +169,7 @@ module _ (t : Token) (P : Tree) (w : Grown P) where
   values_more env b (Str s) v h = h
   values_more env b (Num l) v h = h
 
-  values_final : (env : Env) → Bound env → (o : OperandTree) → is_over P env o ≡ true → values (grow t P) env o ≡ values P env o
+  values_final : (env : Env) → Bound env → (o : OperandTree) → is_over P env o ≡ true → settled_values (grow t P) env o ≡ settled_values P env o
   values_final env b (Path x tail) c =
       let n : ℕ = serial_of (env x) in
       let all_closed : (m : Node) → In m (matches P n tail) → is_closed P m ≡ true = λ m i.
@@ -232,8 +232,8 @@ module _ (t : Token) (P : Tree) (w : Grown P) where
     item_grows (Write s) env b = Same refl
     item_grows (Copy x) env b = copy_grows (length P.nodes) (length (grow t P).nodes) (env x) more_nodes (b x)
     item_grows (For x y s d) env b =
-        loop_grows (λ n. run d (bind env x n) P) (λ n. run d (bind env x n) (grow t P)) (env y) (s ∷ []) (b y)
-        (λ m i. run_grows d (bind env x m) (Bound-bind env x m b (Matches-in P (serial_of (env y)) (s ∷ []) m i).0))
+        loop_grows (λ n. run d (bind_var env x n) P) (λ n. run d (bind_var env x n) (grow t P)) (env y) (s ∷ []) (b y)
+        (λ m i. run_grows d (bind_var env x m) (Bound-bind env x m b (Matches-in P (serial_of (env y)) (s ∷ []) m i).0))
     item_grows (If c d e) env b = choose_mono _ _ _ _ _ _ (truth_firmer c env b) (run_grows d env b) (run_grows e env b)
     item_grows (Off o) env b = Same refl
 

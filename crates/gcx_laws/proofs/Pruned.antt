@@ -7,7 +7,7 @@ use Rattle.gcx_base.specs.declared.steps.Step.{Step}
 use Rattle.gcx_model.specs.Paths.{hits, matches, head, value, text_of}
 use Rattle.gcx_model.specs.Values.{Bytes}
 use Rattle.gcx_model.specs.Core.{CondTree, Always, Exists, Compare, Not, All, Any, CondTrees, no_cond, more_conds, OperandTree, Path, Str, Num}
-use Rattle.gcx_model.specs.Truth.{Env, node_value, values, is_over, settle, negate, truth, truth_all, truth_any}
+use Rattle.gcx_model.specs.Truth.{Env, node_value, settled_values, is_over, settle, negate, truth, truth_all, truth_any}
 use Rattle.gcx_model.specs.Answer.{is_any, children, child_step}
 use Rattle.gcx_model.specs.Run.{Out, loop, copy, copy_with}
 use Rattle.gcx_laws.proofs.Lists.{In, In-filter}
@@ -63,7 +63,7 @@ module _ (P : Tree) (w : Grown P) (keep : Node → Bool) where
   abbrev Kept : (Node → Type 0) → Type 0
   Kept need = (m : Node) → In m P.nodes → need m → keep m ≡ true
 
-  values_kept : (env : Env) (o : OperandTree) → Kept (Operand_needs P env o) → values (pruned keep P) env o ≡ values P env o
+  values_kept : (env : Env) (o : OperandTree) → Kept (Operand_needs P env o) → settled_values (pruned keep P) env o ≡ settled_values P env o
   values_kept env (Path x tail) h =
       let n : ℕ = serial_of (env x) in
       let all_kept : (m : Node) → In m (matches P n tail) → keep m ≡ true = λ m i. h m (Matches-in P n tail m i).0 (m, i, within_self (serial_of m) m (eq-eqb _ _ refl)) in

@@ -18,7 +18,7 @@ use Rattle.gcx_model.specs.Cores.{Good}
 use Rattle.gcx_model.specs.Placed.{row_at, offs_in, Placed, statement, plan_of}
 use Rattle.gcx_model.specs.Held.{path_of, on_row, given_row, given, taken, held, held_tree}
 use Rattle.gcx_model.specs.Growth.{Leads, stays, more}
-use Rattle.gcx_model.specs.Points.{actions, so_far, ReachedFrom, here, fed, acted, Reached, Frame, Rest, Round, Part, later, PointAt}
+use Rattle.gcx_model.specs.Points.{actions, so_far, ReachedFrom, here, fed, acted, CoreState, Frame, Rest, Round, Part, later, PointAt}
 use Rattle.gcx_model.specs.Needs.{Needs}
 use Rattle.gcx_laws.specs.Bridges.{GrowIsFeeding, LeadsIsFeeding, TokensAreFound, NodesAreNumbered, HitsBySteps, MatchesAreHits, FirstIsLeast, LoopsBindHits, OneChain, LoopsInOrder}
 use Rattle.gcx_laws.specs.Laws.{GoesOn, PrefixLaw, AllClosed, ClosedLaw, PlacedOnce, BalanceLaw, EmptyAtEnd, is_taking, OnceLaw, OffsAtMatches, TakenStays, PointLaw, ResumeLaw, NeedLaw, TruthHeld, TurnsHeld, LoopHeld, CopyHeld, is_write, PlanWrites}
@@ -28,7 +28,7 @@ use Rattle.gcx_laws.proofs.Order.{Ordered-grow, chain_is}
 use Rattle.gcx_laws.proofs.Chains.{above_in, hits_above, chain_hits, chain_from, chain_once}
 use Rattle.gcx_laws.proofs.Prefix.{Before, Same, More}
 use Rattle.gcx_laws.proofs.Whole.{prefix, run_is_done}
-use Rattle.gcx_laws.proofs.Stands.{resume}
+use Rattle.gcx_laws.proofs.PointForms.{resume}
 use Rattle.gcx_laws.proofs.Points.{point}
 use Rattle.gcx_laws.proofs.Writes.{written}
 use Rattle.gcx_laws.proofs.CoreStates.{tree, grown, root_in, closed_all, need, once, once_at, taken_stays, balanced, empty_at_end}
@@ -168,7 +168,7 @@ reached_leads plan P0 k0 P k (fed h g) = let r = reached_leads plan P0 k0 _ k h 
 reached_leads plan P0 k0 P k (acted h l) = let r = reached_leads plan P0 k0 P _ h in (r.0, omega (arith, r.1))
 
 -- what holds at each tree of tokens and each number of actions, of plan_of core, holds in each core state, of each plan that is placed
-pub from_state : (core : BodyTree) → Good core → (Q : PlanTree → Tree → ℕ → Type 0) → ((ts : List Token) (k : ℕ) → Q (plan_of core) (tree ts) k) → (plan : PlanTree) → Placed core plan → (P : Tree) (k : ℕ) → Reached plan P k → Q plan P k
+pub from_state : (core : BodyTree) → Good core → (Q : PlanTree → Tree → ℕ → Type 0) → ((ts : List Token) (k : ℕ) → Q (plan_of core) (tree ts) k) → (plan : PlanTree) → Placed core plan → (P : Tree) (k : ℕ) → CoreState plan P k → Q plan P k
 from_state core good Q h plan pl P k r = from_plan core good (λ plan. Q plan P k) (from_tokens (λ P. Q (plan_of core) P k) (λ ts. h ts k) P (reached_leads plan opening 0 P k r).0) plan pl
 
 pub once_law : OnceLaw

@@ -6,7 +6,7 @@ use Rattle.gcx_model.specs.Core.{ItemTree, Write, Copy, For, If, Off, BodyTree, 
 use Rattle.gcx_model.specs.Variables.{var_tree, vars, item_vars}
 use Rattle.gcx_model.specs.Roles.{roles_of}
 use Rattle.gcx_model.specs.Cores.{BodyIn, Good}
-use Rattle.gcx_model.specs.Placed.{without, offs_in, of_role, row_at, InOrder, OnlyOffs, own_offs, Stand, Placed, statement, offs_of, at_end, offs_body, add_offs, place, placed_body, plan_of}
+use Rattle.gcx_model.specs.Placed.{without, offs_in, of_role, row_at, InOrder, OnlyOffs, own_offs, AtEnds, Placed, statement, offs_of, at_end, offs_body, add_offs, place, placed_body, plan_of}
 use Rattle.gcx_model.specs.Members.{In, Once}
 use Rattle.gcx_laws.proofs.Lists.{In-left, In-right, In-append, In-filter}
 use Rattle.gcx_laws.proofs.Plans.{good_once, good_not_zero, same_role, end_in, in_end}
@@ -91,7 +91,7 @@ only_without (Then (Off o) d) h = let q = only_without d h in (q.0, ap (Then (Of
 
 module _ (ends : ℕ → List OffTree) where
   -- a body is known by its core, by its own statements and by those of its loops
-  rebuilt : (u : ℕ) (d : BodyTree) → Stand u d → ((l : Loop_body) → In l (loops_in d) → own_offs l.body ≡ ends l.var) → d ≡ add_offs (place ends (without d)) (own_offs d)
+  rebuilt : (u : ℕ) (d : BodyTree) → AtEnds u d → ((l : Loop_body) → In l (loops_in d) → own_offs l.body ≡ ends l.var) → d ≡ add_offs (place ends (without d)) (own_offs d)
   rebuilt u Nil st h = refl
   rebuilt u (Then (Write s) d) st h = ap (Then (Write s)) (rebuilt u d st h)
   rebuilt u (Then (Copy x) d) st h = ap (Then (Copy x)) (rebuilt u d st h)
@@ -106,7 +106,7 @@ module _ (ends : ℕ → List OffTree) where
       ap (Then (Off o)) q.1 ∙ ap (λ z. add_offs (place ends z) (o ∷ own_offs d)) (sym q.0)
 
 -- where a statement stands
-stands_where : (u : ℕ) (d : BodyTree) (o : OffTree) → Stand u d → In o (offs_in d) → (In o (own_offs d) × (o.base ≡ u)) ⊎ ((l : Loop_body) × In l (loops_in d) × In o (own_offs l.body) × (o.base ≡ l.var))
+stands_where : (u : ℕ) (d : BodyTree) (o : OffTree) → AtEnds u d → In o (offs_in d) → (In o (own_offs d) × (o.base ≡ u)) ⊎ ((l : Loop_body) × In l (loops_in d) × In o (own_offs l.body) × (o.base ≡ l.var))
 stands_where u Nil o st i = absurd i
 stands_where u (Then (Write s) d) o st i = stands_where u d o st i
 stands_where u (Then (Copy x) d) o st i = stands_where u d o st i
@@ -131,7 +131,7 @@ stands_where u (Then (Off t) d) o st (inl e) = inl (inl e, ap (λ (z : OffTree).
 stands_where u (Then (Off t) d) o st (inr i) = elim (stands_where u d o st.2 i) [ inl k ↦ inl (inr k.0, k.1) | inr k ↦ inr k ]
 
 -- a body's own statements are of its variable, and stand in it
-own_of : (u : ℕ) (d : BodyTree) (o : OffTree) → Stand u d → In o (own_offs d) → (o.base ≡ u) × In o (offs_in d)
+own_of : (u : ℕ) (d : BodyTree) (o : OffTree) → AtEnds u d → In o (own_offs d) → (o.base ≡ u) × In o (offs_in d)
 own_of u Nil o st i = absurd i
 own_of u (Then (Write s) d) o st i = own_of u d o st i
 own_of u (Then (Copy x) d) o st i = own_of u d o st i
@@ -165,7 +165,7 @@ loops_empty (Then (If c a b) d) l e i =
 loops_empty (Then (Off o) d) l e i = absurd (cc)
 
 -- of a loop's body: its own statements are in order and of its variable, and stand in the whole
-loop_own : (u : ℕ) (d : BodyTree) (l : Loop_body) → Stand u d → In l (loops_in d) → InOrder (own_offs l.body) × ((o : OffTree) → In o (own_offs l.body) → (o.base ≡ l.var) × In o (offs_in d))
+loop_own : (u : ℕ) (d : BodyTree) (l : Loop_body) → AtEnds u d → In l (loops_in d) → InOrder (own_offs l.body) × ((o : OffTree) → In o (own_offs l.body) → (o.base ≡ l.var) × In o (offs_in d))
 loop_own u Nil l st i = absurd i
 loop_own u (Then (Write s) d) l st i = loop_own u d l st i
 loop_own u (Then (Copy x) d) l st i = loop_own u d l st i
@@ -195,7 +195,7 @@ module _ (ends : ℕ → List OffTree) (based : (x : ℕ) (o : OffTree) → In o
   offs_own [] = refl
   offs_own (o ∷ os) = ap (λ z. o ∷ z) (offs_own os)
 
-  offs_stand : (u : ℕ) (os : List OffTree) → ((o : OffTree) → In o os → o.base ≡ u) → Stand u (offs_body os)
+  offs_stand : (u : ℕ) (os : List OffTree) → ((o : OffTree) → In o os → o.base ≡ u) → AtEnds u (offs_body os)
   offs_stand u [] h = tt
   offs_stand u (o ∷ os) h = (h o (inl refl), offs_only os, offs_stand u os (λ t i. h t (inr i)))
 
@@ -215,7 +215,7 @@ module _ (ends : ℕ → List OffTree) (based : (x : ℕ) (o : OffTree) → In o
   core_none (Then (If c a e) d) b L q = ap (λ z. (z ++ offs_in e) ++ offs_in d) (core_none a false L q.0.1) ∙ (ap (λ z. z ++ offs_in d) (core_none e false L q.0.2) ∙ core_none d b L q.1)
   core_none (Then (Off o) d) b L q = absurd q.0
 
-  placed_stand : (u : ℕ) (d : BodyTree) (b : Bool) (L : List ℕ) (os : List OffTree) → BodyIn b L d → ((o : OffTree) → In o os → o.base ≡ u) → Stand u (add_offs (place ends d) os)
+  placed_stand : (u : ℕ) (d : BodyTree) (b : Bool) (L : List ℕ) (os : List OffTree) → BodyIn b L d → ((o : OffTree) → In o os → o.base ≡ u) → AtEnds u (add_offs (place ends d) os)
   placed_stand u Nil b L os q h = offs_stand u os h
   placed_stand u (Then (Write s) d) b L os q h = placed_stand u d b L os q.1 h
   placed_stand u (Then (Copy x) d) b L os q h = placed_stand u d b L os q.1 h

@@ -5,7 +5,7 @@ use Rattle.gcx_model.specs.Tree.{Node, Root, Under, serial_of, Tree, Token, End,
 use Rattle.gcx_base.specs.declared.steps.Step.{Step}
 use Rattle.gcx_model.specs.Paths.{matches}
 use Rattle.gcx_model.specs.Core.{ItemTree, For, Off, BodyTree, Nil, Then, OffTree}
-use Rattle.gcx_model.specs.Truth.{Env, bind}
+use Rattle.gcx_model.specs.Truth.{Env, bind_var}
 use Rattle.gcx_model.specs.Run.{env0, Action, Out, copy, loop, seq, run_item, run}
 use Rattle.gcx_laws.proofs.Lists.{In, Once, In-left, In-right, In-filter, In-kept}
 use Rattle.gcx_laws.proofs.Matches.{Grown, Grown-grow, Grown-all, Numbered-high, Matches-in, Matches-from, grow_nodes, added}
@@ -15,7 +15,7 @@ use Rattle.gcx_laws.proofs.Whole.{Bound-grow, run_is_done}
 use Rattle.gcx_laws.proofs.Needed.{Way}
 use Rattle.gcx_laws.proofs.Balance.{seq_both, seq_left, seq_right, loop_has, of_role}
 use Rattle.gcx_laws.proofs.Once.{way_once}
-use Rattle.gcx_laws.proofs.Stands.{Frame, Rest, Round, Part, Stands, body_at, later, behind, to_come, to_come-append, resume, stands_on, after}
+use Rattle.gcx_laws.proofs.PointForms.{Frame, Rest, Round, Part, IsPoint, body_at, later, behind, to_come, to_come-append, resume, stands_on, after}
 
 -- the statement is an item of the body
 abbrev pub Has : OffTree → BodyTree → Type 0
@@ -66,7 +66,7 @@ nodes_stay [] P m i = i
 nodes_stay (t ∷ ts) P m i = nodes_stay ts (grow t P) m (subst (λ (z : List Node). In m z) (sym (grow_nodes t P)) (In-left m P.nodes (added t P) i))
 
 -- the point stays while tokens come
-pub stands_all : (ts : List Token) (P : Tree) (w : Grown P) (d : BodyTree) (env : Env) (before : List Action) (fs : List Frame) → ((x : ℕ) → serial_of (env x) < length P.nodes) → Stands P d env before fs → Stands (grow_all ts P) d env before fs
+pub stands_all : (ts : List Token) (P : Tree) (w : Grown P) (d : BodyTree) (env : Env) (before : List Action) (fs : List Frame) → ((x : ℕ) → serial_of (env x) < length P.nodes) → IsPoint P d env before fs → IsPoint (grow_all ts P) d env before fs
 stands_all [] P w d env before fs b h = h
 stands_all (t ∷ ts) P w d env before fs b h = stands_all ts (grow t P) (Grown-grow t P w) d env before fs (Bound-grow t P w env b t) (stands_on t P w d env before fs b h)
 
@@ -103,7 +103,7 @@ module _ (P : Tree) where
       let q = seq_both a (to_come P fs) dn in
       seq_right (of_role o.role) (serial_of (v o.base)) a (to_come P fs) q.0 (waits_signs o v fs h q.1)
 
-module _ (P : Tree) (w : Grown P) (root : In Root P.nodes) (d : BodyTree) (o : OffTree) (path : List Step) (way : Way (of_role o.role) o.base 0 d path) (one : one_desc path ≡ true) (before : List Action) (fs : List Frame) (st : Stands P d env0 before fs) where
+module _ (P : Tree) (w : Grown P) (root : In Root P.nodes) (d : BodyTree) (o : OffTree) (path : List Step) (way : Way (of_role o.role) o.base 0 d path) (one : one_desc path ≡ true) (before : List Action) (fs : List Frame) (st : IsPoint P d env0 before fs) where
   -- what is to come in a tree in which all is closed
   closed_later : (m : ℕ) → ((ts : List Token) → (to_come (grow_all ts P) fs).done ≡ true → In m (sig (of_role o.role) (to_come (grow_all ts P) fs).acts)) → In m (sig (of_role o.role) before) → ⊥
   closed_later m h i =
@@ -146,12 +146,12 @@ module _ (P : Tree) (w : Grown P) (root : In Root P.nodes) (d : BodyTree) (o : O
           let k = In-filter (λ (j : Node). ltb (serial_of n) (serial_of j)) m (matches P (serial_of (env y)) (s ∷ [])) i in
           let k' = Matches-in P (serial_of (env y)) (s ∷ []) m k.0 in
           let m_in : In m ms = In-kept (λ (j : Node). ltb (serial_of n) (serial_of j)) m (matches Q (serial_of (env y)) (s ∷ [])) (Matches-from Q (serial_of (env y)) (s ∷ []) m (nodes_stay ts P m k'.0) k'.1) k.1 in
-          let bound : bind env x m o.base ≡ m = rw b (rw (eq-eqb x x refl) refl) in
+          let bound : bind_var env x m o.base ≡ m = rw b (rw (eq-eqb x x refl) refl) in
           subst (λ (z : Out). In (serial_of m) (sig (of_role o.role) z.acts)) (sym ap')
           (seq_right (of_role o.role) (serial_of m) (to_come Q top) (seq a (to_come Q rest)) q.0
           (seq_left (of_role o.role) (serial_of m) a (to_come Q rest) q'.0
           (loop_has (of_role o.role) (serial_of m) f ms (is_closed Q (env y)) q'.0 m m_in
-          (λ dn'. subst (λ (z : Node). In (serial_of z) (sig (of_role o.role) (f m).acts)) bound (has_signs Q o e (bind env x m) has dn')))))
+          (λ dn'. subst (λ (z : Node). In (serial_of z) (sig (of_role o.role) (f m).acts)) bound (has_signs Q o e (bind_var env x m) has dn')))))
 
   -- nor are the matches of such a loop that hasn't begun
   pub loop_unsigned : (top rest : List Frame) (x y : ℕ) (s : Step) (e d : BodyTree) (env : Env) (m : Node) → fs ≡ top ++ Rest (Then (For x y s e) d) env ∷ rest → Has o e → o.base ≡ x → In m (matches P (serial_of (env y)) (s ∷ [])) → In (serial_of m) (sig (of_role o.role) before) → ⊥
@@ -173,10 +173,10 @@ module _ (P : Tree) (w : Grown P) (root : In Root P.nodes) (d : BodyTree) (o : O
           let q'' = seq_both a (run d' env Q) q'.0 in
           let k' = Matches-in P (serial_of (env y)) (s ∷ []) m i in
           let m_in : In m ms = Matches-from Q (serial_of (env y)) (s ∷ []) m (nodes_stay ts P m k'.0) k'.1 in
-          let bound : bind env x m o.base ≡ m = rw b (rw (eq-eqb x x refl) refl) in
+          let bound : bind_var env x m o.base ≡ m = rw b (rw (eq-eqb x x refl) refl) in
           subst (λ (z : Out). In (serial_of m) (sig (of_role o.role) z.acts)) (sym ap')
           (seq_right (of_role o.role) (serial_of m) (to_come Q top) (seq body (to_come Q rest)) q.0
           (seq_left (of_role o.role) (serial_of m) body (to_come Q rest) q'.0
           (seq_left (of_role o.role) (serial_of m) a (run d' env Q) q''.0
           (loop_has (of_role o.role) (serial_of m) f ms (is_closed Q (env y)) q''.0 m m_in
-          (λ dn'. subst (λ (z : Node). In (serial_of z) (sig (of_role o.role) (f m).acts)) bound (has_signs Q o e (bind env x m) has dn'))))))
+          (λ dn'. subst (λ (z : Node). In (serial_of z) (sig (of_role o.role) (f m).acts)) bound (has_signs Q o e (bind_var env x m) has dn'))))))

@@ -7,7 +7,7 @@ use Rattle.gcx_base.specs.declared.kind.Kind.TheVariants.{Document, Element, Tex
 use Rattle.gcx_model.specs.Tree.{Node, Root, Under, serial_of, kind_of, above, Tree, Token, opening, grow, grow_all, is_closed}
 use Rattle.gcx_model.specs.Paths.{hits, matches, reach, lies, passes}
 use Rattle.gcx_model.specs.Core.{CondTree, Always, Exists, Compare, Not, All, Any, CondTrees, no_cond, more_conds, OperandTree, Path, Str, Num, ItemTree, Write, Copy, For, If, Off, BodyTree, Nil, Then}
-use Rattle.gcx_model.specs.Truth.{Verdict, True, False, Unknown, Env, bind, is_over, settle, negate, both, either, truth, truth_all, truth_any}
+use Rattle.gcx_model.specs.Truth.{Verdict, True, False, Unknown, Env, bind_var, is_over, settle, negate, both, either, truth, truth_all, truth_any}
 use Rattle.gcx_model.specs.Run.{Out, wrote, seq, loop, copy_with, copy, choose, run_item, run, env0}
 use Rattle.gcx_model.specs.Answer.{child_step, children}
 use Rattle.gcx_model.specs.Written.{end_tag}
@@ -131,10 +131,10 @@ module _ (P : Tree) (w : Grown P) (over : P.at ≡ None) where
     item_is_done (Write s) env b = refl
     item_is_done (Copy x) env b = copy_is_done (length P.nodes) (env x) (b x) (omega arith)
     item_is_done (For x y s d) env b =
-        loop_closed (λ n. run d (bind env x n) P) (matches P (serial_of (env y)) (s ∷ [])) (env y)
-        (λ m i. run_is_done d (bind env x m) (inside env x m b (Matches-in P (serial_of (env y)) (s ∷ []) m i).0))
+        loop_closed (λ n. run d (bind_var env x n) P) (matches P (serial_of (env y)) (s ∷ [])) (env y)
+        (λ m i. run_is_done d (bind_var env x m) (inside env x m b (Matches-in P (serial_of (env y)) (s ∷ []) m i).0))
       where
-        inside : (env : Env) (x : ℕ) (m : Node) → Inside env → In m P.nodes → Inside (bind env x m)
+        inside : (env : Env) (x : ℕ) (m : Node) → Inside env → In m P.nodes → Inside (bind_var env x m)
         inside env x m b i z = go (eqb z x)
           where
             go : (t : Bool) → In (cond t m (env z)) P.nodes

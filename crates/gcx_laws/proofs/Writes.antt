@@ -5,7 +5,7 @@ use Rattle.std.proofs.lemmas.List.Elements.{filter-append}
 use Rattle.gcx_model.specs.Tree.{Node, serial_of, Tree, is_closed}
 use Rattle.gcx_model.specs.Paths.{matches}
 use Rattle.gcx_model.specs.Core.{Write, Copy, For, If, Off, BodyTree, Nil, Then, OffTree}
-use Rattle.gcx_model.specs.Truth.{Env, bind}
+use Rattle.gcx_model.specs.Truth.{Env, bind_var}
 use Rattle.gcx_model.specs.Run.{env0, Action, Wrote, Offed, Out, idle, loop, seq, seq_if, run_item, run}
 use Rattle.gcx_model.specs.Placed.{add_offs, offs_body, place, at_end, offs_of}
 use Rattle.gcx_laws.proofs.Reading.{reading}
@@ -42,7 +42,7 @@ module _ (P : Tree) (ends : ℕ → List OffTree) where
   alike (Then (If c a b) d) os env = alike_seq (run_item (If c a b) env P) (run_item (If c a b) env P) (run (add_offs (place ends d) os) env P) (run d env P) (refl, refl) (alike d os env)
   alike (Then (For x y s e) d) os env =
       alike_seq (run_item (For x y s (add_offs (place ends e) (ends x))) env P) (run_item (For x y s e) env P) (run (add_offs (place ends d) os) env P) (run d env P)
-      (alike_loop (λ n. run (add_offs (place ends e) (ends x)) (bind env x n) P) (λ n. run e (bind env x n) P) (matches P (serial_of (env y)) (s ∷ [])) (is_closed P (env y)) (λ n. alike e (ends x) (bind env x n)))
+      (alike_loop (λ n. run (add_offs (place ends e) (ends x)) (bind_var env x n) P) (λ n. run e (bind_var env x n) P) (matches P (serial_of (env y)) (s ∷ [])) (is_closed P (env y)) (λ n. alike e (ends x) (bind_var env x n)))
       (alike d os env)
 
 -- The Write actions of the plan's run are, in order, those of the core's, and the one is done exactly where the other is.

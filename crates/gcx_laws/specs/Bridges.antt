@@ -12,7 +12,7 @@ use Rattle.gcx_model.specs.Variables.{one_desc, path_in}
 use Rattle.gcx_model.specs.Cores.{Good}
 use Rattle.gcx_model.specs.Placed.{offs_in, Placed}
 use Rattle.gcx_model.specs.Held.{path_of, statement_of, gives, signed}
-use Rattle.gcx_model.specs.Points.{actions, so_far, Reached}
+use Rattle.gcx_model.specs.Points.{actions, so_far, CoreState}
 use Rattle.gcx_model.specs.Sound.{only_last}
 use Rattle.gcx_model.specs.Growth.{Grow, Leads, may_come, may_all, tokens_of}
 
@@ -71,7 +71,7 @@ GivesByKind = (P : Tree) → Grown P → (m : ℕ) (rel tail : List Step) (n : N
 
 -- In a core state a node is signed for a statement of the plan where the actions so far have the Off of both.
 abbrev pub SignedIsOff : Type 0
-SignedIsOff = (core : BodyTree) → Good core → (plan : PlanTree) → Placed core plan → (P : Tree) (k : ℕ) → Reached plan P k → (s : OffTree) (m : Node) → In s (offs_in plan.body)
+SignedIsOff = (core : BodyTree) → Good core → (plan : PlanTree) → Placed core plan → (P : Tree) (k : ℕ) → CoreState plan P k → (s : OffTree) (m : Node) → In s (offs_in plan.body)
     → (signed (so_far plan P k) s m ≡ true) ↔ In (Offed s (serial_of m)) (so_far plan P k)
 
 -- The plan has one statement for each role, and the statement of a role is the one that it tells.
@@ -85,6 +85,6 @@ PathsByRows = (core : BodyTree) → Good core → (plan : PlanTree) → Placed c
 -- The demand run goes through core states: those in which every action is taken, and those just behind a token.
 abbrev pub DemandIsReached : Type 0
 DemandIsReached = (plan : PlanTree) (ts : List Token) → may_all ts opening ≡ true
-    → Reached plan (grow_all ts opening) (length (actions plan (grow_all ts opening)))
-    × ((t : Token) → may_come t (grow_all ts opening) ≡ true → Reached plan (grow t (grow_all ts opening)) (length (actions plan (grow_all ts opening)))
+    → CoreState plan (grow_all ts opening) (length (actions plan (grow_all ts opening)))
+    × ((t : Token) → may_come t (grow_all ts opening) ≡ true → CoreState plan (grow t (grow_all ts opening)) (length (actions plan (grow_all ts opening)))
     × (so_far plan (grow t (grow_all ts opening)) (length (actions plan (grow_all ts opening))) ≡ actions plan (grow_all ts opening)))

@@ -14,7 +14,7 @@ use Rattle.gcx_model.specs.Cores.{Good}
 use Rattle.gcx_model.specs.Placed.{offs_in, Placed, plan_of}
 use Rattle.gcx_model.specs.Held.{path_of, given, taken, held, held_tree, is_held}
 use Rattle.gcx_model.specs.Growth.{Leads}
-use Rattle.gcx_model.specs.Points.{actions, so_far, ReachedFrom, Reached, Frame, Rest, Round, Part, later, to_come, PointAt, Bound_in}
+use Rattle.gcx_model.specs.Points.{actions, so_far, ReachedFrom, CoreState, Frame, Rest, Round, Part, later, to_come, PointAt, Bound_in}
 use Rattle.gcx_model.specs.Needs.{Needs, Uses}
 use Rattle.gcx_model.specs.Sound.{is_sound}
 use Rattle.gcx_model.specs.Normal.{normal, known}
@@ -62,16 +62,16 @@ is_taking (Offed o n) = true
 
 -- Once law: no two of the actions of a core state are the same Off
 abbrev pub OnceLaw : Type 0
-OnceLaw = (core : BodyTree) → Good core → (plan : PlanTree) → Placed core plan → (P : Tree) (k : ℕ) → Reached plan P k → Once (filter is_taking (so_far plan P k))
+OnceLaw = (core : BodyTree) → Good core → (plan : PlanTree) → Placed core plan → (P : Tree) (k : ℕ) → CoreState plan P k → Once (filter is_taking (so_far plan P k))
 
 -- each of them is a statement of the plan, at a match of its base's path
 abbrev pub OffsAtMatches : Type 0
-OffsAtMatches = (core : BodyTree) → Good core → (plan : PlanTree) → Placed core plan → (P : Tree) (k : ℕ) → Reached plan P k
+OffsAtMatches = (core : BodyTree) → Good core → (plan : PlanTree) → Placed core plan → (P : Tree) (k : ℕ) → CoreState plan P k
     → (s : OffTree) (m : ℕ) → In (Offed s m) (so_far plan P k) → In s (offs_in plan.body) × ((n : Node) × In n (matches P 0 (path_of plan s.base)) × (serial_of n ≡ m))
 
 -- and what is taken in a core state is taken in each that Feeds and Acts reach from there.
 abbrev pub TakenStays : Type 0
-TakenStays = (core : BodyTree) → Good core → (plan : PlanTree) → Placed core plan → (P : Tree) (k : ℕ) → Reached plan P k → (Q : Tree) (j : ℕ) → ReachedFrom plan P k Q j
+TakenStays = (core : BodyTree) → Good core → (plan : PlanTree) → Placed core plan → (P : Tree) (k : ℕ) → CoreState plan P k → (Q : Tree) (j : ℕ) → ReachedFrom plan P k Q j
     → (n : Node) (r : ℕ) → In n P.nodes → taken plan P (so_far plan P k) n r ≡ true → taken plan Q (so_far plan Q j) n r ≡ true
 
 -- What a node was given stays as it is while tokens come,
@@ -80,7 +80,7 @@ GivenStays = (plan : PlanTree) (P Q : Tree) → Leads opening P → Leads P Q �
 
 -- and a node that isn't held in a core state is held in none that Feeds and Acts reach from there.
 abbrev pub GoneStays : Type 0
-GoneStays = (core : BodyTree) → Good core → (plan : PlanTree) → Placed core plan → (P : Tree) (k : ℕ) → Reached plan P k → (Q : Tree) (j : ℕ) → ReachedFrom plan P k Q j
+GoneStays = (core : BodyTree) → Good core → (plan : PlanTree) → Placed core plan → (P : Tree) (k : ℕ) → CoreState plan P k → (Q : Tree) (j : ℕ) → ReachedFrom plan P k Q j
     → (n : Node) → In n P.nodes → In n (held plan Q (so_far plan Q j)) → In n (held plan P (so_far plan P k))
 
 -- The nodes held behind a token come from those held before it and the new one,
@@ -102,42 +102,42 @@ ResumeLaw = (plan : PlanTree) (P : Tree) → Leads opening P → (k : ℕ) (fs :
 
 -- Need law: in every core state what its points need is held
 abbrev pub NeedLaw : Type 0
-NeedLaw = (core : BodyTree) → Good core → (plan : PlanTree) → Placed core plan → (P : Tree) (k : ℕ) → Reached plan P k → (fs : List Frame) → PointAt plan P k fs
+NeedLaw = (core : BodyTree) → Good core → (plan : PlanTree) → Placed core plan → (P : Tree) (k : ℕ) → CoreState plan P k → (fs : List Frame) → PointAt plan P k fs
     → (m : Node) → In m P.nodes → Needs P [] fs m → In m (held plan P (so_far plan P k))
 
 -- At a point each variable that the item uses with which a body goes on is bound below, to a match of its path,
 abbrev pub BoundLaw : Type 0
-BoundLaw = (core : BodyTree) → Good core → (plan : PlanTree) → Placed core plan → (P : Tree) (k : ℕ) → Reached plan P k → (top below : List Frame) (i : ItemTree) (d : BodyTree) (env : Env)
+BoundLaw = (core : BodyTree) → Good core → (plan : PlanTree) → Placed core plan → (P : Tree) (k : ℕ) → CoreState plan P k → (top below : List Frame) (i : ItemTree) (d : BodyTree) (env : Env)
     → PointAt plan P k (top ++ Rest (Then i d) env ∷ below) → (x : ℕ) → Uses i x → Bound_in x (env x) below × In (env x) (matches P 0 (path_of plan x))
 
 -- the present match of a loop is one of its parent's node, which is bound below, and of the variable's path,
 abbrev pub TurnLaw : Type 0
-TurnLaw = (core : BodyTree) → Good core → (plan : PlanTree) → Placed core plan → (P : Tree) (k : ℕ) → Reached plan P k → (top below : List Frame) (x y : ℕ) (s : Step) (e : BodyTree) (env : Env) (n : Node)
+TurnLaw = (core : BodyTree) → Good core → (plan : PlanTree) → Placed core plan → (P : Tree) (k : ℕ) → CoreState plan P k → (top below : List Frame) (x y : ℕ) (s : Step) (e : BodyTree) (env : Env) (n : Node)
     → PointAt plan P k (top ++ Round x y s e env n ∷ below) → Bound_in y (env y) below × In n (matches P (serial_of (env y)) (s ∷ [])) × In n (matches P 0 (path_of plan x))
 
 -- and a statement with which a body goes on isn't carried out yet at its base's node.
 abbrev pub UnsignedLaw : Type 0
-UnsignedLaw = (core : BodyTree) → Good core → (plan : PlanTree) → Placed core plan → (P : Tree) (k : ℕ) → Reached plan P k → (top below : List Frame) (o : OffTree) (d : BodyTree) (env : Env)
+UnsignedLaw = (core : BodyTree) → Good core → (plan : PlanTree) → Placed core plan → (P : Tree) (k : ℕ) → CoreState plan P k → (top below : List Frame) (o : OffTree) (d : BodyTree) (env : Env)
     → PointAt plan P k (top ++ Rest (Then (Off o) d) env ∷ below) → In (Offed o (serial_of (env o.base))) (so_far plan P k) → ⊥
 
 -- So over the held nodes the evaluator finds what it would find over the whole tree, wherever a frame stands among the others: the truth of a condition with which a body goes on,
 abbrev pub TruthHeld : Type 0
-TruthHeld = (core : BodyTree) → Good core → (plan : PlanTree) → Placed core plan → (P : Tree) (k : ℕ) → Reached plan P k → (top below : List Frame) (c : CondTree) (a b d : BodyTree) (env : Env)
+TruthHeld = (core : BodyTree) → Good core → (plan : PlanTree) → Placed core plan → (P : Tree) (k : ℕ) → CoreState plan P k → (top below : List Frame) (c : CondTree) (a b d : BodyTree) (env : Env)
     → PointAt plan P k (top ++ Rest (Then (If c a b) d) env ∷ below) → truth c env (held_tree plan P (so_far plan P k)) ≡ truth c env P
 
 -- the later matches of a loop,
 abbrev pub TurnsHeld : Type 0
-TurnsHeld = (core : BodyTree) → Good core → (plan : PlanTree) → Placed core plan → (P : Tree) (k : ℕ) → Reached plan P k → (top below : List Frame) (x y : ℕ) (s : Step) (e : BodyTree) (env : Env) (n : Node)
+TurnsHeld = (core : BodyTree) → Good core → (plan : PlanTree) → Placed core plan → (P : Tree) (k : ℕ) → CoreState plan P k → (top below : List Frame) (x y : ℕ) (s : Step) (e : BodyTree) (env : Env) (n : Node)
     → PointAt plan P k (top ++ Round x y s e env n ∷ below) → later n (matches (held_tree plan P (so_far plan P k)) (serial_of (env y)) (s ∷ [])) ≡ later n (matches P (serial_of (env y)) (s ∷ []))
 
 -- all matches of a loop that comes next,
 abbrev pub LoopHeld : Type 0
-LoopHeld = (core : BodyTree) → Good core → (plan : PlanTree) → Placed core plan → (P : Tree) (k : ℕ) → Reached plan P k → (top below : List Frame) (x y : ℕ) (s : Step) (e d : BodyTree) (env : Env)
+LoopHeld = (core : BodyTree) → Good core → (plan : PlanTree) → Placed core plan → (P : Tree) (k : ℕ) → CoreState plan P k → (top below : List Frame) (x y : ℕ) (s : Step) (e d : BodyTree) (env : Env)
     → PointAt plan P k (top ++ Rest (Then (For x y s e) d) env ∷ below) → matches (held_tree plan P (so_far plan P k)) (serial_of (env y)) (s ∷ []) ≡ matches P (serial_of (env y)) (s ∷ [])
 
 -- and a copy.
 abbrev pub CopyHeld : Type 0
-CopyHeld = (core : BodyTree) → Good core → (plan : PlanTree) → Placed core plan → (P : Tree) (k : ℕ) → Reached plan P k → (top below : List Frame) (x : ℕ) (env : Env) (made most : ℕ)
+CopyHeld = (core : BodyTree) → Good core → (plan : PlanTree) → Placed core plan → (P : Tree) (k : ℕ) → CoreState plan P k → (top below : List Frame) (x : ℕ) (env : Env) (made most : ℕ)
     → PointAt plan P k (top ++ Part x env made ∷ below) → copy most (held_tree plan P (so_far plan P k)) (env x) ≡ copy most P (env x)
 
 abbrev pub is_write : Action → Bool

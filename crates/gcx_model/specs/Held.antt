@@ -1,5 +1,5 @@
 -- Which nodes have which roles, which roles are taken back, and which nodes are held (ICDE 2007; that open nodes are held, and roles without counts, are this project's).
-use Rattle.std.specs.Prelude.{ℕ, zero, suc, Bool, false, not, ◌&&◌, ◌||◌, List, [], ◌∷◌, ◌++◌, length, ◌==◌, filter, Option, Some, None, sum, map}
+use Rattle.std.specs.Prelude.{ℕ, Bool, false, not, ◌&&◌, ◌||◌, List, [], ◌∷◌, ◌++◌, length, ◌==◌, filter, Option, Some, None, sum, map, slice_index_or}
 use Rattle.gcx_base.specs.declared.steps.Step.{Step}
 use Rattle.gcx_model.specs.Tree.{Node, serial_of, above, within, Tree, is_open_at}
 use Rattle.gcx_model.specs.Paths.{any, all, head, hits, matches, first}
@@ -8,20 +8,14 @@ use Rattle.gcx_model.specs.Core.{RoleKind, Own, First, Whole, OffTree, VarRowTre
 use Rattle.gcx_model.specs.Run.{Action, Wrote, Offed}
 use Rattle.gcx_model.specs.Placed.{offs_in, of_role, row_at}
 
--- the k-th list, and none past the end
-abbrev pub path_at : List (List Step) → ℕ → List Step
-path_at [] k = []
-path_at (p ∷ ps) zero = p
-path_at (p ∷ ps) (suc k) = path_at ps k
-
 -- the paths of the variables, each its parent's and its own step: those so far, and those of these rows
 abbrev pub paths_from : List (List Step) → List VarRowTree → List (List Step)
 paths_from paths [] = paths
-paths_from paths (r ∷ rs) = paths_from (paths ++ (path_at paths r.parent ++ r.step ∷ []) ∷ []) rs
+paths_from paths (r ∷ rs) = paths_from (paths ++ (slice_index_or paths r.parent [] ++ r.step ∷ []) ∷ []) rs
 
 -- Path(x): the steps from variable 0 to x
 abbrev pub path_of : PlanTree → ℕ → List Step
-path_of plan x = path_at (paths_from ([] ∷ []) plan.vars) x
+path_of plan x = slice_index_or (paths_from ([] ∷ []) plan.vars) x []
 
 -- the plan's statement for the role
 abbrev pub statement_of : PlanTree → ℕ → Option OffTree

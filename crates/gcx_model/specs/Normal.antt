@@ -104,9 +104,9 @@ normal_clauses [] names k inner = inner names k
 normal_clauses (c ∷ cs) names k inner = nest (start_var names c.path.start) c.path.steps k (λ y. normal_clauses cs (named names c.var y) (k + length c.path.steps) inner)
 
 -- `where` is an If with an empty other branch
-abbrev pub filtered : Option query.CondTree → Names → BodyTree → BodyTree
-filtered None names d = d
-filtered (Some c) names d = branch (normal_cond c names) d Nil
+abbrev pub guarded : Option query.CondTree → Names → BodyTree → BodyTree
+guarded None names d = d
+guarded (Some c) names d = branch (normal_cond c names) d Nil
 
 -- how many loops the core of it has
 abbrev pub clause_loops : List Clause → ℕ
@@ -132,7 +132,7 @@ abbrev mutual
   normal_expr (query.Seq es) names k = normal_exprs es names k
   normal_expr (query.Elem name es) names k = Then (Write (start_tag name)) (join (normal_exprs es names k) (one (Write (end_tag name))))
   normal_expr (query.Path path) names k = nest (start_var names path.start) path.steps k (λ y. one (Copy y))
-  normal_expr (query.For cs filter e) names k = normal_clauses cs names k (λ inner j. filtered filter inner (normal_expr e inner j))
+  normal_expr (query.For cs filter e) names k = normal_clauses cs names k (λ inner j. guarded filter inner (normal_expr e inner j))
   normal_expr (query.If c a b) names k = branch (normal_cond c names) (normal_expr a names k) (normal_expr b names (k + loops a))
 
   pub normal_exprs : ExprTrees → Names → (k : ℕ) → BodyTree

@@ -71,13 +71,13 @@ own_offs (Then (If c a b) d) = own_offs d
 own_offs (Then (Off o) d) = o ∷ own_offs d
 
 -- The statements stand at the end of loops' bodies, each in that of its base. Here d is a body of the variable u, or what stands behind some of its items.
-abbrev pub Stand : (u : ℕ) → BodyTree → Type 0
-Stand u Nil = Unit {0}
-Stand u (Then (Write s) d) = Stand u d
-Stand u (Then (Copy x) d) = Stand u d
-Stand u (Then (For x y s e) d) = Stand x e × InOrder (own_offs e) × Stand u d
-Stand u (Then (If c a b) d) = (offs_in a ≡ []) × (offs_in b ≡ []) × Stand u d
-Stand u (Then (Off o) d) = (o.base ≡ u) × OnlyOffs d × Stand u d
+abbrev pub AtEnds : (u : ℕ) → BodyTree → Type 0
+AtEnds u Nil = Unit {0}
+AtEnds u (Then (Write s) d) = AtEnds u d
+AtEnds u (Then (Copy x) d) = AtEnds u d
+AtEnds u (Then (For x y s e) d) = AtEnds x e × InOrder (own_offs e) × AtEnds u d
+AtEnds u (Then (If c a b) d) = (offs_in a ≡ []) × (offs_in b ≡ []) × AtEnds u d
+AtEnds u (Then (Off o) d) = (o.base ≡ u) × OnlyOffs d × AtEnds u d
 
 -- Placed
 pub record Placed (core : BodyTree) (plan : PlanTree) : Type 0 where
@@ -89,7 +89,7 @@ pub record Placed (core : BodyTree) (plan : PlanTree) : Type 0 where
   -- for each role exactly one statement
   pub one : (r : ℕ) → r < length (roles_of core) → (o : OffTree) × (filter (of_role r) (offs_in plan.body) ≡ o ∷ [])
   pub statements : (o : OffTree) → In o (offs_in plan.body) → IsStatement core o
-  pub stand : Stand 0 plan.body
+  pub stand : AtEnds 0 plan.body
   pub order : InOrder (own_offs plan.body)
 
 -- PlanOf: the one such plan, as a function

@@ -7,7 +7,7 @@ use Rattle.gcx_model.specs.Paths.{matches}
 use Rattle.gcx_model.specs.Written.{start_tag, end_tag, escaped}
 use Rattle.gcx_model.specs.Answer.{children}
 use Rattle.gcx_model.specs.Core.{OffTree, ItemTree, Write, Copy, For, If, Off, BodyTree, Nil, Then}
-use Rattle.gcx_model.specs.Truth.{Verdict, True, False, Unknown, Env, bind, truth}
+use Rattle.gcx_model.specs.Truth.{Verdict, True, False, Unknown, Env, bind_var, truth}
 
 -- bytes written; a statement carried out with its base bound to the node of this number
 pub data Action : Type 0 where
@@ -60,7 +60,7 @@ abbrev mutual
   pub run_item : ItemTree → Env → Tree → Out
   run_item (Write b) env P = wrote b
   run_item (Copy x) env P = copy (length P.nodes) P (env x)
-  run_item (For x y s d) env P = loop (λ n. run d (bind env x n) P) (matches P (serial_of (env y)) (s ∷ [])) (is_closed P (env y))
+  run_item (For x y s d) env P = loop (λ n. run d (bind_var env x n) P) (matches P (serial_of (env y)) (s ∷ [])) (is_closed P (env y))
   run_item (If c a b) env P = choose (truth c env P) (run a env P) (run b env P)
   run_item (Off o) env P = record { acts = Offed o (serial_of (env o.base)) ∷ []; done = true }
 

@@ -15,17 +15,17 @@ pub data Verdict : Type 0 where
 abbrev pub Env : Type 0
 Env = ℕ → Node
 
-abbrev pub bind : Env → ℕ → Node → Env
-bind env x n = λ y. cond (y == x) n (env y)
+abbrev pub bind_var : Env → ℕ → Node → Env
+bind_var env x n = λ y. cond (y == x) n (env y)
 
 abbrev pub node_value : Tree → Node → Value
 node_value P n = Bytes (value P n)
 
 -- a literal, or the values of the closed nodes for which the operand stands so far
-abbrev pub values : Tree → Env → OperandTree → List Value
-values P env (Path x steps) = map (node_value P) (filter (is_closed P) (matches P (serial_of (env x)) steps))
-values P env (Str b) = Bytes b ∷ []
-values P env (Num l) = Units l ∷ []
+abbrev pub settled_values : Tree → Env → OperandTree → List Value
+settled_values P env (Path x steps) = map (node_value P) (filter (is_closed P) (matches P (serial_of (env x)) steps))
+settled_values P env (Str b) = Bytes b ∷ []
+settled_values P env (Num l) = Units l ∷ []
 
 -- no more values come
 abbrev pub is_over : Tree → Env → OperandTree → Bool
@@ -61,7 +61,7 @@ abbrev mutual
   pub truth : CondTree → Env → Tree → Verdict
   truth Always env P = True
   truth (Exists x steps) env P = settle (is_any (matches P (serial_of (env x)) steps)) (is_closed P (env x))
-  truth (Compare l rel r) env P = settle (some_pair (compare rel) (values P env l) (values P env r)) (is_over P env l && is_over P env r)
+  truth (Compare l rel r) env P = settle (some_pair (compare rel) (settled_values P env l) (settled_values P env r)) (is_over P env l && is_over P env r)
   truth (Not c) env P = negate (truth c env P)
   truth (All cs) env P = truth_all cs env P
   truth (Any cs) env P = truth_any cs env P

@@ -140,14 +140,14 @@ order (Bytes v) (Units l) = option_map (λ d. against d l) (number v)
 order (Units l) (Bytes w) = option_map (λ d. ordering_reverse (against d l)) (number w)
 order (Units l) (Units k) = Some (int_cmp l k)
 
-abbrev pub holds : Rel → Ordering → Bool
-holds Eq o = is_eq o
-holds Ne o = is_ne o
-holds Lt o = is_lt o
-holds Le o = is_le o
-holds Gt o = is_gt o
-holds Ge o = is_ge o
+abbrev pub rel_holds : Rel → Ordering → Bool
+rel_holds Eq o = is_eq o
+rel_holds Ne o = is_ne o
+rel_holds Lt o = is_lt o
+rel_holds Le o = is_le o
+rel_holds Gt o = is_gt o
+rel_holds Ge o = is_ge o
 
 -- whether a relation holds of a pair; of one that has no order none does
 abbrev pub compare : Rel → Value → Value → Bool
-compare rel v w = is_some_and (holds rel) (order v w)
+compare rel v w = is_some_and (rel_holds rel) (order v w)

@@ -7,7 +7,7 @@ use Rattle.gcx_model.specs.Written.{start_tag, end_tag}
 use Rattle.gcx_model.specs.Query as query
 use Rattle.gcx_model.specs.Query.{ExprTree, ExprTrees}
 use Rattle.gcx_model.specs.Core.{Write, Copy, For, BodyTree, Nil, Then}
-use Rattle.gcx_model.specs.Normal.{join, one, Names, named, start_var, normal_cond, branch, nest, normal_clauses, filtered, loops, normal_expr, normal_exprs}
+use Rattle.gcx_model.specs.Normal.{join, one, Names, named, start_var, normal_cond, branch, nest, normal_clauses, guarded, loops, normal_expr, normal_exprs}
 use Rattle.xq_normal.specs.Raw.{raw_filtered, raw_expr, raw_exprs, moved, moved_item}
 use Rattle.gcx_model.specs.declared.item.Item.{Item}
 use Rattle.gcx_model.specs.ItemView.{item_tree, body_of}
@@ -28,7 +28,7 @@ moved-clauses (c ∷ cs) names k inner =
     moved-nest (start_var names c.path.start) c.path.steps k (λ y. normal_clauses cs (named names c.var y) (k + length c.path.steps) inner)
     ∙ ap (λ (f : ℕ → BodyTree). nest (start_var names c.path.start) c.path.steps k f) (fun_ext (λ y. moved-clauses cs (named names c.var y) (k + length c.path.steps) inner))
 
-moved-filtered : (f : Option query.CondTree) (names : Names) (d : BodyTree) → moved (raw_filtered f names d) ≡ filtered f names (moved d)
+moved-filtered : (f : Option query.CondTree) (names : Names) (d : BodyTree) → moved (raw_filtered f names d) ≡ guarded f names (moved d)
 moved-filtered None names d = refl
 moved-filtered (Some c) names d = join-nil (branch (normal_cond c names) (moved d) Nil)
 
@@ -42,7 +42,7 @@ mutual
   moved-expr (query.For cs f e) names k =
       moved-clauses cs names k (λ inner j. raw_filtered f inner (raw_expr e inner j))
       ∙ ap (λ (g : Names → ℕ → BodyTree). normal_clauses cs names k g)
-      (fun_ext (λ ns. fun_ext (λ j. moved-filtered f ns (raw_expr e ns j) ∙ ap (λ d. filtered f ns d) (moved-expr e ns j))))
+      (fun_ext (λ ns. fun_ext (λ j. moved-filtered f ns (raw_expr e ns j) ∙ ap (λ d. guarded f ns d) (moved-expr e ns j))))
   moved-expr (query.If c a b) names k =
       join-nil (branch (normal_cond c names) (moved (raw_expr a names k)) (moved (raw_expr b names (k + loops a))))
       ∙ (ap (λ d. branch (normal_cond c names) d (moved (raw_expr b names (k + loops a)))) (moved-expr a names k)

@@ -1,7 +1,7 @@
 ghost use Rattle.std.specs.Prelude.{◌≡◌};
 ghost use Rattle.std.specs.Ordering.{nat_cmp};
 ghost use Rattle.std.specs.Cmp.Lexicographic.{slice_cmp};
-ghost use Rattle.gcx_model.specs.Values.{holds};
+ghost use Rattle.gcx_model.specs.Values.{rel_holds};
 
 use gcx_base::Rel;
 use std::cmp::Ordering;
@@ -9,7 +9,7 @@ use std::cmp::Ordering;
 /// Whether the relation holds of two values, of which the first is less than, equal to or greater
 /// than the second (XQuery 1.0, section 3.5.2).
 pub fn holds(rel: Rel, order: Ordering) -> bool
-    ensures { result ≡ holds rel order }
+    ensures { result ≡ rel_holds rel order }
 {
     match rel {
         Rel::Eq => order.is_eq(),

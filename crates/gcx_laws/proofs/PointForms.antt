@@ -4,12 +4,12 @@ use Rattle.std.specs.List.{filter}
 use Rattle.std.specs.Prelude.{drop}
 use Rattle.std.proofs.lemmas.List.{append-nil}
 use Rattle.std.proofs.lemmas.Bool.{true≢false, lt-ltb, le-ltb}
-pub use Rattle.gcx_model.specs.Points.{Frame, Rest, Round, Part, later, body_at, behind, to_come, Stands, Begins, Past, InLoop, InYes, InNo, InCopy}
+pub use Rattle.gcx_model.specs.Points.{Frame, Rest, Round, Part, later, body_at, behind, to_come, IsPoint, Begins, Past, InLoop, InYes, InNo, InCopy}
 use Rattle.gcx_model.specs.Tree.{Node, serial_of, Tree, Token, grow, is_closed}
 use Rattle.gcx_model.specs.Paths.{hits, matches}
 use Rattle.gcx_model.specs.Core.{Copy, For, BodyTree, Then}
 use Rattle.gcx_model.specs.Run.{copy, Action, Out, idle, seq, seq_if, loop, choose, run_item, run}
-use Rattle.gcx_model.specs.Truth.{Verdict, True, False, Unknown, Env, bind}
+use Rattle.gcx_model.specs.Truth.{Verdict, True, False, Unknown, Env, bind_var}
 use Rattle.gcx_laws.proofs.Lists.{In, In-left, In-right}
 use Rattle.gcx_laws.proofs.Matches.{Grown, Rising, Rising-filter, added, Matches-grow, Matches-in}
 use Rattle.gcx_laws.proofs.Prefix.{Before, Same, More, Bound, Bound-bind, loop_mono, item_grows, run_grows, truth_firmer, Firmer, Kept, Learnt}
@@ -73,7 +73,7 @@ later_is [] n post r = rw (le-ltb (serial_of n) (serial_of n) (omega arith)) (al
 later_is (x ∷ pre) n post r = let l = r.0 n (In-right n pre (n ∷ post) (inl refl)) in rw (le-ltb (serial_of n) (serial_of x) (omega arith)) (later_is pre n post r.1)
 
 -- the actions so far, and then those that are still to come, are the run
-pub resume : (P : Tree) → Grown P → (d : BodyTree) (env : Env) (before : List Action) (fs : List Frame) → Stands P d env before fs → run d env P ≡ after before (to_come P fs)
+pub resume : (P : Tree) → Grown P → (d : BodyTree) (env : Env) (before : List Action) (fs : List Frame) → IsPoint P d env before fs → run d env P ≡ after before (to_come P fs)
 resume P w d env before fs Begins = sym (seq-idle (run d env P))
 resume P w d env before fs (Past {i = i} {d = rest} {before = before'} e h) =
     seq-done (run_item i env P) (run rest env P) e ∙ (ap (after (run_item i env P).acts) (resume P w rest env before' fs h) ∙ after-after (run_item i env P).acts before' (to_come P fs))
@@ -99,7 +99,7 @@ resume P w d env before fs (InLoop {x = x} {y = y} {s = s} {e = e} {d = rest} {b
     ∙ (seq-assoc a (seq (f n) (loop f post over)) (run rest env P)
     ∙ (seq-done a (seq (seq (f n) (loop f post over)) (run rest env P)) dn
     ∙ (ap (after a.acts) (seq-assoc (f n) (loop f post over) (run rest env P)
-    ∙ (ap (λ z. seq z (seq (loop f post over) (run rest env P))) (resume P w e (bind env x n) before' fs' h)
+    ∙ (ap (λ z. seq z (seq (loop f post over) (run rest env P))) (resume P w e (bind_var env x n) before' fs' h)
     ∙ (seq-after before' (to_come P fs') (seq (loop f post over) (run rest env P))
     ∙ ap (after before') (ap (λ z. seq (to_come P fs') (seq (loop f z over) (run rest env P))) (sym lt)
     ∙ (ap (λ z. seq (to_come P fs') (seq (loop f (later n ms) over) z)) (sym (seq-idle (run rest env P)))
@@ -120,11 +120,11 @@ firm_true a b k (Kept e) f n = sym e ∙ f
 firm_true a b k (Learnt e) f n = absurd (n (sym f ∙ e))
 
 -- the point stays where it is while tokens come
-pub stands_on : (t : Token) (P : Tree) (w : Grown P) (d : BodyTree) (env : Env) (before : List Action) (fs : List Frame) → Bound t P w env → Stands P d env before fs → Stands (grow t P) d env before fs
+pub stands_on : (t : Token) (P : Tree) (w : Grown P) (d : BodyTree) (env : Env) (before : List Action) (fs : List Frame) → Bound t P w env → IsPoint P d env before fs → IsPoint (grow t P) d env before fs
 stands_on t P w d env before fs b Begins = Begins
 stands_on t P w d env before fs b (Past {i = i} {d = rest} {before = before'} e h) =
     let same = same_when_done (run_item i env P) (run_item i env (grow t P)) (item_grows t P w i env b) e in
-    subst (λ (z : List Action). Stands (grow t P) (Then i rest) env (z ++ before') fs) (sym (ap (λ (o : Out). o.acts) same))
+    subst (λ (z : List Action). IsPoint (grow t P) (Then i rest) env (z ++ before') fs) (sym (ap (λ (o : Out). o.acts) same))
     (Past (ap (λ (o : Out). o.done) (sym same) ∙ e) (stands_on t P w rest env before' fs b h))
 stands_on t P w d env before fs b (InYes {c = c} {a = a} {fs = fs'} e h) = InYes (firm_true _ _ True (truth_firmer t P w c env b) e (λ k. cc)) (stands_on t P w a env before fs' b h)
 stands_on t P w d env before fs b (InNo {c = c} {b = other} {fs = fs'} e h) = InNo (firm_true _ _ False (truth_firmer t P w c env b) e (λ k. cc)) (stands_on t P w other env before fs' b h)
@@ -133,15 +133,15 @@ stands_on t P w d env before fs b (InLoop {x = x} {y = y} {s = s} {e = e} {d = r
     let g : Node → Out = body_at e x env (grow t P) in
     let more : List Node = filter (hits (serial_of (env y)) (s ∷ [])) (added t P) in
     let in_P : (a : Node) → In a (pre ++ n ∷ post) → In a P.nodes = λ a i. (Matches-in P (serial_of (env y)) (s ∷ []) a (subst (λ (z : List Node). In a z) (sym m) i)).0 in
-    let each : (a : Node) → In a pre → Before (f a) (g a) = λ a i. run_grows t P w e (bind env x a) (Bound-bind t P w env x a b (in_P a (In-left a pre (n ∷ post) i))) in
+    let each : (a : Node) → In a pre → Before (f a) (g a) = λ a i. run_grows t P w e (bind_var env x a) (Bound-bind t P w env x a b (in_P a (In-left a pre (n ∷ post) i))) in
     let grown : Before (loop f pre true) (loop g (pre ++ []) true) = loop_mono f g pre [] true true each (λ q. (refl, refl)) in
     let same : loop f pre true ≡ loop g pre true = same_when_done _ _ grown dn ∙ ap (λ z. loop g z true) (append-nil pre) in
-    subst (λ (z : List Action). Stands (grow t P) (Then (For x y s e) rest) env (z ++ before') (fs' ++ Round x y s e env n ∷ Rest rest env ∷ [])) (sym (ap (λ (o : Out). o.acts) same))
+    subst (λ (z : List Action). IsPoint (grow t P) (Then (For x y s e) rest) env (z ++ before') (fs' ++ Round x y s e env n ∷ Rest rest env ∷ [])) (sym (ap (λ (o : Out). o.acts) same))
     (InLoop pre n (post ++ more) (Matches-grow t P (serial_of (env y)) (s ∷ []) ∙ (ap (λ z. z ++ more) m ∙ append_assoc pre (n ∷ post) more))
     (ap (λ (o : Out). o.done) (sym same) ∙ dn)
-    (stands_on t P w e (bind env x n) before' fs' (Bound-bind t P w env x n b (in_P n (In-right n pre (n ∷ post) (inl refl)))) h))
+    (stands_on t P w e (bind_var env x n) before' fs' (Bound-bind t P w env x n b (in_P n (In-right n pre (n ∷ post) (inl refl)))) h))
 stands_on t P w d env before fs b (InCopy {x = x} {d = rest} before' rest' e) = go (item_grows t P w (Copy x) env b)
   where
-    go : Before (run_item (Copy x) env P) (run_item (Copy x) env (grow t P)) → Stands (grow t P) (Then (Copy x) rest) env before (Part x env (length before) ∷ Rest rest env ∷ [])
+    go : Before (run_item (Copy x) env P) (run_item (Copy x) env (grow t P)) → IsPoint (grow t P) (Then (Copy x) rest) env before (Part x env (length before) ∷ Rest rest env ∷ [])
     go (Same f) = InCopy before rest' (ap (λ (o : Out). o.acts) (sym f) ∙ e)
     go (More f r g) = InCopy before (rest' ++ r) (g ∙ (ap (λ z. z ++ r) e ∙ append_assoc before rest' r))
