@@ -1,7 +1,7 @@
 -- A run that is done has signed each node that the way to b reaches; so where all is closed, all that is given is taken.
 use Rattle.std.proofs.Common.{◌≡◌, ℕ, Bool, true, false, cond, not, ◌&&◌, ◌||◌, List, [], ◌∷◌, refl, sym, ◌∙◌, ap, subst, inl, inr, None, eqb}
 use Rattle.std.proofs.lemmas.Bool.{or_left, or_right, and_from, false≢true, eq-eqb}
-pub use Rattle.gcx_model.specs.Placed.{of_role}
+pub use Rattle.gcx_model.specs.Equal.{off_eq}
 use Rattle.gcx_model.specs.Tree.{Node, Root, serial_of, Tree, is_closed}
 use Rattle.gcx_model.specs.Paths.{any, matches}
 use Rattle.gcx_base.specs.declared.steps.Step.{Step}
@@ -61,22 +61,21 @@ module _ (P : Tree) (w : Grown P) (p : OffTree → Bool) (b : ℕ) where
       (loop_has p (serial_of n) (body_at e x env P) (matches P (serial_of (env y)) (s ∷ [])) (is_closed P (env y)) q.0 r.0 r.1
       (λ d. way_signs x e path' wy (bind_var env x r.0) d n (subst (λ (z : Node). In n (chain_at P z path')) (sym (bound_at P w p b env x r.0)) r.2)))
 
--- p picks the statement of one role
-pub sig_any : (r m : ℕ) (xs : List Action) → In m (sig (of_role r) xs) → any (is_off r m) xs ≡ true
-sig_any r m [] h = absurd h
-sig_any r m (Wrote s ∷ xs) h = sig_any r m xs h
-sig_any r m (Offed o n ∷ xs) h = go (eqb o.role r) refl (sig_any r m xs) h
+pub sig_any : (s : OffTree) (m : ℕ) (xs : List Action) → In m (sig (off_eq s) xs) → any (is_off s m) xs ≡ true
+sig_any s m [] h = absurd h
+sig_any s m (Wrote b ∷ xs) h = sig_any s m xs h
+sig_any s m (Offed o n ∷ xs) h = go (off_eq s o) refl (sig_any s m xs) h
   where
-    go : (c : Bool) → eqb o.role r ≡ c → (In m (sig (of_role r) xs) → any (is_off r m) xs ≡ true) → In m (cond c (n ∷ sig (of_role r) xs) (sig (of_role r) xs)) → (((eqb o.role r) && (eqb n m)) || any (is_off r m) xs) ≡ true
+    go : (c : Bool) → off_eq s o ≡ c → (In m (sig (off_eq s) xs) → any (is_off s m) xs ≡ true) → In m (cond c (n ∷ sig (off_eq s) xs) (sig (off_eq s) xs)) → ((off_eq s o && eqb n m) || any (is_off s m) xs) ≡ true
     go true e ih (inl f) = or_left _ _ (and_from _ _ e (eq-eqb _ _ f))
     go true e ih (inr i) = or_right _ _ (ih i)
     go false e ih i = or_right _ _ (ih i)
 
 -- The balance law for one role: its row, its statement, and the way to its base
-pub balance : (p : Reading) (P : Tree) (w : Grown P) → P.at ≡ None → In Root P.nodes → (n : Node) (r : RoleRowTree) (o : OffTree) → Way (of_role o.role) o.base 0 p.body (p.paths o.base) → (run p.body env0 P).done ≡ true → given p P n r ≡ true → taken p P (run p.body env0 P).acts n r o ≡ true
+pub balance : (p : Reading) (P : Tree) (w : Grown P) → P.at ≡ None → In Root P.nodes → (n : Node) (r : RoleRowTree) (o : OffTree) → Way (off_eq o) o.base 0 p.body (p.paths o.base) → (run p.body env0 P).done ≡ true → given p P n r ≡ true → taken p P (run p.body env0 P).acts n r o ≡ true
 balance p P w over root n r o wy d g =
     and_from _ _ g (all_from (λ (m : Node). not (gives P (serial_of m) o.rel o.tail o.kind n) || signed P (run p.body env0 P).acts o m) (matches P 0 (p.paths o.base)) (λ m i.
     let q = Matches-in P 0 (p.paths o.base) m i in
     or_right _ _
-    (sig_any o.role (serial_of m) (run p.body env0 P).acts
-    (way_signs P w (of_role o.role) o.base 0 p.body (p.paths o.base) wy env0 d m (chain_from P w Root (p.paths o.base) m root q.0 q.1)))))
+    (sig_any o (serial_of m) (run p.body env0 P).acts
+    (way_signs P w (off_eq o) o.base 0 p.body (p.paths o.base) wy env0 d m (chain_from P w Root (p.paths o.base) m root q.0 q.1)))))

@@ -26,12 +26,15 @@ use Rattle.gcx_laws.proofs.Prefix.{Before, Same, More}
 use Rattle.gcx_laws.proofs.Whole.{run_grows_all, run_is_done}
 use Rattle.gcx_laws.proofs.Signs.{sig}
 use Rattle.gcx_laws.proofs.Needed.{Way, way_sig}
-use Rattle.gcx_laws.proofs.Balance.{of_role, balance}
+use Rattle.gcx_laws.proofs.Balance.{off_eq, balance}
+use Rattle.gcx_model.specs.Placed.{of_role}
+use Rattle.std.proofs.lemmas.Bool.{ne_eqb}
+use Rattle.gcx_laws.proofs.Equal.{off_refl, off_other}
 use Rattle.gcx_laws.proofs.Stays.{taken_stays as taken_fed, all_in, all_from}
 use Rattle.gcx_laws.proofs.Once.{way_once}
 use Rattle.gcx_laws.proofs.PointForms.{Frame, IsPoint}
 use Rattle.gcx_laws.proofs.Points.{point}
-use Rattle.gcx_laws.proofs.Plans.{At_row, row_is, end_in, good_based, roles_known, way_of}
+use Rattle.gcx_laws.proofs.Plans.{same_role, At_row, row_is, end_in, good_based, roles_known, way_of}
 use Rattle.gcx_laws.proofs.Waits.{nodes_stay, root_bound}
 use Rattle.gcx_laws.proofs.Need.{Needs, needs_held, off_row}
 
@@ -162,14 +165,22 @@ plan_takes : (core : BodyTree) → Good core → (P : Tree) (o : OffTree) (n : �
 plan_takes core good P o n i = run_only (λ t. In t (offs_of core)) P (reading core).body env0 o n (plan_only core good) i
 
 -- the way to the base of each of the plan's statements
-pub plan_way : (core : BodyTree) → Good core → (o : OffTree) → In o (offs_of core) → Way (of_role o.role) o.base 0 (reading core).body (var_tree core o.base).path × (one_desc (var_tree core o.base).path ≡ true)
-plan_way core good o i =
+pub picked_way : (core : BodyTree) → Good core → (p : OffTree → Bool) (o : OffTree) → In o (offs_of core) → p o ≡ true → ((q : OffTree) → In q (offs_of core) → (q ≡ o → ⊥) → p q ≡ false)
+    → Way p o.base 0 (reading core).body (var_tree core o.base).path × (one_desc (var_tree core o.base).path ≡ true)
+picked_way core good p o i picked differs =
     let V : ℕ → Var = var_tree core in
     let r = off_row V (roles_of core) 0 (roles_of core) o i in
     let q = row_is V (roles_of core) 0 (roles_of core) r.0 o r.1 in
     let b = good_based core good (r.0).var (roles_known core good r.0 q.0) in
     let base : o.base ≡ (V (r.0).var).base = ap (λ (z : OffTree). z.base) q.2.1 in
-    way_of core good o i (subst (λ (z : ℕ). In z (0 ∷ vars core)) (sym base) b.known) (ap (λ (z : ℕ). (V z).straight) base ∙ b.straight)
+    way_of core good p o i picked differs (subst (λ (z : ℕ). In z (0 ∷ vars core)) (sym base) b.known) (ap (λ (z : ℕ). (V z).straight) base ∙ b.straight)
+
+pub plan_way : (core : BodyTree) → Good core → (o : OffTree) → In o (offs_of core) → Way (off_eq o) o.base 0 (reading core).body (var_tree core o.base).path × (one_desc (var_tree core o.base).path ≡ true)
+plan_way core good o i = picked_way core good (off_eq o) o i (off_refl o) (λ q j n. off_other o q n)
+
+-- a role picks its one statement too
+pub role_way : (core : BodyTree) → Good core → (o : OffTree) → In o (offs_of core) → Way (of_role o.role) o.base 0 (reading core).body (var_tree core o.base).path × (one_desc (var_tree core o.base).path ≡ true)
+role_way core good o i = picked_way core good (of_role o.role) o i (eq-eqb o.role o.role refl) (λ q j n. ne_eqb q.role o.role (λ e. n (same_role (var_tree core) (roles_of core) 0 (roles_of core) q o j i e)))
 
 In-take : {X : Type 0} (k : ℕ) (xs : List X) (x : X) → In x (take k xs) → In x xs
 In-take zero xs x h = absurd h
@@ -177,13 +188,13 @@ In-take (suc k) [] x h = absurd h
 In-take (suc k) (y ∷ ys) x (inl e) = inl e
 In-take (suc k) (y ∷ ys) x (inr i) = inr (In-take k ys x i)
 
-pub offed_sig : (o : OffTree) (n : ℕ) (xs : List Action) → In (Offed o n) xs → In n (sig (of_role o.role) xs)
+pub offed_sig : (o : OffTree) (n : ℕ) (xs : List Action) → In (Offed o n) xs → In n (sig (off_eq o) xs)
 offed_sig o n [] i = absurd i
-offed_sig o n (x ∷ xs) (inl e) = subst (λ (z : Action). In n (sig (of_role o.role) (z ∷ xs))) (sym e) (rw (eq-eqb o.role o.role refl) (inl refl))
+offed_sig o n (x ∷ xs) (inl e) = subst (λ (z : Action). In n (sig (off_eq o) (z ∷ xs))) (sym e) (rw (off_refl o) (inl refl))
 offed_sig o n (Wrote b ∷ xs) (inr i) = offed_sig o n xs i
-offed_sig o n (Offed t m ∷ xs) (inr i) = go (of_role o.role t) (offed_sig o n xs i)
+offed_sig o n (Offed t m ∷ xs) (inr i) = go (off_eq o t) (offed_sig o n xs i)
   where
-    go : (c : Bool) → In n (sig (of_role o.role) xs) → In n (cond c (m ∷ sig (of_role o.role) xs) (sig (of_role o.role) xs))
+    go : (c : Bool) → In n (sig (off_eq o) xs) → In n (cond c (m ∷ sig (off_eq o) xs) (sig (off_eq o) xs))
     go true h = inr h
     go false h = h
 
@@ -200,15 +211,15 @@ abbrev pub is_taking : Action → Bool
 is_taking (Wrote b) = false
 is_taking (Offed o n) = true
 
-once_from : (xs : List Action) → ((o : OffTree) (n : ℕ) → In (Offed o n) xs → Once (sig (of_role o.role) xs)) → Once (filter is_taking xs)
+once_from : (xs : List Action) → ((o : OffTree) (n : ℕ) → In (Offed o n) xs → Once (sig (off_eq o) xs)) → Once (filter is_taking xs)
 once_from [] h = tt
 once_from (Wrote b ∷ xs) h = once_from xs (λ o n i. h o n (inr i))
 once_from (Offed o n ∷ xs) h = (
   (λ i.
       let j = offed_sig o n xs (In-filter is_taking (Offed o n) xs i).0 in
-      let k : Once (n ∷ sig (of_role o.role) xs) = subst (λ (c : Bool). Once (cond c (n ∷ sig (of_role o.role) xs) (sig (of_role o.role) xs))) (eq-eqb o.role o.role refl) (h o n (inl refl)) in
+      let k : Once (n ∷ sig (off_eq o) xs) = subst (λ (c : Bool). Once (cond c (n ∷ sig (off_eq o) xs) (sig (off_eq o) xs))) (off_refl o) (h o n (inl refl)) in
       k.0 j),
-  once_from xs (λ t m i. sig_rest (of_role t.role) (Offed o n) xs (h t m (inr i))),
+  once_from xs (λ t m i. sig_rest (off_eq t) (Offed o n) xs (h t m (inr i))),
 )
 
 sig_take : (p : OffTree → Bool) (k : ℕ) (xs : List Action) (n : ℕ) → In n (sig p (take k xs)) → In n (sig p xs)
@@ -236,7 +247,7 @@ once_take p (suc k) (Offed o m ∷ xs) h = go (p o) (once_take p k xs) h
 pub once : (core : BodyTree) → Good core → (ts : List Token) (k : ℕ) → Once (filter is_taking (so_far core (tree ts) k))
 once core good ts k = once_from (so_far core (tree ts) k) (λ o n i.
     let w = plan_way core good o (plan_takes core good (tree ts) o n (In-take k (actions core (tree ts)) (Offed o n) i)) in
-    once_take (of_role o.role) k (actions core (tree ts)) (way_once (tree ts) (grown ts) (of_role o.role) o.base 0 (reading core).body (var_tree core o.base).path w.0 env0 (root_in ts) w.1))
+    once_take (off_eq o) k (actions core (tree ts)) (way_once (tree ts) (grown ts) (off_eq o) o.base 0 (reading core).body (var_tree core o.base).path w.0 env0 (root_in ts) w.1))
 
 -- Each Off of them is a statement of the plan, at a match of its base's path.
 pub once_at : (core : BodyTree) → Good core → (ts : List Token) (k : ℕ) (s : OffTree) (m : ℕ) → In (Offed s m) (so_far core (tree ts) k)
@@ -246,7 +257,7 @@ once_at core good ts k s m i =
     let j = In-take k (actions core P) (Offed s m) i in
     let t = plan_takes core good P s m j in
     let w = plan_way core good s t in
-    let r = way_sig P (grown ts) (of_role s.role) s.base 0 (reading core).body (var_tree core s.base).path w.0 env0 m (offed_sig s m (actions core P) j) in
+    let r = way_sig P (grown ts) (off_eq s) s.base 0 (reading core).body (var_tree core s.base).path w.0 env0 m (offed_sig s m (actions core P) j) in
     let c = chain_hits P (grown ts) Root (var_tree core s.base).path r.0 (root_in ts) r.1 in
     (t, (r.0, Matches-from P 0 ((reading core).paths s.base) r.0 c.0 c.1, sym r.2))
 
@@ -267,7 +278,7 @@ so_far_stays core ts us k j l a i = go (run_grows_all us (tree ts) (grown ts) (r
     go (More d r e) = subst (λ (z : List Action). In a (take j z)) (sym e) (In-take_more k j (actions core (tree ts)) r a l i)
 
 signed_more : (P : Tree) (A B : List Action) (o : OffTree) (m : Node) → ((a : Action) → In a A → In a B) → signed P A o m ≡ true → signed P B o m ≡ true
-signed_more P A B o m h e = let r = any_in (is_off o.role (serial_of m)) A e in any_from (is_off o.role (serial_of m)) r.0 B (h r.0 r.1) r.2
+signed_more P A B o m h e = let r = any_in (is_off o (serial_of m)) A e in any_from (is_off o (serial_of m)) r.0 B (h r.0 r.1) r.2
 
 pub taken_acted : (p : Reading) (P : Tree) (A B : List Action) (n : Node) (r : RoleRowTree) (o : OffTree) → ((a : Action) → In a A → In a B) → taken p P A n r o ≡ true → taken p P B n r o ≡ true
 taken_acted p P A B n r o h e =

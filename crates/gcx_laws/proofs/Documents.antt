@@ -2,6 +2,7 @@
 use Rattle.std.proofs.Common.{◌≡◌, ℕ, ◌+◌, ◌<◌, true, false, not, List, [], ◌∷◌, ◌++◌, length, refl, sym, ◌∙◌, ap, subst, inl, inr, arith, append_assoc, Some, Option}
 use Rattle.std.proofs.lemmas.List.{append-nil, length-append}
 use Rattle.std.proofs.lemmas.Bool.{and_from, ne_eqb}
+use Rattle.gcx_base.specs.Name.{IsNameBytes}
 use Rattle.gcx_base.specs.declared.kind.Kind.{Kind}
 use Rattle.gcx_base.specs.declared.kind.Kind.TheVariants.{Element, Text}
 use Rattle.gcx_model.specs.Document.{Nodes, none, element, text, is_blank, ends_with_text, AreNodes, IsDocument, tokens}
@@ -10,7 +11,7 @@ use Rattle.gcx_model.specs.Members.{In}
 use Rattle.gcx_model.specs.Growth.{has_root, is_text_in, ends_in_text, may_come_at, may_come, may_all}
 use Rattle.gcx_laws.specs.Bridges.{DocumentsGrow}
 use Rattle.gcx_laws.proofs.Lists.{In-append}
-use Rattle.gcx_laws.proofs.Growing.{grow_all-append, may_all-append, leads}
+use Rattle.gcx_laws.proofs.Growing.{grow_all-append, may_all-append, leads, name_tested}
 use Rattle.gcx_laws.proofs.Meaning.{whole_closed}
 
 -- the last of these nodes is no text of p
@@ -62,9 +63,9 @@ module _ (r : Node) (s : ℕ) (k : Kind) where
       }
 
   -- an element, given what stands before it and what stands in it
-  adds_element : (P : Tree) (before : Nodes) (name : List ℕ) (inner : Nodes) → s < length P.nodes → (a : Adds here before P)
+  adds_element : (P : Tree) (before : Nodes) (name : List ℕ) (inner : Nodes) → IsNameBytes name → s < length P.nodes → (a : Adds here before P)
       → Adds (Under here (length (grow_all (tokens before) P).nodes) (Element name)) inner (grow (Start name) (grow_all (tokens before) P)) → Adds here (element before name inner) P
-  adds_element P before name inner l a b =
+  adds_element P before name inner named l a b =
       let Q : Tree = grow_all (tokens before) P in
       let n : Node = Under here (length Q.nodes) (Element name) in
       let R : Tree = grow_all (tokens inner) (grow (Start name) Q) in
@@ -76,7 +77,7 @@ module _ (r : Node) (s : ℕ) (k : Kind) where
       let long : length Q.nodes ≡ length P.nodes + length a.more = ap length a.nodes ∙ length-append P.nodes a.more in
       record {
         comes = may_all-append (tokens before) (Start name ∷ (tokens inner ++ End ∷ [])) P a.comes
-            (and_from _ _ (comes_at Q (Some here) (Start name) a.at refl) (may_all-append (tokens inner) (End ∷ []) (grow (Start name) Q) b.comes (one_more R End (comes_at R (Some n) End b.at refl))));
+            (and_from _ _ (comes_at Q (Some here) (Start name) a.at (name_tested name named)) (may_all-append (tokens inner) (End ∷ []) (grow (Start name) Q) b.comes (one_more R End (comes_at R (Some n) End b.at refl))));
         more = a.more ++ n ∷ b.more;
         nodes = nodes' ∙ (ap (λ z. z ++ n ∷ b.more) a.nodes ∙ append_assoc P.nodes a.more (n ∷ b.more));
         at = ap (λ (z : Tree). z.at) all ∙ ap (λ (z : Option Node). (grow_at z End R).at) b.at;
@@ -95,7 +96,7 @@ adds (element before name inner) h r s k P e l f =
     let Q : Tree = grow_all (tokens before) P in
     let n : Node = Under (Under r s k) (length Q.nodes) (Element name) in
     let new : (grow (Start name) Q).nodes ≡ Q.nodes ++ n ∷ [] = ap (λ (z : Option Node). (grow_at z (Start name) Q).nodes) a.at in
-    adds_element r s k P before name inner l a
+    adds_element r s k P before name inner h.1 l a
     (adds inner h.2 (Under r s k) (length Q.nodes) (Element name) (grow (Start name) Q) (ap (λ (z : Option Node). (grow_at z (Start name) Q).at) a.at)
     (let g = ap length new in let m = length-append Q.nodes (n ∷ []) in omega arith)
     (subst (λ (z : List Node). ends_in_text n z ≡ false) (sym new) (ends_from n Q.nodes n [] refl (λ x i. absurd i))))
@@ -117,7 +118,7 @@ document_comes (element none name inner) h =
     let nodes : (grow End R).nodes ≡ (Root ∷ (n ∷ [])) ++ a.more = ap (λ (z : Option Node). (grow_at z End R).nodes) a.at ∙ a.nodes in
     let inside : may_all (tokens inner ++ End ∷ []) P ≡ true = may_all-append (tokens inner) (End ∷ []) P a.comes (one_more R End (comes_at R (Some n) End a.at refl)) in
     let over : grow_all (tokens inner ++ End ∷ []) P ≡ grow End R = grow_all-append (tokens inner) (End ∷ []) P in
-    may_all-append (Start name ∷ (tokens inner ++ End ∷ [])) (End ∷ []) opening (and_from _ _ refl inside)
+    may_all-append (Start name ∷ (tokens inner ++ End ∷ [])) (End ∷ []) opening (and_from _ _ (and_from _ _ (name_tested name h.1) refl) inside)
     (subst (λ (z : Tree). may_all (End ∷ []) z ≡ true) (sym over) (one_more (grow End R) End (comes_at (grow End R) (Some Root) End at (ap has_root nodes))))
 
 pub documents_grow : DocumentsGrow

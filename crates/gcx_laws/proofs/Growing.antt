@@ -2,11 +2,18 @@
 use Rattle.std.proofs.Common.{◌≡◌, ℕ, zero, suc, ◌-◌, ◌≤◌, true, false, not, List, [], ◌∷◌, ◌++◌, length, refl, sym, ◌∙◌, ap, subst, inl, inr, arith, append_assoc, Some, None, Option}
 use Rattle.std.proofs.lemmas.List.{append-nil}
 use Rattle.std.proofs.lemmas.Bool.{and_parts, and_from, false≢true, not-true}
+use Rattle.std.specs.Prelude.{bytes_eq}
+use Rattle.std.specs.Str.{chars}
+use lib.Utf8.{encodes}
+use Rattle.std.proofs.lemmas.Slice.Eq.{bytes_eq-Decides}
+use Rattle.std.proofs.lemmas.Str.{encodes-chars}
+use Rattle.gcx_base.specs.Name.{is_name, IsNameBytes}
+use Rattle.gcx_base.proofs.Names.{name_text, name_chars}
 use Rattle.gcx_base.specs.declared.kind.Kind.{Kind}
 use Rattle.gcx_base.specs.declared.kind.Kind.TheVariants.{Element, Text}
 use Rattle.gcx_model.specs.Tree.{Node, Root, Under, above, Tree, Token, Start, Chars, End, opening, grow, grow_at, grow_all}
 use Rattle.gcx_model.specs.Members.{In}
-use Rattle.gcx_model.specs.Growth.{has_root, Grow, opened, added, closed, ended, Leads, stays, more, may_come_at, may_come, may_all, level, ends, open_at, token_of, tokens_behind, tokens_from, tokens_of}
+use Rattle.gcx_model.specs.Growth.{has_root, Grow, opened, added, closed, ended, Leads, stays, more, may_come_at, may_come, may_all, is_name_bytes, level, ends, open_at, token_of, tokens_behind, tokens_from, tokens_of}
 
 -- trees are known by their parts
 pub tree_same : (P Q : Tree) → P.nodes ≡ Q.nodes → P.at ≡ Q.at → P ≡ Q
@@ -17,14 +24,21 @@ tree_same P Q e f = ap (λ z. record { nodes = z; at = P.at }) e ∙ ap (λ z. r
 abbrev pub Fed : Tree → Tree → Type 0
 Fed P Q = (t : Token) × (may_come t P ≡ true) × (Q ≡ grow t P)
 
-start_comes : (p : Node) (name ns : List ℕ) (nodes : List Node) → (p ≡ Root → has_root nodes ≡ false) → may_come_at (Some p) (Start name) nodes ≡ true
-start_comes Root name ns nodes h = ap not (h refl)
-start_comes (Under p s k) name ns nodes h = refl
+-- the test of a name
+pub name_tested : (b : List ℕ) → IsNameBytes b → is_name_bytes b ≡ true
+name_tested b h = and_from _ _ (name_chars b h) ((bytes_eq-Decides (encodes (chars b)) b).1 (encodes-chars b (name_text b h)))
+
+pub tested_name : (b : List ℕ) → is_name_bytes b ≡ true → IsNameBytes b
+tested_name b h = let q = and_parts (is_name (chars b)) (bytes_eq (encodes (chars b)) b) h in record { chars = chars b; name = q.0; parts = (bytes_eq-Decides (encodes (chars b)) b).0 q.1 }
+
+start_comes : (p : Node) (name : List ℕ) (nodes : List Node) → IsNameBytes name → (p ≡ Root → has_root nodes ≡ false) → may_come_at (Some p) (Start name) nodes ≡ true
+start_comes Root name nodes n h = and_from _ _ (name_tested name n) (ap not (h refl))
+start_comes (Under p s k) name nodes n h = name_tested name n
 
 fed_from : (P Q : Tree) → Grow P Q → Fed P Q
-fed_from P Q (opened p name at h n a) = (
+fed_from P Q (opened p name named at h n a) = (
   Start name,
-  subst (λ (z : Option Node). may_come_at z (Start name) P.nodes ≡ true) (sym at) (start_comes p name [] P.nodes h),
+  subst (λ (z : Option Node). may_come_at z (Start name) P.nodes ≡ true) (sym at) (start_comes p name P.nodes named h),
   tree_same Q (grow (Start name) P) (n ∙ sym (ap (λ (z : Option Node). (grow_at z (Start name) P).nodes) at)) (a ∙ sym (ap (λ (z : Option Node). (grow_at z (Start name) P).at) at)),
 )
 fed_from P Q (added p s k b at h g n a) = (
@@ -45,10 +59,10 @@ fed_from P Q (ended at h n a) = (
 
 pub grows_at : (at : Option Node) (t : Token) (P : Tree) → P.at ≡ at → may_come_at at t P.nodes ≡ true → Grow P (grow_at at t P)
 grows_at None t P e m = absurd (false≢true m)
-grows_at (Some Root) (Start name) P e m = opened Root name e (λ r. not-true _ m) refl refl
+grows_at (Some Root) (Start name) P e m = let a = and_parts (is_name_bytes name) (not (has_root P.nodes)) m in opened Root name (tested_name name a.0) e (λ r. not-true _ a.1) refl refl
 grows_at (Some Root) (Chars b) P e m = absurd (false≢true m)
 grows_at (Some Root) End P e m = ended e m refl refl
-grows_at (Some (Under p s k)) (Start name) P e m = opened (Under p s k) name e (λ r. absurd (cc)) refl refl
+grows_at (Some (Under p s k)) (Start name) P e m = opened (Under p s k) name (tested_name name m) e (λ r. absurd (cc)) refl refl
 grows_at (Some (Under p s k)) (Chars b) P e m = let a = and_parts _ _ m in added p s k b e (not-true _ a.0) (not-true _ a.1) refl (sym e)
 grows_at (Some (Under p s k)) End P e m = closed p s k e refl refl
 
@@ -177,7 +191,7 @@ tokens_push_at (Some p) (Chars b) P e m h =
 tokens_push_at (Some Root) End P e m h =
     let l : Node = last_node h.0 h.1 in
     let g = level_above (open_at l) Root (h.3 Root e) in
-    let a : level (open_at l) ≡ suc (level (open_at l) - level Root) = omega arith in
+    let a : suc (level (open_at l)) ≡ suc (level (open_at l) - level Root) = omega arith in
     ap (λ z. tokens_from z None) h.2 ∙ (behind_end h.0 h.1 (Some Root) None (ap ends a ∙ ends_push (level (open_at l) - level Root)) ∙ ap (λ z. z ++ End ∷ []) (sym (ap (λ z. tokens_from z (Some Root)) h.2) ∙ ap (tokens_from P.nodes) (sym e)))
 tokens_push_at (Some (Under p s k)) End P e m h =
     let l : Node = last_node h.0 h.1 in

@@ -1,5 +1,6 @@
 pub mod Lists
 pub mod Reading
+pub mod Equal
 pub mod Matches
 pub mod Freeze
 pub mod Prefix

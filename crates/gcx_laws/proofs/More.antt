@@ -23,10 +23,12 @@ use Rattle.gcx_model.specs.Placed.{row_at, offs_in, of_role, offs_of, plan_of}
 use Rattle.gcx_model.specs.Held.{is_node, path_of, statement_of, on_row, given_row, given, is_off, signed, held, is_held}
 use Rattle.gcx_model.specs.Growth.{may_come, may_all}
 use Rattle.gcx_model.specs.Points.{actions, so_far, ReachedFrom, here, fed, acted, CoreState, Rest, Round, PointAt, Bound_in}
-use Rattle.gcx_laws.specs.Bridges.{GivesByKind, SignedIsOff, OneStatement, PathsByRows, DemandIsReached}
+use Rattle.gcx_laws.specs.Bridges.{GivesByKind, SignedIsOff, SignedByRole, OneStatement, PathsByRows, DemandIsReached}
 use Rattle.gcx_laws.specs.Laws.{GivenStays, GoneStays, BoundLaw, TurnLaw, UnsignedLaw, is_write, PlanBytes, KnownIsFront, HeldByFeed, HeldByAct}
 use Rattle.gcx_laws.proofs.Reading as old
 use Rattle.gcx_laws.proofs.Reading.{Reading, reading}
+use Rattle.gcx_model.specs.Equal.{off_eq}
+use Rattle.gcx_laws.proofs.Equal.{off_refl, off_same}
 use Rattle.gcx_laws.proofs.Lists.{In-filter, In-kept, any_in, any_from, In-left, filter_same}
 use Rattle.gcx_laws.proofs.Matches.{Grown-grow, Numbered-same, Matches-in, Matches-from, added, grow_nodes}
 use Rattle.gcx_laws.proofs.Chains.{above_in}
@@ -103,25 +105,22 @@ pub one_statement_law : OneStatement
 one_statement_law core good plan pl r o =
     from_plan core good (λ plan. ((statement_of plan r ≡ Some o) → (In o (offs_in plan.body) × (o.role ≡ r))) × ((In o (offs_in plan.body) × (o.role ≡ r)) → (statement_of plan r ≡ Some o))) (one_at core good r o) plan pl
 
-off_is : (r m : ℕ) (a : Action) → is_off r m a ≡ true → (o : OffTree) × (a ≡ Offed o m) × (o.role ≡ r)
-off_is r m (Wrote b) h = absurd (false≢true h)
-off_is r m (Offed o n) h = let q = and_parts (eqb o.role r) (eqb n m) h in (o, ap (Offed o) (eqb-true _ _ q.1), eqb-true _ _ q.0)
-
-abbrev SignedAt : BodyTree → PlanTree → Tree → ℕ → Type 0
-SignedAt core plan P k = (s : OffTree) (m : Node) → In s (offs_in plan.body) → ((signed (so_far plan P k) s m ≡ true) → In (Offed s (serial_of m)) (so_far plan P k)) × (In (Offed s (serial_of m)) (so_far plan P k) → (signed (so_far plan P k) s m ≡ true))
-
-signed_from : (A : List Action) (s : OffTree) (m : Node) → In (Offed s (serial_of m)) A → signed A s m ≡ true
-signed_from A s m i = any_from (is_off s.role (serial_of m)) (Offed s (serial_of m)) A i (and_from (eqb s.role s.role) (eqb (serial_of m) (serial_of m)) (eq-eqb s.role s.role refl) (eq-eqb (serial_of m) (serial_of m) refl))
+off_is : (s : OffTree) (m : ℕ) (a : Action) → is_off s m a ≡ true → a ≡ Offed s m
+off_is s m (Wrote b) h = absurd (false≢true h)
+off_is s m (Offed o n) h = let q = and_parts (off_eq s o) (eqb n m) h in ap (λ z. Offed z n) (off_same s o q.0) ∙ ap (Offed s) (eqb-true _ _ q.1)
 
 pub signed_is_off : SignedIsOff
-signed_is_off core good plan pl P k r s m i = (
+signed_is_off A s m = (
   (λ h.
-      let a = any_in (is_off s.role (serial_of m)) (so_far plan P k) h in
-      let q = off_is s.role (serial_of m) a.0 a.2 in
-      let j = subst (λ (z : Action). In z (so_far plan P k)) q.1 a.1 in
-      let in_body = (offs_at_matches core good plan pl P k r q.0 (serial_of m) j).0 in
-      subst (λ (z : OffTree). In (Offed z (serial_of m)) (so_far plan P k)) (same q.0 in_body q.2) j),
-  (λ j. signed_from (so_far plan P k) s m j),
+      let a = any_in (is_off s (serial_of m)) A h in
+      subst (λ (z : Action). In z A) (off_is s (serial_of m) a.0 a.2) a.1),
+  (λ i. any_from (is_off s (serial_of m)) (Offed s (serial_of m)) A i (and_from (off_eq s s) (eqb (serial_of m) (serial_of m)) (off_refl s) (eq-eqb (serial_of m) (serial_of m) refl))),
+)
+
+pub signed_by_role : SignedByRole
+signed_by_role core good plan pl A stated s m i = (
+  (λ h. (s, (signed_is_off A s m).0 h, refl)),
+  (λ h. (signed_is_off A s m).1 (subst (λ (z : OffTree). In (Offed z (serial_of m)) A) (same h.0 (stated h.0 (serial_of m) h.1) h.2) h.1)),
 )
   where
     known : (o : OffTree) → In o (offs_in plan.body) → In o (offs_of core)

@@ -22,7 +22,8 @@ use Rattle.gcx_laws.proofs.Freeze.{within_self}
 use Rattle.gcx_laws.proofs.Local.{within_is}
 use Rattle.gcx_laws.proofs.Chains.{one_desc}
 use Rattle.gcx_laws.proofs.Signs.{sig}
-use Rattle.gcx_laws.proofs.Balance.{of_role}
+use Rattle.gcx_laws.proofs.Balance.{off_eq}
+use Rattle.gcx_laws.proofs.Equal.{off_refl, off_other}
 use Rattle.gcx_laws.proofs.Needed.{Way}
 use Rattle.gcx_laws.proofs.Stays.{all_in}
 use Rattle.gcx_laws.proofs.PointForms.{Frame, Rest, Round, Part, IsPoint, later, to_come}
@@ -68,14 +69,14 @@ off_row F all k [] o i = absurd i
 off_row F all k (r ∷ rs) o (inl e) = (r, inl (refl, e))
 off_row F all k (r ∷ rs) o (inr i) = let h = off_row F all (suc k) rs o i in (h.0, inr h.1)
 
-off_sig : (r m : ℕ) (xs : List Action) → any (is_off r m) xs ≡ true → In m (sig (of_role r) xs)
-off_sig r m [] h = absurd (false≢true h)
-off_sig r m (Wrote s ∷ xs) h = off_sig r m xs h
-off_sig r m (Offed o n ∷ xs) h = go (eqb o.role r) refl (off_sig r m xs) h
+off_sig : (s : OffTree) (m : ℕ) (xs : List Action) → any (is_off s m) xs ≡ true → In m (sig (off_eq s) xs)
+off_sig s m [] h = absurd (false≢true h)
+off_sig s m (Wrote b ∷ xs) h = off_sig s m xs h
+off_sig s m (Offed o n ∷ xs) h = go (off_eq s o) refl (off_sig s m xs) h
   where
-    go : (c : Bool) → eqb o.role r ≡ c → (any (is_off r m) xs ≡ true → In m (sig (of_role r) xs)) → ((eqb o.role r && eqb n m) || any (is_off r m) xs) ≡ true → In m (cond c (n ∷ sig (of_role r) xs) (sig (of_role r) xs))
-    go true e ih k = elim (or_cases (eqb o.role r && eqb n m) (any (is_off r m) xs) k) [ inl f ↦ inl (eqb-true n m (and_parts (eqb o.role r) (eqb n m) f).1) | inr f ↦ inr (ih f) ]
-    go false e ih k = elim (or_cases (eqb o.role r && eqb n m) (any (is_off r m) xs) k) [ inl f ↦ absurd (false≢true (sym e ∙ (and_parts (eqb o.role r) (eqb n m) f).0)) | inr f ↦ ih f ]
+    go : (c : Bool) → off_eq s o ≡ c → (any (is_off s m) xs ≡ true → In m (sig (off_eq s) xs)) → ((off_eq s o && eqb n m) || any (is_off s m) xs) ≡ true → In m (cond c (n ∷ sig (off_eq s) xs) (sig (off_eq s) xs))
+    go true e ih k = elim (or_cases (off_eq s o && eqb n m) (any (is_off s m) xs) k) [ inl f ↦ inl (eqb-true n m (and_parts (off_eq s o) (eqb n m) f).1) | inr f ↦ inr (ih f) ]
+    go false e ih k = elim (or_cases (off_eq s o && eqb n m) (any (is_off s m) xs) k) [ inl f ↦ absurd (false≢true (sym e ∙ (and_parts (off_eq s o) (eqb n m) f).0)) | inr f ↦ ih f ]
 
 live_from : (p : Reading) (P : Tree) (A : List Action) (n : Node) (r : RoleRowTree) (o : OffTree) (rs : List RoleRowTree) (os : List OffTree) → At_row r o rs os → given p P n r ≡ true → taken p P A n r o ≡ false → live_some p P A n rs os ≡ true
 live_from p P A n r o [] os h g t = absurd h
@@ -113,7 +114,7 @@ module _ (P : Tree) (w : Grown P) (root : In Root P.nodes) (core : BodyTree) (go
   V = var_tree core
 
   -- where a statement's base's node isn't signed for it, what that node gives its role is held
-  unsigned_held : (r : RoleRowTree) (o : OffTree) → At_row r o (roles_of core) (offs_of core) → (a : Node) → In a P.nodes → hits 0 (V o.base).path a ≡ true → (In (serial_of a) (sig (of_role o.role) before) → ⊥)
+  unsigned_held : (r : RoleRowTree) (o : OffTree) → At_row r o (roles_of core) (offs_of core) → (a : Node) → In a P.nodes → hits 0 (V o.base).path a ≡ true → (In (serial_of a) (sig (off_eq o) before) → ⊥)
       → (m : Node) → In m P.nodes → gives P (serial_of a) o.rel o.tail o.kind m ≡ true → is_held (reading core) P before m ≡ true
   unsigned_held r o row a ia hit un m i g =
       let p : Reading = reading core in
@@ -131,18 +132,18 @@ module _ (P : Tree) (w : Grown P) (root : In Root P.nodes) (core : BodyTree) (go
       let y = all_in (λ (j : Node). not (gives P (serial_of j) o.rel o.tail o.kind m) || signed P before o j) (matches P 0 (p.paths o.base)) x.1 a (Matches-from P 0 (p.paths o.base) a ia hit) in
       elim (or_cases (not (gives P (serial_of a) o.rel o.tail o.kind m)) (signed P before o a) y) [
         | inl f ↦ true≢false (sym g ∙ not-true _ f)
-        | inr f ↦ un (off_sig o.role (serial_of a) before f)
+        | inr f ↦ un (off_sig o (serial_of a) before f)
       ]) in
       or_right _ _ (any_from (λ (j : Node). within (serial_of m) j && is_live p P before j) m P.nodes i
       (and_from _ _ (within_self (serial_of m) m (eq-eqb _ _ refl)) (live_from p P before m r o p.roles p.offs row giv not_taken)))
 
   -- the way to a statement's base
-  way : (r : RoleRowTree) (o : OffTree) → At_row r o (roles_of core) (offs_of core) → Way (of_role o.role) o.base 0 (reading core).body (V o.base).path × (one_desc (V o.base).path ≡ true)
+  way : (r : RoleRowTree) (o : OffTree) → At_row r o (roles_of core) (offs_of core) → Way (off_eq o) o.base 0 (reading core).body (V o.base).path × (one_desc (V o.base).path ≡ true)
   way r o row =
       let q = row_is V (roles_of core) 0 (roles_of core) r o row in
       let b = good_based core good r.var (roles_known core good r q.0) in
       let base : o.base ≡ (V r.var).base = ap (λ (z : OffTree). z.base) q.2.1 in
-      way_of core good o q.1 (subst (λ (z : ℕ). In z (0 ∷ vars core)) (sym base) b.known) (ap (λ (z : ℕ). (V z).straight) base ∙ b.straight)
+      way_of core good (off_eq o) o q.1 (off_refl o) (λ t j n. off_other o t n) (subst (λ (z : ℕ). In z (0 ∷ vars core)) (sym base) b.known) (ap (λ (z : ℕ). (V z).straight) base ∙ b.straight)
 
   -- where it waits
   waiting_held : (r : RoleRowTree) (o : OffTree) → At_row r o (roles_of core) (offs_of core) → (v : Env) → Waits o v fs → In (v o.base) P.nodes → hits 0 (V o.base).path (v o.base) ≡ true

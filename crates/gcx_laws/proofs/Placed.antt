@@ -5,16 +5,15 @@ use Rattle.std.proofs.lemmas.List.Elements.{filter-append}
 use Rattle.std.proofs.lemmas.Bool.{and_parts, eqb-true, not-true}
 use Rattle.gcx_base.specs.declared.steps.Step.{Step}
 use Rattle.gcx_model.specs.Core.{ItemTree, Write, Copy, For, If, Off, BodyTree, Nil, Then, OffTree}
-use Rattle.gcx_model.specs.Placed.{without, item_offs, offs_in, add_offs, offs_body, place, at_end, offs_of}
+use Rattle.gcx_model.specs.Placed.{of_role, without, item_offs, offs_in, add_offs, offs_body, place, at_end, offs_of}
 use Rattle.gcx_laws.proofs.Reading.{reading}
 use Rattle.gcx_model.specs.Roles.{roles_of}
 use Rattle.gcx_model.specs.Variables.{var_tree}
 use Rattle.gcx_model.specs.Cores.{BodyIn, Good}
 use Rattle.gcx_laws.proofs.Lists.{In, In-append, In-filter}
 use Rattle.gcx_laws.proofs.Needed.{quiet, quiet_item, Own, Before, Itself, Way, Top, Skip, Here}
-use Rattle.gcx_laws.proofs.Balance.{of_role}
 use Rattle.gcx_laws.proofs.Plans.{same_role}
-use Rattle.gcx_laws.proofs.CoreStates.{Only, Only_item, plan_only, plan_way}
+use Rattle.gcx_laws.proofs.CoreStates.{Only, Only_item, plan_only, role_way}
 
 -- Without its statements the plan is the core.
 
@@ -92,7 +91,7 @@ module _ (p : OffTree → Bool) (b : ℕ) where
 -- Of each role exactly one statement stands in the plan, its own.
 pub one_statement : (core : BodyTree) → Good core → (o : OffTree) → In o (reading core).offs → filter (of_role o.role) (offs_in (reading core).body) ≡ o ∷ []
 one_statement core good o i =
-    let w = plan_way core good o i in
+    let w = role_way core good o i in
     let r = way_one (of_role o.role) o.base 0 (reading core).body (var_tree core o.base).path w.0 in
     let t = In-filter (of_role o.role) r.0 (offs_in (reading core).body) (subst (λ (z : List OffTree). In r.0 z) (sym r.1) (inl refl)) in
     let known : In r.0 (offs_of core) = only_in (λ q. In q (offs_of core)) (reading core).body r.0 (plan_only core good) t.0 in

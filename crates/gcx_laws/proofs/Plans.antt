@@ -14,7 +14,6 @@ use Rattle.gcx_model.specs.Cores.{operand_in, cond_in, conds_in, BodyIn, Good}
 use Rattle.gcx_laws.proofs.Lists.{In, Once, In-left, In-right, In-append, In-filter, In-kept}
 use Rattle.gcx_laws.proofs.Chains.{one_desc, Once-append}
 use Rattle.gcx_laws.proofs.Needed.{quiet, quiet_item, Own, Before, Itself, Way, Top, Skip, Here}
-use Rattle.gcx_laws.proofs.Balance.{of_role}
 
 -- lists without repetition
 
@@ -456,40 +455,39 @@ module _ (ends : ℕ → List OffTree) (p : OffTree → Bool) (b : ℕ) where
           ]
 
 module _ (core : BodyTree) (g : Good core) where
-  -- a statement's number picks it alone
-  picks : (o : OffTree) → In o (offs_of core) → Picks (at_end (offs_of core)) (of_role o.role) o.base
-  picks o i =
+  -- what picks one statement of all
+  picks : (p : OffTree → Bool) (o : OffTree) → In o (offs_of core) → p o ≡ true → ((q : OffTree) → In q (offs_of core) → (q ≡ o → ⊥) → p q ≡ false) → Picks (at_end (offs_of core)) p o.base
+  picks p o i picked differs =
       let os : List OffTree = offs_of core in
       let V : ℕ → Var = var_tree core in
       let rs : List RoleRowTree = roles_of core in
       let r = round_member o (at_end os o.base) (once_end os o.base (once_statements V rs 0 rs)) (in_end os o.base o i refl) in
-      let differs : (q : OffTree) → In q os → (q ≡ o → ⊥) → of_role o.role q ≡ false = λ q j n. ne_eqb q.role o.role (λ e. n (same_role V rs 0 rs q o j i e)) in
       record {
         others = λ x n q j. let e = end_in os x q j in differs q e.0 (λ f. true≢false (sym (eq-eqb x o.base (sym e.1 ∙ ap (λ (z : OffTree). z.base) f)) ∙ n));
         left = r.left;
         itself = o;
         right = r.right;
         are = r.are;
-        picked = eq-eqb o.role o.role refl;
+        picked = picked;
         based = refl;
         none_left = λ q j. differs q (end_in os o.base q (subst (λ (z : List OffTree). In q z) (sym r.are) (In-left q r.left (o ∷ r.right) j))).0 (λ f. r.not_left (subst (λ (z : OffTree). In z r.left) f j));
         none_right = λ q j. differs q (end_in os o.base q (subst (λ (z : List OffTree). In q z) (sym r.are) (In-right q r.left (o ∷ r.right) (inr j)))).0 (λ f. r.not_right (subst (λ (z : OffTree). In z r.right) f j));
       }
 
   -- the way to the base of each statement, by the steps of the base's path, of which at most one is a descendant step
-  pub way_of : (o : OffTree) → In o (offs_of core) → In o.base (0 ∷ vars core) → (var_tree core o.base).straight ≡ true
-      → Way (of_role o.role) o.base 0 (reading core).body (var_tree core o.base).path × (one_desc (var_tree core o.base).path ≡ true)
-  way_of o i (inl e) st =
-      let pk = picks o i in
+  pub way_of : (p : OffTree → Bool) (o : OffTree) → In o (offs_of core) → p o ≡ true → ((q : OffTree) → In q (offs_of core) → (q ≡ o → ⊥) → p q ≡ false) → In o.base (0 ∷ vars core) → (var_tree core o.base).straight ≡ true
+      → Way p o.base 0 (reading core).body (var_tree core o.base).path × (one_desc (var_tree core o.base).path ≡ true)
+  way_of p o i picked differs (inl e) st =
+      let pk = picks p o i picked differs in
       let path : (var_tree core o.base).path ≡ [] = ap (λ (z : ℕ). (var_tree core z).path) (sym e) ∙ ap (λ (v : Var). v.path) (good_zero core g) in
-      let away_zero : quiet (of_role o.role) (place (at_end (offs_of core)) core) ≡ true = away (at_end (offs_of core)) (of_role o.role) o.base pk core true (0 ∷ []) g.inside (λ j. good_not_zero core g (subst (λ (z : ℕ). In z (vars core)) (sym e) j)) in
-      let body : Own (of_role o.role) o.base (add_offs (place (at_end (offs_of core)) core) (at_end (offs_of core) o.base)) = own_body (at_end (offs_of core)) (of_role o.role) o.base pk (place (at_end (offs_of core)) core) away_zero in (
-        subst (λ (z : List Step). Way (of_role o.role) o.base 0 (reading core).body z) (sym path)
-            (subst (λ (z : ℕ). Way (of_role o.role) o.base z (add_offs (place (at_end (offs_of core)) core) (at_end (offs_of core) z)) []) (sym e) (Top body)),
+      let away_zero : quiet p (place (at_end (offs_of core)) core) ≡ true = away (at_end (offs_of core)) p o.base pk core true (0 ∷ []) g.inside (λ j. good_not_zero core g (subst (λ (z : ℕ). In z (vars core)) (sym e) j)) in
+      let body : Own p o.base (add_offs (place (at_end (offs_of core)) core) (at_end (offs_of core) o.base)) = own_body (at_end (offs_of core)) p o.base pk (place (at_end (offs_of core)) core) away_zero in (
+        subst (λ (z : List Step). Way p o.base 0 (reading core).body z) (sym path)
+            (subst (λ (z : ℕ). Way p o.base z (add_offs (place (at_end (offs_of core)) core) (at_end (offs_of core) z)) []) (sym e) (Top body)),
         ap one_desc path,
       )
-  way_of o i (inr j) st =
-      let pk = picks o i in
-      let r = find (at_end (offs_of core)) (of_role o.role) o.base pk (var_tree core) 0 core true (0 ∷ []) (at_end (offs_of core) 0) g.inside (good_fits core g) (good_once core g) j st
+  way_of p o i picked differs (inr j) st =
+      let pk = picks p o i picked differs in
+      let r = find (at_end (offs_of core)) p o.base pk (var_tree core) 0 core true (0 ∷ []) (at_end (offs_of core) 0) g.inside (good_fits core g) (good_once core g) j st
       (pk.others 0 (ne_eqb 0 o.base (λ e. good_not_zero core g (subst (λ (z : ℕ). In z (vars core)) (sym e) j)))) in
-      (subst (λ (z : List Step). Way (of_role o.role) o.base 0 (reading core).body z) (sym (r.path ∙ ap (λ (v : Var). v.path ++ r.step ∷ r.rest) (good_zero core g))) r.way, r.one)
+      (subst (λ (z : List Step). Way p o.base 0 (reading core).body z) (sym (r.path ∙ ap (λ (v : Var). v.path ++ r.step ∷ r.rest) (good_zero core g))) r.way, r.one)

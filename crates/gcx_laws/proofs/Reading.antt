@@ -24,7 +24,7 @@ abbrev pub given : Reading → Tree → Node → RoleRowTree → Bool
 given p P n r = gives P 0 (p.paths r.var) r.tail r.kind n
 
 abbrev pub signed : Tree → List Action → OffTree → Node → Bool
-signed P A o m = any (is_off o.role (serial_of m)) A
+signed P A o m = any (is_off o (serial_of m)) A
 
 abbrev pub taken : Reading → Tree → List Action → Node → RoleRowTree → OffTree → Bool
 taken p P A n r o = given p P n r && all (λ m. not (gives P (serial_of m) o.rel o.tail o.kind n) || signed P A o m) (matches P 0 (p.paths o.base))

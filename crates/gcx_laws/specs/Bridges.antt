@@ -7,7 +7,7 @@ use Rattle.gcx_model.specs.Paths.{reach, hits, matches, first}
 use Rattle.gcx_model.specs.Members.{In, Once}
 use Rattle.gcx_model.specs.Nodes.{Rising, Grown, Ordered, chain_at}
 use Rattle.gcx_model.specs.Core.{Own, First, Whole, BodyTree, OffTree, PlanTree}
-use Rattle.gcx_model.specs.Run.{Offed}
+use Rattle.gcx_model.specs.Run.{Action, Offed}
 use Rattle.gcx_model.specs.Variables.{one_desc, path_in}
 use Rattle.gcx_model.specs.Cores.{Good}
 use Rattle.gcx_model.specs.Placed.{offs_in, Placed}
@@ -69,10 +69,14 @@ GivesByKind = (P : Tree) → Grown P → (m : ℕ) (rel tail : List Step) (n : N
     × ((gives P m rel tail First n ≡ true) ↔ ((j : Node) × In j (matches P m rel) × (first P (serial_of j) tail ≡ Some n)))
     × ((gives P m rel tail Whole n ≡ true) ↔ ((a : Node) × In a (above n) × In a (matches P m (rel ++ tail))))
 
--- In a core state a node is signed for a statement of the plan where the actions so far have the Off of both.
+-- A node is signed for a statement where the actions have the Off of both.
 abbrev pub SignedIsOff : Type 0
-SignedIsOff = (core : BodyTree) → Good core → (plan : PlanTree) → Placed core plan → (P : Tree) (k : ℕ) → CoreState plan P k → (s : OffTree) (m : Node) → In s (offs_in plan.body)
-    → (signed (so_far plan P k) s m ≡ true) ↔ In (Offed s (serial_of m)) (so_far plan P k)
+SignedIsOff = (A : List Action) (s : OffTree) (m : Node) → (signed A s m ≡ true) ↔ In (Offed s (serial_of m)) A
+
+-- Where the actions have statements of the plan alone, a statement's role tells it from the others.
+abbrev pub SignedByRole : Type 0
+SignedByRole = (core : BodyTree) → Good core → (plan : PlanTree) → Placed core plan → (A : List Action) → ((o : OffTree) (n : ℕ) → In (Offed o n) A → In o (offs_in plan.body))
+    → (s : OffTree) (m : Node) → In s (offs_in plan.body) → (signed A s m ≡ true) ↔ ((o : OffTree) × In (Offed o (serial_of m)) A × (o.role ≡ s.role))
 
 -- The plan has one statement for each role, and the statement of a role is the one that it tells.
 abbrev pub OneStatement : Type 0

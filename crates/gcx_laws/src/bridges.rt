@@ -1,4 +1,4 @@
-ghost use Rattle.gcx_laws.specs.Bridges.{GrowIsFeeding, LeadsIsFeeding, TokensAreFound, NodesAreNumbered, DocumentsGrow, HitsBySteps, MatchesAreHits, FirstIsLeast, LoopsBindHits, GivesByKind, PathsByRows, OneStatement, SignedIsOff, DemandIsReached, OneChain, LoopsInOrder};
+ghost use Rattle.gcx_laws.specs.Bridges.{GrowIsFeeding, LeadsIsFeeding, TokensAreFound, NodesAreNumbered, DocumentsGrow, HitsBySteps, MatchesAreHits, FirstIsLeast, LoopsBindHits, GivesByKind, PathsByRows, OneStatement, SignedIsOff, SignedByRole, DemandIsReached, OneChain, LoopsInOrder};
 
 /// The relation between an open tree and one with a token more, in words, is a token that may come.
 pub fn grow_is_feeding()
@@ -60,9 +60,14 @@ pub fn one_statement()
     ensures { OneStatement }
 {}
 
-/// A node is signed for a statement where the actions so far carry it out there.
+/// A node is signed for a statement where the actions carry it out there.
 pub fn signed_is_off()
     ensures { SignedIsOff }
+{}
+
+/// Among a plan's statements the role tells for which one a node is signed.
+pub fn signed_by_role()
+    ensures { SignedByRole }
 {}
 
 /// The demand run goes through core states.

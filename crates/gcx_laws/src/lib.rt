@@ -7,7 +7,7 @@ mod laws;
 pub use bridges::{
     demand_is_reached, documents_grow, first_is_least, gives_by_kind, grow_is_feeding,
     hits_by_steps, leads_is_feeding, loops_bind_hits, loops_in_order, matches_are_hits,
-    nodes_are_numbered, one_chain, one_statement, paths_by_rows, signed_is_off, tokens_are_found,
+    nodes_are_numbered, one_chain, one_statement, paths_by_rows, signed_by_role, signed_is_off, tokens_are_found,
 };
 pub use laws::{
     balance_law, bound_law, closed_law, copy_held, empty_at_end, given_stays, gone_stays,

@@ -1,9 +1,12 @@
 -- How open trees grow, one token at a time (this project's; that texts are never neighbours is of the XQuery 1.0 and XPath 2.0 Data Model, section 6.7.1).
-use Rattle.std.specs.Prelude.{◌≡◌, ℕ, Bool, true, false, not, ◌&&◌, List, [], ◌∷◌, ◌++◌, length, ◌==◌, ◌-◌, replicate, Option, Some, None}
+use Rattle.std.specs.Prelude.{◌≡◌, ℕ, suc, Bool, true, false, not, ◌&&◌, List, [], ◌∷◌, ◌++◌, length, ◌==◌, ◌-◌, replicate, Option, Some, None, bytes_eq}
+use Rattle.std.specs.Str.{chars}
+use lib.Utf8.{encodes}
 use Rattle.gcx_base.specs.declared.kind.Kind.{Kind}
 use Rattle.gcx_base.specs.declared.kind.Kind.TheVariants.{Document, Element, Text}
 use Rattle.gcx_model.specs.Document.{is_blank}
 use Rattle.gcx_model.specs.Tree.{Node, Root, Under, serial_of, above, Tree, Token, Start, Chars, End, grow}
+use Rattle.gcx_base.specs.Name.{is_name, IsNameBytes}
 
 -- behind the document node there is a root element
 abbrev pub has_root : List Node → Bool
@@ -23,9 +26,9 @@ ends_in_text p [] = false
 ends_in_text p (n ∷ []) = is_text_in p n
 ends_in_text p (m ∷ (n ∷ ns)) = ends_in_text p (n ∷ ns)
 
--- Grow: one token more. A new open element as last child of the innermost open node, but no second root; a new text as last child of the innermost open element, not beside another text; the innermost open element closed; or, behind a closed root, the document node closed.
+-- Grow: one token more. A new open element with a name (XML 1.0, section 2.3) as last child of the innermost open node, but no second root; a new text as last child of the innermost open element, not beside another text; the innermost open element closed; or, behind a closed root, the document node closed.
 pub data Grow (P Q : Tree) : Type 0 where
-  opened : (p : Node) (name : List ℕ) → P.at ≡ Some p → (p ≡ Root → has_root P.nodes ≡ false)
+  opened : (p : Node) (name : List ℕ) → IsNameBytes name → P.at ≡ Some p → (p ≡ Root → has_root P.nodes ≡ false)
       → Q.nodes ≡ P.nodes ++ Under p (length P.nodes) (Element name) ∷ [] → Q.at ≡ Some (Under p (length P.nodes) (Element name)) → Grow P Q
   added : (p : Node) (s : ℕ) (k : Kind) (bytes : List ℕ) → P.at ≡ Some (Under p s k) → is_blank bytes ≡ false → ends_in_text (Under p s k) P.nodes ≡ false
       → Q.nodes ≡ P.nodes ++ Under (Under p s k) (length P.nodes) (Text bytes) ∷ [] → Q.at ≡ P.at → Grow P Q
@@ -38,12 +41,17 @@ pub data Leads (P : Tree) : Tree → Type 0 where
   more : {Q R : Tree} → Leads P Q → Grow Q R → Leads P R
 
 -- The same in terms of tokens: what may be fed when.
+
+-- the bytes are a name, as a test
+abbrev pub is_name_bytes : List ℕ → Bool
+is_name_bytes b = is_name (chars b) && bytes_eq (encodes (chars b)) b
+
 abbrev pub may_come_at : Option Node → Token → List Node → Bool
 may_come_at None t ns = false
-may_come_at (Some Root) (Start name) ns = not (has_root ns)
+may_come_at (Some Root) (Start name) ns = is_name_bytes name && not (has_root ns)
 may_come_at (Some Root) (Chars b) ns = false
 may_come_at (Some Root) End ns = has_root ns
-may_come_at (Some (Under p s k)) (Start name) ns = true
+may_come_at (Some (Under p s k)) (Start name) ns = is_name_bytes name
 may_come_at (Some (Under p s k)) (Chars b) ns = not (is_blank b) && not (ends_in_text (Under p s k) ns)
 may_come_at (Some (Under p s k)) End ns = true
 
@@ -57,8 +65,10 @@ may_all (t ∷ ts) P = may_come t P && may_all ts (grow t P)
 
 -- The tokens from the opening tree to an open tree.
 
+-- how deep a node lies; the document node lies at 0
 abbrev pub level : Node → ℕ
-level n = length (above n)
+level Root = 0
+level (Under p s k) = suc (level p)
 
 abbrev pub ends : ℕ → List Token
 ends n = replicate n End
@@ -77,7 +87,7 @@ token_of (Text b) = Chars b ∷ []
 
 -- the tokens behind the node that was opened last, up to the next ones
 abbrev pub tokens_behind : (last : Node) → List Node → Option Node → List Token
-tokens_behind last [] None = ends (level (open_at last))
+tokens_behind last [] None = ends (suc (level (open_at last)))
 tokens_behind last [] (Some p) = ends (level (open_at last) - level p)
 tokens_behind last (Root ∷ ns) at = tokens_behind Root ns at
 tokens_behind last (Under p s k ∷ ns) at = ends (level (open_at last) - level p) ++ (token_of k ++ tokens_behind (Under p s k) ns at)

@@ -7,6 +7,7 @@ use Rattle.gcx_model.specs.Members.{count}
 use Rattle.gcx_model.specs.Core.{RoleKind, Own, First, Whole, OffTree, VarRowTree, RoleRowTree, PlanTree}
 use Rattle.gcx_model.specs.Run.{Action, Wrote, Offed}
 use Rattle.gcx_model.specs.Placed.{offs_in, of_role, row_at}
+use Rattle.gcx_model.specs.Equal.{off_eq}
 
 -- the paths of the variables, each its parent's and its own step: those so far, and those of these rows
 abbrev pub paths_from : List (List Step) → List VarRowTree → List (List Step)
@@ -46,14 +47,14 @@ given plan P n r = on_row (given_row (path_of plan) P n) (row_at plan.roles r)
 abbrev pub roles_given : PlanTree → Tree → Node → List ℕ
 roles_given plan P n = filter (given plan P n) (count 0 (length plan.roles))
 
--- the action carries out the statement of this role at the node m; a role has one statement
-abbrev pub is_off : (role m : ℕ) → Action → Bool
-is_off role m (Wrote b) = false
-is_off role m (Offed o n) = (o.role == role) && (n == m)
+-- the action carries out this statement at the node m
+abbrev pub is_off : OffTree → (m : ℕ) → Action → Bool
+is_off o m (Wrote b) = false
+is_off o m (Offed p n) = off_eq o p && (n == m)
 
 -- m is signed for the statement
 abbrev pub signed : List Action → OffTree → Node → Bool
-signed A o m = any (is_off o.role (serial_of m)) A
+signed A o m = any (is_off o (serial_of m)) A
 
 -- the statement reaches n from m
 abbrev pub reaches : Tree → OffTree → (m n : Node) → Bool

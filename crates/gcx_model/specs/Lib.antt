@@ -13,6 +13,7 @@ pub mod Variables
 pub mod Roles
 pub mod Cores
 pub mod Placed
+pub mod Equal
 pub mod Held
 pub mod Growth
 pub mod Points
