@@ -21,6 +21,7 @@ pub mod Needs
 pub mod Sound
 pub mod Normal
 pub mod Demand
+pub mod Past
 pub mod Nodes
 pub mod References
 pub mod Attributes
