@@ -27,7 +27,7 @@ use Rattle.gcx_model.specs.Nodes.{Grown, Ordered, chain_at}
 use Rattle.gcx_model.specs.Variables.{vars}
 use Rattle.gcx_model.specs.Cores.{operand_in, cond_in, conds_in}
 use Rattle.gcx_model.specs.Sound.{only_last, is_path, is_ordered_path, are_clauses, scope_of, has_step, has_clause, is_filter, is_cond, is_expr, are_exprs, two_exprs, has_expr}
-use Rattle.gcx_model.specs.Normal.{join, one, Names, named, start_var, normal_exists, normal_operand, normal_cond, normal_conds, has_loop, half, flush, spread, branch, nest, normal_clauses, guarded, clause_loops, loops, normal_expr, normal_exprs, no_names}
+use Rattle.gcx_model.specs.Normal.{join, one, Names, named, start_var, normal_exists, normal_operand, normal_cond, normal_conds, has_loop, half, Piece, Run, Loop, begin, pieces, halved, turned_in, spread, branch, nest, normal_clauses, guarded, clause_loops, loops, normal_expr, normal_exprs, no_names}
 use Rattle.gcx_laws.specs.Laws.{NormalLaw}
 use Rattle.gcx_laws.proofs.Lists.{In-left, In-right}
 use Rattle.gcx_laws.proofs.Matches.{Matches-in, Matches-from, Numbered-high, Grown-opening}
@@ -292,49 +292,59 @@ module _ (P : Tree) (w : Grown P) (o : Ordered P) (over : P.at ≡ None) where
   no_either true = refl
   no_either false = refl
 
-  said_flush : (c : CondTree) (first h : Bool) (r d : BodyTree) (env : Env) → In_P env → truth c env P ≡ Known_as h → said (flush c first r d) env ≡ cond (agree first h) (said r env) [] ++ said d env
-  said_flush c first h Nil d env p t = ap (λ z. z ++ said d env) (sym (no_either (agree first h)))
-  said_flush c first h (Then i r) d env p t = said-then (half c first (Then i r)) d env p ∙ ap (λ z. z ++ said d env) (said_half c first h (Then i r) env t)
+  two : (g : Bool) (A B : List ℕ) → cond g (A ++ B) [] ≡ cond g A [] ++ cond g B []
+  two true A B = refl
+  two false A B = refl
 
-  -- an item more in the run
-  said_more : (g : Bool) (r d : BodyTree) (i : ItemTree) (env : Env) → In_P env → cond g (said (join r (one i)) env ++ said d env) [] ≡ cond g (said r env ++ said (Then i d) env) []
-  said_more g r d i env p =
-      ap (λ z. cond g (z ++ said d env) []) (said-join r (one i) env p ∙ ap (λ z. said r env ++ z) (said-one i env p))
-      ∙ ap (λ z. cond g z []) (append_assoc (said r env) (said_item i env) (said d env) ∙ ap (λ z. said r env ++ z) (sym (said-then i d env p)))
+  -- an item in front of what stands for the rest
+  said_begin : (c : CondTree) (first h : Bool) (i : ItemTree) (ps : List Piece) (env : Env) → In_P env → truth c env P ≡ Known_as h
+      → said (halved c first (begin i ps)) env ≡ cond (agree first h) (said_item i env) [] ++ said (halved c first ps) env
+  said_begin c first h i [] env p t = said-one (half c first (one i)) env p ∙ (said_half c first h (one i) env t ∙ (ap (λ z. cond (agree first h) z []) (said-one i env p) ∙ sym (append-nil _)))
+  said_begin c first h i (Run r ∷ ps) env p t =
+      let rest : List ℕ = said (halved c first ps) env in
+      said-then (half c first (Then i r)) (halved c first ps) env p
+      ∙ (ap (λ z. z ++ rest) (said_half c first h (Then i r) env t ∙ (ap (λ z. cond (agree first h) z []) (said-then i r env p) ∙ two (agree first h) (said_item i env) (said r env)))
+      ∙ (append_assoc (cond (agree first h) (said_item i env) []) (cond (agree first h) (said r env) []) rest
+      ∙ ap (λ z. cond (agree first h) (said_item i env) [] ++ z) (ap (λ z. z ++ rest) (sym (said_half c first h r env t)) ∙ sym (said-then (half c first r) (halved c first ps) env p))))
+  said_begin c first h i (Loop l ∷ ps) env p t =
+      said-then (half c first (one i)) (halved c first (Loop l ∷ ps)) env p
+      ∙ ap (λ z. z ++ said (halved c first (Loop l ∷ ps)) env) (said_half c first h (one i) env t ∙ ap (λ z. cond (agree first h) z []) (said-one i env p))
 
-  three : (g : Bool) (A B C : List ℕ) → cond g A [] ++ (cond g B [] ++ cond g C []) ≡ cond g (A ++ (B ++ C)) []
-  three true A B C = refl
-  three false A B C = refl
+  -- and so for an item more of the branch
+  said_more : (c : CondTree) (first h : Bool) (i : ItemTree) (ps : List Piece) (d : BodyTree) (env : Env) → In_P env → truth c env P ≡ Known_as h → said (halved c first ps) env ≡ cond (agree first h) (said d env) []
+      → said (halved c first (begin i ps)) env ≡ cond (agree first h) (said (Then i d) env) []
+  said_more c first h i ps d env p t e =
+      said_begin c first h i ps env p t
+      ∙ (ap (λ z. cond (agree first h) (said_item i env) [] ++ z) e
+      ∙ (sym (two (agree first h) (said_item i env) (said d env)) ∙ ap (λ z. cond (agree first h) z []) (sym (said-then i d env p))))
 
   all_or_none : (g : Bool) (F : Node → List ℕ) (ns : List Node) → flat_map (λ n. cond g (F n) []) ns ≡ cond g (flat_map F ns) []
   all_or_none true F ns = refl
   all_or_none false F [] = refl
   all_or_none false F (n ∷ ns) = all_or_none false F ns
 
-  said_spread : (c : CondTree) (first h : Bool) (L : List ℕ) → cond_in L c → (r d : BodyTree) (env : Env) → In_P env → ((z : ℕ) → In z (vars d) → In z L → ⊥) → truth c env P ≡ Known_as h
-      → said (spread c first r d) env ≡ cond (agree first h) (said r env ++ said d env) []
-  said_spread c first h L u r Nil env p f t = said_flush c first h r Nil env p t ∙ (append-nil _ ∙ ap (λ z. cond (agree first h) z []) (sym (append-nil (said r env))))
-  said_spread c first h L u r (Then (Write s) d) env p f t = said_spread c first h L u (join r (one (Write s))) d env p f t ∙ said_more (agree first h) r d (Write s) env p
-  said_spread c first h L u r (Then (Copy x) d) env p f t = said_spread c first h L u (join r (one (Copy x))) d env p f t ∙ said_more (agree first h) r d (Copy x) env p
-  said_spread c first h L u r (Then (If k a b) d) env p f t = said_spread c first h L u (join r (one (If k a b))) d env p (λ z i. f z (In-right z (vars a ++ vars b) (vars d) i)) t ∙ said_more (agree first h) r d (If k a b) env p
-  said_spread c first h L u r (Then (Off t') d) env p f t = said_spread c first h L u (join r (one (Off t'))) d env p f t ∙ said_more (agree first h) r d (Off t') env p
-  said_spread c first h L u r (Then (For x y s e) d) env p f t =
+  said_spread : (c : CondTree) (first h : Bool) (L : List ℕ) → cond_in L c → (d : BodyTree) (env : Env) → In_P env → ((z : ℕ) → In z (vars d) → In z L → ⊥) → truth c env P ≡ Known_as h
+      → said (spread c first d) env ≡ cond (agree first h) (said d env) []
+  said_spread c first h L u Nil env p f t = sym (no_either (agree first h))
+  said_spread c first h L u (Then (Write s) d) env p f t = said_more c first h (Write s) (pieces (turned_in c first d)) d env p t (said_spread c first h L u d env p f t)
+  said_spread c first h L u (Then (Copy x) d) env p f t = said_more c first h (Copy x) (pieces (turned_in c first d)) d env p t (said_spread c first h L u d env p f t)
+  said_spread c first h L u (Then (If k a b) d) env p f t = said_more c first h (If k a b) (pieces (turned_in c first d)) d env p t (said_spread c first h L u d env p (λ z i. f z (In-right z (vars a ++ vars b) (vars d) i)) t)
+  said_spread c first h L u (Then (Off o) d) env p f t = said_more c first h (Off o) (pieces (turned_in c first d)) d env p t (said_spread c first h L u d env p f t)
+  said_spread c first h L u (Then (For x y s e) d) env p f t =
       let g : Bool = agree first h in
-      let E : BodyTree = cond (has_loop e) (spread c first Nil e) (one (half c first e)) in
-      let D : BodyTree = spread c first Nil d in
+      let E : BodyTree = cond (has_loop e) (spread c first e) (one (half c first e)) in
+      let D : BodyTree = spread c first d in
       let ms : List Node = matches P (serial_of (env y)) (s ∷ []) in
       let t' : (n : Node) → truth c (bind_var env x n) P ≡ Known_as h = λ n. truth_same P L (bind_var env x n) env (λ z i. bind_other env x z n (λ q. f z (inl (sym q)) i)) c u ∙ t in
       let inner : (n : Node) → In n ms → said E (bind_var env x n) ≡ cond g (said e (bind_var env x n)) [] = λ n i.
       let p' : In_P (bind_var env x n) = in_bind env x n p (Matches-in P (serial_of (env y)) (s ∷ []) n i).0 in
-      go (has_loop e) (bind_var env x n) p' (t' n) (said_spread c first h L u Nil e (bind_var env x n) p' (λ z j. f z (inr (In-left z (vars e) (vars d) j))) (t' n)) in
-      said_flush c first h r (Then (For x y s E) D) env p t
-      ∙ (ap (λ z. cond g (said r env) [] ++ z) (said-then (For x y s E) D env p
+      go (has_loop e) (bind_var env x n) p' (t' n) (said_spread c first h L u e (bind_var env x n) p' (λ z j. f z (inr (In-left z (vars e) (vars d) j))) (t' n)) in
+      said-then (For x y s E) D env p
       ∙ (ap (λ z. z ++ said D env) (said_for x y s E env p ∙ (flat_map-same (λ n. said E (bind_var env x n)) (λ n. cond g (said e (bind_var env x n)) []) ms inner ∙ (all_or_none g (λ n. said e (bind_var env x n)) ms ∙ ap (λ z. cond g z []) (sym (said_for x y s e env p)))))
-      ∙ ap (λ z. cond g (said_item (For x y s e) env) [] ++ z) (said_spread c first h L u Nil d env p (λ z i. f z (inr (In-right z (vars e) (vars d) i))) t)))
-      ∙ (three g (said r env) (said_item (For x y s e) env) (said d env)
-      ∙ ap (λ z. cond g (said r env ++ z) []) (sym (said-then (For x y s e) d env p))))
+      ∙ (ap (λ z. cond g (said_item (For x y s e) env) [] ++ z) (said_spread c first h L u d env p (λ z i. f z (inr (In-right z (vars e) (vars d) i))) t)
+      ∙ (sym (two g (said_item (For x y s e) env) (said d env)) ∙ ap (λ z. cond g z []) (sym (said-then (For x y s e) d env p)))))
     where
-      go : (l : Bool) (v : Env) → In_P v → truth c v P ≡ Known_as h → said (spread c first Nil e) v ≡ cond (agree first h) (said e v) [] → said (cond l (spread c first Nil e) (one (half c first e))) v ≡ cond (agree first h) (said e v) []
+      go : (l : Bool) (v : Env) → In_P v → truth c v P ≡ Known_as h → said (spread c first e) v ≡ cond (agree first h) (said e v) [] → said (cond l (spread c first e) (one (half c first e))) v ≡ cond (agree first h) (said e v) []
       go true v p' q k = k
       go false v p' q k = said-one (half c first e) v p' ∙ said_half c first h e v q
 
@@ -346,11 +356,11 @@ module _ (P : Tree) (w : Grown P) (o : Ordered P) (over : P.at ≡ None) where
       sides true A B = append-nil A
       sides false A B = refl
 
-      go : (l : Bool) → said (cond l (join (spread c true Nil a) (spread c false Nil b)) (one (If c a b))) env ≡ cond h (said a env) (said b env)
+      go : (l : Bool) → said (cond l (join (spread c true a) (spread c false b)) (one (If c a b))) env ≡ cond h (said a env) (said b env)
       go true =
-          said-join (spread c true Nil a) (spread c false Nil b) env p
-          ∙ (ap (λ z. z ++ said (spread c false Nil b) env) (said_spread c true h L u Nil a env p f t)
-          ∙ (ap (λ z. cond (agree true h) (said a env) [] ++ z) (said_spread c false h L u Nil b env p g t) ∙ sides h (said a env) (said b env)))
+          said-join (spread c true a) (spread c false b) env p
+          ∙ (ap (λ z. z ++ said (spread c false b) env) (said_spread c true h L u a env p f t)
+          ∙ (ap (λ z. cond (agree true h) (said a env) [] ++ z) (said_spread c false h L u b env p g t) ∙ sides h (said a env) (said b env)))
       go false = said-one (If c a b) env p ∙ said_if c h a b env t
 
   -- Expressions

@@ -13,7 +13,7 @@ use Rattle.gcx_model.specs.Core.{OperandTree, Path, Str, Num, CondTree, CondTree
 use Rattle.gcx_model.specs.Members.{In, count}
 use Rattle.gcx_model.specs.Variables.{vars, item_vars}
 use Rattle.gcx_model.specs.Cores.{operand_in, cond_in, conds_in, ItemIn, BodyIn}
-use Rattle.gcx_model.specs.Normal.{join, one, Names, named, start_var, normal_exists, normal_operand, normal_cond, normal_conds, has_loop, half, flush, spread, branch, nest, normal_clauses, guarded, clause_loops, loops, all_loops, normal_expr, normal_exprs, no_names, normal}
+use Rattle.gcx_model.specs.Normal.{join, one, Names, named, start_var, normal_exists, normal_operand, normal_cond, normal_conds, has_loop, half, Piece, Run, Loop, begin, pieces, halved, turned_in, spread, branch, nest, normal_clauses, guarded, clause_loops, loops, all_loops, normal_expr, normal_exprs, no_names, normal}
 use Rattle.gcx_laws.specs.Laws.{NormalIsGood}
 use Rattle.gcx_laws.proofs.Bridge.{count-append, length-count}
 
@@ -27,32 +27,31 @@ vars-half : (c : CondTree) (first : Bool) (d : BodyTree) → item_vars (half c f
 vars-half c true d = append-nil (vars d)
 vars-half c false d = refl
 
-vars-flush : (c : CondTree) (first : Bool) (run d : BodyTree) → vars (flush c first run d) ≡ vars run ++ vars d
-vars-flush c first Nil d = refl
-vars-flush c first (Then i r) d = ap (λ z. z ++ vars d) (vars-half c first (Then i r))
+vars-begin : (c : CondTree) (first : Bool) (i : ItemTree) (ps : List Piece) → vars (halved c first (begin i ps)) ≡ item_vars i ++ vars (halved c first ps)
+vars-begin c first i [] = ap (λ z. z ++ []) (vars-half c first (one i)) ∙ append_assoc (item_vars i) [] []
+vars-begin c first i (Run r ∷ ps) =
+    ap (λ z. z ++ vars (halved c first ps)) (vars-half c first (Then i r))
+    ∙ (append_assoc (item_vars i) (vars r) (vars (halved c first ps)) ∙ ap (λ z. item_vars i ++ (z ++ vars (halved c first ps))) (sym (vars-half c first r)))
+vars-begin c first i (Loop l ∷ ps) = ap (λ z. z ++ vars (halved c first (Loop l ∷ ps))) (vars-half c first (one i) ∙ append-nil (item_vars i))
 
--- an item more in the run
-vars_more : (run d : BodyTree) (i : ItemTree) → vars (join run (one i)) ++ vars d ≡ vars run ++ (item_vars i ++ vars d)
-vars_more run d i = ap (λ z. z ++ vars d) (vars-join run (one i) ∙ ap (λ z. vars run ++ z) (append-nil (item_vars i))) ∙ append_assoc (vars run) (item_vars i) (vars d)
-
-vars-spread : (c : CondTree) (first : Bool) (run d : BodyTree) → vars (spread c first run d) ≡ vars run ++ vars d
-vars-spread c first run Nil = vars-flush c first run Nil
-vars-spread c first run (Then (Write s) d) = vars-spread c first (join run (one (Write s))) d ∙ vars_more run d (Write s)
-vars-spread c first run (Then (Copy x) d) = vars-spread c first (join run (one (Copy x))) d ∙ vars_more run d (Copy x)
-vars-spread c first run (Then (If k a b) d) = vars-spread c first (join run (one (If k a b))) d ∙ vars_more run d (If k a b)
-vars-spread c first run (Then (Off o) d) = vars-spread c first (join run (one (Off o))) d ∙ vars_more run d (Off o)
-vars-spread c first run (Then (For x y s e) d) =
-    vars-flush c first run _ ∙ ap (λ z. vars run ++ z) (ap (λ z. x ∷ z) (ap (λ z. z ++ vars (spread c first Nil d)) (go (has_loop e) (vars-spread c first Nil e)) ∙ ap (λ z. vars e ++ z) (vars-spread c first Nil d)))
+vars-spread : (c : CondTree) (first : Bool) (d : BodyTree) → vars (spread c first d) ≡ vars d
+vars-spread c first Nil = refl
+vars-spread c first (Then (Write s) d) = vars-begin c first (Write s) (pieces (turned_in c first d)) ∙ vars-spread c first d
+vars-spread c first (Then (Copy x) d) = vars-begin c first (Copy x) (pieces (turned_in c first d)) ∙ vars-spread c first d
+vars-spread c first (Then (If k a b) d) = vars-begin c first (If k a b) (pieces (turned_in c first d)) ∙ ap (λ z. (vars a ++ vars b) ++ z) (vars-spread c first d)
+vars-spread c first (Then (Off o) d) = vars-begin c first (Off o) (pieces (turned_in c first d)) ∙ vars-spread c first d
+vars-spread c first (Then (For x y s e) d) =
+    ap (λ z. x ∷ z) (ap (λ z. z ++ vars (spread c first d)) (go (has_loop e) (vars-spread c first e)) ∙ ap (λ z. vars e ++ z) (vars-spread c first d))
   where
-    go : (l : Bool) → vars (spread c first Nil e) ≡ vars e → vars (cond l (spread c first Nil e) (one (half c first e))) ≡ vars e
+    go : (l : Bool) → vars (spread c first e) ≡ vars e → vars (cond l (spread c first e) (one (half c first e))) ≡ vars e
     go true h = h
     go false h = append-nil (item_vars (half c first e)) ∙ vars-half c first e
 
 pub vars-branch : (c : CondTree) (a b : BodyTree) → vars (branch c a b) ≡ vars a ++ vars b
 vars-branch c a b = go (has_loop a || has_loop b)
   where
-    go : (l : Bool) → vars (cond l (join (spread c true Nil a) (spread c false Nil b)) (one (If c a b))) ≡ vars a ++ vars b
-    go true = vars-join (spread c true Nil a) (spread c false Nil b) ∙ (ap (λ z. z ++ vars (spread c false Nil b)) (vars-spread c true Nil a) ∙ ap (λ z. vars a ++ z) (vars-spread c false Nil b))
+    go : (l : Bool) → vars (cond l (join (spread c true a) (spread c false b)) (one (If c a b))) ≡ vars a ++ vars b
+    go true = vars-join (spread c true a) (spread c false b) ∙ (ap (λ z. z ++ vars (spread c false b)) (vars-spread c true a) ∙ ap (λ z. vars a ++ z) (vars-spread c false b))
     go false = append-nil (vars a ++ vars b)
 
 vars-nest : (y : ℕ) (ss : List Step) (k : ℕ) (inner : ℕ → BodyTree) (vs : List ℕ) → ((z : ℕ) → vars (inner z) ≡ vs) → vars (nest y ss k inner) ≡ count k (length ss) ++ vs
@@ -130,21 +129,23 @@ half_in : (L : List ℕ) (c : CondTree) (first : Bool) (d : BodyTree) → cond_i
 half_in L c true d i q = (i, q, tt)
 half_in L c false d i q = (i, tt, q)
 
-flush_in : (L : List ℕ) (c : CondTree) (first : Bool) (run d : BodyTree) → cond_in L c → BodyIn false L run → BodyIn true L d → BodyIn true L (flush c first run d)
-flush_in L c first Nil d i q k = k
-flush_in L c first (Then j r) d i q k = (half_in L c first (Then j r) i q, k)
+begin_in : (L : List ℕ) (c : CondTree) (first : Bool) (i : ItemTree) (ps : List Piece) → cond_in L c → ItemIn false L i → BodyIn true L (halved c first ps) → BodyIn true L (halved c first (begin i ps))
+begin_in L c first i [] u q k = (half_in L c first (one i) u (q, tt), tt)
+begin_in L c true i (Run r ∷ ps) u q k = ((u, (q, k.0.1), tt), k.1)
+begin_in L c false i (Run r ∷ ps) u q k = ((u, tt, (q, k.0.2)), k.1)
+begin_in L c first i (Loop l ∷ ps) u q k = (half_in L c first (one i) u (q, tt), k)
 
-spread_in : (L : List ℕ) (c : CondTree) (first : Bool) (run d : BodyTree) → cond_in L c → BodyIn false L run → BodyIn true L d → BodyIn true L (spread c first run d)
-spread_in L c first run Nil i q k = flush_in L c first run Nil i q tt
-spread_in L c first run (Then (Write s) d) i q k = spread_in L c first (join run (one (Write s))) d i (join_in false L run (one (Write s)) q (tt, tt)) k.1
-spread_in L c first run (Then (Copy x) d) i q k = spread_in L c first (join run (one (Copy x))) d i (join_in false L run (one (Copy x)) q (k.0, tt)) k.1
-spread_in L c first run (Then (If j a b) d) i q k = spread_in L c first (join run (one (If j a b))) d i (join_in false L run (one (If j a b)) q (k.0, tt)) k.1
-spread_in L c first run (Then (Off o) d) i q k = absurd k.0
-spread_in L c first run (Then (For x y s e) d) i q k =
+spread_in : (L : List ℕ) (c : CondTree) (first : Bool) (d : BodyTree) → cond_in L c → BodyIn true L d → BodyIn true L (spread c first d)
+spread_in L c first Nil i k = tt
+spread_in L c first (Then (Write s) d) i k = begin_in L c first (Write s) (pieces (turned_in c first d)) i tt (spread_in L c first d i k.1)
+spread_in L c first (Then (Copy x) d) i k = begin_in L c first (Copy x) (pieces (turned_in c first d)) i k.0 (spread_in L c first d i k.1)
+spread_in L c first (Then (If j a b) d) i k = begin_in L c first (If j a b) (pieces (turned_in c first d)) i k.0 (spread_in L c first d i k.1)
+spread_in L c first (Then (Off o) d) i k = absurd k.0
+spread_in L c first (Then (For x y s e) d) i k =
     let j : cond_in (x ∷ L) c = cond_more L (x ∷ L) (λ v m. inr m) c i in
-    flush_in L c first run _ i q ((refl, k.0.1, go (has_loop e) refl j (spread_in (x ∷ L) c first Nil e j tt k.0.2)), spread_in L c first Nil d i tt k.1)
+    ((refl, k.0.1, go (has_loop e) refl j (spread_in (x ∷ L) c first e j k.0.2)), spread_in L c first d i k.1)
   where
-    go : (l : Bool) → has_loop e ≡ l → cond_in (x ∷ L) c → BodyIn true (x ∷ L) (spread c first Nil e) → BodyIn true (x ∷ L) (cond l (spread c first Nil e) (one (half c first e)))
+    go : (l : Bool) → has_loop e ≡ l → cond_in (x ∷ L) c → BodyIn true (x ∷ L) (spread c first e) → BodyIn true (x ∷ L) (cond l (spread c first e) (one (half c first e)))
     go true h j m = m
     go false h j m = (half_in (x ∷ L) c first e j (no_loop_in (x ∷ L) e h k.0.2), tt)
 
@@ -155,8 +156,8 @@ or_false false b h = (refl, h)
 branch_in : (L : List ℕ) (c : CondTree) (a b : BodyTree) → cond_in L c → BodyIn true L a → BodyIn true L b → BodyIn true L (branch c a b)
 branch_in L c a b i p q = go (has_loop a || has_loop b) refl
   where
-    go : (l : Bool) → (has_loop a || has_loop b) ≡ l → BodyIn true L (cond l (join (spread c true Nil a) (spread c false Nil b)) (one (If c a b)))
-    go true h = join_in true L (spread c true Nil a) (spread c false Nil b) (spread_in L c true Nil a i tt p) (spread_in L c false Nil b i tt q)
+    go : (l : Bool) → (has_loop a || has_loop b) ≡ l → BodyIn true L (cond l (join (spread c true a) (spread c false b)) (one (If c a b)))
+    go true h = join_in true L (spread c true a) (spread c false b) (spread_in L c true a i p) (spread_in L c false b i q)
     go false h = let r = or_false (has_loop a) (has_loop b) h in ((i, no_loop_in L a r.0 p, no_loop_in L b r.1 q), tt)
 
 -- the names and variable 0 are in scope

@@ -72,24 +72,47 @@ abbrev pub half : CondTree → (first : Bool) → BodyTree → ItemTree
 half c true d = If c d Nil
 half c false d = If c Nil d
 
--- no If for an empty run
-abbrev pub flush : CondTree → (first : Bool) → (run : BodyTree) → BodyTree → BodyTree
-flush c first Nil d = d
-flush c first (Then i r) d = Then (half c first (Then i r)) d
+-- A branch in pieces: a longest run of items that aren't loops, or a loop.
+pub data Piece : Type 0 where
+  Run : (items : BodyTree) → Piece
+  Loop : (item : ItemTree) → Piece
 
--- The items of one branch: each longest run of items that aren't loops becomes an If with c, each loop stays, and its body becomes the replacement of an If with c and that body.
--- `run` are the items of the run so far.
-abbrev pub spread : CondTree → (first : Bool) → (run : BodyTree) → BodyTree → BodyTree
-spread c first run Nil = flush c first run Nil
-spread c first run (Then (Write s) d) = spread c first (join run (one (Write s))) d
-spread c first run (Then (Copy x) d) = spread c first (join run (one (Copy x))) d
-spread c first run (Then (For x y s e) d) = flush c first run (Then (For x y s (cond (has_loop e) (spread c first Nil e) (one (half c first e)))) (spread c first Nil d))
-spread c first run (Then (If k a b) d) = spread c first (join run (one (If k a b))) d
-spread c first run (Then (Off o) d) = spread c first (join run (one (Off o))) d
+-- an item that is no loop, in front of pieces
+abbrev pub begin : ItemTree → List Piece → List Piece
+begin i [] = Run (one i) ∷ []
+begin i (Run r ∷ ps) = Run (Then i r) ∷ ps
+begin i (Loop l ∷ ps) = Run (one i) ∷ (Loop l ∷ ps)
+
+abbrev pub pieces : BodyTree → List Piece
+pieces Nil = []
+pieces (Then (Write s) d) = begin (Write s) (pieces d)
+pieces (Then (Copy x) d) = begin (Copy x) (pieces d)
+pieces (Then (For x y s e) d) = Loop (For x y s e) ∷ pieces d
+pieces (Then (If k a b) d) = begin (If k a b) (pieces d)
+pieces (Then (Off o) d) = begin (Off o) (pieces d)
+
+-- each run becomes an If with c, each loop stays
+abbrev pub halved : CondTree → (first : Bool) → List Piece → BodyTree
+halved c first [] = Nil
+halved c first (Run r ∷ ps) = Then (half c first r) (halved c first ps)
+halved c first (Loop l ∷ ps) = Then l (halved c first ps)
+
+-- the body of each loop becomes what stands for an If with c and that body
+abbrev pub turned_in : CondTree → (first : Bool) → BodyTree → BodyTree
+turned_in c first Nil = Nil
+turned_in c first (Then (Write s) d) = Then (Write s) (turned_in c first d)
+turned_in c first (Then (Copy x) d) = Then (Copy x) (turned_in c first d)
+turned_in c first (Then (For x y s e) d) = Then (For x y s (cond (has_loop e) (halved c first (pieces (turned_in c first e))) (one (half c first e)))) (turned_in c first d)
+turned_in c first (Then (If k a b) d) = Then (If k a b) (turned_in c first d)
+turned_in c first (Then (Off o) d) = Then (Off o) (turned_in c first d)
+
+-- the items that stand for an If of which the body is one branch: each of its longest runs as an If, and its loops, in the bodies of which the same was done
+abbrev pub spread : CondTree → (first : Bool) → BodyTree → BodyTree
+spread c first d = halved c first (pieces (turned_in c first d))
 
 -- what stands for an If: itself where its branches have no loop, else the items of the first branch and then those of the other
 abbrev pub branch : CondTree → (this other : BodyTree) → BodyTree
-branch c a b = cond (has_loop a || has_loop b) (join (spread c true Nil a) (spread c false Nil b)) (one (If c a b))
+branch c a b = cond (has_loop a || has_loop b) (join (spread c true a) (spread c false b)) (one (If c a b))
 
 -- Expressions. Variables are numbered in the order in which their loops begin; k is the next number.
 
