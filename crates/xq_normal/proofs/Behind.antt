@@ -4,9 +4,10 @@ use Rattle.std.proofs.lemmas.Bool.{true≢false, ne_eqb}
 use Rattle.gcx_model.specs.Core.{CondTree, ItemTree, Write, Copy, For, If, Off, BodyTree, Nil, Then}
 use Rattle.gcx_model.specs.declared.item.Item.{Item}
 use Rattle.gcx_model.specs.ItemView.{item_tree, body_of}
-use Rattle.gcx_model.specs.Normal.{join, one, flush, half, has_loop, spread, branch}
+use Rattle.gcx_model.specs.Normal.{join, one, half, has_loop, spread, branch}
 use Rattle.gcx_base.specs.declared.steps.Step.{Step}
-use Rattle.xq_normal.specs.Raw.{turn_of}
+use Rattle.xq_normal.specs.Raw.{flush, spread_on, turn_of}
+use Rattle.xq_normal.proofs.Spreading.{spread_is}
 
 pub join-nil : (a : BodyTree) → join a Nil ≡ a
 join-nil Nil = refl
@@ -64,21 +65,21 @@ flush-join c first (Then i r) d = refl
 
 -- a loop stays, behind the If of the run before it
 pub loop_spread : (c : CondTree) (first : Bool) (out flushed now run run' : BodyTree) (x y : ℕ) (s : Step) (e turn : BodyTree) → run' ≡ Nil → flushed ≡ join out (flush c first run Nil) → turn ≡ turn_of c first e
-    → now ≡ join flushed (one (For x y s turn)) → (rest : BodyTree) → join now (spread c first run' rest) ≡ join out (spread c first run (Then (For x y s e) rest))
+    → now ≡ join flushed (one (For x y s turn)) → (rest : BodyTree) → join now (spread_on c first run' rest) ≡ join out (spread_on c first run (Then (For x y s e) rest))
 loop_spread c first out flushed now run run' x y s e turn none f t p rest =
-    ap (λ r. join now (spread c first r rest)) none
-    ∙ (join_more flushed (one (For x y s turn)) now (spread c first Nil rest) p
-    ∙ (join_more out (flush c first run Nil) flushed (Then (For x y s turn) (spread c first Nil rest)) f
-    ∙ ap (λ d. join out d) (sym (flush-join c first run (Then (For x y s turn) (spread c first Nil rest))) ∙ ap (λ u. flush c first run (Then (For x y s u) (spread c first Nil rest))) t)))
+    ap (λ r. join now (spread_on c first r rest)) none
+    ∙ (join_more flushed (one (For x y s turn)) now (spread_on c first Nil rest) p
+    ∙ (join_more out (flush c first run Nil) flushed (Then (For x y s turn) (spread_on c first Nil rest)) f
+    ∙ ap (λ d. join out d) (sym (flush-join c first run (Then (For x y s turn) (spread_on c first Nil rest))) ∙ ap (λ u. flush c first run (Then (For x y s u) (spread_on c first Nil rest))) t)))
 
-pub branch_put : (c : CondTree) (out first now a b : BodyTree) (t : Bool) → t ≡ (has_loop a || has_loop b) → t ≡ true → first ≡ join out (spread c true Nil a) → now ≡ join first (spread c false Nil b) → now ≡ join out (branch c a b)
+pub branch_put : (c : CondTree) (out first now a b : BodyTree) (t : Bool) → t ≡ (has_loop a || has_loop b) → t ≡ true → first ≡ join out (spread_on c true Nil a) → now ≡ join first (spread_on c false Nil b) → now ≡ join out (branch c a b)
 branch_put c out first now a b t e h p q =
-    after out first now (spread c true Nil a) (spread c false Nil b) p q
-    ∙ ap (λ u. join out (cond u (join (spread c true Nil a) (spread c false Nil b)) (one (If c a b)))) (sym h ∙ e)
+    after out first now (spread c true a) (spread c false b) (p ∙ ap (λ d. join out d) (spread_is c true a)) (q ∙ ap (λ d. join first d) (spread_is c false b))
+    ∙ ap (λ u. join out (cond u (join (spread c true a) (spread c false b)) (one (If c a b)))) (sym h ∙ e)
 
 pub branch_stays : (c : CondTree) (out now a b : BodyTree) (t : Bool) → t ≡ (has_loop a || has_loop b) → t ≡ false → now ≡ join out (one (If c a b)) → now ≡ join out (branch c a b)
 branch_stays c out now a b t e h p =
-    p ∙ ap (λ u. join out (cond u (join (spread c true Nil a) (spread c false Nil b)) (one (If c a b)))) (sym h ∙ e)
+    p ∙ ap (λ u. join out (cond u (join (spread c true a) (spread c false b)) (one (If c a b)))) (sym h ∙ e)
 
 -- a constructor
 pub elem_put : (s t : List ℕ) (out first second now inner : BodyTree) → first ≡ join out (one (Write s)) → second ≡ join first inner → now ≡ join second (one (Write t)) → now ≡ join out (Then (Write s) (join inner (one (Write t))))

@@ -1,3 +1,4 @@
+pub mod Spreading
 pub mod Behind
 pub mod Moved
 pub mod Counts

@@ -3,8 +3,9 @@ use Rattle.std.proofs.Common.{◌≡◌, ℕ, ◌+◌, ◌*◌, Bool, true, fals
 use Rattle.std.proofs.Math.Nat.{add-mul}
 use Rattle.std.proofs.lemmas.Bool.{true≢false}
 use Rattle.gcx_model.specs.Core.{CondTree, ItemTree, Write, Copy, For, If, Off, BodyTree, Nil, Then}
-use Rattle.gcx_model.specs.Normal.{join, one, has_loop, half, flush, spread, branch}
-use Rattle.xq_normal.specs.Raw.{turn_of, moved, moved_item}
+use Rattle.gcx_model.specs.Normal.{join, one, has_loop, half, spread, branch}
+use Rattle.xq_normal.specs.Raw.{flush, spread_on, turn_of, moved, moved_item}
+use Rattle.xq_normal.proofs.Spreading.{spread_is}
 use Rattle.gcx_base.specs.declared.steps.Step.{Step}
 use Rattle.gcx_model.specs.declared.item.Item.{Item}
 use Rattle.gcx_model.specs.ItemView.{item_tree}
@@ -104,19 +105,19 @@ flat_turn (Loops i f b) h = absurd (true_false h)
     true_false : true ≡ false → ⊥
     true_false e = true≢false e
 
-turn_count : (c : CondTree) (first : Bool) (e : BodyTree) (t : Bool) → has_loop e ≡ t → shape_of (spread c first Nil e) ≡ shape_of e
-    → turn_copies (shape_of (cond t (spread c first Nil e) (one (half c first e)))) ≡ turn_copies (shape_of e)
+turn_count : (c : CondTree) (first : Bool) (e : BodyTree) (t : Bool) → has_loop e ≡ t → shape_of (spread_on c first Nil e) ≡ shape_of e
+    → turn_copies (shape_of (cond t (spread_on c first Nil e) (one (half c first e)))) ≡ turn_copies (shape_of e)
 turn_count c first e true h s = ap turn_copies s
 turn_count c first e false h s = ap (λ u. turn_copies (beside u Empty)) (half_shape c first e) ∙ sym (flat_turn (shape_of e) (sym (looped e) ∙ h))
 
-pub spread_shape : (c : CondTree) (first : Bool) (run d : BodyTree) → shape_of (spread c first run d) ≡ beside (run_shape run) (shape_of d)
+pub spread_shape : (c : CondTree) (first : Bool) (run d : BodyTree) → shape_of (spread_on c first run d) ≡ beside (run_shape run) (shape_of d)
 spread_shape c first run Nil = flush_shape c first run Nil
 spread_shape c first run (Then (Write s) d) = spread_shape c first (join run (one (Write s))) d ∙ run_more run (Write s) (shape_of d)
 spread_shape c first run (Then (Copy x) d) = spread_shape c first (join run (one (Copy x))) d ∙ run_more run (Copy x) (shape_of d)
 spread_shape c first run (Then (If k a b) d) = spread_shape c first (join run (one (If k a b))) d ∙ run_more run (If k a b) (shape_of d)
 spread_shape c first run (Then (Off o) d) = spread_shape c first (join run (one (Off o))) d ∙ run_more run (Off o) (shape_of d)
 spread_shape c first run (Then (For x y s e) d) =
-    flush_shape c first run (Then (For x y s (turn_of c first e)) (spread c first Nil d))
+    flush_shape c first run (Then (For x y s (turn_of c first e)) (spread_on c first Nil d))
     ∙ ap (λ t. beside (run_shape run) t)
     (ap (λ t. beside (Loops (turn_copies (shape_of (turn_of c first e))) false false) t) (spread_shape c first Nil d)
     ∙ ap (λ n. beside (Loops n false false) (shape_of d)) (turn_count c first e (has_loop e) refl (spread_shape c first Nil e)))
@@ -124,8 +125,8 @@ spread_shape c first run (Then (For x y s e) d) =
 pub branch_is : (c : CondTree) (a b : BodyTree) → shape_of (branch c a b) ≡ branch_shape (shape_of a) (shape_of b)
 branch_is c a b = go (has_loop a || has_loop b) ∙ ap (λ t. cond t (beside (shape_of a) (shape_of b)) Run) (ap (λ t. t || has_loop b) (looped a) ∙ ap (λ t. is_looped (shape_of a) || t) (looped b))
   where
-    go : (t : Bool) → shape_of (cond t (join (spread c true Nil a) (spread c false Nil b)) (one (If c a b))) ≡ cond t (beside (shape_of a) (shape_of b)) Run
-    go true = shape_of-join (spread c true Nil a) (spread c false Nil b) ∙ (ap (λ s. beside s (shape_of (spread c false Nil b))) (spread_shape c true Nil a) ∙ ap (λ s. beside (shape_of a) s) (spread_shape c false Nil b))
+    go : (t : Bool) → shape_of (cond t (join (spread c true a) (spread c false b)) (one (If c a b))) ≡ cond t (beside (shape_of a) (shape_of b)) Run
+    go true = shape_of-join (spread c true a) (spread c false b) ∙ (ap (λ s. beside s (shape_of (spread c false b))) (ap shape_of (sym (spread_is c true a)) ∙ spread_shape c true Nil a) ∙ ap (λ s. beside (shape_of a) s) (ap shape_of (sym (spread_is c false b)) ∙ spread_shape c false Nil b))
     go false = refl
 
 -- ---- Sums
@@ -147,7 +148,7 @@ module _ (number : CondTree → ℕ) where
   one_total run i = let h = total-join run (one i) in omega arith
 
   abbrev Moves : CondTree → Bool → BodyTree → BodyTree → Type 0
-  Moves c first run d = total number (spread c first run d) ≡ copies (beside (run_shape run) (shape_of d)) * number c + (total number run + total number d)
+  Moves c first run d = total number (spread_on c first run d) ≡ copies (beside (run_shape run) (shape_of d)) * number c + (total number run + total number d)
 
   item_moves : (c : CondTree) (first : Bool) (run d : BodyTree) (i : ItemTree) (t : ℕ) → t ≡ copies (beside (run_shape (join run (one i))) (shape_of d)) * number c + (total number (join run (one i)) + total number d)
       → t ≡ copies (beside (run_shape run) (beside Run (shape_of d))) * number c + (total number run + (item_total number i + total number d))
@@ -177,7 +178,7 @@ module _ (number : CondTree → ℕ) where
       meet false = omega arith
 
   turn_total : (c : CondTree) (first : Bool) (e : BodyTree) (t : Bool) → has_loop e ≡ t → Moves c first Nil e
-      → total number (cond t (spread c first Nil e) (one (half c first e))) ≡ turn_copies (shape_of e) * number c + total number e
+      → total number (cond t (spread_on c first Nil e) (one (half c first e))) ≡ turn_copies (shape_of e) * number c + total number e
   turn_total c first e true h m =
       let s : copies (shape_of e) * number c ≡ turn_copies (shape_of e) * number c = ap (λ n. n * number c) (looped_copies (shape_of e) (sym (looped e) ∙ h)) in
       omega arith
@@ -206,8 +207,8 @@ module _ (number : CondTree → ℕ) where
   spread_total c first run (Then (Off o) d) = item_moves c first run d (Off o) _ (spread_total c first (join run (one (Off o))) d)
   spread_total c first run (Then (For x y s e) d) =
       loop_sum (number c) (copies (run_shape run)) (turn_copies (shape_of e)) (copies (shape_of d)) (total number run) (total number e) (total number d)
-      (total number (turn_of c first e)) (total number (spread c first Nil d)) (total number (spread c first run (Then (For x y s e) d)))
-      (flush_total c first run (Then (For x y s (turn_of c first e)) (spread c first Nil d)))
+      (total number (turn_of c first e)) (total number (spread_on c first Nil d)) (total number (spread_on c first run (Then (For x y s e) d)))
+      (flush_total c first run (Then (For x y s (turn_of c first e)) (spread_on c first Nil d)))
       (turn_total c first e (has_loop e) refl (spread_total c first Nil e))
       (spread_total c first Nil d)
       ∙ ap (λ n. n * number c + (total number run + (total number e + total number d))) (sym (loop_copies run (turn_copies (shape_of e)) (shape_of d)))
@@ -217,11 +218,11 @@ module _ (number : CondTree → ℕ) where
       go (has_loop a || has_loop b)
       ∙ ap (λ t. cond t (copies (shape_of a) + copies (shape_of b)) 1 * number c + (total number a + total number b)) (ap (λ t. t || has_loop b) (looped a) ∙ ap (λ t. is_looped (shape_of a) || t) (looped b))
     where
-      go : (t : Bool) → total number (cond t (join (spread c true Nil a) (spread c false Nil b)) (one (If c a b))) ≡ cond t (copies (shape_of a) + copies (shape_of b)) 1 * number c + (total number a + total number b)
+      go : (t : Bool) → total number (cond t (join (spread c true a) (spread c false b)) (one (If c a b))) ≡ cond t (copies (shape_of a) + copies (shape_of b)) 1 * number c + (total number a + total number b)
       go true =
-          let j = total-join (spread c true Nil a) (spread c false Nil b) in
-          let x = spread_total c true Nil a in
-          let y = spread_total c false Nil b in
+          let j = total-join (spread c true a) (spread c false b) in
+          let x = ap (total number) (sym (spread_is c true a)) ∙ spread_total c true Nil a in
+          let y = ap (total number) (sym (spread_is c false b)) ∙ spread_total c false Nil b in
           let m = add-mul (copies (shape_of a)) (copies (shape_of b)) (number c) in
           omega arith
       go false = omega arith

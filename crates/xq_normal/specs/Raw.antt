@@ -1,11 +1,11 @@
--- A query as loops of single steps, with each If where the query has it; and the If moved inside the loops of its branches.
+-- This follows the code of the normaliser, and no public clause speaks of it. A query as loops of single steps, with each If where the query has it; and the If moved inside the loops of its branches.
 use Rattle.std.specs.Prelude.{ℕ, zero, suc, ◌+◌, Bool, cond, List, Option, Some, None}
 use Rattle.gcx_model.specs.declared.query.Clause.{Clause}
 use Rattle.gcx_model.specs.Written.{start_tag, end_tag}
 use Rattle.gcx_model.specs.Query as query
 use Rattle.gcx_model.specs.Query.{ExprTree, ExprTrees}
 use Rattle.gcx_model.specs.Core.{CondTree, ItemTree, Write, Copy, For, If, Off, BodyTree, Nil, Then}
-use Rattle.gcx_model.specs.Normal.{join, one, Names, start_var, normal_cond, has_loop, half, spread, branch, nest, normal_clauses, loops}
+use Rattle.gcx_model.specs.Normal.{join, one, Names, start_var, normal_cond, has_loop, half, branch, nest, normal_clauses, loops}
 
 abbrev pub raw_filtered : Option query.CondTree → Names → BodyTree → BodyTree
 raw_filtered None names d = d
@@ -47,6 +47,20 @@ abbrev pub innermost : (y n k : ℕ) → ℕ
 innermost y zero k = y
 innermost y (suc n) k = k + n
 
+-- no If for an empty run
+abbrev pub flush : CondTree → (first : Bool) → (run : BodyTree) → BodyTree → BodyTree
+flush c first Nil d = d
+flush c first (Then i r) d = Then (half c first (Then i r)) d
+
+-- What stands for an If of which the body is one branch, read item by item; `run` are the items of the run so far.
+abbrev pub spread_on : CondTree → (first : Bool) → (run : BodyTree) → BodyTree → BodyTree
+spread_on c first run Nil = flush c first run Nil
+spread_on c first run (Then (Write s) d) = spread_on c first (join run (one (Write s))) d
+spread_on c first run (Then (Copy x) d) = spread_on c first (join run (one (Copy x))) d
+spread_on c first run (Then (For x y s e) d) = flush c first run (Then (For x y s (cond (has_loop e) (spread_on c first Nil e) (one (half c first e)))) (spread_on c first Nil d))
+spread_on c first run (Then (If k a b) d) = spread_on c first (join run (one (If k a b))) d
+spread_on c first run (Then (Off o) d) = spread_on c first (join run (one (Off o))) d
+
 -- the body of a loop with an If moved into it
 abbrev pub turn_of : CondTree → (first : Bool) → BodyTree → BodyTree
-turn_of c first e = cond (has_loop e) (spread c first Nil e) (one (half c first e))
+turn_of c first e = cond (has_loop e) (spread_on c first Nil e) (one (half c first e))

@@ -3,8 +3,8 @@ ghost use Rattle.std.specs.Prelude.{◌≡◌, ◌||◌, IfOk, OnOk};
 ghost use Rattle.gcx_model.specs.Core.{BodyTree, Nil, Then};
 ghost use Rattle.gcx_model.specs.CondView.{core_cond_tree};
 ghost use Rattle.gcx_model.specs.ItemView.{body_tree, item_tree};
-ghost use Rattle.gcx_model.specs.Normal.{branch, flush, half, has_loop, join, spread};
-ghost use Rattle.xq_normal.specs.Raw.{moved, moved_item, turn_of};
+ghost use Rattle.gcx_model.specs.Normal.{branch, half, has_loop, join};
+ghost use Rattle.xq_normal.specs.Raw.{flush, moved, moved_item, spread_on, turn_of};
 
 use crate::bodies::{put_body, put_item, single};
 use gcx_base::Memory;
@@ -85,7 +85,7 @@ fn spread_item(
     run: &mut Body,
     out: &mut Body,
 ) -> Result<(), Memory>
-    ensures { OnOk result ((rest : BodyTree) → join (body_tree out.new) (spread (core_cond_tree cond.now) first (body_tree run.new) rest) ≡ join (body_tree out.old) (spread (core_cond_tree cond.now) first (body_tree run.old) (Then (item_tree item) rest))) }
+    ensures { OnOk result ((rest : BodyTree) → join (body_tree out.new) (spread_on (core_cond_tree cond.now) first (body_tree run.new) rest) ≡ join (body_tree out.old) (spread_on (core_cond_tree cond.now) first (body_tree run.old) (Then (item_tree item) rest))) }
 {
     match item {
         Item::For {
@@ -116,7 +116,7 @@ fn spread_item(
 /// The items that stand for an `If` with the body as one branch.
 #[cycle(spreads)]
 fn spread(alloc: Global, cond: &Cond, first: bool, body: Body) -> Result<Body, Memory>
-    ensures { IfOk result (λ items. body_tree items ≡ spread (core_cond_tree cond.now) first Nil (body_tree body)) }
+    ensures { IfOk result (λ items. body_tree items ≡ spread_on (core_cond_tree cond.now) first Nil (body_tree body)) }
 {
     let mut run = Body::new(alloc);
     let mut out = Body::new(alloc);

@@ -3,7 +3,8 @@ use Rattle.std.specs.Vec.Iter.{into_iter_items, into_iter_len}
 use Rattle.gcx_model.specs.Core.{Nil}
 use Rattle.gcx_model.specs.CondView.{core_cond_tree}
 use Rattle.gcx_model.specs.ItemView.{body_tree, item_tree}
-use Rattle.gcx_model.specs.Normal.{join, spread}
+use Rattle.gcx_model.specs.Normal.{join}
+use Rattle.xq_normal.specs.Raw.{spread_on}
 use Rattle.xq_normal.proofs.Behind.{body_in, weight, weights}
 use Rattle.xq_normal.proofs.moves.+spreads.Given as goal
 
@@ -18,7 +19,7 @@ decreases-spread_turn l = suc (weights (body_tree l.body))
 
 abbrev pub invariant-spread-loop-item : goal.invariant-spread-loop-item
 invariant-spread-loop-item l = record {
-  put : join (body_tree l.out) (spread (core_cond_tree l.cond) l.first (body_tree l.run) (body_in (into_iter_items l.item-iterator))) ≡ spread (core_cond_tree l.cond) l.first Nil (body_in (into_iter_items l.initial.item-iterator));
+  put : join (body_tree l.out) (spread_on (core_cond_tree l.cond) l.first (body_tree l.run) (body_in (into_iter_items l.item-iterator))) ≡ spread_on (core_cond_tree l.cond) l.first Nil (body_in (into_iter_items l.initial.item-iterator));
   left : into_iter_len l.item-iterator ≡ length (into_iter_items l.item-iterator);
   less : weights (body_in (into_iter_items l.item-iterator)) ≤ weights (body_in (into_iter_items l.initial.item-iterator));
 }
