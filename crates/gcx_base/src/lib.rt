@@ -31,8 +31,10 @@ mod tests {
     fn names_are_of_xml(rt: HostRuntime) -> Result<(), Fail> {
         let alloc = rt.alloc();
         let long = vec![in alloc; b'a'; 1025]?;
-        let table: [(&[u8], bool); 13] = [
+        let table: [(&[u8], bool); 15] = [
             (b"a", true),
+            (b"sixteen_letters_", true),
+            (b"seventeen_letters", true),
             (b"_", true),
             (b"Z9-._", true),
             (&long, true),
@@ -52,6 +54,8 @@ mod tests {
                     assert!(rt; named, "{bytes:?}");
                     assert_eq!(rt; name.as_bytes(), bytes);
                     assert_eq!(rt; name.copy(alloc)?.as_bytes(), bytes);
+                    assert_eq!(rt; name.as_str().as_bytes(), bytes);
+                    assert_eq!(rt; Name::of_name(alloc, name.as_bytes())?.as_bytes(), bytes);
                 }
                 None => assert!(rt; !named, "{bytes:?}"),
             }
