@@ -66,9 +66,11 @@ mod tests {
     #[test]
     fn texts_are_utf8(rt: HostRuntime) -> Result<(), Fail> {
         let alloc = rt.alloc();
-        let table: [(&[u8], bool); 8] = [
+        let table: [(&[u8], bool); 10] = [
             (b"", true),
             (b"1 > 0", true),
+            (b"16 bytes of text", true),
+            (b"17 bytes of words", true),
             (b"\xC3\xA9", true),
             (b"\xF0\x9F\x98\x80", true),
             (b"\xFF", false),
@@ -82,6 +84,9 @@ mod tests {
                     assert!(rt; utf8, "{bytes:?}");
                     assert_eq!(rt; text.copy(alloc)?.as_bytes(), bytes);
                     assert_eq!(rt; text.as_str().as_bytes(), bytes);
+                    let mut string = String::from_str(alloc, text.as_str())?;
+                    assert_eq!(rt; Text::take_from(alloc, &mut string).as_bytes(), bytes);
+                    assert_eq!(rt; string.as_str(), "");
                 }
                 None => assert!(rt; !utf8, "{bytes:?}"),
             }
