@@ -31,8 +31,10 @@ mod tests {
     fn names_are_of_xml(rt: HostRuntime) -> Result<(), Fail> {
         let alloc = rt.alloc();
         let long = vec![in alloc; b'a'; 1025]?;
-        let table: [(&[u8], bool); 13] = [
+        let table: [(&[u8], bool); 15] = [
             (b"a", true),
+            (b"sixteen_letters_", true),
+            (b"seventeen_letters", true),
             (b"_", true),
             (b"Z9-._", true),
             (&long, true),
@@ -52,6 +54,8 @@ mod tests {
                     assert!(rt; named, "{bytes:?}");
                     assert_eq!(rt; name.as_bytes(), bytes);
                     assert_eq!(rt; name.copy(alloc)?.as_bytes(), bytes);
+                    assert_eq!(rt; name.as_str().as_bytes(), bytes);
+                    assert_eq!(rt; Name::of_name(alloc, name.as_bytes())?.as_bytes(), bytes);
                 }
                 None => assert!(rt; !named, "{bytes:?}"),
             }
@@ -62,9 +66,11 @@ mod tests {
     #[test]
     fn texts_are_utf8(rt: HostRuntime) -> Result<(), Fail> {
         let alloc = rt.alloc();
-        let table: [(&[u8], bool); 8] = [
+        let table: [(&[u8], bool); 10] = [
             (b"", true),
             (b"1 > 0", true),
+            (b"16 bytes of text", true),
+            (b"17 bytes of words", true),
             (b"\xC3\xA9", true),
             (b"\xF0\x9F\x98\x80", true),
             (b"\xFF", false),
@@ -78,6 +84,9 @@ mod tests {
                     assert!(rt; utf8, "{bytes:?}");
                     assert_eq!(rt; text.copy(alloc)?.as_bytes(), bytes);
                     assert_eq!(rt; text.as_str().as_bytes(), bytes);
+                    let mut string = String::from_str(alloc, text.as_str())?;
+                    assert_eq!(rt; Text::take_from(alloc, &mut string).as_bytes(), bytes);
+                    assert_eq!(rt; string.as_str(), "");
                 }
                 None => assert!(rt; !utf8, "{bytes:?}"),
             }

@@ -7,13 +7,15 @@ ghost use Rattle.gcx_base.specs.Name.{first_starts, is_name, IsNameBytes};
 use crate::Memory;
 use crate::chars::{is_name_char, is_name_start};
 use simdutf8::compat::from_utf8;
+use smallvec::SmallVec;
 use std::alloc::Global;
 use std::marker::Model;
+use std::str::from_utf8_unchecked;
 
-/// A name (XML 1.0, section 2.3), seen as its bytes.
+/// A name (XML 1.0, section 2.3), seen as its bytes. Up to sixteen lie in the value itself.
 #[derive(Drop, Debug)]
 pub struct Name {
-    bytes: Vec<u8>,
+    bytes: SmallVec<u8, 16>,
 }
 
 impl Model for Name {
@@ -72,11 +74,19 @@ impl Name {
         ensures none { IfOk result (λ name. IsNone name → IsNameBytes bytes.now → ⊥) }
     {
         if is_name(bytes) {
-            let bytes = bytes.to_vec(alloc)?;
-            Ok(Some(Name { bytes }))
+            Ok(Some(Name::of_name(alloc, bytes)?))
         } else {
             Ok(None)
         }
+    }
+
+    /// A name of bytes that are known to be one.
+    pub fn of_name(alloc: Global, bytes: &[u8]) -> Result<Name, Memory>
+        requires { IsNameBytes bytes.now }
+        ensures { IfOk result (λ name. name ≡ bytes.now) }
+    {
+        let bytes = SmallVec::from_slice(alloc, bytes)?;
+        Ok(Name { bytes })
     }
 
     /// Its bytes.
@@ -84,14 +94,22 @@ impl Name {
         ensures bytes { result.now ≡ self.now }
         ensures named { IsNameBytes self.now }
     {
-        &self.bytes
+        self.bytes.as_slice()
+    }
+
+    /// The name as std's type.
+    #[tactic(auto, using(crate::proofs::Names::name_text))]
+    pub fn as_str(&self) -> &str
+        ensures { result.now ≡ self.now }
+    {
+        // The characters of a name are scalar values, so its bytes are UTF-8.
+        unsafe { from_utf8_unchecked(self.bytes.as_slice()) }
     }
 
     /// The same name once more.
     pub fn copy(&self, alloc: Global) -> Result<Name, Memory>
         ensures { IfOk result (λ name. name ≡ self.now) }
     {
-        let bytes = self.bytes.as_slice().to_vec(alloc)?;
-        Ok(Name { bytes })
+        Name::of_name(alloc, self.as_bytes())
     }
 }

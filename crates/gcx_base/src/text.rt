@@ -1,22 +1,30 @@
-ghost use Rattle.std.specs.Prelude.{◌≡◌, IfOk, IsNone, IfSome, IsUtf8, string_bytes};
+ghost use Rattle.std.specs.Prelude.{◌≡◌, IfOk, IsNone, IfSome, IsUtf8, [], string_bytes};
 
 use crate::Memory;
 use simdutf8::compat::from_utf8;
+use smallvec::SmallVec;
 use std::alloc::Global;
 use std::marker::Model;
+use std::mem;
+use std::str::from_utf8_unchecked;
 
-/// A text, seen as its bytes, which are UTF-8.
+/// How many bytes lie in the value itself.
+const SHORT: usize = 16;
+
+/// A text, seen as its bytes, which are UTF-8. Up to sixteen lie in the value itself.
 #[derive(Drop, Debug)]
 pub struct Text {
-    text: String,
+    bytes: SmallVec<u8, SHORT>,
 }
 
 impl Model for Text {
-    ghost use Rattle.std.specs.Prelude.{List, ℕ, string_bytes};
+    ghost use Rattle.std.specs.Prelude.{List, ℕ, IsUtf8};
 
     ghost Value = { List ℕ };
 
-    ghost view = { λ t. string_bytes t.text };
+    ghost view = { λ t. t.bytes.items };
+
+    ghost invariant = { λ t. IsUtf8 t.bytes.items };
 }
 
 impl Text {
@@ -28,17 +36,32 @@ impl Text {
     {
         match from_utf8(bytes) {
             Ok(text) => Ok(Some(Text {
-                text: String::from_str(alloc, text)?,
+                bytes: SmallVec::from_slice(alloc, text.as_bytes())?,
             })),
             Err(_) => Ok(None),
         }
     }
 
-    /// The same text in another type.
+    /// The same text in another type. A long one is moved.
     pub fn from_string(text: String) -> Text
         ensures { result ≡ string_bytes text }
     {
-        Text { text }
+        Text {
+            bytes: SmallVec::from_vec(text.into_bytes()),
+        }
+    }
+
+    /// The text of a string, which is empty afterwards. The string keeps its room where the text is short.
+    pub fn take_from(alloc: Global, string: &mut String) -> Text
+        ensures text { result ≡ string_bytes string.old }
+        ensures empty { string_bytes string.new ≡ [] }
+    {
+        if string.len() > SHORT {
+            return Text::from_string(mem::replace(string, String::new(alloc)));
+        }
+        let bytes = SmallVec::from_slice(alloc, string.as_str().as_bytes()).unwrap();
+        string.clear();
+        Text { bytes }
     }
 
     /// Its bytes.
@@ -46,14 +69,15 @@ impl Text {
         ensures bytes { result.now ≡ self.now }
         ensures utf8 { IsUtf8 self.now }
     {
-        self.text.as_str().as_bytes()
+        self.bytes.as_slice()
     }
 
     /// The text as std's type.
     pub fn as_str(&self) -> &str
         ensures { result.now ≡ self.now }
     {
-        self.text.as_str()
+        // The invariant says that the bytes are UTF-8.
+        unsafe { from_utf8_unchecked(self.bytes.as_slice()) }
     }
 
     /// The same text once more.
@@ -61,7 +85,7 @@ impl Text {
         ensures { IfOk result (λ text. text ≡ self.now) }
     {
         Ok(Text {
-            text: String::from_str(alloc, self.text.as_str())?,
+            bytes: SmallVec::from_slice(alloc, self.bytes.as_slice())?,
         })
     }
 }
