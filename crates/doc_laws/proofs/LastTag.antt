@@ -103,7 +103,7 @@ tag_before fs (doctype y q c d) g e = absurd (false≢true e)
 after_longer : (s t : State) → IsAfter s t → length s.tokens ≤ length t.tokens
 after_longer s t a = omega (arith, ap length a.tokens_are, length-append s.tokens a.more)
 
-opens_front : (c : List ℕ) (fs : Frames) (x : Content) (p : Piece) → Opens c fs x p → Fronts c (state_of fs x p)
+pub opens_front : (c : List ℕ) (fs : Frames) (x : Content) (p : Piece) → Opens c fs x p → Fronts c (state_of fs x p)
 opens_front c fs x p o = record { frames = fs; content = x; piece = p; good = o.good; spelled = o.spelled; state = refl }
 
 up_nothing : (x : Content) → has_element x ≡ false → up_to_tag x ≡ nothing
@@ -293,7 +293,7 @@ both_front : (cs ds m n : List ℕ) → cs ≡ ds ++ m → ds ≡ cs ++ n → cs
 both_front cs ds [] n e f = e ∙ append-nil ds
 both_front cs ds (c ∷ m) n e f = absurd (omega (arith, ap length e, ap length f, length-append ds (c ∷ m), length-append cs n))
 
-longest_one : (lim : Limits) (b cs ds : List ℕ) → IsLongest lim b cs → IsLongest lim b ds → cs ≡ ds
+pub longest_one : (lim : Limits) (b cs ds : List ℕ) → IsLongest lim b cs → IsLongest lim b ds → cs ≡ ds
 longest_one lim b cs ds h k =
     let p = longest_is lim b cs ds k.rest h k.chars k.parts k.within k.clean in
     let q = longest_is lim b ds cs h.rest k h.chars h.parts h.within h.clean in

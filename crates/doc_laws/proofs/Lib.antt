@@ -16,3 +16,4 @@ pub mod Examples
 pub mod Texts
 pub mod Words
 pub mod Found
+pub mod Growing
