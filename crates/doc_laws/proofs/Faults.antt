@@ -12,7 +12,7 @@ use Rattle.gcx_model.specs.Grammar.{Content, has_element, may_open, Viable}
 use Rattle.gcx_model.specs.Fronts.{Frames, bottom, frame, Part, spaced, part_name, Piece, no_piece, less, started, tag, names, is_inside, inside, depth, Opens, IsFront, front_spelling, frames_spelling, part_naming, naming, piece_run}
 use Rattle.gcx_model.specs.Grammar.{spelling}
 use Rattle.gcx_model.specs.Faults.{Refusal, AtSyntax, AtDepth, AtName, AtText, size, IsFullTag, IsFullAttribute, IsDeep, Comes, Clean, ComesFirst}
-use Rattle.doc_laws.specs.Machine.{Referred, More, Done, Bad, Referring, Mode, Opening, Between, Less, StartName, StartSpace, AttributeName, AttributeSpace, Equals, InValue, InValueReference, ValueEnd, Slash, EndName, EndSpace, Question, Target, TargetMark, InNote, DocWord, DocSpace, Doc, DocLiteral, Bang, BangDash, Comment, CommentDash, CommentEnd, SectionWord, InSection, InReference, State, start, begun, on_between, on_tag, on_named, on_ended, on_referred, refer, behind, to_end_name, on_end, on_word, on_mode, steps, step, go_on}
+use Rattle.doc_laws.specs.Machine.{Referred, More, Done, Bad, Referring, Mode, Opening, Between, Less, StartName, StartSpace, AttributeName, AttributeSpace, Equals, InValue, InValueReference, ValueEnd, Slash, EndName, EndSpace, Question, Target, TargetMark, InInstruction, DocWord, DocSpace, Doc, DocLiteral, Bang, BangDash, Comment, CommentDash, CommentEnd, CDSectWord, InCDSect, InReference, State, start, begun, on_between, on_tag, on_named, on_ended, on_referred, refer, behind, to_end_name, on_end, on_word, on_mode, steps, step, go_on}
 use Rattle.doc_laws.specs.States.{part_mode, piece_mode, is_opening, rooted, state_of, Fronts}
 use Rattle.doc_laws.specs.Judging.{naming_by, begins_deep, is_deep, deep_place, judged_by, judged, on_ok, judged_steps, Told}
 use Rattle.doc_laws.proofs.Tests.{and_true, true_and, not_false, on_cond, off_cond, at}
@@ -123,7 +123,7 @@ keeps_mode s c EndSpace = keeps_ended s c s.names
 keeps_mode s c Question = k1 s (is_start_char c) _ (inl refl)
 keeps_mode s c Target = k3 s (is_part_char c) (is_white c) (eqb c 63) _ _ _ (inl refl) (inl refl) (inl refl)
 keeps_mode s c TargetMark = k1 s (eqb c 62) _ (inl refl)
-keeps_mode s c (InNote m) = k2 s (eqb c 62 && eqb m 1) (is_char c) _ _ (inl refl) (inl refl)
+keeps_mode s c (InInstruction m) = k2 s (eqb c 62 && eqb m 1) (is_char c) _ _ (inl refl) (inl refl)
 keeps_mode s c (DocWord left) = keeps_word s c DocWord left _ (λ l. inl refl) (k1 s (is_white c) _ (inl refl))
 keeps_mode s c DocSpace = k2 s (is_white c) (is_start_char c) _ _ (inl refl) (inl refl)
 keeps_mode s c Doc = k3 s (is_doc_char c) (eqb c 62) (is_quote c) _ _ _ (inl refl) (inl refl) (inl refl)
@@ -133,8 +133,8 @@ keeps_mode s c BangDash = k1 s (eqb c 45) _ (inl refl)
 keeps_mode s c Comment = k2 s (eqb c 45) (is_char c) _ _ (inl refl) (inl refl)
 keeps_mode s c CommentDash = k2 s (eqb c 45) (is_char c) _ _ (inl refl) (inl refl)
 keeps_mode s c CommentEnd = k1 s (eqb c 62) _ (inl refl)
-keeps_mode s c (SectionWord left) = keeps_word s c SectionWord left _ (λ l. inl refl) (k1 s (eqb c 91) _ (inl refl))
-keeps_mode s c (InSection n) = k3 s (eqb c 93) (eqb c 62 && eqb n 2) (is_char c) _ _ _ (inl refl) (inl refl) (inl refl)
+keeps_mode s c (CDSectWord left) = keeps_word s c CDSectWord left _ (λ l. inl refl) (k1 s (eqb c 91) _ (inl refl))
+keeps_mode s c (InCDSect n) = k3 s (eqb c 93) (eqb c 62 && eqb n 2) (is_char c) _ _ _ (inl refl) (inl refl) (inl refl)
 keeps_mode s c (InReference r) = keeps_referred s InReference Between (refer r c) (λ r. inl refl) (λ d. inl refl)
 
 step_keeps : (s t : State) (c : ℕ) → step s c ≡ Some t → (naming_by t.mode t ≡ []) ⊎ (t.run ≡ s.run)
