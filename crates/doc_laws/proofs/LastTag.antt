@@ -68,11 +68,11 @@ module _ (fs : Frames) (y : Content) (n : List ℕ) (ats : Attributes) (sp : Lis
     fewer = omega (arith, ap length (closed_tokens fs y k n ats sp sp2), length-append (seen_tokens (frame fs y n ats sp) k) (text_of (run k) ++ (End ∷ [])), length-append (text_of (run k)) (End ∷ []));
   }
 
-unsnoc : (l : List ℕ) → (l ≡ []) ⊎ ((a : List ℕ) × (d : ℕ) × (l ≡ a ++ (d ∷ [])))
+pub unsnoc : (l : List ℕ) → (l ≡ []) ⊎ ((a : List ℕ) × (d : ℕ) × (l ≡ a ++ (d ∷ [])))
 unsnoc [] = inl refl
 unsnoc (c ∷ l) = elim (unsnoc l) [ inl e ↦ inr ([], c, ap (λ l. c ∷ l) e) | inr q ↦ inr (c ∷ q.0, q.1, ap (λ l. c ∷ l) q.2) ]
 
-blank_parts : (a : List ℕ) (d : ℕ) → is_blank_text (a ++ (d ∷ [])) ≡ true → (is_blank_text a ≡ true) × (is_white d ≡ true)
+pub blank_parts : (a : List ℕ) (d : ℕ) → is_blank_text (a ++ (d ∷ [])) ≡ true → (is_blank_text a ≡ true) × (is_white d ≡ true)
 blank_parts [] d h = (refl, (and_true (is_white d) true h).0)
 blank_parts (c ∷ a) d h = let both = and_true (is_white c) _ h in let k = blank_parts a d both.1 in (true_and (is_white c) _ both.0 k.0, k.1)
 

@@ -17,3 +17,5 @@ pub mod Texts
 pub mod Words
 pub mod Found
 pub mod Growing
+pub mod Segments
+pub mod Within

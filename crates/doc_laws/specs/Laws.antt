@@ -12,8 +12,9 @@ use Rattle.gcx_model.specs.Attributes.{Attributes, attribute_names}
 use Rattle.gcx_model.specs.Grammar.{Content, SpellsDocument, Viable}
 use Rattle.gcx_model.specs.Fronts.{Frames, Piece, tag, part_name, IsFront, front_spelling, Opens}
 use Rattle.gcx_model.specs.declared.fault.DocFault.{DocFault}
-use Rattle.gcx_model.specs.Faults.{AtSyntax, size, Comes, FaultIs}
+use Rattle.gcx_model.specs.Faults.{AtSyntax, size, Comes, Clean, FaultIs}
 use Rattle.gcx_model.specs.Seen.{SeenIs, seen_tree, LastTag, SeenInWords}
+use Rattle.gcx_model.specs.Within.{IsWithin}
 use Rattle.doc_laws.specs.Machine.{State, start, steps}
 use Rattle.doc_laws.specs.States.{Fronts}
 use Rattle.doc_laws.specs.Judging.{judged_steps, Told}
@@ -103,3 +104,7 @@ SeenIsNamed = (lim : Limits) (b : List ℕ) (ended : Bool) (ts : List Token) →
 -- More bytes give more tokens.
 abbrev pub SeenGoesOn : Type 0
 SeenGoesOn = (lim : Limits) (b more : List ℕ) (ended : Bool) (ts us : List Token) → SeenIs lim b false ts → SeenIs lim (b ++ more) ended us → (rest : List Token) × (us ≡ ts ++ rest)
+
+-- No fault comes in a whole document exactly where its names, runs and values are short and its elements aren't too deep.
+abbrev pub LimitsInWords : Type 0
+LimitsInWords = (lim : Limits) (cs : List ℕ) (d : Nodes) (s : SpellsDocument cs d) → Clean lim cs ↔ IsWithin lim s.content

@@ -1,4 +1,4 @@
-ghost use Rattle.doc_laws.specs.Laws.{OneDocument, SpelledIsDocument, FrontsAreViable, ViableIsFront, StepsAreFronts, JudgedIsFirst, OneFault, SomeFault, FaultStays, OneSeen, SomeSeen, SeenIsClosed, NamesComeOnce, OnlyChars, SeenIsLongest, SeenComes, SeenGrew, SeenIsNamed, SeenGoesOn};
+ghost use Rattle.doc_laws.specs.Laws.{OneDocument, SpelledIsDocument, FrontsAreViable, ViableIsFront, StepsAreFronts, JudgedIsFirst, OneFault, SomeFault, FaultStays, OneSeen, SomeSeen, SeenIsClosed, NamesComeOnce, OnlyChars, SeenIsLongest, SeenComes, SeenGrew, SeenIsNamed, SeenGoesOn, LimitsInWords};
 
 /// A text spells at most one document.
 pub fn one_document()
@@ -93,4 +93,9 @@ pub fn seen_is_named()
 /// More bytes give more tokens.
 pub fn seen_goes_on()
     ensures { SeenGoesOn }
+{}
+
+/// A whole document is within limits exactly where its names, runs and values are short and its elements aren't too deep.
+pub fn limits_in_words()
+    ensures { LimitsInWords }
 {}
