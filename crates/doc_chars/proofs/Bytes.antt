@@ -11,13 +11,13 @@ use Rattle.std.proofs.str.Laws.{Scalar, Follows, Shape, of1, of2, of3, of4, shap
 use Rattle.std.proofs.str.Valid.{of_two, of_three}
 use Rattle.std.proofs.str.Digits.{high_scalar}
 use lib.Utf8.{scalar_cases, low_scalar, next}
-use Rattle.doc_chars.specs.Stream.{IsFront, IsNotUtf8}
+use Rattle.doc_chars.specs.Stream.{IsCharFront, IsNotUtf8}
 
 pub in_range : (lo hi x : ℕ) → is_in_range lo hi x ≡ true → (lo ≤ x) × (x ≤ hi)
 in_range lo hi x e = grind (arith, nat_tests)
 
 -- a front of a front is one
-pub front_shorter : (p q : List ℕ) → IsFront (p ++ q) → IsFront p
+pub front_shorter : (p q : List ℕ) → IsCharFront (p ++ q) → IsCharFront p
 front_shorter p q f = record {
   c = f.c;
   rest = q ++ f.rest;
@@ -26,7 +26,7 @@ front_shorter p q f = record {
   more = let some = f.more in omega (arith, length-append q f.rest);
 }
 
-pub front_nil : IsFront []
+pub front_nil : IsCharFront []
 front_nil = record { c = 65; rest = 65 ∷ []; scalar = refl; bytes = one 65 (omega arith); more = omega arith }
 
 -- ---- the bytes of a character (Unicode, table 3-7)
@@ -62,7 +62,7 @@ scalar_in : (c : ℕ) → (c < 55296) ⊎ (57344 ≤ c) → c < 1114112 → IsSc
 scalar_in c (inl l) h = low_scalar c l
 scalar_in c (inr l) h = high_scalar c (omega arith) l h
 
-front_two : (x : ℕ) → 194 ≤ x → x ≤ 223 → IsFront (x ∷ [])
+front_two : (x : ℕ) → 194 ≤ x → x ≤ 223 → IsCharFront (x ∷ [])
 front_two x l h =
     let c = (x - 192) * 64 in
     let p : 192 + c / 64 ≡ x = omega arith in
@@ -119,7 +119,7 @@ wider : (c : ℕ) → (c < 55233) ⊎ (57344 ≤ c) → (c < 55296) ⊎ (57344 �
 wider c (inl h) = inl (omega arith)
 wider c (inr h) = inr h
 
-front_three : (x y : ℕ) → 224 ≤ x → x ≤ 239 → Second x y → IsFront (x ∷ y ∷ [])
+front_three : (x y : ℕ) → 224 ≤ x → x ≤ 239 → Second x y → IsCharFront (x ∷ y ∷ [])
 front_three x y l h s =
     let low = s.low in
     let high = s.high in
@@ -134,7 +134,7 @@ front_three x y l h s =
       more = omega arith;
     }
 
-front_four : (x y z : ℕ) → 240 ≤ x → x ≤ 244 → Second x y → 128 ≤ z → z ≤ 191 → IsFront (x ∷ y ∷ z ∷ [])
+front_four : (x y z : ℕ) → 240 ≤ x → x ≤ 244 → Second x y → 128 ≤ z → z ≤ 191 → IsCharFront (x ∷ y ∷ z ∷ [])
 front_four x y z l h s u v =
     let low = s.low in
     let high = s.high in
@@ -165,7 +165,7 @@ second_some x = elim (cases_lt x 225) [
   ]
 ]
 
-front_one_byte : (x : ℕ) → 194 ≤ x → x ≤ 244 → IsFront (x ∷ [])
+front_one_byte : (x : ℕ) → 194 ≤ x → x ≤ 244 → IsCharFront (x ∷ [])
 front_one_byte x l h =
     let next_byte = second_some x in
     elim (cases_lt x 224) [
@@ -182,7 +182,7 @@ cond_none : (b : Bool) (o : Option ℕ) (n : ℕ) → cond b o (Some n) ≡ None
 cond_none true o n e = (refl, e)
 cond_none false o n e = absurd (cc)
 
-front_two_bytes : (x y : ℕ) → 194 ≤ x → x ≤ 244 → Second x y → IsValidUpTo (x ∷ y ∷ []) 0 → IsFront (x ∷ y ∷ [])
+front_two_bytes : (x y : ℕ) → 194 ≤ x → x ≤ 244 → Second x y → IsValidUpTo (x ∷ y ∷ []) 0 → IsCharFront (x ∷ y ∷ [])
 front_two_bytes x y l h s v =
     let low = s.low in
     let high = s.high in
@@ -194,7 +194,7 @@ front_two_bytes x y l h s v =
       ]
     ]
 
-front_three_bytes : (x y z : ℕ) → 194 ≤ x → x ≤ 244 → Second x y → 128 ≤ z → z ≤ 191 → IsValidUpTo (x ∷ y ∷ z ∷ []) 0 → IsFront (x ∷ y ∷ z ∷ [])
+front_three_bytes : (x y z : ℕ) → 194 ≤ x → x ≤ 244 → Second x y → 128 ≤ z → z ≤ 191 → IsValidUpTo (x ∷ y ∷ z ∷ []) 0 → IsCharFront (x ∷ y ∷ z ∷ [])
 front_three_bytes x y z l h s u w v =
     let low = s.low in
     let high = s.high in
@@ -207,7 +207,7 @@ front_three_bytes x y z l h s u w v =
     ]
 
 -- where no character begins the bytes and they ended too soon, they are a proper front of one
-pub cut_front : (bs : List ℕ) → length bs < 4 → utf8_error_len bs ≡ None → IsValidUpTo bs 0 → IsFront bs
+pub cut_front : (bs : List ℕ) → length bs < 4 → utf8_error_len bs ≡ None → IsValidUpTo bs 0 → IsCharFront bs
 unfolding utf8_error_len
 cut_front [] short e v = front_nil
 cut_front (x ∷ []) short e v =
@@ -299,11 +299,11 @@ led c k (of4 a b d x l u f g h s e) =
       third = λ t. (omega arith, omega arith);
     })
 
-front_led : (bs : List ℕ) (f : IsFront bs) → IsLed (bs ++ f.rest)
+front_led : (bs : List ℕ) (f : IsCharFront bs) → IsLed (bs ++ f.rest)
 front_led bs f = subst IsLed f.bytes (led f.c (scalar_cases f.c f.scalar) (shape f.c (scalar_cases f.c f.scalar)))
 
 -- a proper front of a character has at most three bytes
-pub front_short : (bs : List ℕ) → IsFront bs → length bs < 4
+pub front_short : (bs : List ℕ) → IsCharFront bs → length bs < 4
 front_short bs f =
     let some = f.more in
     let led_by = front_led bs f in
@@ -317,7 +317,7 @@ cond_both : (b : Bool) (o : Option ℕ) (n : ℕ) → b ≡ true → o ≡ None 
 cond_both b o n e f = ap (λ t. cond t o (Some n)) e ∙ f
 
 -- std's word on a proper front of a character
-pub front_cut : (bs : List ℕ) → IsFront bs → utf8_error_len bs ≡ None
+pub front_cut : (bs : List ℕ) → IsCharFront bs → utf8_error_len bs ≡ None
 unfolding utf8_error_len
 front_cut [] f = refl
 front_cut (x ∷ []) f =

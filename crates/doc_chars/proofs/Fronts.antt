@@ -10,7 +10,7 @@ use Rattle.std.proofs.lemmas.List.{drop-append-le}
 use Rattle.std.proofs.lemmas.List.Folds.{list_all-append}
 use Rattle.std.proofs.lemmas.Str.{encodes-append, length-le-encodes, IsUtf8-append, IsUtf8-nil}
 use Rattle.gcx_base.specs.Characters.{is_char}
-use Rattle.doc_chars.specs.Stream.{IsFront, IsNotUtf8}
+use Rattle.doc_chars.specs.Stream.{IsCharFront, IsNotUtf8}
 use Rattle.doc_chars.specs.declared.scan.Cause.TheVariants.{NotUtf8, NotChar}
 use Rattle.doc_chars.specs.Scan.{AreChars, Scanned}
 use Rattle.doc_chars.proofs.Bytes.{front_nil, cut_front, is_not_utf8}
@@ -53,8 +53,8 @@ nil_of_length (x ∷ xs) e = absurd (omega arith)
 
 -- ---- where UTF-8 ends
 
-pub front_end : (bs : List ℕ) → IsFront (drop (length bs) bs)
-front_end bs = subst IsFront (sym (drop-length bs)) front_nil
+pub front_end : (bs : List ℕ) → IsCharFront (drop (length bs) bs)
+front_end bs = subst IsCharFront (sym (drop-length bs)) front_nil
 
 -- behind the longest front that is UTF-8 none is
 pub behind_valid : (bs : List ℕ) (n : ℕ) → IsValidUpTo bs n → IsValidUpTo (drop n bs) 0
@@ -64,7 +64,7 @@ behind_valid bs n v = record {
   longest = λ m l w. v.longest (n + m) (omega arith) (subst IsUtf8 (sym (take-add n m bs)) (IsUtf8-append (take n bs) (take m (drop n bs)) v.front w));
 }
 
-pub cut_behind : (bs : List ℕ) (n : ℕ) → IsValidUpTo bs n → IsErrorLen bs n None → utf8_error_len (drop n bs) ≡ None → IsFront (drop n bs)
+pub cut_behind : (bs : List ℕ) (n : ℕ) → IsValidUpTo bs n → IsErrorLen bs n None → utf8_error_len (drop n bs) ≡ None → IsCharFront (drop n bs)
 cut_behind bs n v len cut = cut_front (drop n bs) (omega (arith, length-drop n bs, len)) cut (behind_valid bs n v)
 
 pub bad_behind : (bs : List ℕ) (n k : ℕ) → IsValidUpTo bs n → utf8_error_len (drop n bs) ≡ Some k → IsNotUtf8 (drop n bs)
@@ -127,6 +127,6 @@ pub begins_bad : (bs : List ℕ) (n : ℕ) (o : Option ℕ) → n ≡ 0 → IsVa
 begins_bad bs n None zero v e some = absurd (cc)
 begins_bad bs n (Some k) zero v e some = subst (λ m. IsNotUtf8 (drop m bs)) zero (bad_behind bs n k v (sym e))
 
-pub begins_cut : (bs : List ℕ) (n : ℕ) (o : Option ℕ) → n ≡ 0 → IsValidUpTo bs n → IsErrorLen bs n o → o ≡ utf8_error_len (drop n bs) → is_some o ≡ false → IsFront bs
-begins_cut bs n None zero v len e none = subst (λ m. IsFront (drop m bs)) zero (cut_behind bs n v len (sym e))
+pub begins_cut : (bs : List ℕ) (n : ℕ) (o : Option ℕ) → n ≡ 0 → IsValidUpTo bs n → IsErrorLen bs n o → o ≡ utf8_error_len (drop n bs) → is_some o ≡ false → IsCharFront bs
+begins_cut bs n None zero v len e none = subst (λ m. IsCharFront (drop m bs)) zero (cut_behind bs n v len (sym e))
 begins_cut bs n (Some k) zero v len e none = absurd (cc)

@@ -9,7 +9,7 @@ use Rattle.std.proofs.lemmas.Str.{encode_same}
 use Rattle.gcx_base.specs.Characters.{is_char}
 use Rattle.doc_chars.specs.declared.chars.CharFault.{CharFault}
 use Rattle.doc_chars.specs.declared.chars.CharFault.TheVariants.{Utf8, Char}
-use Rattle.doc_chars.specs.Stream.{IsFront, IsNotUtf8, IsFaultAt, Decodes, Breaks}
+use Rattle.doc_chars.specs.Stream.{IsCharFront, IsNotUtf8, IsFaultAt, Decodes, Breaks}
 use Rattle.doc_chars.proofs.Bytes.{front_shorter}
 use Rattle.doc_chars.proofs.Pieces.{longer}
 use Rattle.doc_chars.proofs.Streams.{char_scalar}
@@ -21,7 +21,7 @@ Stops : List ℕ → Type 0
 Stops bs = (c : ℕ) (rest : List ℕ) → is_char c ≡ true → bs ≡ encode_utf8 c ++ rest → ⊥
 
 -- no character begins a proper front of one
-front_stops : (bs : List ℕ) → IsFront bs → (c : ℕ) (rest : List ℕ) → bs ≡ encode_utf8 c ++ rest → ⊥
+front_stops : (bs : List ℕ) → IsCharFront bs → (c : ℕ) (rest : List ℕ) → bs ≡ encode_utf8 c ++ rest → ⊥
 front_stops bs f c rest is =
     let long = longer bs [] rest c f (append-nil bs ∙ is) in
     omega (arith, long, ap length is, length-append (encode_utf8 c) rest)
@@ -54,7 +54,7 @@ decodes_stops b cs tail d c rest char is = front_stops tail d.front c rest is
 pub decodes_once : (b cs ds t u : List ℕ) → Decodes b cs t → Decodes b ds u → (cs ≡ ds) × (t ≡ u)
 decodes_once b cs ds t u d e = one_reading cs ds t u d.chars e.chars (decodes_stops b cs t d) (decodes_stops b ds u e) (sym d.bytes ∙ e.bytes)
 
-front_is_no_fault : (fault : CharFault) (at : ℕ) (bs : List ℕ) → IsFront bs → IsFaultAt fault at bs → ⊥
+front_is_no_fault : (fault : CharFault) (at : ℕ) (bs : List ℕ) → IsCharFront bs → IsFaultAt fault at bs → ⊥
 front_is_no_fault (Utf8 place) at bs f (e, w) = w.no_front f
 front_is_no_fault (Char place) at bs f (e, w) = front_stops bs f w.c w.rest w.bytes
 
@@ -62,7 +62,7 @@ front_is_no_fault (Char place) at bs f (e, w) = front_stops bs f w.c w.rest w.by
 pub decodes_or_breaks : (b cs ds tail : List ℕ) (fault : CharFault) → Decodes b cs tail → Breaks b ds fault → ⊥
 decodes_or_breaks b cs ds tail fault d w =
     let same = one_reading cs ds tail w.rest d.chars w.chars (decodes_stops b cs tail d) (fault_stops fault _ w.rest w.why) (sym d.bytes ∙ w.bytes) in
-    front_is_no_fault fault _ w.rest (subst IsFront same.1 d.front) w.why
+    front_is_no_fault fault _ w.rest (subst IsCharFront same.1 d.front) w.why
 
 same_fault : (f g : CharFault) (at : ℕ) (bs : List ℕ) → IsFaultAt f at bs → IsFaultAt g at bs → f ≡ g
 same_fault (Utf8 m) (Utf8 n) at bs (e, w) (k, v) = ap Utf8 (e ∙ sym k)

@@ -13,7 +13,7 @@ use Rattle.doc_chars.specs.declared.scan.First.{First}
 use Rattle.doc_chars.specs.declared.scan.First.TheVariants.{Whole, Bad, Front}
 use Rattle.doc_chars.specs.declared.scan.Cause.{Cause}
 use Rattle.doc_chars.specs.declared.cut.Cut.{Cut}
-use Rattle.doc_chars.specs.Stream.{IsFront, IsNotChar, still_carried}
+use Rattle.doc_chars.specs.Stream.{IsCharFront, IsNotChar, still_carried}
 use Rattle.doc_chars.specs.Scan.{AreChars, BeginsWith, Ends, Scanned}
 use Rattle.doc_chars.specs.Cut.{IsCut}
 use Rattle.doc_chars.proofs.Bytes.{front_short, encode_short}
@@ -28,11 +28,11 @@ begins_whole Bad s w = record {
       let k : ℕ = 4 - length (encode_utf8 c) in
       let n : 4 ≡ length (encode_utf8 c) + k = omega arith in
       w.no_char c (take k rest) scalar (ap (take 4) e ∙ ap (λ m. take m (encode_utf8 c ++ rest)) n ∙ take-append-add (encode_utf8 c) rest k);
-  no_front = λ f. let short = front_short s f in w.no_front (subst IsFront (sym (take_all 4 s (omega arith))) f);
+  no_front = λ f. let short = front_short s f in w.no_front (subst IsCharFront (sym (take_all 4 s (omega arith))) f);
 }
 begins_whole Front s f =
     let short = front_short (take 4 s) f in
-    subst IsFront (take_all 4 s (omega (arith, length-take 4 s))) f
+    subst IsCharFront (take_all 4 s (omega (arith, length-take 4 s))) f
 
 take_less : (k n : ℕ) (xs : List ℕ) → k ≡ min (length xs) n → take k xs ≡ take n xs
 take_less k n xs e = elim (cases_lt n (length xs)) [
@@ -59,7 +59,7 @@ joined_bytes carried piece first second zeros k n one two e short =
 -- ---- the carried character
 
 -- a character that begins with carried bytes is longer than they are
-pub longer : (carried piece rest : List ℕ) (c : ℕ) → IsFront carried → carried ++ piece ≡ encode_utf8 c ++ rest → length carried < length (encode_utf8 c)
+pub longer : (carried piece rest : List ℕ) (c : ℕ) → IsCharFront carried → carried ++ piece ≡ encode_utf8 c ++ rest → length carried < length (encode_utf8 c)
 longer carried piece rest c f is = elim (cases_lt (length carried) (length (encode_utf8 c))) [
   | inl a ↦ a
   | inr a ↦ absurd (
@@ -73,7 +73,7 @@ longer carried piece rest c f is = elim (cases_lt (length carried) (length (enco
       omega (arith, none, length-append (drop n carried) f.rest))
 ]
 
-pub completed : (carried piece rest : List ℕ) (c : ℕ) → IsFront carried → carried ++ piece ≡ encode_utf8 c ++ rest
+pub completed : (carried piece rest : List ℕ) (c : ℕ) → IsCharFront carried → carried ++ piece ≡ encode_utf8 c ++ rest
     → encode_utf8 c ≡ carried ++ take (length (encode_utf8 c) - length carried) piece
 completed carried piece rest c f is =
     let long = longer carried piece rest c f is in

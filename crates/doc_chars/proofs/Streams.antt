@@ -13,7 +13,7 @@ use Rattle.gcx_base.specs.Characters.{is_char}
 use Rattle.doc_chars.specs.declared.scan.Cause.{Cause}
 use Rattle.doc_chars.specs.declared.scan.Cause.TheVariants.{NotUtf8, NotChar}
 use Rattle.doc_chars.specs.declared.cut.Cut.{Cut}
-use Rattle.doc_chars.specs.Stream.{IsFront, Carry, StandsFor, Breaks, IsFaultAt, optional, still_carried}
+use Rattle.doc_chars.specs.Stream.{IsCharFront, Carry, StandsFor, Breaks, IsFaultAt, optional, still_carried}
 use Rattle.doc_chars.specs.Scan.{AreChars, Ends}
 use Rattle.doc_chars.specs.Cut.{IsCut}
 use Rattle.doc_chars.specs.Carried.{fault_of}
@@ -92,7 +92,7 @@ pub given_chars : (carried piece : List ℕ) (cut : Cut) → IsCut carried piece
 given_chars carried piece cut h =
     subst (λ l. list_all is_char (optional cut.first ++ l) ≡ true) (chars_are _ h.chars) (all_of carried piece cut.first cut.used cut.whole h.chars.cs h.first h.chars.chars)
 
-pub left_front : (carried piece : List ℕ) (cut : Cut) → IsCut carried piece cut → cut.cause ≡ None → IsFront (cut_left carried piece cut)
+pub left_front : (carried piece : List ℕ) (cut : Cut) → IsCut carried piece cut → cut.cause ≡ None → IsCharFront (cut_left carried piece cut)
 left_front carried piece cut h none = subst (λ (o : Option Cause). Ends o (cut_left carried piece cut)) none h.ends
 
 -- ---- the stream with the piece

@@ -5,14 +5,14 @@ use Rattle.doc_chars.specs.declared.chars.CharFault.{CharFault}
 use Rattle.doc_chars.specs.declared.chars.CharFault.TheVariants.{Utf8, Char}
 use Rattle.doc_chars.specs.declared.scan.Cause.{Cause}
 use Rattle.doc_chars.specs.declared.scan.Cause.TheVariants.{NotUtf8, NotChar}
-use Rattle.doc_chars.specs.Stream.{IsFront, Carry}
+use Rattle.doc_chars.specs.Stream.{IsCharFront, Carry}
 
 abbrev pub carry_of : Inside → Carry
 carry_of a = record { bytes = take a.count a.bytes; seen = a.seen }
 
 -- what is carried is a proper front of a character, and among the bytes seen
 pub record IsKept (a : Inside) : Type 0 where
-  pub front : IsFront (take a.count a.bytes)
+  pub front : IsCharFront (take a.count a.bytes)
   pub room : a.count ≤ 4
   pub seen : a.count ≤ a.seen
 

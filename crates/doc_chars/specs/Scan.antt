@@ -8,7 +8,7 @@ use Rattle.doc_chars.specs.declared.scan.Cause.{Cause}
 use Rattle.doc_chars.specs.declared.scan.Cause.TheVariants.{NotUtf8, NotChar}
 use Rattle.doc_chars.specs.declared.scan.First.{First}
 use Rattle.doc_chars.specs.declared.scan.First.TheVariants.{Whole, Bad, Front}
-use Rattle.doc_chars.specs.Stream.{IsFront, IsNotUtf8, IsNotChar}
+use Rattle.doc_chars.specs.Stream.{IsCharFront, IsNotUtf8, IsNotChar}
 
 -- the bytes are those of Chars
 pub record AreChars (bs : List ℕ) : Type 0 where
@@ -18,7 +18,7 @@ pub record AreChars (bs : List ℕ) : Type 0 where
 
 -- why characters end before these bytes
 abbrev pub Ends : Option Cause → List ℕ → Type 0
-Ends None rest = IsFront rest
+Ends None rest = IsCharFront rest
 Ends (Some NotUtf8) rest = IsNotUtf8 rest
 Ends (Some NotChar) rest = IsNotChar rest
 
@@ -32,4 +32,4 @@ pub record Scanned (bs : List ℕ) (whole : ℕ) (cause : Option Cause) : Type 0
 abbrev pub BeginsWith : First → List ℕ → Type 0
 BeginsWith (Whole c) bs = (rest : List ℕ) × (bs ≡ encode_utf8 c ++ rest) × IsScalar c
 BeginsWith Bad bs = IsNotUtf8 bs
-BeginsWith Front bs = IsFront bs
+BeginsWith Front bs = IsCharFront bs

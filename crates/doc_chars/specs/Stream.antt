@@ -2,24 +2,12 @@
 use Rattle.std.specs.Prelude.{◌≡◌, ◌<◌, ℕ, true, false, List, [], ◌∷◌, ◌++◌, length, Option, Some, None, Result, Ok, Err, slice_range}
 use Rattle.std.specs.List.{list_all}
 use Rattle.std.specs.Char.{IsScalar, encode_utf8}
-use Rattle.std.specs.Str.{StartsWithNoChar, encode_utf8_all, chars}
+use Rattle.std.specs.Str.{encode_utf8_all, chars}
 use Rattle.gcx_base.specs.Characters.{is_char}
+pub use Rattle.gcx_base.specs.Utf8.{IsCharFront, IsNotUtf8}
 use Rattle.doc_chars.specs.declared.chars.CharFault.{CharFault}
 use Rattle.doc_chars.specs.declared.chars.CharFault.TheVariants.{Utf8, Char}
 use Rattle.doc_chars.specs.declared.chars.Split.{Split}
-
--- the bytes are a proper front of one character; none at all are one too
-pub record IsFront (bs : List ℕ) : Type 0 where
-  pub c : ℕ
-  pub rest : List ℕ
-  pub scalar : IsScalar c
-  pub bytes : encode_utf8 c ≡ bs ++ rest
-  pub more : 0 < length rest
-
--- no character begins the bytes, and none would with more of them
-pub record IsNotUtf8 (bs : List ℕ) : Type 0 where
-  pub no_char : StartsWithNoChar bs
-  pub no_front : ¬ (IsFront bs)
 
 -- a character begins the bytes that is no Char
 pub record IsNotChar (bs : List ℕ) : Type 0 where
@@ -33,7 +21,7 @@ pub record IsNotChar (bs : List ℕ) : Type 0 where
 pub record Decodes (b cs tail : List ℕ) : Type 0 where
   pub chars : list_all is_char cs ≡ true
   pub bytes : b ≡ encode_utf8_all cs ++ tail
-  pub front : IsFront tail
+  pub front : IsCharFront tail
 
 -- the fault says why, and at which byte
 abbrev pub IsFaultAt : CharFault → ℕ → List ℕ → Type 0

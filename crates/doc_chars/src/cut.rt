@@ -1,7 +1,7 @@
 //! A piece of a stream, behind the bytes of a character that the piece before it cut.
 ghost use Rattle.std.specs.Prelude.{◌≡◌, ◌<◌, ◌≤◌, ◌++◌, ◌+◌, ◌-◌, length, take, drop, min};
 ghost use Rattle.doc_chars.specs.Scan.{BeginsWith, Scanned};
-ghost use Rattle.doc_chars.specs.Stream.{IsFront};
+ghost use Rattle.doc_chars.specs.Stream.{IsCharFront};
 ghost use Rattle.doc_chars.specs.Cut.{IsCut};
 
 use crate::scan::{Cause, First, first_char, scan_bytes};
@@ -78,7 +78,7 @@ fn nothing(cause: Option<Cause>) -> Cut
 
 /// The characters of the carried bytes and the piece.
 pub(crate) fn cut_piece(carried: &[u8], piece: &[u8]) -> Cut
-    requires { IsFront carried.now }
+    requires { IsCharFront carried.now }
     ensures { IsCut carried.now piece.now result }
 {
     if carried.is_empty() {

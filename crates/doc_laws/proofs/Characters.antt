@@ -7,7 +7,7 @@ use Rattle.gcx_base.specs.Characters.{between, is_char, is_white, is_ascii_start
 use Rattle.gcx_base.specs.declared.limits.Limits.{Limits}
 use Rattle.gcx_model.specs.References.{Entity, less_than, greater_than, ampersand, apostrophe, quotation, entity_name, Digits, no_digit, digit, digits_spelling, is_decimal, is_hexadecimal, AreDigits, Reference, named, decimal, hexadecimal, reference_spelling, IsReference}
 use Rattle.gcx_model.specs.Attributes.{is_name, is_blank_text, is_gap, is_quote, is_text_char, Value, blank_value, value_char, value_reference, Attributes, no_attribute, attribute, value_spelling, head_spelling, attributes_spelling, IsValue, IsAttributes}
-use Rattle.gcx_model.specs.Markup.{Remark, blank_remark, plain, dashed, remark_spelling, IsRemark, Section, blank_section, further, section_spelling, IsSection, Note, blank_note, note_char, note_spelling, IsNote, Declaration, blank_declaration, doc_char, literal, declaration_spelling, IsDeclaration, is_literal_char, comment_start, cdata_start, doc_start}
+use Rattle.gcx_model.specs.Markup.{CommentText, blank_comment, plain, dashed, comment_spelling, IsCommentText, CDSect, blank_cdsect, further, cdsect_spelling, IsCDSect, InstructionData, blank_data, data_char, data_spelling, IsInstructionData, Declaration, blank_declaration, doc_char, literal, declaration_spelling, IsDeclaration, is_literal_char, comment_start, cdata_start, doc_start}
 use Rattle.gcx_model.specs.Grammar.{Content, nothing, mark, space, char, reference, cdata, comment, bare, instruction, doctype, single, tagged, start_tag, end_tag, spelling, IsContent, Viable}
 use Rattle.gcx_model.specs.Faults.{Comes, AtSyntax, size}
 use Rattle.doc_laws.proofs.Tests.{and_true, true_and, or_cases, all_append, gap_blank}
@@ -140,18 +140,18 @@ attributes_chars (attribute ats h v) g =
     (both h.gap _ (gap_chars h.gap k.0) (both h.name _ (name_chars h.name k.1) (both h.before _ (blank_chars h.before k.3) (cons 61 _ refl (both h.behind (h.quote ∷ []) (blank_chars h.behind k.4) quote)))))
     (both (value_spelling v) (h.quote ∷ []) (value_chars h.quote v g.2) quote))
 
-remark_chars : (r : Remark) → IsRemark r → Chars (remark_spelling r)
-remark_chars blank_remark g = known refl
-remark_chars (plain r c) g = both (remark_spelling r) (c ∷ []) (remark_chars r g.0) (one c g.1)
-remark_chars (dashed r c) g = both (remark_spelling r) (45 ∷ (c ∷ [])) (remark_chars r g.0) (cons 45 (c ∷ []) refl (one c g.1))
+comment_chars : (r : CommentText) → IsCommentText r → Chars (comment_spelling r)
+comment_chars blank_comment g = known refl
+comment_chars (plain r c) g = both (comment_spelling r) (c ∷ []) (comment_chars r g.0) (one c g.1)
+comment_chars (dashed r c) g = both (comment_spelling r) (45 ∷ (c ∷ [])) (comment_chars r g.0) (cons 45 (c ∷ []) refl (one c g.1))
 
-section_chars : (d : Section) → IsSection d → Chars (section_spelling d)
-section_chars blank_section g = known refl
-section_chars (further d c) g = both (section_spelling d) (c ∷ []) (section_chars d g.0) (one c g.1)
+cdsect_chars : (d : CDSect) → IsCDSect d → Chars (cdsect_spelling d)
+cdsect_chars blank_cdsect g = known refl
+cdsect_chars (further d c) g = both (cdsect_spelling d) (c ∷ []) (cdsect_chars d g.0) (one c g.1)
 
-note_chars : (d : Note) → IsNote d → Chars (note_spelling d)
-note_chars blank_note g = known refl
-note_chars (note_char d c) g = both (note_spelling d) (c ∷ []) (note_chars d g.0) (one c g.1)
+instruction_chars : (d : InstructionData) → IsInstructionData d → Chars (data_spelling d)
+instruction_chars blank_data g = known refl
+instruction_chars (data_char d c) g = both (data_spelling d) (c ∷ []) (instruction_chars d g.0) (one c g.1)
 
 declaration_chars : (d : Declaration) → IsDeclaration d → Chars (declaration_spelling d)
 declaration_chars blank_declaration g = known refl
@@ -170,10 +170,10 @@ content_chars b mark g = known refl
 content_chars b (space y c) g = both (spelling y) (c ∷ []) (content_chars b y g.0) (one c (white_is_char c g.2))
 content_chars b (char y c) g = both (spelling y) (c ∷ []) (content_chars b y g.0) (one c (text_is_char c g.2))
 content_chars b (reference y r) g = both (spelling y) (reference_spelling r) (content_chars b y g.0) (reference_chars r g.2)
-content_chars b (cdata y d) g = both (spelling y) _ (content_chars b y g.0) (both cdata_start _ (known refl) (both (section_spelling d) (62 ∷ []) (section_chars d g.2) (known refl)))
-content_chars b (comment y r) g = both (spelling y) _ (content_chars b y g.0) (both comment_start _ (known refl) (both (remark_spelling r) _ (remark_chars r g.1) (known refl)))
+content_chars b (cdata y d) g = both (spelling y) _ (content_chars b y g.0) (both cdata_start _ (known refl) (both (cdsect_spelling d) (62 ∷ []) (cdsect_chars d g.2) (known refl)))
+content_chars b (comment y r) g = both (spelling y) _ (content_chars b y g.0) (both comment_start _ (known refl) (both (comment_spelling r) _ (comment_chars r g.1) (known refl)))
 content_chars b (bare y n) g = both (spelling y) _ (content_chars b y g.0) (cons 60 _ refl (cons 63 _ refl (both n _ (name_chars n g.1) (known refl))))
-content_chars b (instruction y n c d) g = both (spelling y) _ (content_chars b y g.0) (cons 60 _ refl (cons 63 _ refl (both n _ (name_chars n g.1) (cons c _ (white_is_char c g.2) (both (note_spelling d) (62 ∷ []) (note_chars d g.3) (known refl))))))
+content_chars b (instruction y n c d) g = both (spelling y) _ (content_chars b y g.0) (cons 60 _ refl (cons 63 _ refl (both n _ (name_chars n g.1) (cons c _ (white_is_char c g.2) (both (data_spelling d) (62 ∷ []) (instruction_chars d g.3) (known refl))))))
 content_chars b (doctype y q c d) g = both (spelling y) _ (content_chars b y g.0) (both doc_start _ (known refl) (both q _ (gap_chars q g.2) (cons c _ (start_is_char c g.3) (both (declaration_spelling d) (62 ∷ []) (declaration_chars d g.4) (known refl)))))
 content_chars b (single y n ats sp) g = both (spelling y) _ (content_chars b y g.0) (tag_chars n ats sp (47 ∷ (62 ∷ [])) g.2 g.3 g.4 (known refl))
 content_chars b (tagged y n ats sp k sp2) g =

@@ -67,7 +67,7 @@ content_are b (tagged y n ats sp k sp2) g = (
 )
 
 -- outside the root there is no run
-no_run : (x : Content) → IsContent false x → run x ≡ []
+pub no_run : (x : Content) → IsContent false x → run x ≡ []
 no_run nothing g = refl
 no_run mark g = refl
 no_run (space y c) g = no_run y g.0

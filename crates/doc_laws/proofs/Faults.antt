@@ -12,7 +12,7 @@ use Rattle.gcx_model.specs.Grammar.{Content, has_element, may_open, Viable}
 use Rattle.gcx_model.specs.Fronts.{Frames, bottom, frame, Part, spaced, part_name, Piece, no_piece, less, started, tag, names, is_inside, inside, depth, Opens, IsFront, front_spelling, frames_spelling, part_naming, naming, piece_run}
 use Rattle.gcx_model.specs.Grammar.{spelling}
 use Rattle.gcx_model.specs.Faults.{Refusal, AtSyntax, AtDepth, AtName, AtText, size, IsFullTag, IsFullAttribute, IsDeep, Comes, Clean, ComesFirst}
-use Rattle.doc_laws.specs.Machine.{Referred, More, Done, Bad, Referring, Mode, Opening, Between, Less, StartName, StartSpace, AttributeName, AttributeSpace, Equals, InValue, InValueReference, ValueEnd, Slash, EndName, EndSpace, Question, Target, TargetMark, InNote, DocWord, DocSpace, Doc, DocLiteral, Bang, BangDash, Comment, CommentDash, CommentEnd, SectionWord, InSection, InReference, State, start, begun, on_between, on_tag, on_named, on_ended, on_referred, refer, behind, to_end_name, on_end, on_word, on_mode, steps, step, go_on}
+use Rattle.doc_laws.specs.Machine.{Referred, More, Done, Bad, Referring, Mode, Opening, Between, Less, StartName, StartSpace, AttributeName, AttributeSpace, Equals, InValue, InValueReference, ValueEnd, Slash, EndName, EndSpace, Question, Target, TargetMark, InInstruction, DocWord, DocSpace, Doc, DocLiteral, Bang, BangDash, Comment, CommentDash, CommentEnd, CDSectWord, InCDSect, InReference, State, start, begun, on_between, on_tag, on_named, on_ended, on_referred, refer, behind, to_end_name, on_end, on_word, on_mode, steps, step, go_on}
 use Rattle.doc_laws.specs.States.{part_mode, piece_mode, is_opening, rooted, state_of, Fronts}
 use Rattle.doc_laws.specs.Judging.{naming_by, begins_deep, is_deep, deep_place, judged_by, judged, on_ok, judged_steps, Told}
 use Rattle.doc_laws.proofs.Tests.{and_true, true_and, not_false, on_cond, off_cond, at}
@@ -20,11 +20,11 @@ use Rattle.doc_laws.proofs.Moves.{steps_append, may_rooted, m_started, m_attr}
 use Rattle.doc_laws.proofs.Fronts.{some_is, first, last}
 use Rattle.doc_laws.proofs.Theorems.{start_fronts, step_more, fronts_lead, Fronts_viable, step_bad}
 
-depth_names : (fs : Frames) → length (names fs) ≡ depth fs
+pub depth_names : (fs : Frames) → length (names fs) ≡ depth fs
 depth_names bottom = refl
 depth_names (frame fs x n ats sp) = omega (arith, depth_names fs)
 
-opens_fronts : (c : List ℕ) (fs : Frames) (x : Content) (p : Piece) → Opens c fs x p → Fronts c (state_of fs x p)
+pub opens_fronts : (c : List ℕ) (fs : Frames) (x : Content) (p : Piece) → Opens c fs x p → Fronts c (state_of fs x p)
 opens_fronts c fs x p o = record { frames = fs; content = x; piece = p; good = o.good; spelled = o.spelled; state = refl }
 
 pub fronts_one : (b : List ℕ) (s t : State) → Fronts b s → Fronts b t → s ≡ t
@@ -123,7 +123,7 @@ keeps_mode s c EndSpace = keeps_ended s c s.names
 keeps_mode s c Question = k1 s (is_start_char c) _ (inl refl)
 keeps_mode s c Target = k3 s (is_part_char c) (is_white c) (eqb c 63) _ _ _ (inl refl) (inl refl) (inl refl)
 keeps_mode s c TargetMark = k1 s (eqb c 62) _ (inl refl)
-keeps_mode s c (InNote m) = k2 s (eqb c 62 && eqb m 1) (is_char c) _ _ (inl refl) (inl refl)
+keeps_mode s c (InInstruction m) = k2 s (eqb c 62 && eqb m 1) (is_char c) _ _ (inl refl) (inl refl)
 keeps_mode s c (DocWord left) = keeps_word s c DocWord left _ (λ l. inl refl) (k1 s (is_white c) _ (inl refl))
 keeps_mode s c DocSpace = k2 s (is_white c) (is_start_char c) _ _ (inl refl) (inl refl)
 keeps_mode s c Doc = k3 s (is_doc_char c) (eqb c 62) (is_quote c) _ _ _ (inl refl) (inl refl) (inl refl)
@@ -133,8 +133,8 @@ keeps_mode s c BangDash = k1 s (eqb c 45) _ (inl refl)
 keeps_mode s c Comment = k2 s (eqb c 45) (is_char c) _ _ (inl refl) (inl refl)
 keeps_mode s c CommentDash = k2 s (eqb c 45) (is_char c) _ _ (inl refl) (inl refl)
 keeps_mode s c CommentEnd = k1 s (eqb c 62) _ (inl refl)
-keeps_mode s c (SectionWord left) = keeps_word s c SectionWord left _ (λ l. inl refl) (k1 s (eqb c 91) _ (inl refl))
-keeps_mode s c (InSection n) = k3 s (eqb c 93) (eqb c 62 && eqb n 2) (is_char c) _ _ _ (inl refl) (inl refl) (inl refl)
+keeps_mode s c (CDSectWord left) = keeps_word s c CDSectWord left _ (λ l. inl refl) (k1 s (eqb c 91) _ (inl refl))
+keeps_mode s c (InCDSect n) = k3 s (eqb c 93) (eqb c 62 && eqb n 2) (is_char c) _ _ _ (inl refl) (inl refl) (inl refl)
 keeps_mode s c (InReference r) = keeps_referred s InReference Between (refer r c) (λ r. inl refl) (λ d. inl refl)
 
 step_keeps : (s t : State) (c : ℕ) → step s c ≡ Some t → (naming_by t.mode t ≡ []) ⊎ (t.run ≡ s.run)
@@ -147,7 +147,7 @@ named_short lim s t c e short h =
       | inr k ↦ le-ltb lim.text (length t.run) (subst (λ l. length l ≤ lim.text) (sym k) short)
     ]
 
-judged_is : (lim : Limits) (k : ℕ) (s : State) (c : ℕ) (o : Option State) (r : Result State Refusal) → step s c ≡ o → judged_by lim k s c o ≡ r → judged lim k s c ≡ r
+pub judged_is : (lim : Limits) (k : ℕ) (s : State) (c : ℕ) (o : Option State) (r : Result State Refusal) → step s c ≡ o → judged_by lim k s c o ≡ r → judged lim k s c ≡ r
 judged_is lim k s c o r e f = ap (judged_by lim k s c) e ∙ f
 
 pub size_more : (xs : List ℕ) (c : ℕ) → size (xs ++ (c ∷ [])) ≡ size xs + len_utf8 c
@@ -189,7 +189,7 @@ name_may fs x c t h e =
     no : (n : ℕ) → is_start_char n ≡ false → eqb c n ≡ true → may_open (inside fs) (has_element x) ≡ true
     no n q b = absurd (false≢true (sym q ∙ ap is_start_char (sym (at c n b)) ∙ h))
 
-deep_found : (lim : Limits) (front : List ℕ) (c : ℕ) (s t : State) → Fronts front s → step s c ≡ Some t → is_deep lim s c ≡ true → IsDeep lim front c (deep_place (size front) s.mode)
+pub deep_found : (lim : Limits) (front : List ℕ) (c : ℕ) (s t : State) → Fronts front s → step s c ≡ Some t → is_deep lim s c ≡ true → IsDeep lim front c (deep_place (size front) s.mode)
 deep_found lim front c s t f e h =
     subst (λ (u : State). IsDeep lim front c (deep_place (size front) u.mode)) f.state
     (by f.frames f.content f.piece f.good f.spelled (ap (λ (u : State). step u c) f.state ∙ e) (ap (λ (u : State). is_deep lim u c) f.state ∙ h))
@@ -271,7 +271,7 @@ none_comes lim front c s t f g short e h = apart (sym (comes_refusal lim front c
     apart : ◌≡◌ {A = Result State Refusal} (Err f) (Ok t) → ⊥
     apart e = cc
 
-err_ok : {X : Type 0} (f : Refusal) (t : State) → Err f ≡ Ok t → X
+pub err_ok : {X : Type 0} (f : Refusal) (t : State) → Err f ≡ Ok t → X
 err_ok f t e = let absurdity : ⊥ = cc in absurd absurdity
 
 ok_err : {X : Type 0} (f : Refusal) (t : State) → Ok t ≡ Err f → X
@@ -343,7 +343,7 @@ ok_tests false false true f g h t u e = err_ok h u e
 ok_tests false false false f g h t u e = let same : t ≡ u = cc in (refl, same)
 
 -- what a judged step leaves
-step_ok : (lim : Limits) (front : List ℕ) (c : ℕ) (s t : State) → Fronts front s → judged lim (size front) s c ≡ Ok t → Fronts (front ++ c ∷ []) t × (length t.run ≤ lim.text)
+pub step_ok : (lim : Limits) (front : List ℕ) (c : ℕ) (s t : State) → Fronts front s → judged lim (size front) s c ≡ Ok t → Fronts (front ++ c ∷ []) t × (length t.run ≤ lim.text)
 step_ok lim front c s t g e =
     elim (step s c) as (λ (o : Option State). step s c ≡ o → judged_by lim (size front) s c o ≡ Ok t → Fronts (front ++ c ∷ []) t × (length t.run ≤ lim.text)) [
       | None ↦ λ d k. err_ok (AtSyntax (size front)) t k
@@ -382,7 +382,7 @@ pub record Reads (lim : Limits) (b : List ℕ) (s : State) : Type 0 where
   pub clean : Clean lim b
   pub short : length s.run ≤ lim.text
 
-reads_more : (lim : Limits) (b : List ℕ) (c : ℕ) (s t : State) → Reads lim b s → judged lim (size b) s c ≡ Ok t → Reads lim (b ++ c ∷ []) t
+pub reads_more : (lim : Limits) (b : List ℕ) (c : ℕ) (s t : State) → Reads lim b s → judged lim (size b) s c ≡ Ok t → Reads lim (b ++ c ∷ []) t
 reads_more lim b c s t r e =
     let k = step_ok lim b c s t r.front e in
     record { front = k.0; clean = clean_more lim b c r.clean (λ f. none_comes lim b c s t f r.front r.short e); short = k.1 }

@@ -7,14 +7,14 @@ use lib.Utf8.{encode, encodes}
 use Rattle.gcx_base.specs.Characters.{is_char, is_white, is_start_char, is_part_char}
 use Rattle.gcx_model.specs.References.{letters}
 use Rattle.gcx_model.specs.Attributes.{is_text_char, is_name, is_blank_text, is_gap, is_quote, is_fresh, same, Value, blank_value, value_char, value_reference, Head, Attributes, no_attribute, attribute, value_spelling, head_spelling, attributes_spelling, attribute_names, is_value_char, IsValue, IsHead, IsAttributes}
-use Rattle.gcx_model.specs.Markup.{Remark, blank_remark, plain, dashed, Section, blank_section, further, blank_note, note_char, note_spelling, marks, ends_note, blank_declaration, doc_char, literal, doc_word, doc_start, is_doc_char, is_literal_char, declaration_spelling, remark_spelling, comment_start, cdata_word, cdata_start, section_spelling, IsRemark, brackets, one_more, ends_section, IsSection}
+use Rattle.gcx_model.specs.Markup.{CommentText, blank_comment, plain, dashed, CDSect, blank_cdsect, further, blank_data, data_char, data_spelling, marks, ends_data, blank_declaration, doc_char, literal, doc_word, doc_start, is_doc_char, is_literal_char, declaration_spelling, comment_spelling, comment_start, cdata_word, cdata_start, cdsect_spelling, IsCommentText, brackets, one_more, ends_cdsect, IsCDSect}
 use Rattle.gcx_model.specs.Grammar.{Content, nothing, mark, space, char, reference, cdata, comment, bare, instruction, doctype, single, tagged, single_tag, end_tag, spelling, has_element, may_open, IsContent, nodes, Viable}
-use Rattle.gcx_model.specs.Fronts.{Frames, bottom, frame, Part, no_part, spaced, part_name, name_spaced, equals, value, value_amp, Piece, no_piece, less, started, tag, slashed, ending, ended, question, target, target_mark, note, doc_wording, doc_gap, doc, doc_literal, bang, bang_dash, remark, remark_dash, remark_end, section_word, section, amp, frames_spelling, piece_spelling, names, inside, IsFrames, IsPart, IsPiece, part_spelling, front_spelling, IsFront}
-use Rattle.doc_laws.specs.Machine.{Mode, State, begun, on_between, on_tag, on_named, on_ended, on_referred, InReference, InValueReference, Between, InValue, behind, to_end_name, on_end, on_word, step, to_mode, DocWord, DocSpace, SectionWord, InSection}
+use Rattle.gcx_model.specs.Fronts.{Frames, bottom, frame, Part, no_part, spaced, part_name, name_spaced, equals, value, value_amp, Piece, no_piece, less, started, tag, slashed, ending, ended, question, target, target_mark, in_instruction, doc_wording, doc_gap, doc, doc_literal, bang, bang_dash, in_comment, comment_dash, comment_end, cdsect_word, in_cdsect, amp, frames_spelling, piece_spelling, names, inside, IsFrames, IsPart, IsPiece, part_spelling, front_spelling, IsFront}
+use Rattle.doc_laws.specs.Machine.{Mode, State, begun, on_between, on_tag, on_named, on_ended, on_referred, InReference, InValueReference, Between, InValue, behind, to_end_name, on_end, on_word, step, to_mode, DocWord, DocSpace, CDSectWord, InCDSect}
 use Rattle.doc_laws.specs.States.{rooted, typed, Fronts, state_of}
 use Rattle.doc_laws.proofs.Tests.{and_true, true_and, not_true, of_not, chosen, at, all_more, name_more, name_append, blank_more, gap_blank, gap_more}
 use Rattle.doc_laws.proofs.References.{completes, Refers, goes_on, is_done, is_bad, refers}
-use Rattle.doc_laws.proofs.Moves.{may_rooted, end_within, m_char, m_space_out, m_mark, m_less, m_amp, m_refer, m_referred, m_started, m_bang, m_name, m_space1, m_space2, m_space3, m_open1, m_open2, m_open3, m_slash1, m_slash2, m_slash3, m_single, m_attr, m_attr_name, m_attr_space1, m_attr_space2, m_equals1, m_equals2, m_equals_space, m_quote, m_value, m_value_amp, m_value_refer, m_value_referred, m_valued, m_question, m_target, m_target_name, m_target_mark, m_bare, m_note_start, m_note, m_note_end, m_doc_word, m_doc_wording, m_doc_gap1, m_doc_gap2, m_doc_name, m_doc_char, m_doc_quote, m_doc_literal, m_doc_unquote, m_doctype, m_bang_dash, m_remark, m_plain, m_dash, m_dashed, m_dashes, m_comment, m_section_word, m_word, m_section_start, m_section, m_section_end, m_end, m_ending, m_end_space1, m_end_space2, m_close1, m_close2}
+use Rattle.doc_laws.proofs.Moves.{may_rooted, end_within, m_char, m_space_out, m_mark, m_less, m_amp, m_refer, m_referred, m_started, m_bang, m_name, m_space1, m_space2, m_space3, m_open1, m_open2, m_open3, m_slash1, m_slash2, m_slash3, m_single, m_attr, m_attr_name, m_attr_space1, m_attr_space2, m_equals1, m_equals2, m_equals_space, m_quote, m_value, m_value_amp, m_value_refer, m_value_referred, m_valued, m_question, m_target, m_target_name, m_target_mark, m_bare, m_instruction_start, m_in_instruction, m_instruction_end, m_doc_word, m_doc_wording, m_doc_gap1, m_doc_gap2, m_doc_name, m_doc_char, m_doc_quote, m_doc_literal, m_doc_unquote, m_doctype, m_bang_dash, m_in_comment, m_plain, m_dash, m_dashed, m_dashes, m_comment, m_cdsect_word, m_word, m_cdsect_start, m_in_cdsect, m_cdsect_end, m_end, m_ending, m_end_space1, m_end_space2, m_close1, m_close2}
 
 pub some_is : (s t : State) → Some s ≡ Some t → s ≡ t
 some_is s t e = cc
@@ -62,12 +62,12 @@ pub record Whole (fs : Frames) (x : Content) (p : Piece) : Type 0 where
   spelled : frames_spelling frames ++ spelling content ≡ front_spelling fs x p ++ more
 
 -- a remark, a section
-remark_whole : (fs : Frames) (x : Content) (r : Remark) (tail more : List ℕ) (p : Piece) → IsFrames fs → IsContent (inside fs) x → IsRemark r → (piece_spelling p ++ more ≡ comment_start ++ (remark_spelling r ++ (45 ∷ (45 ∷ (62 ∷ []))))) → Whole fs x p
-remark_whole fs x r tail more p g h k e = record { frames = fs; content = comment x r; more = more; good_frames = g; good = (h, k); spelled = sym (append_assoc (frames_spelling fs ++ spelling x) (piece_spelling p) more ∙ ap (λ l. (frames_spelling fs ++ spelling x) ++ l) e ∙ append_assoc (frames_spelling fs) (spelling x) _) }
+comment_whole : (fs : Frames) (x : Content) (r : CommentText) (tail more : List ℕ) (p : Piece) → IsFrames fs → IsContent (inside fs) x → IsCommentText r → (piece_spelling p ++ more ≡ comment_start ++ (comment_spelling r ++ (45 ∷ (45 ∷ (62 ∷ []))))) → Whole fs x p
+comment_whole fs x r tail more p g h k e = record { frames = fs; content = comment x r; more = more; good_frames = g; good = (h, k); spelled = sym (append_assoc (frames_spelling fs ++ spelling x) (piece_spelling p) more ∙ ap (λ l. (frames_spelling fs ++ spelling x) ++ l) e ∙ append_assoc (frames_spelling fs) (spelling x) _) }
 
 -- brackets that complete a section
-section_whole : (fs : Frames) (x : Content) (d : Section) (more : List ℕ) (p : Piece) → IsFrames fs → IsContent (inside fs) x → inside fs ≡ true → IsSection d → piece_spelling p ++ more ≡ cdata_start ++ (section_spelling d ++ (93 ∷ (93 ∷ (62 ∷ [])))) → Whole fs x p
-section_whole fs x d more p g h i k e =
+cdsect_whole : (fs : Frames) (x : Content) (d : CDSect) (more : List ℕ) (p : Piece) → IsFrames fs → IsContent (inside fs) x → inside fs ≡ true → IsCDSect d → piece_spelling p ++ more ≡ cdata_start ++ (cdsect_spelling d ++ (93 ∷ (93 ∷ (62 ∷ [])))) → Whole fs x p
+cdsect_whole fs x d more p g h i k e =
     let d1 = further d 93 in
     let d2 = further d1 93 in
     let two : (n : ℕ) → (n ≤ 2) → one_more (one_more n) ≡ 2 = two_more in
@@ -86,8 +86,8 @@ section_whole fs x d more p g h i k e =
     two_more (suc (suc zero)) h = refl
     two_more (suc (suc (suc n))) h = absurd (omega arith)
 
-    at_most : (d : Section) → brackets d ≤ 2
-    at_most blank_section = omega arith
+    at_most : (d : CDSect) → brackets d ≤ 2
+    at_most blank_cdsect = omega arith
     at_most (further d c) = bounded (eqb c 93) (brackets d) (at_most d)
       where
         bounded : (b : Bool) (n : ℕ) → n ≤ 2 → cond b (one_more n) 0 ≤ 2
@@ -168,7 +168,7 @@ content_whole fs x y p more g h e = record { frames = fs; content = y; more = mo
 
 whole : (fs : Frames) (x : Content) (p : Piece) → IsFront fs x p → Whole fs x p
 whole fs x no_piece g = record { frames = fs; content = x; more = []; good_frames = g.0; good = g.1; spelled = simp append-nil }
-whole fs x less g = remark_whole fs x blank_remark [] (33 ∷ (45 ∷ (45 ∷ (45 ∷ (45 ∷ (62 ∷ [])))))) less g.0 g.1 tt refl
+whole fs x less g = comment_whole fs x blank_comment [] (33 ∷ (45 ∷ (45 ∷ (45 ∷ (45 ∷ (62 ∷ [])))))) less g.0 g.1 tt refl
 whole fs x (started n) g =
     record { frames = frame fs x n no_attribute []; content = nothing; more = 62 ∷ []; good_frames = (g.0, g.1, g.2.0, g.2.1, refl, tt); good = tt; spelled = simp (append_assoc, append-nil) }
 whole fs x (tag n ats p) g = tag_whole fs x n ats p g.0 g.1 g.2.0 g.2.1 g.2.2 g.2.3
@@ -184,20 +184,20 @@ whole (frame fs y n ats sp) x (ended m sp2 c) g =
 whole fs x question g = content_whole fs x (bare x (97 ∷ [])) question (97 ∷ (63 ∷ (62 ∷ []))) g.0 (g.1, refl) refl
 whole fs x (target n) g = content_whole fs x (bare x n) (target n) (63 ∷ (62 ∷ [])) g.0 (g.1, g.2) refl
 whole fs x (target_mark n) g = content_whole fs x (bare x n) (target_mark n) (62 ∷ []) g.0 (g.1, g.2) (simp append_assoc)
-whole fs x (note n c d) g = content_whole fs x (instruction x n c (note_char d 63)) (note n c d) (63 ∷ (62 ∷ [])) g.0 (g.1, g.2.0, g.2.1, (g.2.2, refl, refl), refl) (simp append_assoc)
+whole fs x (in_instruction n c d) g = content_whole fs x (instruction x n c (data_char d 63)) (in_instruction n c d) (63 ∷ (62 ∷ [])) g.0 (g.1, g.2.0, g.2.1, (g.2.2, refl, refl), refl) (simp append_assoc)
 whole fs x (doc_wording m r) g =
     content_whole fs x (doctype x (32 ∷ []) 97 blank_declaration) (doc_wording m r) (r ++ (32 ∷ (97 ∷ (62 ∷ [])))) g.0 (g.1, g.2.0, refl, refl, tt)
     (ap (λ l. spelling x ++ (60 ∷ (33 ∷ (68 ∷ (l ++ (32 ∷ (97 ∷ (62 ∷ [])))))))) (sym g.2.1) ∙ (simp append_assoc))
 whole fs x (doc_gap b) g = content_whole fs x (doctype x b 97 blank_declaration) (doc_gap b) (97 ∷ (62 ∷ [])) g.0 (g.1, g.2.0, g.2.1, refl, tt) (simp append_assoc)
 whole fs x (doc b a d) g = content_whole fs x (doctype x b a d) (doc b a d) (62 ∷ []) g.0 (g.1, g.2.0, g.2.1, g.2.2, g.2.3) (simp append_assoc)
 whole fs x (doc_literal b a d q l) g = content_whole fs x (doctype x b a (literal d q l)) (doc_literal b a d q l) (q ∷ (62 ∷ [])) g.0 (g.1, g.2.0, g.2.1, g.2.2, (g.2.3, g.2.4, g.2.5)) (simp append_assoc)
-whole fs x bang g = remark_whole fs x blank_remark [] (45 ∷ (45 ∷ (45 ∷ (45 ∷ (62 ∷ []))))) bang g.0 g.1 tt refl
-whole fs x bang_dash g = remark_whole fs x blank_remark [] (45 ∷ (45 ∷ (45 ∷ (62 ∷ [])))) bang_dash g.0 g.1 tt refl
-whole fs x (remark r) g = remark_whole fs x r [] (45 ∷ (45 ∷ (62 ∷ []))) (remark r) g.0 g.1 g.2 refl
-whole fs x (remark_dash r) g = remark_whole fs x r [] (45 ∷ (62 ∷ [])) (remark_dash r) g.0 g.1 g.2 (simp append_assoc)
-whole fs x (remark_end r) g = remark_whole fs x r [] (62 ∷ []) (remark_end r) g.0 g.1 g.2 (simp append_assoc)
-whole fs x (section_word m r) g = section_whole fs x blank_section (r ++ (91 ∷ (93 ∷ (93 ∷ (62 ∷ []))))) (section_word m r) g.0 g.1 g.2.0 tt (ap (λ l. 60 ∷ (33 ∷ (91 ∷ l))) (sym (append_assoc m r _) ∙ ap (λ l. l ++ (91 ∷ (93 ∷ (93 ∷ (62 ∷ []))))) g.2.1))
-whole fs x (section d) g = section_whole fs x d (93 ∷ (93 ∷ (62 ∷ []))) (section d) g.0 g.1 g.2.0 g.2.1 refl
+whole fs x bang g = comment_whole fs x blank_comment [] (45 ∷ (45 ∷ (45 ∷ (45 ∷ (62 ∷ []))))) bang g.0 g.1 tt refl
+whole fs x bang_dash g = comment_whole fs x blank_comment [] (45 ∷ (45 ∷ (45 ∷ (62 ∷ [])))) bang_dash g.0 g.1 tt refl
+whole fs x (in_comment r) g = comment_whole fs x r [] (45 ∷ (45 ∷ (62 ∷ []))) (in_comment r) g.0 g.1 g.2 refl
+whole fs x (comment_dash r) g = comment_whole fs x r [] (45 ∷ (62 ∷ [])) (comment_dash r) g.0 g.1 g.2 (simp append_assoc)
+whole fs x (comment_end r) g = comment_whole fs x r [] (62 ∷ []) (comment_end r) g.0 g.1 g.2 (simp append_assoc)
+whole fs x (cdsect_word m r) g = cdsect_whole fs x blank_cdsect (r ++ (91 ∷ (93 ∷ (93 ∷ (62 ∷ []))))) (cdsect_word m r) g.0 g.1 g.2.0 tt (ap (λ l. 60 ∷ (33 ∷ (91 ∷ l))) (sym (append_assoc m r _) ∙ ap (λ l. l ++ (91 ∷ (93 ∷ (93 ∷ (62 ∷ []))))) g.2.1))
+whole fs x (in_cdsect d) g = cdsect_whole fs x d (93 ∷ (93 ∷ (62 ∷ []))) (in_cdsect d) g.0 g.1 g.2.0 g.2.1 refl
 whole fs x (amp r) g = let t = completes r g.2.1 in content_whole fs x (reference x t.reference) (amp r) t.more g.0 (g.1, g.2.0, t.good) (ap (λ l. spelling x ++ l) t.spelled)
 
 pub front_viable : (fs : Frames) (x : Content) (p : Piece) → IsFront fs x p → Viable (front_spelling fs x p)
@@ -400,26 +400,26 @@ ended_front fs y x n ats sp sp2 p c s g h b spelled m1 m2 f e =
           record { frames = fs; content = tagged y n ats sp x sp2; piece = no_piece; good = (g.0, (g.1, g.2, g.3, g.4, h, b, g.5), tt); spelled = rw (spelled, is) (simp (append_assoc, append-nil)); state = by_at s _ (state_of (frame fs y n ats sp) x p) c 62 is m2 e }
     ]
 
-section_front : (fs : Frames) (x : Content) (d : Section) (c : ℕ) (s : State) → IsFrames fs → IsContent (inside fs) x → inside fs ≡ true → IsSection d → step (state_of fs x (section d)) c ≡ Some s → Fronts (front_spelling fs x (section d) ++ (c ∷ [])) s
-section_front fs x d c s g h i k e =
+cdsect_front : (fs : Frames) (x : Content) (d : CDSect) (c : ℕ) (s : State) → IsFrames fs → IsContent (inside fs) x → inside fs ≡ true → IsCDSect d → step (state_of fs x (in_cdsect d)) c ≡ Some s → Fronts (front_spelling fs x (in_cdsect d) ++ (c ∷ [])) s
+cdsect_front fs x d c s g h i k e =
     elim (first (eqb c 93) _ s _ e) [
       | inl b ↦
           let is = at c 93 b in
           let good : is_char c ≡ true = ap is_char is in
-          let not_end : ends_section d c ≡ false = ap (λ a. ends_section d a) is in
+          let not_end : ends_cdsect d c ≡ false = ap (λ a. ends_cdsect d a) is in
           go good not_end
-      | inr q ↦ elim (first (ends_section d c) _ s _ q.1) [
+      | inr q ↦ elim (first (ends_cdsect d c) _ s _ q.1) [
         | inl b ↦
             let both = and_true (eqb c 62) (eqb (brackets d) 2) b in
             let is = at c 62 both.0 in
             let two = at (brackets d) 2 both.1 in
-            to_content fs x c s (section d) (cdata x d) g (h, i, k, two) (ap (λ a. spelling x ++ (cdata_start ++ (section_spelling d ++ (a ∷ [])))) (sym is) ∙ simp append_assoc) (by_at s _ (state_of fs x (section d)) c 62 is (m_section_end fs x d two) e)
+            to_content fs x c s (in_cdsect d) (cdata x d) g (h, i, k, two) (ap (λ a. spelling x ++ (cdata_start ++ (cdsect_spelling d ++ (a ∷ [])))) (sym is) ∙ simp append_assoc) (by_at s _ (state_of fs x (in_cdsect d)) c 62 is (m_cdsect_end fs x d two) e)
         | inr q2 ↦ go (last (is_char c) _ s q2.1) q2.0
       ]
     ]
   where
-    go : is_char c ≡ true → ends_section d c ≡ false → Fronts (front_spelling fs x (section d) ++ (c ∷ [])) s
-    go good not_end = to_piece fs x c s (section d) (section (further d c)) g h (i, (k, good, not_end)) (simp append_assoc) (moved s _ _ (m_section fs x d c good not_end) e)
+    go : is_char c ≡ true → ends_cdsect d c ≡ false → Fronts (front_spelling fs x (in_cdsect d) ++ (c ∷ [])) s
+    go good not_end = to_piece fs x c s (in_cdsect d) (in_cdsect (further d c)) g h (i, (k, good, not_end)) (simp append_assoc) (moved s _ _ (m_in_cdsect fs x d c good not_end) e)
 
 pub step_front : (fs : Frames) (x : Content) (p : Piece) (c : ℕ) (s : State) → IsFront fs x p → step (state_of fs x p) c ≡ Some s → Fronts (front_spelling fs x p ++ (c ∷ [])) s
 step_front fs x no_piece c s g e = between_front fs x c s g.0 g.1 e
@@ -452,7 +452,7 @@ step_front fs x (target n) c s g e =
     elim (first (is_part_char c) _ s _ e) [
       | inl b ↦ to_piece fs x c s (target n) (target (n ++ (c ∷ []))) g.0 g.1 (name_more n c g.2 b) refl (moved s _ _ (m_target_name fs x n c b) e)
       | inr k ↦ elim (first (is_white c) _ s _ k.1) [
-        | inl b ↦ to_piece fs x c s (target n) (note n c blank_note) g.0 g.1 (g.2, b, tt) refl (moved s _ _ (m_note_start fs x n c b) e)
+        | inl b ↦ to_piece fs x c s (target n) (in_instruction n c blank_data) g.0 g.1 (g.2, b, tt) refl (moved s _ _ (m_instruction_start fs x n c b) e)
         | inr k2 ↦
             let is = at c 63 (last (eqb c 63) _ s k2.1) in
             to_piece fs x c s (target n) (target_mark n) g.0 g.1 g.2 (ap (λ d. 60 ∷ (63 ∷ (n ++ (d ∷ [])))) (sym is)) (by_at s _ (state_of fs x (target n)) c 63 is (m_target_mark fs x n) e)
@@ -461,16 +461,16 @@ step_front fs x (target n) c s g e =
 step_front fs x (target_mark n) c s g e =
     let is = at c 62 (last (eqb c 62) _ s e) in
     to_content fs x c s (target_mark n) (bare x n) g.0 (g.1, g.2) (ap (λ a. spelling x ++ (60 ∷ (63 ∷ (n ++ (63 ∷ (a ∷ [])))))) (sym is) ∙ simp append_assoc) (by_at s _ (state_of fs x (target_mark n)) c 62 is (m_bare fs x n) e)
-step_front fs x (note n a d) c s g e =
-    elim (first (ends_note d c) _ s _ e) [
+step_front fs x (in_instruction n a d) c s g e =
+    elim (first (ends_data d c) _ s _ e) [
       | inl b ↦
           let both = and_true (eqb c 62) (eqb (marks d) 1) b in
           let is = at c 62 both.0 in
           let one = at (marks d) 1 both.1 in
-          to_content fs x c s (note n a d) (instruction x n a d) g.0 (g.1, g.2.0, g.2.1, g.2.2, one) (ap (λ q. spelling x ++ (60 ∷ (63 ∷ (n ++ (a ∷ (note_spelling d ++ (q ∷ []))))))) (sym is) ∙ simp append_assoc) (by_at s _ (state_of fs x (note n a d)) c 62 is (m_note_end fs x n a d one) e)
+          to_content fs x c s (in_instruction n a d) (instruction x n a d) g.0 (g.1, g.2.0, g.2.1, g.2.2, one) (ap (λ q. spelling x ++ (60 ∷ (63 ∷ (n ++ (a ∷ (data_spelling d ++ (q ∷ []))))))) (sym is) ∙ simp append_assoc) (by_at s _ (state_of fs x (in_instruction n a d)) c 62 is (m_instruction_end fs x n a d one) e)
       | inr k ↦
           let b = last (is_char c) _ s k.1 in
-          to_piece fs x c s (note n a d) (note n a (note_char d c)) g.0 g.1 (g.2.0, g.2.1, (g.2.2, b, k.0)) (simp append_assoc) (moved s _ _ (m_note fs x n a d c b k.0) e)
+          to_piece fs x c s (in_instruction n a d) (in_instruction n a (data_char d c)) g.0 g.1 (g.2.0, g.2.1, (g.2.2, b, k.0)) (simp append_assoc) (moved s _ _ (m_in_instruction fs x n a d c b k.0) e)
     ]
 step_front fs x (doc_wording m []) c s g e =
     let b = last (is_white c) _ s e in
@@ -512,7 +512,7 @@ step_front fs x bang c s g e =
           elim (first (eqb c 91 && inside fs) _ s _ k.1) [
             | inl q ↦
                 let b = and_true (eqb c 91) (inside fs) q in
-                to_piece fs x c s bang (section_word [] cdata_word) g.0 g.1 (b.1, refl) (ap (λ d. 60 ∷ (33 ∷ (d ∷ []))) (sym (at c 91 b.0))) (by_at s _ (state_of fs x bang) c 91 (at c 91 b.0) (m_section_word fs x b.1) e)
+                to_piece fs x c s bang (cdsect_word [] cdata_word) g.0 g.1 (b.1, refl) (ap (λ d. 60 ∷ (33 ∷ (d ∷ []))) (sym (at c 91 b.0))) (by_at s _ (state_of fs x bang) c 91 (at c 91 b.0) (m_cdsect_word fs x b.1) e)
             | inr k2 ↦
                 let b = and_true (eqb c 68) (not (typed fs x)) (last (eqb c 68 && not (typed fs x)) _ s k2.1) in
                 to_piece fs x c s bang (doc_wording [] doc_word) g.0 g.1 (b.1, refl) (ap (λ d. 60 ∷ (33 ∷ (d ∷ []))) (sym (at c 68 b.0))) (by_at s _ (state_of fs x bang) c 68 (at c 68 b.0) (m_doc_word fs x b.1) e)
@@ -520,32 +520,32 @@ step_front fs x bang c s g e =
     ]
 step_front fs x bang_dash c s g e =
     let is = at c 45 (last (eqb c 45) _ s e) in
-    to_piece fs x c s bang_dash (remark blank_remark) g.0 g.1 tt (ap (λ d. 60 ∷ (33 ∷ (45 ∷ (d ∷ [])))) (sym is)) (by_at s _ (state_of fs x bang_dash) c 45 is (m_remark fs x) e)
-step_front fs x (remark r) c s g e =
+    to_piece fs x c s bang_dash (in_comment blank_comment) g.0 g.1 tt (ap (λ d. 60 ∷ (33 ∷ (45 ∷ (d ∷ [])))) (sym is)) (by_at s _ (state_of fs x bang_dash) c 45 is (m_in_comment fs x) e)
+step_front fs x (in_comment r) c s g e =
     elim (first (eqb c 45) _ s _ e) [
-      | inl b ↦ to_piece fs x c s (remark r) (remark_dash r) g.0 g.1 g.2 (ap (λ d. comment_start ++ (remark_spelling r ++ (d ∷ []))) (sym (at c 45 b)) ∙ simp append_assoc) (by_at s _ (state_of fs x (remark r)) c 45 (at c 45 b) (m_dash fs x r) e)
+      | inl b ↦ to_piece fs x c s (in_comment r) (comment_dash r) g.0 g.1 g.2 (ap (λ d. comment_start ++ (comment_spelling r ++ (d ∷ []))) (sym (at c 45 b)) ∙ simp append_assoc) (by_at s _ (state_of fs x (in_comment r)) c 45 (at c 45 b) (m_dash fs x r) e)
       | inr k ↦
           let b = last (is_char c) _ s k.1 in
-          to_piece fs x c s (remark r) (remark (plain r c)) g.0 g.1 (g.2, b, k.0) (simp append_assoc) (moved s _ _ (m_plain fs x r c b k.0) e)
+          to_piece fs x c s (in_comment r) (in_comment (plain r c)) g.0 g.1 (g.2, b, k.0) (simp append_assoc) (moved s _ _ (m_plain fs x r c b k.0) e)
     ]
-step_front fs x (remark_dash r) c s g e =
+step_front fs x (comment_dash r) c s g e =
     elim (first (eqb c 45) _ s _ e) [
-      | inl b ↦ to_piece fs x c s (remark_dash r) (remark_end r) g.0 g.1 g.2 (ap (λ d. comment_start ++ (remark_spelling r ++ (45 ∷ (d ∷ [])))) (sym (at c 45 b)) ∙ simp append_assoc) (by_at s _ (state_of fs x (remark_dash r)) c 45 (at c 45 b) (m_dashes fs x r) e)
+      | inl b ↦ to_piece fs x c s (comment_dash r) (comment_end r) g.0 g.1 g.2 (ap (λ d. comment_start ++ (comment_spelling r ++ (45 ∷ (d ∷ [])))) (sym (at c 45 b)) ∙ simp append_assoc) (by_at s _ (state_of fs x (comment_dash r)) c 45 (at c 45 b) (m_dashes fs x r) e)
       | inr k ↦
           let b = last (is_char c) _ s k.1 in
-          to_piece fs x c s (remark_dash r) (remark (dashed r c)) g.0 g.1 (g.2, b, k.0) (simp append_assoc) (moved s _ _ (m_dashed fs x r c b k.0) e)
+          to_piece fs x c s (comment_dash r) (in_comment (dashed r c)) g.0 g.1 (g.2, b, k.0) (simp append_assoc) (moved s _ _ (m_dashed fs x r c b k.0) e)
     ]
-step_front fs x (remark_end r) c s g e =
+step_front fs x (comment_end r) c s g e =
     let is = at c 62 (last (eqb c 62) _ s e) in
-    to_content fs x c s (remark_end r) (comment x r) g.0 (g.1, g.2) (ap (λ a. spelling x ++ (comment_start ++ (remark_spelling r ++ (45 ∷ (45 ∷ (a ∷ [])))))) (sym is) ∙ simp append_assoc) (by_at s _ (state_of fs x (remark_end r)) c 62 is (m_comment fs x r) e)
-step_front fs x (section_word m []) c s g e =
+    to_content fs x c s (comment_end r) (comment x r) g.0 (g.1, g.2) (ap (λ a. spelling x ++ (comment_start ++ (comment_spelling r ++ (45 ∷ (45 ∷ (a ∷ [])))))) (sym is) ∙ simp append_assoc) (by_at s _ (state_of fs x (comment_end r)) c 62 is (m_comment fs x r) e)
+step_front fs x (cdsect_word m []) c s g e =
     let is = at c 91 (last (eqb c 91) _ s e) in
     let word : m ≡ cdata_word = sym (append-nil m) ∙ g.2.1 in
-    to_piece fs x c s (section_word m []) (section blank_section) g.0 g.1 (g.2.0, tt) (ap (λ l. 60 ∷ (33 ∷ (91 ∷ (l ++ (91 ∷ []))))) (sym word) ∙ ap (λ a. 60 ∷ (33 ∷ (91 ∷ (m ++ (a ∷ []))))) (sym is)) (by_at s _ (state_of fs x (section_word m [])) c 91 is (m_section_start fs x m) e)
-step_front fs x (section_word m (d ∷ r)) c s g e =
-    let is = word_next (state_of fs x (section_word m (d ∷ r))) s c SectionWord (cond (eqb c 91) (to_mode (state_of fs x (section_word m (d ∷ r))) (InSection 0)) None) d r e in
-    to_piece fs x c s (section_word m (d ∷ r)) (section_word (m ++ (d ∷ [])) r) g.0 g.1 (g.2.0, append_assoc m (d ∷ []) r ∙ g.2.1) (ap (λ a. 60 ∷ (33 ∷ (91 ∷ (m ++ (a ∷ []))))) (sym is)) (by_at s _ (state_of fs x (section_word m (d ∷ r))) c d is (m_word fs x m d r) e)
-step_front fs x (section d) c s g e = section_front fs x d c s g.0 g.1 g.2.0 g.2.1 e
+    to_piece fs x c s (cdsect_word m []) (in_cdsect blank_cdsect) g.0 g.1 (g.2.0, tt) (ap (λ l. 60 ∷ (33 ∷ (91 ∷ (l ++ (91 ∷ []))))) (sym word) ∙ ap (λ a. 60 ∷ (33 ∷ (91 ∷ (m ++ (a ∷ []))))) (sym is)) (by_at s _ (state_of fs x (cdsect_word m [])) c 91 is (m_cdsect_start fs x m) e)
+step_front fs x (cdsect_word m (d ∷ r)) c s g e =
+    let is = word_next (state_of fs x (cdsect_word m (d ∷ r))) s c CDSectWord (cond (eqb c 91) (to_mode (state_of fs x (cdsect_word m (d ∷ r))) (InCDSect 0)) None) d r e in
+    to_piece fs x c s (cdsect_word m (d ∷ r)) (cdsect_word (m ++ (d ∷ [])) r) g.0 g.1 (g.2.0, append_assoc m (d ∷ []) r ∙ g.2.1) (ap (λ a. 60 ∷ (33 ∷ (91 ∷ (m ++ (a ∷ []))))) (sym is)) (by_at s _ (state_of fs x (cdsect_word m (d ∷ r))) c d is (m_word fs x m d r) e)
+step_front fs x (in_cdsect d) c s g e = cdsect_front fs x d c s g.0 g.1 g.2.0 g.2.1 e
 step_front fs x (amp r) c s g e = by (refers r c g.2.1)
   where
     by : Refers r c → Fronts (front_spelling fs x (amp r) ++ (c ∷ [])) s

@@ -68,11 +68,11 @@ module _ (fs : Frames) (y : Content) (n : List ℕ) (ats : Attributes) (sp : Lis
     fewer = omega (arith, ap length (closed_tokens fs y k n ats sp sp2), length-append (seen_tokens (frame fs y n ats sp) k) (text_of (run k) ++ (End ∷ [])), length-append (text_of (run k)) (End ∷ []));
   }
 
-unsnoc : (l : List ℕ) → (l ≡ []) ⊎ ((a : List ℕ) × (d : ℕ) × (l ≡ a ++ (d ∷ [])))
+pub unsnoc : (l : List ℕ) → (l ≡ []) ⊎ ((a : List ℕ) × (d : ℕ) × (l ≡ a ++ (d ∷ [])))
 unsnoc [] = inl refl
 unsnoc (c ∷ l) = elim (unsnoc l) [ inl e ↦ inr ([], c, ap (λ l. c ∷ l) e) | inr q ↦ inr (c ∷ q.0, q.1, ap (λ l. c ∷ l) q.2) ]
 
-blank_parts : (a : List ℕ) (d : ℕ) → is_blank_text (a ++ (d ∷ [])) ≡ true → (is_blank_text a ≡ true) × (is_white d ≡ true)
+pub blank_parts : (a : List ℕ) (d : ℕ) → is_blank_text (a ++ (d ∷ [])) ≡ true → (is_blank_text a ≡ true) × (is_white d ≡ true)
 blank_parts [] d h = (refl, (and_true (is_white d) true h).0)
 blank_parts (c ∷ a) d h = let both = and_true (is_white c) _ h in let k = blank_parts a d both.1 in (true_and (is_white c) _ both.0 k.0, k.1)
 
@@ -103,7 +103,7 @@ tag_before fs (doctype y q c d) g e = absurd (false≢true e)
 after_longer : (s t : State) → IsAfter s t → length s.tokens ≤ length t.tokens
 after_longer s t a = omega (arith, ap length a.tokens_are, length-append s.tokens a.more)
 
-opens_front : (c : List ℕ) (fs : Frames) (x : Content) (p : Piece) → Opens c fs x p → Fronts c (state_of fs x p)
+pub opens_front : (c : List ℕ) (fs : Frames) (x : Content) (p : Piece) → Opens c fs x p → Fronts c (state_of fs x p)
 opens_front c fs x p o = record { frames = fs; content = x; piece = p; good = o.good; spelled = o.spelled; state = refl }
 
 up_nothing : (x : Content) → has_element x ≡ false → up_to_tag x ≡ nothing
@@ -293,7 +293,7 @@ both_front : (cs ds m n : List ℕ) → cs ≡ ds ++ m → ds ≡ cs ++ n → cs
 both_front cs ds [] n e f = e ∙ append-nil ds
 both_front cs ds (c ∷ m) n e f = absurd (omega (arith, ap length e, ap length f, length-append ds (c ∷ m), length-append cs n))
 
-longest_one : (lim : Limits) (b cs ds : List ℕ) → IsLongest lim b cs → IsLongest lim b ds → cs ≡ ds
+pub longest_one : (lim : Limits) (b cs ds : List ℕ) → IsLongest lim b cs → IsLongest lim b ds → cs ≡ ds
 longest_one lim b cs ds h k =
     let p = longest_is lim b cs ds k.rest h k.chars k.parts k.within k.clean in
     let q = longest_is lim b ds cs h.rest k h.chars h.parts h.within h.clean in

@@ -16,3 +16,6 @@ pub mod Examples
 pub mod Texts
 pub mod Words
 pub mod Found
+pub mod Growing
+pub mod Segments
+pub mod Within

@@ -9,10 +9,10 @@ use Rattle.gcx_model.specs.Document.{Nodes, none, element, text, is_blank, token
 use Rattle.gcx_model.specs.Tree.{Start, End, Chars}
 use Rattle.gcx_model.specs.References.{Reference, reference_char, BegunReference, letters}
 use Rattle.gcx_model.specs.Attributes.{is_text_char, is_blank_text, is_gap, is_quote, is_fresh, Value, blank_value, value_char, value_reference, Head, Attributes, no_attribute, attribute, attribute_names, is_value_char, value_run}
-use Rattle.gcx_model.specs.Markup.{Remark, blank_remark, plain, dashed, Section, blank_section, further, Note, blank_note, note_char, marks, ends_note, Declaration, blank_declaration, doc_char, literal, doc_word, is_doc_char, is_literal_char, cdata_word, brackets, one_more, ends_section, settled}
+use Rattle.gcx_model.specs.Markup.{CommentText, blank_comment, plain, dashed, CDSect, blank_cdsect, further, InstructionData, blank_data, data_char, marks, ends_data, Declaration, blank_declaration, doc_char, literal, doc_word, is_doc_char, is_literal_char, cdata_word, brackets, one_more, ends_cdsect, settled}
 use Rattle.gcx_model.specs.Grammar.{Content, nothing, mark, space, char, reference, cdata, comment, bare, instruction, doctype, single, tagged, has_element, has_type, may_type, may_open, run, with_run, joined, attribute_nodes, nodes}
-use Rattle.gcx_model.specs.Fronts.{Frames, bottom, frame, Part, no_part, spaced, part_name, name_spaced, equals, value, value_amp, Piece, no_piece, less, started, tag, slashed, ending, ended, question, target, target_mark, note, doc_wording, doc_gap, doc, doc_literal, bang, bang_dash, remark, remark_dash, remark_end, section_word, section, amp, names, inside, text_of, frames_tokens, seen_tokens}
-use Rattle.doc_laws.specs.Machine.{More, Done, Mode, Opening, Between, InValue, InValueReference, DocWord, DocSpace, SectionWord, InSection, InReference, State, opened, closed, to_mode, refer, on_between, on_referred, behind, to_end_name, on_end, on_word, step, steps, go_on}
+use Rattle.gcx_model.specs.Fronts.{Frames, bottom, frame, Part, no_part, spaced, part_name, name_spaced, equals, value, value_amp, Piece, no_piece, less, started, tag, slashed, ending, ended, question, target, target_mark, in_instruction, doc_wording, doc_gap, doc, doc_literal, bang, bang_dash, in_comment, comment_dash, comment_end, cdsect_word, in_cdsect, amp, names, inside, text_of, frames_tokens, seen_tokens}
+use Rattle.doc_laws.specs.Machine.{More, Done, Mode, Opening, Between, InValue, InValueReference, DocWord, DocSpace, CDSectWord, InCDSect, InReference, State, opened, closed, to_mode, refer, on_between, on_referred, behind, to_end_name, on_end, on_word, step, steps, go_on}
 use Rattle.doc_laws.specs.States.{referring, is_opening, is_nothing, typed, tag_tokens, state_of}
 use Rattle.doc_laws.proofs.Tests.{on_cond, off_cond, and_true, true_and, or_true, not_false, false_and, space_not_name, not_start, quote_not_space, not_amp, start_not_space, quote_not_doc, quote_not_greater, not_literal, not_value}
 
@@ -273,14 +273,14 @@ module _ (fs : Frames) (x : Content) where
   pub m_bare : (n : List ℕ) → step (state_of fs x (target_mark n)) 62 ≡ Some (state_of fs (bare x n) no_piece)
   m_bare n = refl
 
-  pub m_note_start : (n : List ℕ) (c : ℕ) → is_white c ≡ true → step (state_of fs x (target n)) c ≡ Some (state_of fs x (note n c blank_note))
-  m_note_start n c h = off_cond _ _ _ (space_not_name c h) ∙ on_cond _ _ _ h
+  pub m_instruction_start : (n : List ℕ) (c : ℕ) → is_white c ≡ true → step (state_of fs x (target n)) c ≡ Some (state_of fs x (in_instruction n c blank_data))
+  m_instruction_start n c h = off_cond _ _ _ (space_not_name c h) ∙ on_cond _ _ _ h
 
-  pub m_note : (n : List ℕ) (a : ℕ) (d : Note) (c : ℕ) → is_char c ≡ true → ends_note d c ≡ false → step (state_of fs x (note n a d)) c ≡ Some (state_of fs x (note n a (note_char d c)))
-  m_note n a d c h k = off_cond _ _ _ k ∙ on_cond _ _ _ h
+  pub m_in_instruction : (n : List ℕ) (a : ℕ) (d : InstructionData) (c : ℕ) → is_char c ≡ true → ends_data d c ≡ false → step (state_of fs x (in_instruction n a d)) c ≡ Some (state_of fs x (in_instruction n a (data_char d c)))
+  m_in_instruction n a d c h k = off_cond _ _ _ k ∙ on_cond _ _ _ h
 
-  pub m_note_end : (n : List ℕ) (a : ℕ) (d : Note) → marks d ≡ 1 → step (state_of fs x (note n a d)) 62 ≡ Some (state_of fs (instruction x n a d) no_piece)
-  m_note_end n a d h = on_cond (eqb (marks d) 1) _ _ (eq-eqb (marks d) 1 h)
+  pub m_instruction_end : (n : List ℕ) (a : ℕ) (d : InstructionData) → marks d ≡ 1 → step (state_of fs x (in_instruction n a d)) 62 ≡ Some (state_of fs (instruction x n a d) no_piece)
+  m_instruction_end n a d h = on_cond (eqb (marks d) 1) _ _ (eq-eqb (marks d) 1 h)
 
   -- a document type declaration
   pub m_doc_word : may_type (inside fs) (has_type x) ≡ true → step (state_of fs x bang) 68 ≡ Some (state_of fs x (doc_wording [] doc_word))
@@ -316,52 +316,52 @@ module _ (fs : Frames) (x : Content) where
   pub m_bang_dash : step (state_of fs x bang) 45 ≡ Some (state_of fs x bang_dash)
   m_bang_dash = refl
 
-  pub m_remark : step (state_of fs x bang_dash) 45 ≡ Some (state_of fs x (remark blank_remark))
-  m_remark = refl
+  pub m_in_comment : step (state_of fs x bang_dash) 45 ≡ Some (state_of fs x (in_comment blank_comment))
+  m_in_comment = refl
 
-  pub m_plain : (r : Remark) (c : ℕ) → is_char c ≡ true → eqb c 45 ≡ false → step (state_of fs x (remark r)) c ≡ Some (state_of fs x (remark (plain r c)))
+  pub m_plain : (r : CommentText) (c : ℕ) → is_char c ≡ true → eqb c 45 ≡ false → step (state_of fs x (in_comment r)) c ≡ Some (state_of fs x (in_comment (plain r c)))
   m_plain r c h k = off_cond (eqb c 45) _ _ k ∙ on_cond _ _ _ h
 
-  pub m_dash : (r : Remark) → step (state_of fs x (remark r)) 45 ≡ Some (state_of fs x (remark_dash r))
+  pub m_dash : (r : CommentText) → step (state_of fs x (in_comment r)) 45 ≡ Some (state_of fs x (comment_dash r))
   m_dash r = refl
 
-  pub m_dashed : (r : Remark) (c : ℕ) → is_char c ≡ true → eqb c 45 ≡ false → step (state_of fs x (remark_dash r)) c ≡ Some (state_of fs x (remark (dashed r c)))
+  pub m_dashed : (r : CommentText) (c : ℕ) → is_char c ≡ true → eqb c 45 ≡ false → step (state_of fs x (comment_dash r)) c ≡ Some (state_of fs x (in_comment (dashed r c)))
   m_dashed r c h k = off_cond (eqb c 45) _ _ k ∙ on_cond _ _ _ h
 
-  pub m_dashes : (r : Remark) → step (state_of fs x (remark_dash r)) 45 ≡ Some (state_of fs x (remark_end r))
+  pub m_dashes : (r : CommentText) → step (state_of fs x (comment_dash r)) 45 ≡ Some (state_of fs x (comment_end r))
   m_dashes r = refl
 
-  pub m_comment : (r : Remark) → step (state_of fs x (remark_end r)) 62 ≡ Some (state_of fs (comment x r) no_piece)
+  pub m_comment : (r : CommentText) → step (state_of fs x (comment_end r)) 62 ≡ Some (state_of fs (comment x r) no_piece)
   m_comment r = refl
 
-  pub m_section_word : inside fs ≡ true → step (state_of fs x bang) 91 ≡ Some (state_of fs x (section_word [] cdata_word))
-  m_section_word h = on_cond (inside fs) _ _ h
+  pub m_cdsect_word : inside fs ≡ true → step (state_of fs x bang) 91 ≡ Some (state_of fs x (cdsect_word [] cdata_word))
+  m_cdsect_word h = on_cond (inside fs) _ _ h
 
-  pub m_word : (m : List ℕ) (c : ℕ) (r : List ℕ) → step (state_of fs x (section_word m (c ∷ r))) c ≡ Some (state_of fs x (section_word (m ++ c ∷ []) r))
-  m_word m c r = word_on (state_of fs x (section_word m (c ∷ r))) c SectionWord r (cond (eqb c 91) (to_mode (state_of fs x (section_word m (c ∷ r))) (InSection 0)) None)
+  pub m_word : (m : List ℕ) (c : ℕ) (r : List ℕ) → step (state_of fs x (cdsect_word m (c ∷ r))) c ≡ Some (state_of fs x (cdsect_word (m ++ c ∷ []) r))
+  m_word m c r = word_on (state_of fs x (cdsect_word m (c ∷ r))) c CDSectWord r (cond (eqb c 91) (to_mode (state_of fs x (cdsect_word m (c ∷ r))) (InCDSect 0)) None)
 
-  pub m_section_start : (m : List ℕ) → step (state_of fs x (section_word m [])) 91 ≡ Some (state_of fs x (section blank_section))
-  m_section_start m = ap (λ r. Some (record (state_of fs x (section blank_section)) { run = r })) (sym (append-nil (run x)))
+  pub m_cdsect_start : (m : List ℕ) → step (state_of fs x (cdsect_word m [])) 91 ≡ Some (state_of fs x (in_cdsect blank_cdsect))
+  m_cdsect_start m = ap (λ r. Some (record (state_of fs x (in_cdsect blank_cdsect)) { run = r })) (sym (append-nil (run x)))
 
-  section_run : (r s : List ℕ) (b : Bool) → cond b ((r ++ s) ++ (93 ∷ [])) (r ++ s) ≡ r ++ cond b (s ++ (93 ∷ [])) s
-  section_run r s true = append_assoc r s (93 ∷ [])
-  section_run r s false = refl
+  cdsect_run : (r s : List ℕ) (b : Bool) → cond b ((r ++ s) ++ (93 ∷ [])) (r ++ s) ≡ r ++ cond b (s ++ (93 ∷ [])) s
+  cdsect_run r s true = append_assoc r s (93 ∷ [])
+  cdsect_run r s false = refl
 
-  pub m_section : (d : Section) (c : ℕ) → is_char c ≡ true → ends_section d c ≡ false → step (state_of fs x (section d)) c ≡ Some (state_of fs x (section (further d c)))
-  m_section d c h k =
+  pub m_in_cdsect : (d : CDSect) (c : ℕ) → is_char c ≡ true → ends_cdsect d c ≡ false → step (state_of fs x (in_cdsect d)) c ≡ Some (state_of fs x (in_cdsect (further d c)))
+  m_in_cdsect d c h k =
       let r = run x in
       let s = settled d in
       let n = brackets d in
-      let put : ℕ → List ℕ → State = λ m l. record (state_of fs x (section d)) { mode = InSection m; run = l } in
+      let put : ℕ → List ℕ → State = λ m l. record (state_of fs x (in_cdsect d)) { mode = InCDSect m; run = l } in
       elim (eqb c 93) as (λ (b : Bool). cond b (Some (put (one_more n) (cond (eqb n 2) ((r ++ s) ++ (93 ∷ [])) (r ++ s))))
-      (cond (ends_section d c) (to_mode (state_of fs x (section d)) Between) (cond (is_char c) (Some (put 0 ((r ++ s) ++ (replicate n 93 ++ encode c)))) None))
+      (cond (ends_cdsect d c) (to_mode (state_of fs x (in_cdsect d)) Between) (cond (is_char c) (Some (put 0 ((r ++ s) ++ (replicate n 93 ++ encode c)))) None))
       ≡ Some (put (cond b (one_more n) 0) (r ++ cond b (cond (eqb n 2) (s ++ (93 ∷ [])) s) (s ++ (replicate n 93 ++ encode c))))) [
-        | true ↦ ap (λ l. Some (put (one_more n) l)) (section_run r s (eqb n 2))
-        | false ↦ off_cond (ends_section d c) _ _ k ∙ on_cond (is_char c) _ _ h ∙ ap (λ l. Some (put 0 l)) (append_assoc r s (replicate n 93 ++ encode c))
+        | true ↦ ap (λ l. Some (put (one_more n) l)) (cdsect_run r s (eqb n 2))
+        | false ↦ off_cond (ends_cdsect d c) _ _ k ∙ on_cond (is_char c) _ _ h ∙ ap (λ l. Some (put 0 l)) (append_assoc r s (replicate n 93 ++ encode c))
       ]
 
-  pub m_section_end : (d : Section) → brackets d ≡ 2 → step (state_of fs x (section d)) 62 ≡ Some (state_of fs (cdata x d) no_piece)
-  m_section_end d h = on_cond (eqb (brackets d) 2) _ _ (eq-eqb (brackets d) 2 h)
+  pub m_cdsect_end : (d : CDSect) → brackets d ≡ 2 → step (state_of fs x (in_cdsect d)) 62 ≡ Some (state_of fs (cdata x d) no_piece)
+  m_cdsect_end d h = on_cond (eqb (brackets d) 2) _ _ (eq-eqb (brackets d) 2 h)
 
 module _ (fs : Frames) (y k : Content) (n : List ℕ) (ats : Attributes) (sp : List ℕ) where
   pub m_end : step (state_of (frame fs y n ats sp) k less) 47 ≡ Some (state_of (frame fs y n ats sp) k (ending [] n))

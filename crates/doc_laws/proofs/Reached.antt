@@ -6,14 +6,14 @@ use lib.Utf8.{encodes}
 use Rattle.gcx_base.specs.Characters.{is_white, is_start_char, is_part_char}
 use Rattle.gcx_model.specs.References.{Reference, reference_spelling, IsReference, BegunReference, begun_spelling, IsBegun}
 use Rattle.gcx_model.specs.Attributes.{is_name, is_blank_text, is_gap, is_quote, is_fresh, Value, blank_value, value_char, value_reference, Head, Attributes, no_attribute, attribute, value_spelling, head_spelling, attributes_spelling, attribute_names, IsValue, IsHead, IsAttributes}
-use Rattle.gcx_model.specs.Markup.{Remark, blank_remark, plain, dashed, Section, blank_section, further, Note, blank_note, note_char, note_spelling, IsNote, Declaration, blank_declaration, doc_char, literal, doc_word, doc_start, is_literal_char, declaration_spelling, IsDeclaration, remark_spelling, comment_start, cdata_word, cdata_start, section_spelling, IsRemark, brackets, IsSection}
+use Rattle.gcx_model.specs.Markup.{CommentText, blank_comment, plain, dashed, CDSect, blank_cdsect, further, InstructionData, blank_data, data_char, data_spelling, IsInstructionData, Declaration, blank_declaration, doc_char, literal, doc_word, doc_start, is_literal_char, declaration_spelling, IsDeclaration, comment_spelling, comment_start, cdata_word, cdata_start, cdsect_spelling, IsCommentText, brackets, IsCDSect}
 use Rattle.gcx_model.specs.Grammar.{Content, nothing, mark, space, char, reference, cdata, comment, bare, instruction, doctype, single, tagged, start_tag, single_tag, end_tag, spelling, has_element, has_type, may_type, may_open, IsContent}
-use Rattle.gcx_model.specs.Fronts.{Frames, bottom, frame, Part, no_part, spaced, part_name, name_spaced, equals, value, value_amp, Piece, no_piece, less, started, tag, slashed, ending, ended, question, target, target_mark, note, doc_wording, doc_gap, doc, doc_literal, bang, bang_dash, remark, remark_dash, remark_end, section_word, section, amp, frames_spelling, piece_spelling, inside, IsFrames, IsPart, IsPiece, part_spelling, front_spelling, IsFront}
+use Rattle.gcx_model.specs.Fronts.{Frames, bottom, frame, Part, no_part, spaced, part_name, name_spaced, equals, value, value_amp, Piece, no_piece, less, started, tag, slashed, ending, ended, question, target, target_mark, in_instruction, doc_wording, doc_gap, doc, doc_literal, bang, bang_dash, in_comment, comment_dash, comment_end, cdsect_word, in_cdsect, amp, frames_spelling, piece_spelling, inside, IsFrames, IsPart, IsPiece, part_spelling, front_spelling, IsFront}
 use Rattle.doc_laws.specs.Machine.{State, start, steps}
 use Rattle.doc_laws.specs.States.{state_of}
 use Rattle.doc_laws.proofs.Tests.{and_true}
 use Rattle.doc_laws.proofs.Referred.{begun_steps, referred_steps}
-use Rattle.doc_laws.proofs.Moves.{steps_on_to, step_to, step_end, walk, over_space, over_gap, behind_space, tag_piece, m_char, m_space_out, m_mark, m_less, m_amp, m_refer, m_referred, m_started, m_bang, m_name, m_space, m_space2, m_open, m_open2, m_slash, m_slash2, m_single, m_attr, m_attr_name, m_attr_space1, m_attr_space2, m_equals1, m_equals2, m_equals_space, m_quote, m_value, m_value_amp, m_value_refer, m_value_referred, m_valued, m_question, m_target, m_target_name, m_target_mark, m_bare, m_note_start, m_note, m_note_end, m_doc_word, m_doc_wording, m_doc_gap1, m_doc_gap2, m_doc_name, m_doc_char, m_doc_quote, m_doc_literal, m_doc_unquote, m_doctype, m_bang_dash, m_remark, m_plain, m_dash, m_dashed, m_dashes, m_comment, m_section_word, m_word, m_section_start, m_section, m_section_end, m_end, m_ending, m_end_space1, m_end_space2, m_close1, m_close2}
+use Rattle.doc_laws.proofs.Moves.{steps_on_to, step_to, step_end, walk, over_space, over_gap, behind_space, tag_piece, m_char, m_space_out, m_mark, m_less, m_amp, m_refer, m_referred, m_started, m_bang, m_name, m_space, m_space2, m_open, m_open2, m_slash, m_slash2, m_single, m_attr, m_attr_name, m_attr_space1, m_attr_space2, m_equals1, m_equals2, m_equals_space, m_quote, m_value, m_value_amp, m_value_refer, m_value_referred, m_valued, m_question, m_target, m_target_name, m_target_mark, m_bare, m_instruction_start, m_in_instruction, m_instruction_end, m_doc_word, m_doc_wording, m_doc_gap1, m_doc_gap2, m_doc_name, m_doc_char, m_doc_quote, m_doc_literal, m_doc_unquote, m_doctype, m_bang_dash, m_in_comment, m_plain, m_dash, m_dashed, m_dashes, m_comment, m_cdsect_word, m_word, m_cdsect_start, m_in_cdsect, m_cdsect_end, m_end, m_ending, m_end_space1, m_end_space2, m_close1, m_close2}
 
 module _ (fs : Frames) (x : Content) where
   name_steps : (m cs : List ℕ) → list_all is_part_char cs ≡ true → steps (state_of fs x (started m)) cs ≡ Some (state_of fs x (started (m ++ cs)))
@@ -167,16 +167,16 @@ module _ (fs : Frames) (x : Content) where
       steps_on_to (state_of fs x no_piece) (state_of fs x (target n)) (60 ∷ (63 ∷ n)) (63 ∷ (62 ∷ [])) _ (target_steps n h)
       (step_to (state_of fs x (target n)) (state_of fs x (target_mark n)) 63 (62 ∷ []) _ (m_target_mark fs x n) (step_end (state_of fs x (target_mark n)) _ 62 (m_bare fs x n)))
 
-  note_walk : (n : List ℕ) (c : ℕ) (d : Note) → IsNote d → steps (state_of fs x (note n c blank_note)) (note_spelling d) ≡ Some (state_of fs x (note n c d))
-  note_walk n c blank_note g = refl
-  note_walk n c (note_char d e) g =
-      steps_on_to (state_of fs x (note n c blank_note)) (state_of fs x (note n c d)) (note_spelling d) (e ∷ []) _ (note_walk n c d g.0) (step_end (state_of fs x (note n c d)) _ e (m_note fs x n c d e g.1 g.2))
+  instruction_walk : (n : List ℕ) (c : ℕ) (d : InstructionData) → IsInstructionData d → steps (state_of fs x (in_instruction n c blank_data)) (data_spelling d) ≡ Some (state_of fs x (in_instruction n c d))
+  instruction_walk n c blank_data g = refl
+  instruction_walk n c (data_char d e) g =
+      steps_on_to (state_of fs x (in_instruction n c blank_data)) (state_of fs x (in_instruction n c d)) (data_spelling d) (e ∷ []) _ (instruction_walk n c d g.0) (step_end (state_of fs x (in_instruction n c d)) _ e (m_in_instruction fs x n c d e g.1 g.2))
 
-  note_steps : (n : List ℕ) (c : ℕ) (d : Note) (cs : List ℕ) (o : Option State) → is_name n ≡ true → is_white c ≡ true → IsNote d → steps (state_of fs x (note n c d)) cs ≡ o → steps (state_of fs x no_piece) (60 ∷ (63 ∷ (n ++ (c ∷ (note_spelling d ++ cs))))) ≡ o
-  note_steps n c d cs o h k g e =
-      steps_on_to (state_of fs x no_piece) (state_of fs x (target n)) (60 ∷ (63 ∷ n)) (c ∷ (note_spelling d ++ cs)) o (target_steps n h)
-      (step_to (state_of fs x (target n)) (state_of fs x (note n c blank_note)) c (note_spelling d ++ cs) o (m_note_start fs x n c k)
-      (steps_on_to (state_of fs x (note n c blank_note)) (state_of fs x (note n c d)) (note_spelling d) cs o (note_walk n c d g) e))
+  instruction_steps : (n : List ℕ) (c : ℕ) (d : InstructionData) (cs : List ℕ) (o : Option State) → is_name n ≡ true → is_white c ≡ true → IsInstructionData d → steps (state_of fs x (in_instruction n c d)) cs ≡ o → steps (state_of fs x no_piece) (60 ∷ (63 ∷ (n ++ (c ∷ (data_spelling d ++ cs))))) ≡ o
+  instruction_steps n c d cs o h k g e =
+      steps_on_to (state_of fs x no_piece) (state_of fs x (target n)) (60 ∷ (63 ∷ n)) (c ∷ (data_spelling d ++ cs)) o (target_steps n h)
+      (step_to (state_of fs x (target n)) (state_of fs x (in_instruction n c blank_data)) c (data_spelling d ++ cs) o (m_instruction_start fs x n c k)
+      (steps_on_to (state_of fs x (in_instruction n c blank_data)) (state_of fs x (in_instruction n c d)) (data_spelling d) cs o (instruction_walk n c d g) e))
 
   doc_wording_steps : may_type (inside fs) (has_type x) ≡ true → (a r : List ℕ) → a ++ r ≡ doc_word → steps (state_of fs x no_piece) (60 ∷ (33 ∷ (68 ∷ a))) ≡ Some (state_of fs x (doc_wording a r))
   doc_wording_steps i a r e =
@@ -221,44 +221,44 @@ module _ (fs : Frames) (x : Content) where
       step_to (state_of fs x no_piece) (state_of fs x less) 60 (33 ∷ (45 ∷ [])) _ (m_less fs x)
       (step_to (state_of fs x less) (state_of fs x bang) 33 (45 ∷ []) _ (m_bang fs x) (step_end (state_of fs x bang) _ 45 (m_bang_dash fs x)))
 
-  remark_steps : (r : Remark) → IsRemark r → steps (state_of fs x no_piece) (comment_start ++ remark_spelling r) ≡ Some (state_of fs x (remark r))
-  remark_steps blank_remark g = steps_on_to (state_of fs x no_piece) (state_of fs x bang_dash) (60 ∷ (33 ∷ (45 ∷ []))) (45 ∷ []) _ bang_dash_steps (step_end (state_of fs x bang_dash) _ 45 (m_remark fs x))
-  remark_steps (plain r c) g =
-      steps_on_to (state_of fs x no_piece) (state_of fs x (remark r)) (comment_start ++ remark_spelling r) (c ∷ []) _ (remark_steps r g.0) (step_end (state_of fs x (remark r)) _ c (m_plain fs x r c g.1 g.2))
-  remark_steps (dashed r c) g =
-      steps_on_to (state_of fs x no_piece) (state_of fs x (remark r)) (comment_start ++ remark_spelling r) (45 ∷ (c ∷ [])) _ (remark_steps r g.0)
-      (step_to (state_of fs x (remark r)) (state_of fs x (remark_dash r)) 45 (c ∷ []) _ (m_dash fs x r) (step_end (state_of fs x (remark_dash r)) _ c (m_dashed fs x r c g.1 g.2)))
+  in_comment_steps : (r : CommentText) → IsCommentText r → steps (state_of fs x no_piece) (comment_start ++ comment_spelling r) ≡ Some (state_of fs x (in_comment r))
+  in_comment_steps blank_comment g = steps_on_to (state_of fs x no_piece) (state_of fs x bang_dash) (60 ∷ (33 ∷ (45 ∷ []))) (45 ∷ []) _ bang_dash_steps (step_end (state_of fs x bang_dash) _ 45 (m_in_comment fs x))
+  in_comment_steps (plain r c) g =
+      steps_on_to (state_of fs x no_piece) (state_of fs x (in_comment r)) (comment_start ++ comment_spelling r) (c ∷ []) _ (in_comment_steps r g.0) (step_end (state_of fs x (in_comment r)) _ c (m_plain fs x r c g.1 g.2))
+  in_comment_steps (dashed r c) g =
+      steps_on_to (state_of fs x no_piece) (state_of fs x (in_comment r)) (comment_start ++ comment_spelling r) (45 ∷ (c ∷ [])) _ (in_comment_steps r g.0)
+      (step_to (state_of fs x (in_comment r)) (state_of fs x (comment_dash r)) 45 (c ∷ []) _ (m_dash fs x r) (step_end (state_of fs x (comment_dash r)) _ c (m_dashed fs x r c g.1 g.2)))
 
-  dash_steps : (r : Remark) → IsRemark r → steps (state_of fs x no_piece) (comment_start ++ (remark_spelling r ++ (45 ∷ []))) ≡ Some (state_of fs x (remark_dash r))
-  dash_steps r g = steps_on_to (state_of fs x no_piece) (state_of fs x (remark r)) (comment_start ++ remark_spelling r) (45 ∷ []) _ (remark_steps r g) (step_end (state_of fs x (remark r)) _ 45 (m_dash fs x r))
+  dash_steps : (r : CommentText) → IsCommentText r → steps (state_of fs x no_piece) (comment_start ++ (comment_spelling r ++ (45 ∷ []))) ≡ Some (state_of fs x (comment_dash r))
+  dash_steps r g = steps_on_to (state_of fs x no_piece) (state_of fs x (in_comment r)) (comment_start ++ comment_spelling r) (45 ∷ []) _ (in_comment_steps r g) (step_end (state_of fs x (in_comment r)) _ 45 (m_dash fs x r))
 
-  dashes_steps : (r : Remark) → IsRemark r → steps (state_of fs x no_piece) (comment_start ++ (remark_spelling r ++ (45 ∷ (45 ∷ [])))) ≡ Some (state_of fs x (remark_end r))
+  dashes_steps : (r : CommentText) → IsCommentText r → steps (state_of fs x no_piece) (comment_start ++ (comment_spelling r ++ (45 ∷ (45 ∷ [])))) ≡ Some (state_of fs x (comment_end r))
   dashes_steps r g =
-      steps_on_to (state_of fs x no_piece) (state_of fs x (remark r)) (comment_start ++ remark_spelling r) (45 ∷ (45 ∷ [])) _ (remark_steps r g)
-      (step_to (state_of fs x (remark r)) (state_of fs x (remark_dash r)) 45 (45 ∷ []) _ (m_dash fs x r) (step_end (state_of fs x (remark_dash r)) _ 45 (m_dashes fs x r)))
+      steps_on_to (state_of fs x no_piece) (state_of fs x (in_comment r)) (comment_start ++ comment_spelling r) (45 ∷ (45 ∷ [])) _ (in_comment_steps r g)
+      (step_to (state_of fs x (in_comment r)) (state_of fs x (comment_dash r)) 45 (45 ∷ []) _ (m_dash fs x r) (step_end (state_of fs x (comment_dash r)) _ 45 (m_dashes fs x r)))
 
-  comment_steps : (r : Remark) → IsRemark r → steps (state_of fs x no_piece) (comment_start ++ (remark_spelling r ++ (45 ∷ (45 ∷ (62 ∷ []))))) ≡ Some (state_of fs (comment x r) no_piece)
+  comment_steps : (r : CommentText) → IsCommentText r → steps (state_of fs x no_piece) (comment_start ++ (comment_spelling r ++ (45 ∷ (45 ∷ (62 ∷ []))))) ≡ Some (state_of fs (comment x r) no_piece)
   comment_steps r g =
-      steps_on_to (state_of fs x no_piece) (state_of fs x (remark r)) (comment_start ++ remark_spelling r) (45 ∷ (45 ∷ (62 ∷ []))) _ (remark_steps r g)
-      (step_to (state_of fs x (remark r)) (state_of fs x (remark_dash r)) 45 (45 ∷ (62 ∷ [])) _ (m_dash fs x r)
-      (step_to (state_of fs x (remark_dash r)) (state_of fs x (remark_end r)) 45 (62 ∷ []) _ (m_dashes fs x r) (step_end (state_of fs x (remark_end r)) _ 62 (m_comment fs x r))))
+      steps_on_to (state_of fs x no_piece) (state_of fs x (in_comment r)) (comment_start ++ comment_spelling r) (45 ∷ (45 ∷ (62 ∷ []))) _ (in_comment_steps r g)
+      (step_to (state_of fs x (in_comment r)) (state_of fs x (comment_dash r)) 45 (45 ∷ (62 ∷ [])) _ (m_dash fs x r)
+      (step_to (state_of fs x (comment_dash r)) (state_of fs x (comment_end r)) 45 (62 ∷ []) _ (m_dashes fs x r) (step_end (state_of fs x (comment_end r)) _ 62 (m_comment fs x r))))
 
-  word_steps : inside fs ≡ true → (a r : List ℕ) → a ++ r ≡ cdata_word → steps (state_of fs x no_piece) (60 ∷ (33 ∷ (91 ∷ a))) ≡ Some (state_of fs x (section_word a r))
+  word_steps : inside fs ≡ true → (a r : List ℕ) → a ++ r ≡ cdata_word → steps (state_of fs x no_piece) (60 ∷ (33 ∷ (91 ∷ a))) ≡ Some (state_of fs x (cdsect_word a r))
   word_steps i a r e =
       step_to (state_of fs x no_piece) (state_of fs x less) 60 (33 ∷ (91 ∷ a)) _ (m_less fs x)
       (step_to (state_of fs x less) (state_of fs x bang) 33 (91 ∷ a) _ (m_bang fs x)
-      (step_to (state_of fs x bang) (state_of fs x (section_word [] cdata_word)) 91 a _ (m_section_word fs x i)
-      (ap (λ w. steps (state_of fs x (section_word [] w)) a) (sym e) ∙ walk (λ m r. state_of fs x (section_word m r)) (m_word fs x) [] a r)))
+      (step_to (state_of fs x bang) (state_of fs x (cdsect_word [] cdata_word)) 91 a _ (m_cdsect_word fs x i)
+      (ap (λ w. steps (state_of fs x (cdsect_word [] w)) a) (sym e) ∙ walk (λ m r. state_of fs x (cdsect_word m r)) (m_word fs x) [] a r)))
 
-  section_steps : inside fs ≡ true → (d : Section) → IsSection d → steps (state_of fs x no_piece) (cdata_start ++ section_spelling d) ≡ Some (state_of fs x (section d))
-  section_steps i blank_section g =
-      steps_on_to (state_of fs x no_piece) (state_of fs x (section_word cdata_word [])) (60 ∷ (33 ∷ (91 ∷ cdata_word))) (91 ∷ []) _ (word_steps i cdata_word [] refl)
-      (step_end (state_of fs x (section_word cdata_word [])) _ 91 (m_section_start fs x cdata_word))
-  section_steps i (further d c) g =
-      steps_on_to (state_of fs x no_piece) (state_of fs x (section d)) (cdata_start ++ section_spelling d) (c ∷ []) _ (section_steps i d g.0) (step_end (state_of fs x (section d)) _ c (m_section fs x d c g.1 g.2))
+  in_cdsect_steps : inside fs ≡ true → (d : CDSect) → IsCDSect d → steps (state_of fs x no_piece) (cdata_start ++ cdsect_spelling d) ≡ Some (state_of fs x (in_cdsect d))
+  in_cdsect_steps i blank_cdsect g =
+      steps_on_to (state_of fs x no_piece) (state_of fs x (cdsect_word cdata_word [])) (60 ∷ (33 ∷ (91 ∷ cdata_word))) (91 ∷ []) _ (word_steps i cdata_word [] refl)
+      (step_end (state_of fs x (cdsect_word cdata_word [])) _ 91 (m_cdsect_start fs x cdata_word))
+  in_cdsect_steps i (further d c) g =
+      steps_on_to (state_of fs x no_piece) (state_of fs x (in_cdsect d)) (cdata_start ++ cdsect_spelling d) (c ∷ []) _ (in_cdsect_steps i d g.0) (step_end (state_of fs x (in_cdsect d)) _ c (m_in_cdsect fs x d c g.1 g.2))
 
-  cdata_steps : inside fs ≡ true → (d : Section) → IsSection d → brackets d ≡ 2 → steps (state_of fs x no_piece) (cdata_start ++ (section_spelling d ++ (62 ∷ []))) ≡ Some (state_of fs (cdata x d) no_piece)
-  cdata_steps i d g e = steps_on_to (state_of fs x no_piece) (state_of fs x (section d)) (cdata_start ++ section_spelling d) (62 ∷ []) _ (section_steps i d g) (step_end (state_of fs x (section d)) _ 62 (m_section_end fs x d e))
+  cdata_steps : inside fs ≡ true → (d : CDSect) → IsCDSect d → brackets d ≡ 2 → steps (state_of fs x no_piece) (cdata_start ++ (cdsect_spelling d ++ (62 ∷ []))) ≡ Some (state_of fs (cdata x d) no_piece)
+  cdata_steps i d g e = steps_on_to (state_of fs x no_piece) (state_of fs x (in_cdsect d)) (cdata_start ++ cdsect_spelling d) (62 ∷ []) _ (in_cdsect_steps i d g) (step_end (state_of fs x (in_cdsect d)) _ 62 (m_cdsect_end fs x d e))
 
   amp_steps : inside fs ≡ true → (r : BegunReference) → IsBegun r → steps (state_of fs x no_piece) (begun_spelling r) ≡ Some (state_of fs x (amp r))
   amp_steps i r g = begun_steps (λ r. state_of fs x (amp r)) (m_refer fs x) (state_of fs x no_piece) (m_amp fs x i) r g
@@ -297,7 +297,7 @@ content_steps fs (reference y t) g = steps_on_to (state_of fs nothing no_piece) 
 content_steps fs (cdata y d) g = steps_on_to (state_of fs nothing no_piece) (state_of fs y no_piece) (spelling y) _ _ (content_steps fs y g.0) (cdata_steps fs y g.1 d g.2 g.3)
 content_steps fs (comment y r) g = steps_on_to (state_of fs nothing no_piece) (state_of fs y no_piece) (spelling y) _ _ (content_steps fs y g.0) (comment_steps fs y r g.1)
 content_steps fs (bare y n) g = steps_on_to (state_of fs nothing no_piece) (state_of fs y no_piece) (spelling y) _ _ (content_steps fs y g.0) (bare_steps fs y n g.1)
-content_steps fs (instruction y n c d) g = steps_on_to (state_of fs nothing no_piece) (state_of fs y no_piece) (spelling y) _ _ (content_steps fs y g.0) (note_steps fs y n c d (62 ∷ []) _ g.1 g.2 g.3 (step_end (state_of fs y (note n c d)) _ 62 (m_note_end fs y n c d g.4)))
+content_steps fs (instruction y n c d) g = steps_on_to (state_of fs nothing no_piece) (state_of fs y no_piece) (spelling y) _ _ (content_steps fs y g.0) (instruction_steps fs y n c d (62 ∷ []) _ g.1 g.2 g.3 (step_end (state_of fs y (in_instruction n c d)) _ 62 (m_instruction_end fs y n c d g.4)))
 content_steps fs (doctype y b a d) g = steps_on_to (state_of fs nothing no_piece) (state_of fs y no_piece) (spelling y) _ _ (content_steps fs y g.0) (doc_steps fs y b a d (62 ∷ []) _ g.1 g.2 g.3 g.4 (step_end (state_of fs y (doc b a d)) _ 62 (m_doctype fs y b a d)))
 content_steps fs (single y n ats sp) g = steps_on_to (state_of fs nothing no_piece) (state_of fs y no_piece) (spelling y) _ _ (content_steps fs y g.0) (single_steps fs y n ats sp g.1 g.2 g.3 g.4)
 content_steps fs (tagged y n ats sp k sp2) g =
@@ -326,9 +326,9 @@ piece_steps (frame fs y n ats sp) x (ended m sp2 c) g = subst (λ l. steps (stat
 piece_steps fs x question g = question_steps fs x
 piece_steps fs x (target n) g = target_steps fs x n g
 piece_steps fs x (target_mark n) g = target_mark_steps fs x n g
-piece_steps fs x (note n c d) g =
-    ap (λ l. steps (state_of fs x no_piece) (60 ∷ (63 ∷ (n ++ (c ∷ l))))) (sym (append-nil (note_spelling d)))
-    ∙ note_steps fs x n c d [] _ g.0 g.1 g.2 refl
+piece_steps fs x (in_instruction n c d) g =
+    ap (λ l. steps (state_of fs x no_piece) (60 ∷ (63 ∷ (n ++ (c ∷ l))))) (sym (append-nil (data_spelling d)))
+    ∙ instruction_steps fs x n c d [] _ g.0 g.1 g.2 refl
 piece_steps fs x (doc_wording m r) g = doc_wording_steps fs x g.0 m r g.1
 piece_steps fs x (doc_gap b) g = doc_gap_steps fs x b g.0 g.1
 piece_steps fs x (doc b a d) g =
@@ -337,11 +337,11 @@ piece_steps fs x (doc b a d) g =
 piece_steps fs x (doc_literal b a d q l) g = doc_steps fs x b a d (q ∷ l) _ g.0 g.1 g.2 g.3 (in_literal fs x b a d q l g.4 g.5)
 piece_steps fs x bang g = step_to (state_of fs x no_piece) (state_of fs x less) 60 (33 ∷ []) _ (m_less fs x) (step_end (state_of fs x less) _ 33 (m_bang fs x))
 piece_steps fs x bang_dash g = bang_dash_steps fs x
-piece_steps fs x (remark r) g = remark_steps fs x r g
-piece_steps fs x (remark_dash r) g = dash_steps fs x r g
-piece_steps fs x (remark_end r) g = dashes_steps fs x r g
-piece_steps fs x (section_word m r) g = word_steps fs x g.0 m r g.1
-piece_steps fs x (section d) g = section_steps fs x g.0 d g.1
+piece_steps fs x (in_comment r) g = in_comment_steps fs x r g
+piece_steps fs x (comment_dash r) g = dash_steps fs x r g
+piece_steps fs x (comment_end r) g = dashes_steps fs x r g
+piece_steps fs x (cdsect_word m r) g = word_steps fs x g.0 m r g.1
+piece_steps fs x (in_cdsect d) g = in_cdsect_steps fs x g.0 d g.1
 piece_steps fs x (amp r) g = amp_steps fs x g.0 r g.1
 
 -- every front of a document is read

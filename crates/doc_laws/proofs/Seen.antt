@@ -9,7 +9,7 @@ use Rattle.gcx_model.specs.Markup.{is_doc_char, is_literal_char}
 use Rattle.gcx_model.specs.Grammar.{Content, nothing, mark, space, char, reference, cdata, comment, bare, instruction, doctype, single, tagged, spelling, has_element, may_open, IsContent, run, with_run, nodes, SpellsDocument}
 use Rattle.gcx_model.specs.Fronts.{Frames, bottom, frame, IsFrames, frames_spelling, inside, is_inside, text_of, seen_tokens}
 use Rattle.gcx_model.specs.Seen.{up_to_tag, ends_in_tag, end_tags, open_ends}
-use Rattle.doc_laws.specs.Machine.{Referred, More, Done, Bad, Referring, Mode, Opening, Between, Less, StartName, StartSpace, AttributeName, AttributeSpace, Equals, InValue, InValueReference, ValueEnd, Slash, EndName, EndSpace, Question, Target, TargetMark, InNote, DocWord, DocSpace, Doc, DocLiteral, Bang, BangDash, Comment, CommentDash, CommentEnd, SectionWord, InSection, InReference, State, start, begun, on_between, on_tag, on_named, on_ended, on_referred, refer, behind, to_end_name, on_end, on_word, on_mode, steps, step, go_on}
+use Rattle.doc_laws.specs.Machine.{Referred, More, Done, Bad, Referring, Mode, Opening, Between, Less, StartName, StartSpace, AttributeName, AttributeSpace, Equals, InValue, InValueReference, ValueEnd, Slash, EndName, EndSpace, Question, Target, TargetMark, InInstruction, DocWord, DocSpace, Doc, DocLiteral, Bang, BangDash, Comment, CommentDash, CommentEnd, CDSectWord, InCDSect, InReference, State, start, begun, on_between, on_tag, on_named, on_ended, on_referred, refer, behind, to_end_name, on_end, on_word, on_mode, steps, step, go_on}
 use Rattle.doc_laws.specs.States.{rooted, Fronts}
 use Rattle.doc_laws.proofs.Moves.{steps_append, tokens-with_run, closed_tokens}
 use Rattle.doc_laws.proofs.Fronts.{some_is, none_some}
@@ -89,7 +89,7 @@ grows_mode s c EndSpace = grows_ended s c s.names
 grows_mode s c Question = g1 s (is_start_char c) _ (same s _ refl)
 grows_mode s c Target = g3 s (is_part_char c) (is_white c) (eqb c 63) _ _ _ (same s _ refl) (same s _ refl) (same s _ refl)
 grows_mode s c TargetMark = g1 s (eqb c 62) _ (same s _ refl)
-grows_mode s c (InNote m) = g2 s (eqb c 62 && eqb m 1) (is_char c) _ _ (same s _ refl) (same s _ refl)
+grows_mode s c (InInstruction m) = g2 s (eqb c 62 && eqb m 1) (is_char c) _ _ (same s _ refl) (same s _ refl)
 grows_mode s c (DocWord left) = grows_word s c DocWord left _ (g1 s (is_white c) _ (same s _ refl))
 grows_mode s c DocSpace = g2 s (is_white c) (is_start_char c) _ _ (same s _ refl) (same s _ refl)
 grows_mode s c Doc = g3 s (is_doc_char c) (eqb c 62) (is_quote c) _ _ _ (same s _ refl) (same s _ refl) (same s _ refl)
@@ -99,8 +99,8 @@ grows_mode s c BangDash = g1 s (eqb c 45) _ (same s _ refl)
 grows_mode s c Comment = g2 s (eqb c 45) (is_char c) _ _ (same s _ refl) (same s _ refl)
 grows_mode s c CommentDash = g2 s (eqb c 45) (is_char c) _ _ (same s _ refl) (same s _ refl)
 grows_mode s c CommentEnd = g1 s (eqb c 62) _ (same s _ refl)
-grows_mode s c (SectionWord left) = grows_word s c SectionWord left _ (g1 s (eqb c 91) _ (same s _ refl))
-grows_mode s c (InSection n) = g3 s (eqb c 93) (eqb c 62 && eqb n 2) (is_char c) _ _ _ (same s _ refl) (same s _ refl) (same s _ refl)
+grows_mode s c (CDSectWord left) = grows_word s c CDSectWord left _ (g1 s (eqb c 91) _ (same s _ refl))
+grows_mode s c (InCDSect n) = g3 s (eqb c 93) (eqb c 62 && eqb n 2) (is_char c) _ _ _ (same s _ refl) (same s _ refl) (same s _ refl)
 grows_mode s c (InReference r) = grows_referred s InReference Between (refer r c)
 
 pub step_after : (s t : State) (c : ℕ) → step s c ≡ Some t → IsAfter s t

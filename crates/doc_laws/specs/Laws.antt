@@ -1,16 +1,20 @@
 -- The laws of the grammar of documents, of its faults and of the machine that reads it.
-use Rattle.std.specs.Prelude.{ℕ, ◌≡◌, ◌⊎◌, ◌↔◌, Bool, false, List, [], ◌∷◌, ◌++◌, Option, Some}
+use Rattle.std.specs.Prelude.{ℕ, ◌≡◌, ◌⊎◌, ◌↔◌, Bool, true, false, List, [], ◌∷◌, ◌++◌, Option, Some}
+use Rattle.std.specs.List.{All}
 use lib.Utf8.{encodes}
 use Rattle.gcx_base.specs.Characters.{is_char, is_part_char}
+use Rattle.gcx_base.specs.Name.{IsNameBytes}
 use Rattle.gcx_base.specs.declared.limits.Limits.{Limits}
 use Rattle.gcx_model.specs.Document.{Nodes, IsDocument}
-use Rattle.gcx_model.specs.Tree.{Token}
+use Rattle.gcx_model.specs.Tree.{Token, Start, Chars, End, opening}
+use Rattle.gcx_model.specs.Growth.{Leads, may_all}
 use Rattle.gcx_model.specs.Attributes.{Attributes, attribute_names}
 use Rattle.gcx_model.specs.Grammar.{Content, SpellsDocument, Viable}
 use Rattle.gcx_model.specs.Fronts.{Frames, Piece, tag, part_name, IsFront, front_spelling, Opens}
 use Rattle.gcx_model.specs.declared.fault.DocFault.{DocFault}
-use Rattle.gcx_model.specs.Faults.{AtSyntax, size, Comes, FaultIs}
-use Rattle.gcx_model.specs.Seen.{SeenIs, LastTag, SeenInWords}
+use Rattle.gcx_model.specs.Faults.{AtSyntax, size, Comes, Clean, FaultIs}
+use Rattle.gcx_model.specs.Seen.{SeenIs, seen_tree, LastTag, SeenInWords}
+use Rattle.gcx_model.specs.Within.{IsWithin}
 use Rattle.doc_laws.specs.Machine.{State, start, steps}
 use Rattle.doc_laws.specs.States.{Fronts}
 use Rattle.doc_laws.specs.Judging.{judged_steps, Told}
@@ -19,6 +23,12 @@ use Rattle.doc_laws.specs.Judging.{judged_steps, Told}
 abbrev pub Among : List ℕ → List (List ℕ) → Type 0
 Among m [] = ⊥
 Among m (n ∷ ns) = (m ≡ n) ⊎ Among m ns
+
+-- the name of a start is a name
+abbrev pub IsNamed : Token → Type 0
+IsNamed (Start name) = IsNameBytes name
+IsNamed (Chars bytes) = Unit {0}
+IsNamed End = Unit {0}
 
 -- A text spells at most one document.
 abbrev pub OneDocument : Type 0
@@ -79,3 +89,22 @@ OnlyChars = (lim : Limits) (cs : List ℕ) (c : ℕ) → is_char c ≡ false →
 -- The tags seen are those of the longest front of the bytes that has no fault and ends with a tag, closed by end tags.
 abbrev pub SeenIsLongest : Type 0
 SeenIsLongest = (lim : Limits) (b : List ℕ) (ended : Bool) (ts : List Token) → (h : SeenIs lim b ended ts) → SeenInWords lim b h.tags
+
+-- The tokens that are seen may come one by one: their tree grew from the opening one.
+abbrev pub SeenComes : Type 0
+SeenComes = (lim : Limits) (b : List ℕ) (ended : Bool) (ts : List Token) → SeenIs lim b ended ts → may_all ts opening ≡ true
+
+abbrev pub SeenGrew : Type 0
+SeenGrew = (lim : Limits) (b : List ℕ) (ended : Bool) (ts : List Token) → SeenIs lim b ended ts → Leads opening (seen_tree ts)
+
+-- Each start that is seen has a name.
+abbrev pub SeenIsNamed : Type 0
+SeenIsNamed = (lim : Limits) (b : List ℕ) (ended : Bool) (ts : List Token) → SeenIs lim b ended ts → All IsNamed ts
+
+-- More bytes give more tokens.
+abbrev pub SeenGoesOn : Type 0
+SeenGoesOn = (lim : Limits) (b more : List ℕ) (ended : Bool) (ts us : List Token) → SeenIs lim b false ts → SeenIs lim (b ++ more) ended us → (rest : List Token) × (us ≡ ts ++ rest)
+
+-- No fault comes in a whole document exactly where its names, runs and values are short and its elements aren't too deep.
+abbrev pub LimitsInWords : Type 0
+LimitsInWords = (lim : Limits) (cs : List ℕ) (d : Nodes) (s : SpellsDocument cs d) → Clean lim cs ↔ IsWithin lim s.content

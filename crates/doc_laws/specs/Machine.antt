@@ -98,7 +98,7 @@ pub data Mode : Type 0 where
   Question : Mode
   Target : Mode
   TargetMark : Mode
-  InNote : (marks : ℕ) → Mode
+  InInstruction : (marks : ℕ) → Mode
   DocWord : (left : List ℕ) → Mode
   DocSpace : Mode
   Doc : Mode
@@ -108,8 +108,8 @@ pub data Mode : Type 0 where
   Comment : Mode
   CommentDash : Mode
   CommentEnd : Mode
-  SectionWord : (left : List ℕ) → Mode
-  InSection : (brackets : ℕ) → Mode
+  CDSectWord : (left : List ℕ) → Mode
+  InCDSect : (brackets : ℕ) → Mode
   InReference : Referring → Mode
 
 -- the place in the grammar, the names of the open elements from the innermost on, whether there was a root, and whether
@@ -260,7 +260,7 @@ on_question s c = if is_start_char c then to_mode s Target else None
 abbrev pub on_target : State → ℕ → Option State
 on_target s c =
     if is_part_char c then to_mode s Target
-    else if is_white c then to_mode s (InNote 0)
+    else if is_white c then to_mode s (InInstruction 0)
     else if c == 63 then to_mode s TargetMark
     else None
 
@@ -268,10 +268,10 @@ abbrev pub on_target_mark : State → ℕ → Option State
 on_target_mark s c = if c == 62 then to_mode s Between else None
 
 -- behind m question marks, none or one
-abbrev pub on_note : State → ℕ → ℕ → Option State
-on_note s m c =
+abbrev pub on_instruction : State → ℕ → ℕ → Option State
+on_instruction s m c =
     if (c == 62) && (m == 1) then to_mode s Between
-    else if is_char c then to_mode s (InNote (if c == 63 then 1 else 0))
+    else if is_char c then to_mode s (InInstruction (if c == 63 then 1 else 0))
     else None
 
 abbrev pub on_doc_word : State → List ℕ → ℕ → Option State
@@ -299,7 +299,7 @@ on_doc_literal s q c =
 abbrev pub on_bang : State → ℕ → Option State
 on_bang s c =
     if c == 45 then to_mode s BangDash
-    else if (c == 91) && is_inside s.names then to_mode s (SectionWord cdata_word)
+    else if (c == 91) && is_inside s.names then to_mode s (CDSectWord cdata_word)
     else if (c == 68) && not s.typed then to_mode s (DocWord doc_word)
     else None
 
@@ -315,15 +315,15 @@ on_comment_dash s c = if c == 45 then to_mode s CommentEnd else if is_char c the
 abbrev pub on_comment_end : State → ℕ → Option State
 on_comment_end s c = if c == 62 then to_mode s Between else None
 
-abbrev pub on_section_word : State → List ℕ → ℕ → Option State
-on_section_word s left c = on_word s c SectionWord left (if c == 91 then to_mode s (InSection 0) else None)
+abbrev pub on_cdsect_word : State → List ℕ → ℕ → Option State
+on_cdsect_word s left c = on_word s c CDSectWord left (if c == 91 then to_mode s (InCDSect 0) else None)
 
 -- behind n brackets
-abbrev pub on_section : State → ℕ → ℕ → Option State
-on_section s n c =
-    if c == 93 then Some (record s { mode = InSection (one_more n); run = if n == 2 then s.run ++ (93 ∷ []) else s.run })
+abbrev pub on_cdsect : State → ℕ → ℕ → Option State
+on_cdsect s n c =
+    if c == 93 then Some (record s { mode = InCDSect (one_more n); run = if n == 2 then s.run ++ (93 ∷ []) else s.run })
     else if (c == 62) && (n == 2) then to_mode s Between
-    else if is_char c then Some (record s { mode = InSection 0; run = s.run ++ (replicate n 93 ++ encode c) })
+    else if is_char c then Some (record s { mode = InCDSect 0; run = s.run ++ (replicate n 93 ++ encode c) })
     else None
 
 abbrev pub on_mode : State → ℕ → Mode → Option State
@@ -344,7 +344,7 @@ on_mode s c EndSpace = on_ended s c s.names
 on_mode s c Question = on_question s c
 on_mode s c Target = on_target s c
 on_mode s c TargetMark = on_target_mark s c
-on_mode s c (InNote m) = on_note s m c
+on_mode s c (InInstruction m) = on_instruction s m c
 on_mode s c (DocWord left) = on_doc_word s left c
 on_mode s c DocSpace = on_doc_space s c
 on_mode s c Doc = on_doc s c
@@ -354,8 +354,8 @@ on_mode s c BangDash = on_bang_dash s c
 on_mode s c Comment = on_comment s c
 on_mode s c CommentDash = on_comment_dash s c
 on_mode s c CommentEnd = on_comment_end s c
-on_mode s c (SectionWord left) = on_section_word s left c
-on_mode s c (InSection n) = on_section s n c
+on_mode s c (CDSectWord left) = on_cdsect_word s left c
+on_mode s c (InCDSect n) = on_cdsect s n c
 on_mode s c (InReference r) = on_referred s InReference Between (refer r c)
 
 abbrev pub step : State → ℕ → Option State

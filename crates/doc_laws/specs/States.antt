@@ -7,8 +7,8 @@ use Rattle.gcx_model.specs.References.{BegunReference, letters, number, decimals
 use Rattle.gcx_model.specs.Attributes.{Attributes, attribute_names}
 use Rattle.gcx_model.specs.Markup.{marks, brackets}
 use Rattle.gcx_model.specs.Grammar.{Content, nothing, has_element, has_type, run, attribute_nodes}
-use Rattle.gcx_model.specs.Fronts.{Frames, Part, no_part, spaced, part_name, name_spaced, equals, value, value_amp, Piece, no_piece, less, started, tag, slashed, ending, ended, question, target, target_mark, note, doc_wording, doc_gap, doc, doc_literal, bang, bang_dash, remark, remark_dash, remark_end, section_word, section, amp, front_spelling, IsFront, names, inside, piece_run, text_of, seen_tokens}
-use Rattle.doc_laws.specs.Machine.{Referring, Letters, Number, Decimal, Hexadecimal, Mode, Opening, Between, Less, StartName, StartSpace, AttributeName, AttributeSpace, Equals, InValue, InValueReference, ValueEnd, Slash, EndName, EndSpace, Question, Target, TargetMark, InNote, DocWord, DocSpace, Doc, DocLiteral, Bang, BangDash, Comment, CommentDash, CommentEnd, SectionWord, InSection, InReference, State}
+use Rattle.gcx_model.specs.Fronts.{Frames, Part, no_part, spaced, part_name, name_spaced, equals, value, value_amp, Piece, no_piece, less, started, tag, slashed, ending, ended, question, target, target_mark, in_instruction, doc_wording, doc_gap, doc, doc_literal, bang, bang_dash, in_comment, comment_dash, comment_end, cdsect_word, in_cdsect, amp, front_spelling, IsFront, names, inside, piece_run, text_of, seen_tokens}
+use Rattle.doc_laws.specs.Machine.{Referring, Letters, Number, Decimal, Hexadecimal, Mode, Opening, Between, Less, StartName, StartSpace, AttributeName, AttributeSpace, Equals, InValue, InValueReference, ValueEnd, Slash, EndName, EndSpace, Question, Target, TargetMark, InInstruction, DocWord, DocSpace, Doc, DocLiteral, Bang, BangDash, Comment, CommentDash, CommentEnd, CDSectWord, InCDSect, InReference, State}
 
 abbrev pub referring : BegunReference → Referring
 referring (letters m) = Letters m
@@ -47,18 +47,18 @@ piece_mode fs x (ended n sp c) = EndSpace
 piece_mode fs x question = Question
 piece_mode fs x (target n) = Target
 piece_mode fs x (target_mark n) = TargetMark
-piece_mode fs x (note n c d) = InNote (marks d)
+piece_mode fs x (in_instruction n c d) = InInstruction (marks d)
 piece_mode fs x (doc_wording m r) = DocWord r
 piece_mode fs x (doc_gap g) = DocSpace
 piece_mode fs x (doc g c d) = Doc
 piece_mode fs x (doc_literal g c d q l) = DocLiteral q
 piece_mode fs x bang = Bang
 piece_mode fs x bang_dash = BangDash
-piece_mode fs x (remark r) = Comment
-piece_mode fs x (remark_dash r) = CommentDash
-piece_mode fs x (remark_end r) = CommentEnd
-piece_mode fs x (section_word m r) = SectionWord r
-piece_mode fs x (section d) = InSection (brackets d)
+piece_mode fs x (in_comment r) = Comment
+piece_mode fs x (comment_dash r) = CommentDash
+piece_mode fs x (comment_end r) = CommentEnd
+piece_mode fs x (cdsect_word m r) = CDSectWord r
+piece_mode fs x (in_cdsect d) = InCDSect (brackets d)
 piece_mode fs x (amp r) = InReference (referring r)
 
 abbrev pub rooted : Frames → Content → Bool

@@ -1,4 +1,4 @@
-ghost use Rattle.doc_laws.specs.Laws.{OneDocument, SpelledIsDocument, FrontsAreViable, ViableIsFront, StepsAreFronts, JudgedIsFirst, OneFault, SomeFault, FaultStays, OneSeen, SomeSeen, SeenIsClosed, NamesComeOnce, OnlyChars, SeenIsLongest};
+ghost use Rattle.doc_laws.specs.Laws.{OneDocument, SpelledIsDocument, FrontsAreViable, ViableIsFront, StepsAreFronts, JudgedIsFirst, OneFault, SomeFault, FaultStays, OneSeen, SomeSeen, SeenIsClosed, NamesComeOnce, OnlyChars, SeenIsLongest, SeenComes, SeenGrew, SeenIsNamed, SeenGoesOn, LimitsInWords};
 
 /// A text spells at most one document.
 pub fn one_document()
@@ -73,4 +73,29 @@ pub fn only_chars()
 /// The tags seen are those of the longest front of the bytes that has no fault and ends with a tag, closed by end tags.
 pub fn seen_is_longest()
     ensures { SeenIsLongest }
+{}
+
+/// The tokens that are seen may come one by one.
+pub fn seen_comes()
+    ensures { SeenComes }
+{}
+
+/// Their tree grew from the opening one.
+pub fn seen_grew()
+    ensures { SeenGrew }
+{}
+
+/// Each start that is seen has a name.
+pub fn seen_is_named()
+    ensures { SeenIsNamed }
+{}
+
+/// More bytes give more tokens.
+pub fn seen_goes_on()
+    ensures { SeenGoesOn }
+{}
+
+/// A whole document is within limits exactly where its names, runs and values are short and its elements aren't too deep.
+pub fn limits_in_words()
+    ensures { LimitsInWords }
 {}

@@ -18,7 +18,7 @@ use Rattle.doc_laws.proofs.Pieces.{Stands as Kept}
 use Rattle.doc_laws.proofs.Theorems.{whole_spells, not_whole, spells_one}
 use Rattle.doc_laws.proofs.Unique.{clean_reads}
 use Rattle.doc_reader.specs.Judged.{given_token}
-use Rattle.doc_reader.specs.Standing.{Held, waiting, given_end, said_of, Gives, GivesBy, IsFault, Stands, answer_by, answer_of, Accepted, reader_tokens}
+use Rattle.doc_reader.specs.Standing.{ReaderView, waiting, given_end, said_of, Gives, GivesBy, IsFault, Stands, answer_by, answer_of, Accepted, reader_tokens}
 use Rattle.doc_reader.proofs.Givings.{said-map, said-append}
 use Rattle.doc_reader.specs.declared.token.Token.{Token}
 use Rattle.doc_reader.specs.declared.token.Token.TheVariants.{EndOfDocument}
@@ -97,7 +97,7 @@ accepted lim b ts fault g =
       tokens_are = g.tokens_are ∙ (λ i. map given_token ((tags ∙ d.2) i) ++ map given_end (ends i));
     }
 
-pub accepts : (h : Held) (lim : Limits) (b : List ℕ) (given : List Token) (r : Result (Unit {0}) DocFault) → r ≡ answer_of h → Stands h lim b true given → OnOk r (Accepted b (given ++ waiting h))
+pub accepts : (h : ReaderView) (lim : Limits) (b : List ℕ) (given : List Token) (r : Result (Unit {0}) DocFault) → r ≡ answer_of h → Stands h lim b true given → OnOk r (Accepted b (given ++ waiting h))
 accepts h lim b given r e s = subst (λ (q : Result (Unit {0}) DocFault). OnOk q (Accepted b (given ++ waiting h))) (sym e) (by h.refused s.fault s.gives)
   where
     by : (o : Option DocFault) → IsFault o lim b true → GivesBy o lim b true (given ++ waiting h) → OnOk (answer_by o) (Accepted b (given ++ waiting h))

@@ -11,7 +11,7 @@ use Rattle.gcx_model.specs.Markup.{is_doc_char, is_literal_char}
 use Rattle.gcx_model.specs.Grammar.{may_open}
 use Rattle.gcx_model.specs.Fronts.{is_inside, text_of}
 use Rattle.gcx_model.specs.Faults.{Refusal, AtText, AtDepth, AtName}
-use Rattle.doc_laws.specs.Machine.{Referred, More, Done, Bad, Referring, Mode, Opening, Between, Less, StartName, StartSpace, AttributeName, AttributeSpace, Equals, InValue, InValueReference, ValueEnd, Slash, EndName, EndSpace, Question, Target, TargetMark, InNote, DocWord, DocSpace, Doc, DocLiteral, Bang, BangDash, Comment, CommentDash, CommentEnd, SectionWord, InSection, InReference, State, begun, opened, emptied, closed, on_between, on_tag, on_named, on_ended, on_referred, refer, behind, to_end_name, on_end, on_word, on_mode, step}
+use Rattle.doc_laws.specs.Machine.{Referred, More, Done, Bad, Referring, Mode, Opening, Between, Less, StartName, StartSpace, AttributeName, AttributeSpace, Equals, InValue, InValueReference, ValueEnd, Slash, EndName, EndSpace, Question, Target, TargetMark, InInstruction, DocWord, DocSpace, Doc, DocLiteral, Bang, BangDash, Comment, CommentDash, CommentEnd, CDSectWord, InCDSect, InReference, State, begun, opened, emptied, closed, on_between, on_tag, on_named, on_ended, on_referred, refer, behind, to_end_name, on_end, on_word, on_mode, step}
 use Rattle.doc_laws.specs.Judging.{naming_by, is_deep, deep_place, judged_by, judged, on_ok, judged_steps}
 use Rattle.doc_reader.specs.Standing.{with_given}
 
@@ -101,7 +101,7 @@ module _ (before : List Token) where
   f_mode s c Question = f1 (is_start_char c) _ _ refl
   f_mode s c Target = f3 (is_part_char c) (is_white c) (eqb c 63) _ _ _ _ _ _ refl refl refl
   f_mode s c TargetMark = f1 (eqb c 62) _ _ refl
-  f_mode s c (InNote m) = f2 (eqb c 62 && eqb m 1) (is_char c) _ _ _ _ refl refl
+  f_mode s c (InInstruction m) = f2 (eqb c 62 && eqb m 1) (is_char c) _ _ _ _ refl refl
   f_mode s c (DocWord left) = f_word s c DocWord left _ _ (f1 (is_white c) _ _ refl)
   f_mode s c DocSpace = f2 (is_white c) (is_start_char c) _ _ _ _ refl refl
   f_mode s c Doc = f3 (is_doc_char c) (eqb c 62) (is_quote c) _ _ _ _ _ _ refl refl refl
@@ -111,8 +111,8 @@ module _ (before : List Token) where
   f_mode s c Comment = f2 (eqb c 45) (is_char c) _ _ _ _ refl refl
   f_mode s c CommentDash = f2 (eqb c 45) (is_char c) _ _ _ _ refl refl
   f_mode s c CommentEnd = f1 (eqb c 62) _ _ refl
-  f_mode s c (SectionWord left) = f_word s c SectionWord left _ _ (f1 (eqb c 91) _ _ refl)
-  f_mode s c (InSection n) = f3 (eqb c 93) (eqb c 62 && eqb n 2) (is_char c) _ _ _ _ _ _ refl refl refl
+  f_mode s c (CDSectWord left) = f_word s c CDSectWord left _ _ (f1 (eqb c 91) _ _ refl)
+  f_mode s c (InCDSect n) = f3 (eqb c 93) (eqb c 62 && eqb n 2) (is_char c) _ _ _ _ _ _ refl refl refl
   f_mode s c (InReference r) = f_referred s InReference Between (refer r c)
 
   pub step_ahead : (s : State) (c : ℕ) → step (with_given before s) c ≡ ahead before (step s c)

@@ -20,22 +20,22 @@ use Rattle.doc_laws.proofs.Tests.{true_and}
 use Rattle.doc_laws.proofs.Words.{scalars_front}
 use Rattle.doc_laws.proofs.LastTag.{longest_at_fault, longest_at_bad, longest_at_limit}
 use Rattle.doc_reader.specs.Judged.{Refuses, ReadsFront, Judged, fault}
-use Rattle.doc_reader.specs.Standing.{Held, with_given, IsReading, HasRead, HasStopped, HasLost}
+use Rattle.doc_reader.specs.Standing.{ReaderView, with_given, IsReading, HasRead, HasStopped, HasLost}
 use Rattle.doc_reader.specs.Piece.{Took, char_fault, stop_fault}
 use Rattle.doc_reader.specs.declared.stop.Stop.{Stop}
 use Rattle.doc_reader.specs.declared.stop.Stop.TheVariants.{Refused as Stopped, Memory as Lost}
 use Rattle.doc_reader.specs.declared.token.Token.{Token}
 use Rattle.doc_reader.proofs.Ahead.{ahead_ok, judged_ahead, steps_ahead}
-use Rattle.doc_reader.proofs.Ties.{Parts, bad_tie, decodes_tie, parts_of, size_append}
+use Rattle.doc_reader.proofs.Ties.{Parts, decodes_tie, parts_of, size_append}
 
-abbrev pub reads_of : (h : Held) (lim : Limits) (b : List ℕ) (given : List Token) (r : IsReading h lim b given) → Reads lim r.chars (with_given r.before h.state)
+abbrev pub reads_of : (h : ReaderView) (lim : Limits) (b : List ℕ) (given : List Token) (r : IsReading h lim b given) → Reads lim r.chars (with_given r.before h.state)
 reads_of h lim b given r = record { front = r.front; clean = r.clean; short = r.short }
 
-abbrev pub kept_of : (h : Held) (lim : Limits) (b : List ℕ) (given : List Token) (r : IsReading h lim b given) → Kept lim b h.carry.bytes (with_given r.before h.state)
+abbrev pub kept_of : (h : ReaderView) (lim : Limits) (b : List ℕ) (given : List Token) (r : IsReading h lim b given) → Kept lim b h.carry.bytes (with_given r.before h.state)
 kept_of h lim b given r = record { chars = r.chars; decodes = decodes_tie h.carry b r.chars r.stream; reads = reads_of h lim b given r }
 
 -- all characters were read
-pub all_read : (h : Held) (lim : Limits) (b : List ℕ) (given : List Token) (r : IsReading h lim b given) → HasRead h.state.tokens lim b r.chars given
+pub all_read : (h : ReaderView) (lim : Limits) (b : List ℕ) (given : List Token) (r : IsReading h lim b given) → HasRead h.state.tokens lim b r.chars given
 all_read h lim b given r =
     let at = decodes_tie h.carry b r.chars r.stream in
     record {
@@ -56,7 +56,7 @@ judged_on : (lim : Limits) (cs ds : List ℕ) (before : List Said) (s t : State)
 judged_on lim cs ds before s t place e r j =
     subst (Says lim (cs ++ ds)) (steps_ahead before lim (size cs) s ds ∙ ap (ahead_ok before) (ap (λ k. judged_steps lim k s ds) (sym e) ∙ j)) (judged_says lim cs (with_given before s) ds r)
 
-module _ (old new : Held) (lim : Limits) (b piece : List ℕ) (given : List Token) (ds : List ℕ) (r : IsReading old lim b given) (within : length (b ++ piece) ≤ lim.bytes) where
+module _ (old new : ReaderView) (lim : Limits) (b piece : List ℕ) (given : List Token) (ds : List ℕ) (r : IsReading old lim b given) (within : length (b ++ piece) ≤ lim.bytes) where
   -- all of them are read
   pub reads_on : StandsFor new.carry (b ++ piece) (r.chars ++ ds) → judged_steps lim old.place old.state ds ≡ Ok new.state → new.place ≡ old.place + size ds → new.count ≡ old.count + length piece → IsReading new lim (b ++ piece) given
   reads_on s j place count =
@@ -147,9 +147,9 @@ module _ (old new : Held) (lim : Limits) (b piece : List ℕ) (given : List Toke
           chars = chars;
           read = read;
           longest = λ more. longest_at_bad lim ((b ++ piece) ++ more) chars state reads
-              (record { rest = w.rest ++ more; chars = p.scalars_are; parts = ap (λ l. l ++ more) w.bytes ∙ append_assoc (encodes chars) w.rest more; bad = bad_more w.rest more (bad_tie w.rest w.why.1) }) read.within;
+              (record { rest = w.rest ++ more; chars = p.scalars_are; parts = ap (λ l. l ++ more) w.bytes ∙ append_assoc (encodes chars) w.rest more; bad = bad_more w.rest more w.why.1 }) read.within;
         },
-        within_limit within (by_sequence chars (record { rest = w.rest; chars = p.scalars_are; parts = w.bytes; bad = bad_tie w.rest w.why.1 }) reads.clean (ap (λ n. Some (Utf8 n)) at)),
+        within_limit within (by_sequence chars (record { rest = w.rest; chars = p.scalars_are; parts = w.bytes; bad = w.why.1 }) reads.clean (ap (λ n. Some (Utf8 n)) at)),
       )
   breaks_at (no_char k) w j =
       let chars = r.chars ++ ds in
@@ -175,23 +175,23 @@ module _ (old new : Held) (lim : Limits) (b piece : List ℕ) (given : List Toke
 
 -- ---- what a part of the reader answers then
 
-abbrev Refused : Held → Limits → List ℕ → List Token → DocFault → Type 0
+abbrev Refused : ReaderView → Limits → List ℕ → List Token → DocFault → Type 0
 Refused h lim b given f = HasStopped h.state.tokens lim b given × FaultIs lim b false (Some f)
 
-took_char : (h : Held) (lim : Limits) (b : List ℕ) (given : List Token) (f : CharFault) → Refused h lim b given (char_fault f) → Took {T = Unit {0}} (Err (char_fault f)) h lim b given
+took_char : (h : ReaderView) (lim : Limits) (b : List ℕ) (given : List Token) (f : CharFault) → Refused h lim b given (char_fault f) → Took {T = Unit {0}} (Err (char_fault f)) h lim b given
 took_char h lim b given (not_utf8 k) q = q
 took_char h lim b given (no_char k) q = q
 
-took_refusal : (h : Held) (lim : Limits) (b : List ℕ) (given : List Token) (f : Refusal) → Refused h lim b given (fault_of f) → Took {T = Unit {0}} (Err (fault_of f)) h lim b given
+took_refusal : (h : ReaderView) (lim : Limits) (b : List ℕ) (given : List Token) (f : Refusal) → Refused h lim b given (fault_of f) → Took {T = Unit {0}} (Err (fault_of f)) h lim b given
 took_refusal h lim b given (AtSyntax k) q = q
 took_refusal h lim b given (AtDepth k) q = q
 took_refusal h lim b given (AtName k) q = q
 took_refusal h lim b given (AtText k) q = q
 
-pub no_fault_yet : (h : Held) (lim : Limits) (b : List ℕ) (given : List Token) → IsReading h lim b given → FaultIs lim b false None
+pub no_fault_yet : (h : ReaderView) (lim : Limits) (b : List ℕ) (given : List Token) → IsReading h lim b given → FaultIs lim b false None
 no_fault_yet h lim b given r = within_limit r.within (none_stands lim b h.carry.bytes (with_given r.before h.state) (kept_of h lim b given r))
 
-pub took_ok : (h : Held) (lim : Limits) (b : List ℕ) (given : List Token) → IsReading h lim b given → Took {T = Unit {0}} (Ok tt) h lim b given
+pub took_ok : (h : ReaderView) (lim : Limits) (b : List ℕ) (given : List Token) → IsReading h lim b given → Took {T = Unit {0}} (Ok tt) h lim b given
 took_ok h lim b given r = (r, no_fault_yet h lim b given r)
 
 -- more bytes behind a refusal
@@ -219,10 +219,10 @@ stopped_more waits lim b more given q = record {
 lost_more : (waits : List Said) (lim : Limits) (b more : List ℕ) (given : List Token) → HasLost waits lim b given → HasLost waits lim (b ++ more) given
 lost_more waits lim b more given q = record { chars = q.chars; read = read_more waits lim b more q.chars given q.read }
 
-both_more : (h : Held) (lim : Limits) (b more : List ℕ) (given : List Token) (f : DocFault) → Refused h lim b given f → Refused h lim (b ++ more) given f
+both_more : (h : ReaderView) (lim : Limits) (b more : List ℕ) (given : List Token) (f : DocFault) → Refused h lim b given f → Refused h lim (b ++ more) given f
 both_more h lim b more given f q = (stopped_more h.state.tokens lim b more given q.0, fault_stays lim b more false f q.1)
 
-pub took_more : (h : Held) (lim : Limits) (b more : List ℕ) (given : List Token) (f : DocFault) → Took {T = Unit {0}} (Err f) h lim b given → Took {T = Unit {0}} (Err f) h lim (b ++ more) given
+pub took_more : (h : ReaderView) (lim : Limits) (b more : List ℕ) (given : List Token) (f : DocFault) → Took {T = Unit {0}} (Err f) h lim b given → Took {T = Unit {0}} (Err f) h lim (b ++ more) given
 took_more h lim b more given Memory q = (lost_more h.state.tokens lim b more given q.0, tt)
 took_more h lim b more given (Utf8 k) q = both_more h lim b more given (Utf8 k) q
 took_more h lim b more given (Syntax k) q = both_more h lim b more given (Syntax k) q
@@ -233,7 +233,7 @@ took_more h lim b more given (TextLong k) q = both_more h lim b more given (Text
 took_more h lim b more given (TooLong k) q = both_more h lim b more given (TooLong k) q
 
 -- the bytes that may be are read, and more follow
-pub took_past : (h : Held) (lim : Limits) (b more : List ℕ) (given : List Token) → IsReading h lim b given → length b ≡ lim.bytes → 0 < length more → Took {T = Unit {0}} (Err (TooLong lim.bytes)) h lim (b ++ more) given
+pub took_past : (h : ReaderView) (lim : Limits) (b more : List ℕ) (given : List Token) → IsReading h lim b given → length b ≡ lim.bytes → 0 < length more → Took {T = Unit {0}} (Err (TooLong lim.bytes)) h lim (b ++ more) given
 took_past h lim b more given r full some =
     let kept = kept_of h lim b given r in
     let state = with_given r.before h.state in
@@ -247,13 +247,13 @@ took_past h lim b more given r full some =
     )
 
 -- the machine stops in a piece
-pub took_stop : (old new : Held) (lim : Limits) (b piece : List ℕ) (given : List Token) (ds : List ℕ) (s : Stop) (r : IsReading old lim b given) → length (b ++ piece) ≤ lim.bytes → Parts (b ++ piece) (r.chars ++ ds) → Judged {T = Unit {0}} (Err s) lim old.place old.state ds new.state → Took {T = Unit {0}} (Err (stop_fault s)) new lim (b ++ piece) given
+pub took_stop : (old new : ReaderView) (lim : Limits) (b piece : List ℕ) (given : List Token) (ds : List ℕ) (s : Stop) (r : IsReading old lim b given) → length (b ++ piece) ≤ lim.bytes → Parts (b ++ piece) (r.chars ++ ds) → Judged {T = Unit {0}} (Err s) lim old.place old.state ds new.state → Took {T = Unit {0}} (Err (stop_fault s)) new lim (b ++ piece) given
 took_stop old new lim b piece given ds Lost r within p j = (lost_at old new lim b piece given ds r within p j, tt)
 took_stop old new lim b piece given ds (Stopped m) r within p j = took_refusal new lim (b ++ piece) given (fault m) (refuses_at old new lim b piece given ds r within (fault m) p j)
 
 -- all characters of a piece are read, and what stands behind them is no Char, or nothing
-pub took_breaks : (old new : Held) (lim : Limits) (b piece : List ℕ) (given : List Token) (ds : List ℕ) (f : CharFault) (r : IsReading old lim b given) → length (b ++ piece) ≤ lim.bytes → Breaks (b ++ piece) (r.chars ++ ds) f → judged_steps lim old.place old.state ds ≡ Ok new.state → Took {T = Unit {0}} (Err (char_fault f)) new lim (b ++ piece) given
+pub took_breaks : (old new : ReaderView) (lim : Limits) (b piece : List ℕ) (given : List Token) (ds : List ℕ) (f : CharFault) (r : IsReading old lim b given) → length (b ++ piece) ≤ lim.bytes → Breaks (b ++ piece) (r.chars ++ ds) f → judged_steps lim old.place old.state ds ≡ Ok new.state → Took {T = Unit {0}} (Err (char_fault f)) new lim (b ++ piece) given
 took_breaks old new lim b piece given ds f r within w j = took_char new lim (b ++ piece) given f (breaks_at old new lim b piece given ds r within f w j)
 
-pub took_reads : (old new : Held) (lim : Limits) (b piece : List ℕ) (given : List Token) (ds : List ℕ) (r : IsReading old lim b given) → length (b ++ piece) ≤ lim.bytes → StandsFor new.carry (b ++ piece) (r.chars ++ ds) → judged_steps lim old.place old.state ds ≡ Ok new.state → new.place ≡ old.place + size ds → new.count ≡ old.count + length piece → Took {T = Unit {0}} (Ok tt) new lim (b ++ piece) given
+pub took_reads : (old new : ReaderView) (lim : Limits) (b piece : List ℕ) (given : List Token) (ds : List ℕ) (r : IsReading old lim b given) → length (b ++ piece) ≤ lim.bytes → StandsFor new.carry (b ++ piece) (r.chars ++ ds) → judged_steps lim old.place old.state ds ≡ Ok new.state → new.place ≡ old.place + size ds → new.count ≡ old.count + length piece → Took {T = Unit {0}} (Ok tt) new lim (b ++ piece) given
 took_reads old new lim b piece given ds r within g j place count = took_ok new lim (b ++ piece) given (reads_on old new lim b piece given ds r within g j place count)

@@ -15,7 +15,7 @@ use Rattle.gcx_model.specs.Markup.{is_doc_char, is_literal_char}
 use Rattle.gcx_model.specs.Grammar.{may_open}
 use Rattle.gcx_model.specs.Fronts.{is_inside}
 use Rattle.gcx_model.specs.Faults.{Refusal, AtDepth, AtName, AtText}
-use Rattle.doc_laws.specs.Machine.{Referred, More, Done, Bad, Referring, Mode, Opening, Between, Less, StartName, StartSpace, AttributeName, AttributeSpace, Equals, InValue, InValueReference, ValueEnd, Slash, EndName, EndSpace, Question, Target, TargetMark, InNote, DocWord, DocSpace, Doc, DocLiteral, Bang, BangDash, Comment, CommentDash, CommentEnd, SectionWord, InSection, InReference, State, begun, to_mode, run_on, to_end_name, behind, refer, on_between, on_tag, on_named, on_referred, on_ended, on_end, on_word, on_mode, step}
+use Rattle.doc_laws.specs.Machine.{Referred, More, Done, Bad, Referring, Mode, Opening, Between, Less, StartName, StartSpace, AttributeName, AttributeSpace, Equals, InValue, InValueReference, ValueEnd, Slash, EndName, EndSpace, Question, Target, TargetMark, InInstruction, DocWord, DocSpace, Doc, DocLiteral, Bang, BangDash, Comment, CommentDash, CommentEnd, CDSectWord, InCDSect, InReference, State, begun, to_mode, run_on, to_end_name, behind, refer, on_between, on_tag, on_named, on_referred, on_ended, on_end, on_word, on_mode, step}
 use Rattle.doc_laws.specs.Judging.{naming_by, is_deep, deep_place, judged_by, judged}
 use Rattle.doc_reader.specs.Sound.{IsSoundIn, IsSound}
 use Rattle.doc_reader.specs.Steps.{Taken}
@@ -140,7 +140,7 @@ mode_next Question s c e h = either s c (is_start_char c) _ _ (tt, inl refl) tt
 mode_next Target s c e h =
     either s c (is_part_char c) _ _ (tt, inl refl) (either s c (is_white c) _ _ (tt, inl refl) (either s c (eqb c 63) _ _ (tt, inl refl) tt))
 mode_next TargetMark s c e h = either s c (eqb c 62) _ _ (tt, inl refl) tt
-mode_next (InNote m) s c e h = either s c (eqb c 62 && eqb m 1) _ _ (tt, inl refl) (either s c (is_char c) _ _ (tt, inl refl) tt)
+mode_next (InInstruction m) s c e h = either s c (eqb c 62 && eqb m 1) _ _ (tt, inl refl) (either s c (is_char c) _ _ (tt, inl refl) tt)
 mode_next (DocWord left) s c e h = word_next s c DocWord left _ (λ l. (tt, inl refl)) (either s c (is_white c) _ _ (tt, inl refl) tt)
 mode_next DocSpace s c e h = either s c (is_white c) _ _ (tt, inl refl) (either s c (is_start_char c) _ _ (tt, inl refl) tt)
 mode_next Doc s c e h =
@@ -153,8 +153,8 @@ mode_next BangDash s c e h = either s c (eqb c 45) _ _ (tt, inl refl) tt
 mode_next Comment s c e h = either s c (eqb c 45) _ _ (tt, inl refl) (either s c (is_char c) _ _ (tt, inl refl) tt)
 mode_next CommentDash s c e h = either s c (eqb c 45) _ _ (tt, inl refl) (either s c (is_char c) _ _ (tt, inl refl) tt)
 mode_next CommentEnd s c e h = either s c (eqb c 62) _ _ (tt, inl refl) tt
-mode_next (SectionWord left) s c e h = word_next s c SectionWord left _ (λ l. (tt, inl refl)) (either s c (eqb c 91) _ _ (tt, inl refl) tt)
-mode_next (InSection n) s c e h =
+mode_next (CDSectWord left) s c e h = word_next s c CDSectWord left _ (λ l. (tt, inl refl)) (either s c (eqb c 91) _ _ (tt, inl refl) tt)
+mode_next (InCDSect n) s c e h =
     either s c (eqb c 93) _ _ (tt, inl refl)
     (either s c (eqb c 62 && eqb n 2) _ _ (tt, inl refl) (either s c (is_char c) _ _ (tt, inl refl) tt))
 mode_next (InReference r) s c e h = referred_next s c InReference Between (refer r c) (λ r. (tt, inl refl)) (λ b. (tt, inl refl))

@@ -17,7 +17,7 @@ use Rattle.doc_laws.specs.Machine.{Mode, State, on_mode, step}
 use Rattle.doc_laws.specs.Judging.{naming_by, begins_deep, is_deep, judged_by, judged, judged_steps, on_ok}
 use Rattle.doc_laws.proofs.Pieces.{size_is}
 use Rattle.doc_reader.specs.declared.machine.span.Span.{Span}
-use Rattle.doc_reader.specs.declared.machine.span.Span.TheVariants.{Text, Value, TagName, AttributeName, Comment, Note, Section}
+use Rattle.doc_reader.specs.declared.machine.span.Span.TheVariants.{Text, Value, TagName, AttributeName, Comment, Instruction, CDSect}
 use Rattle.doc_reader.specs.Sound.{IsSound}
 use Rattle.doc_reader.specs.Spans.{stands, in_span, is_ascii_byte, IsSpanFront, IsSameFront, spread, HasRoom, Allows}
 use Rattle.doc_reader.specs.Reading.{Moves}
@@ -149,21 +149,21 @@ one_comment lim s c run h =
       name = omega arith;
     }
 
-one_note : (lim : Limits) (s : State) (c : ℕ) → length s.run ≤ lim.text → is_char c && not (eqb c 63) ≡ true → One lim (record s { mode = laws.InNote 0 }) (record s { mode = laws.InNote 0 }) c
-one_note lim s c run h =
+one_instruction : (lim : Limits) (s : State) (c : ℕ) → length s.run ≤ lim.text → is_char c && not (eqb c 63) ≡ true → One lim (record s { mode = laws.InInstruction 0 }) (record s { mode = laws.InInstruction 0 }) c
+one_instruction lim s c run h =
     let both = and_both (is_char c) (not (eqb c 63)) h in
     record {
-      steps = off_cond (eqb c 62 && false) _ _ (and_false (eqb c 62) false refl) ∙ on_cond (is_char c) _ _ both.0 ∙ ap (λ k. Some (record s { mode = laws.InNote k })) (off_cond (eqb c 63) 1 0 (not_true (eqb c 63) both.1));
+      steps = off_cond (eqb c 62 && false) _ _ (and_false (eqb c 62) false refl) ∙ on_cond (is_char c) _ _ both.0 ∙ ap (λ k. Some (record s { mode = laws.InInstruction k })) (off_cond (eqb c 63) 1 0 (not_true (eqb c 63) both.1));
       run = run;
       deep = refl;
       name = omega arith;
     }
 
-one_section : (lim : Limits) (s : State) (most c : ℕ) → 0 < most → most ≤ lim.text - length s.run → c < 128 → is_char c && not (eqb c 93) ≡ true → One lim (record s { mode = laws.InSection 0 }) (record s { mode = laws.InSection 0; run = s.run ++ (c ∷ []) }) c
-one_section lim s most c p room l h =
+one_cdsect : (lim : Limits) (s : State) (most c : ℕ) → 0 < most → most ≤ lim.text - length s.run → c < 128 → is_char c && not (eqb c 93) ≡ true → One lim (record s { mode = laws.InCDSect 0 }) (record s { mode = laws.InCDSect 0; run = s.run ++ (c ∷ []) }) c
+one_cdsect lim s most c p room l h =
     let both = and_both (is_char c) (not (eqb c 93)) h in
     record {
-      steps = off_cond (eqb c 93) _ _ (not_true (eqb c 93) both.1) ∙ off_cond (eqb c 62 && false) _ _ (and_false (eqb c 62) false refl) ∙ on_cond (is_char c) _ _ both.0 ∙ ap (λ l. Some (record s { mode = laws.InSection 0; run = s.run ++ l })) (encode_ascii c l);
+      steps = off_cond (eqb c 93) _ _ (not_true (eqb c 93) both.1) ∙ off_cond (eqb c 62 && false) _ _ (and_false (eqb c 62) false refl) ∙ on_cond (is_char c) _ _ both.0 ∙ ap (λ l. Some (record s { mode = laws.InCDSect 0; run = s.run ++ l })) (encode_ascii c l);
       run = omega (arith, length-append s.run (c ∷ []));
       deep = refl;
       name = omega arith;
@@ -185,12 +185,12 @@ one_byte lim s AttributeName most c p a h =
 one_byte lim s Comment most c p a h =
     let is = and_both (nat_lt c 128) (stands Comment c) h in
     at_mode (λ s. One lim s (spread Comment s (c ∷ [])) c) s laws.Comment a.room (one_comment lim s c a.run is.1)
-one_byte lim s Note most c p a h =
-    let is = and_both (nat_lt c 128) (stands Note c) h in
-    at_mode (λ s. One lim s (spread Note s (c ∷ [])) c) s (laws.InNote 0) a.room (one_note lim s c a.run is.1)
-one_byte lim s Section most c p a h =
-    let is = and_both (nat_lt c 128) (stands Section c) h in
-    at_mode (λ s. One lim s (spread Section s (c ∷ [])) c) s (laws.InSection 0) a.room.0 (one_section lim s most c p a.room.1 (span_below Section c h) is.1)
+one_byte lim s Instruction most c p a h =
+    let is = and_both (nat_lt c 128) (stands Instruction c) h in
+    at_mode (λ s. One lim s (spread Instruction s (c ∷ [])) c) s (laws.InInstruction 0) a.room (one_instruction lim s c a.run is.1)
+one_byte lim s CDSect most c p a h =
+    let is = and_both (nat_lt c 128) (stands CDSect c) h in
+    at_mode (λ s. One lim s (spread CDSect s (c ∷ [])) c) s (laws.InCDSect 0) a.room.0 (one_cdsect lim s most c p a.room.1 (span_below CDSect c h) is.1)
 
 spread_none : (span : Span) (s : State) → spread span s [] ≡ s
 spread_none Text s = ap (λ r. record s { run = r }) (append-nil s.run)
@@ -198,8 +198,8 @@ spread_none (Value q) s = ap (λ r. record s { run = r }) (append-nil s.run)
 spread_none TagName s = ap (λ r. record s { name = r }) (append-nil s.name)
 spread_none AttributeName s = ap (λ r. record s { attr = r }) (append-nil s.attr)
 spread_none Comment s = refl
-spread_none Note s = refl
-spread_none Section s = ap (λ r. record s { run = r }) (append-nil s.run)
+spread_none Instruction s = refl
+spread_none CDSect s = ap (λ r. record s { run = r }) (append-nil s.run)
 
 spread_more : (span : Span) (s : State) (b : ℕ) (bs : List ℕ) → spread span (spread span s (b ∷ [])) bs ≡ spread span s (b ∷ bs)
 spread_more Text s b bs = ap (λ r. record s { run = r }) (append_assoc s.run (b ∷ []) bs)
@@ -207,8 +207,8 @@ spread_more (Value q) s b bs = ap (λ r. record s { run = r }) (append_assoc s.r
 spread_more TagName s b bs = ap (λ r. record s { name = r }) (append_assoc s.name (b ∷ []) bs)
 spread_more AttributeName s b bs = ap (λ r. record s { attr = r }) (append_assoc s.attr (b ∷ []) bs)
 spread_more Comment s b bs = refl
-spread_more Note s b bs = refl
-spread_more Section s b bs = ap (λ r. record s { run = r }) (append_assoc s.run (b ∷ []) bs)
+spread_more Instruction s b bs = refl
+spread_more CDSect s b bs = ap (λ r. record s { run = r }) (append_assoc s.run (b ∷ []) bs)
 
 room_next : (lim : Limits) (span : Span) (s : State) (most b : ℕ) → HasRoom lim most span s → HasRoom lim (most - 1) span (spread span s (b ∷ []))
 room_next lim Text s most b h = let room = h.2 in (h.0, h.1, omega (arith, length-append s.run (b ∷ [])))
@@ -216,8 +216,8 @@ room_next lim (Value q) s most b h = let room = h.1 in (h.0, omega (arith, lengt
 room_next lim TagName s most b h = let room = h.1 in (h.0, omega (arith, length-append s.name (b ∷ [])))
 room_next lim AttributeName s most b h = let room = h.1 in (h.0, omega (arith, length-append s.attr (b ∷ [])))
 room_next lim Comment s most b h = h
-room_next lim Note s most b h = h
-room_next lim Section s most b h = let room = h.1 in (h.0, omega (arith, length-append s.run (b ∷ [])))
+room_next lim Instruction s most b h = h
+room_next lim CDSect s most b h = let room = h.1 in (h.0, omega (arith, length-append s.run (b ∷ [])))
 
 span_read : (lim : Limits) (span : Span) (s : State) (most : ℕ) (bs : List ℕ) → Allows lim most span s → list_all (in_span span) bs ≡ true → length bs ≤ most → (place : ℕ) → judged_steps lim place s bs ≡ Ok (spread span s bs)
 span_read lim span s most [] a h l place = ap Ok (sym (spread_none span s))

@@ -16,7 +16,7 @@ use Rattle.doc_laws.proofs.LastTag.{longest_so_far}
 use Rattle.doc_laws.proofs.Pieces.{Stands as Kept, fault_stays, end_cut, end_short, end_whole, stands_place}
 use Rattle.doc_laws.proofs.Unique.{fault_one}
 use Rattle.doc_reader.specs.Judged.{given_token, TakesFirst}
-use Rattle.doc_reader.specs.Standing.{Held, end_token, waiting, with_given, Gives, GivesBy, IsFault, IsReading, HasRead, HasStopped, HasLost, GoesOnBy, GoesOn, Stands, IsRefused}
+use Rattle.doc_reader.specs.Standing.{ReaderView, end_token, waiting, with_given, Gives, GivesBy, IsFault, IsReading, HasRead, HasStopped, HasLost, GoesOnBy, GoesOn, Stands, IsRefused}
 use Rattle.doc_reader.specs.Piece.{Took, IsSame, Ends}
 use Rattle.doc_reader.specs.declared.token.Token.{Token}
 use Rattle.doc_reader.specs.declared.token.Token.TheVariants.{EndOfDocument}
@@ -46,7 +46,7 @@ SaysEnd other = ⊥
 
 -- ---- what waits, by what the reader goes on from
 
-gives_reading : (h : Held) (lim : Limits) (b : List ℕ) (given : List Token) → IsReading h lim b given → Gives lim b false (given ++ (map given_token h.state.tokens ++ []))
+gives_reading : (h : ReaderView) (lim : Limits) (b : List ℕ) (given : List Token) → IsReading h lim b given → Gives lim b false (given ++ (map given_token h.state.tokens ++ []))
 gives_reading h lim b given r =
     gives_open h.state.tokens lim b r.chars false given (all_read h lim b given r) (longest_so_far lim b h.carry.bytes (with_given r.before h.state) (kept_of h lim b given r) r.within) (λ e k. false≢true e)
 
@@ -55,7 +55,7 @@ gives_stopped : (waits : List Said) (lim : Limits) (b : List ℕ) (ended : Bool)
 gives_stopped waits lim b ended given f q k =
     gives_open waits lim b q.chars ended given q.read (subst (λ l. IsLongest lim l q.chars) (append-nil b) (q.longest [])) (no_document lim b f ended k)
 
-gives_by : (o : Option DocFault) (h : Held) (lim : Limits) (b : List ℕ) (given : List Token) → GoesOnBy o h lim b given → IsFault o lim b false → GivesBy o lim b false (given ++ (map given_token h.state.tokens ++ []))
+gives_by : (o : Option DocFault) (h : ReaderView) (lim : Limits) (b : List ℕ) (given : List Token) → GoesOnBy o h lim b given → IsFault o lim b false → GivesBy o lim b false (given ++ (map given_token h.state.tokens ++ []))
 gives_by None h lim b given q k = gives_reading h lim b given q
 gives_by (Some Memory) h lim b given q k = gives_more h.state.tokens lim b q.chars false given q.read
 gives_by (Some (Utf8 n)) h lim b given q k = gives_stopped h.state.tokens lim b false given (Utf8 n) q k
@@ -67,7 +67,7 @@ gives_by (Some (TextLong n)) h lim b given q k = gives_stopped h.state.tokens li
 gives_by (Some (TooLong n)) h lim b given q k = gives_stopped h.state.tokens lim b false given (TooLong n) q k
 
 -- an open reader
-pub stands_open : (h : Held) (lim : Limits) (b : List ℕ) (given : List Token) → h.limits ≡ lim → h.finished ≡ false → h.end_waits ≡ false → GoesOnBy h.refused h lim b given → IsFault h.refused lim b false → Stands h lim b false given
+pub stands_open : (h : ReaderView) (lim : Limits) (b : List ℕ) (given : List Token) → h.limits ≡ lim → h.finished ≡ false → h.end_waits ≡ false → GoesOnBy h.refused h lim b given → IsFault h.refused lim b false → Stands h lim b false given
 stands_open h lim b given l f e q k = record {
   limits = l;
   finished = f;
@@ -77,7 +77,7 @@ stands_open h lim b given l f e q k = record {
 }
 
 -- the refusal that came is kept
-kept_by : (f : DocFault) (old new : Held) (lim : Limits) (b : List ℕ) (given : List Token) → new.state ≡ old.state → GoesOnBy (Some f) old lim b given → GoesOnBy (Some f) new lim b given
+kept_by : (f : DocFault) (old new : ReaderView) (lim : Limits) (b : List ℕ) (given : List Token) → new.state ≡ old.state → GoesOnBy (Some f) old lim b given → GoesOnBy (Some f) new lim b given
 kept_by Memory old new lim b given e q = subst (λ (s : State). HasLost s.tokens lim b given) (sym e) q
 kept_by (Utf8 n) old new lim b given e q = subst (λ (s : State). HasStopped s.tokens lim b given) (sym e) q
 kept_by (Syntax n) old new lim b given e q = subst (λ (s : State). HasStopped s.tokens lim b given) (sym e) q
@@ -88,7 +88,7 @@ kept_by (TextLong n) old new lim b given e q = subst (λ (s : State). HasStopped
 kept_by (TooLong n) old new lim b given e q = subst (λ (s : State). HasStopped s.tokens lim b given) (sym e) q
 
 -- a new reader
-pub stands_new : (h : Held) (lim : Limits) → h.limits ≡ lim → h.state ≡ start → StandsFor h.carry [] [] → h.place ≡ 0 → h.count ≡ 0 → h.refused ≡ None → h.finished ≡ false → h.end_waits ≡ false → Stands h lim [] false []
+pub stands_new : (h : ReaderView) (lim : Limits) → h.limits ≡ lim → h.state ≡ start → StandsFor h.carry [] [] → h.place ≡ 0 → h.count ≡ 0 → h.refused ≡ None → h.finished ≡ false → h.end_waits ≡ false → Stands h lim [] false []
 stands_new h lim l s w p n r f e =
     let reads = start_reads lim in
     let reading : IsReading h lim [] [] = record {
@@ -106,27 +106,27 @@ stands_new h lim l s w p n r f e =
     stands_open h lim [] [] l f e (subst (λ o. GoesOnBy o h lim [] []) (sym r) reading) (subst (λ o. IsFault o lim [] false) (sym r) (no_fault_yet h lim [] [] reading))
 
 -- what an open reader that wasn't refused goes on from
-pub reading_of : (h : Held) (lim : Limits) (b : List ℕ) (given : List Token) → h.refused ≡ None → Stands h lim b false given → IsReading h lim b given
+pub reading_of : (h : ReaderView) (lim : Limits) (b : List ℕ) (given : List Token) → h.refused ≡ None → Stands h lim b false given → IsReading h lim b given
 reading_of h lim b given e s = subst (λ o. GoesOnBy o h lim b given) e s.goes_on.1
 
 -- behind a piece
-took_at : (old new : Held) (lim : Limits) (b more : List ℕ) (given : List Token) (r : Result (Unit {0}) DocFault) → old.refused ≡ None → (IsReading old old.limits b given → Took r new old.limits (b ++ more) given) → Stands old lim b false given → Took r new lim (b ++ more) given
+took_at : (old new : ReaderView) (lim : Limits) (b more : List ℕ) (given : List Token) (r : Result (Unit {0}) DocFault) → old.refused ≡ None → (IsReading old old.limits b given → Took r new old.limits (b ++ more) given) → Stands old lim b false given → Took r new lim (b ++ more) given
 took_at old new lim b more given r e q s =
     subst (λ (l : Limits). Took r new l (b ++ more) given) s.limits (q (subst (λ (l : Limits). IsReading old l b given) (sym s.limits) (reading_of old lim b given e s)))
 
-pub stands_read : (old new : Held) (lim : Limits) (b more : List ℕ) (given : List Token) → old.refused ≡ None → IsSame old new → (IsReading old old.limits b given → Took {T = Unit {0}} (Ok tt) new old.limits (b ++ more) given) → Stands old lim b false given → Stands new lim (b ++ more) false given
+pub stands_read : (old new : ReaderView) (lim : Limits) (b more : List ℕ) (given : List Token) → old.refused ≡ None → IsSame old new → (IsReading old old.limits b given → Took {T = Unit {0}} (Ok tt) new old.limits (b ++ more) given) → Stands old lim b false given → Stands new lim (b ++ more) false given
 stands_read old new lim b more given e m took s =
     let none = m.refused ∙ e in
     let q = took_at old new lim b more given (Ok tt) e took s in
     stands_open new lim (b ++ more) given (m.limits ∙ s.limits) (m.finished ∙ s.finished) (m.end_waits ∙ s.goes_on.0) (subst (λ o. GoesOnBy o new lim (b ++ more) given) (sym none) q.0) (subst (λ o. IsFault o lim (b ++ more) false) (sym none) q.1)
 
-pub stands_refused : (old new : Held) (lim : Limits) (b more : List ℕ) (given : List Token) (f : DocFault) → old.refused ≡ None → IsSame old new → (IsReading old old.limits b given → Took {T = Unit {0}} (Err f) new old.limits (b ++ more) given) → Stands old lim b false given → Stands (record new { refused = Some f }) lim (b ++ more) false given
+pub stands_refused : (old new : ReaderView) (lim : Limits) (b more : List ℕ) (given : List Token) (f : DocFault) → old.refused ≡ None → IsSame old new → (IsReading old old.limits b given → Took {T = Unit {0}} (Err f) new old.limits (b ++ more) given) → Stands old lim b false given → Stands (record new { refused = Some f }) lim (b ++ more) false given
 stands_refused old new lim b more given f e m took s =
     let q = took_at old new lim b more given (Err f) e took s in
     stands_open (record new { refused = Some f }) lim (b ++ more) given (m.limits ∙ s.limits) (m.finished ∙ s.finished) (m.end_waits ∙ s.goes_on.0) (kept_by f new (record new { refused = Some f }) lim (b ++ more) given refl q.0) q.1
 
 -- a piece behind a refusal
-pub stands_still : (h : Held) (lim : Limits) (b more : List ℕ) (given : List Token) → IsRefused h → Stands h lim b false given → Stands h lim (b ++ more) false given
+pub stands_still : (h : ReaderView) (lim : Limits) (b more : List ℕ) (given : List Token) → IsRefused h → Stands h lim b false given → Stands h lim (b ++ more) false given
 stands_still h lim b more given n s =
     let q = by h.refused n s.goes_on.1 s.fault in
     stands_open h lim (b ++ more) given s.limits s.finished s.goes_on.0 q.0 q.1
@@ -155,10 +155,10 @@ none_taken o (s ∷ ts) rest h e = absurd (some_no (given_token s) (sym h.0 ∙ 
     some_no t e = cc
 
 -- a reader whose first token was taken
-abbrev pub popped : Held → List Said → Held
+abbrev pub popped : ReaderView → List Said → ReaderView
 popped h rest = record h { state = record h.state { tokens = rest } }
 
-module _ (h : Held) (s : Said) (rest : List Said) (first : h.state.tokens ≡ s ∷ rest) (lim : Limits) (b : List ℕ) (given : List Token) where
+module _ (h : ReaderView) (s : Said) (rest : List Said) (first : h.state.tokens ≡ s ∷ rest) (lim : Limits) (b : List ℕ) (given : List Token) where
   given_more : (before : List Said) → given ≡ map given_token before → given ++ (given_token s ∷ []) ≡ map given_token (before ++ (s ∷ []))
   given_more before e = ap (λ l. l ++ (given_token s ∷ [])) e ∙ sym (map-append before (s ∷ []))
 
@@ -218,7 +218,7 @@ module _ (h : Held) (s : Said) (rest : List Said) (first : h.state.tokens ≡ s 
   }
 
 -- the end of the document is taken
-pub stands_told : (h : Held) (lim : Limits) (b : List ℕ) (ended : Bool) (given : List Token) → h.state.tokens ≡ [] → h.end_waits ≡ true → Stands h lim b ended given → Stands (record h { end_waits = false }) lim b ended (given ++ (EndOfDocument ∷ []))
+pub stands_told : (h : ReaderView) (lim : Limits) (b : List ℕ) (ended : Bool) (given : List Token) → h.state.tokens ≡ [] → h.end_waits ≡ true → Stands h lim b ended given → Stands (record h { end_waits = false }) lim b ended (given ++ (EndOfDocument ∷ []))
 stands_told h lim b false given e w q = absurd (true≢false (sym w ∙ q.goes_on.0))
 stands_told h lim b true given e w q = record {
   limits = q.limits;
@@ -230,11 +230,11 @@ stands_told h lim b true given e w q = record {
 
 -- ---- the end of the input
 
-pub ended_is : (h : Held) (lim : Limits) (b : List ℕ) (ended : Bool) (given : List Token) → Stands h lim b ended given → h.finished ≡ false → ended ≡ false
+pub ended_is : (h : ReaderView) (lim : Limits) (b : List ℕ) (ended : Bool) (given : List Token) → Stands h lim b ended given → h.finished ≡ false → ended ≡ false
 ended_is h lim b ended given s e = sym s.finished ∙ e
 
 -- behind a refusal
-pub stands_end_refused : (h : Held) (lim : Limits) (b : List ℕ) (given : List Token) → IsRefused h → Stands h lim b false given → Stands (record h { finished = true }) lim b true given
+pub stands_end_refused : (h : ReaderView) (lim : Limits) (b : List ℕ) (given : List Token) → IsRefused h → Stands h lim b false given → Stands (record h { finished = true }) lim b true given
 stands_end_refused h lim b given n s =
     let q = by h.refused n s.goes_on.1 s.fault in
     record {
@@ -263,7 +263,7 @@ stands_end_refused h lim b given n s =
     by (Some (TooLong m)) n q k = stopped (TooLong m) q k
 
 -- with a whole document
-pub stands_end_whole : (h : Held) (lim : Limits) (b : List ℕ) (given : List Token) → h.refused ≡ None → h.carry.bytes ≡ [] → is_whole h.state ≡ true → Stands h lim b false given → Stands (record h { finished = true; end_waits = true }) lim b true given
+pub stands_end_whole : (h : ReaderView) (lim : Limits) (b : List ℕ) (given : List Token) → h.refused ≡ None → h.carry.bytes ≡ [] → is_whole h.state ≡ true → Stands h lim b false given → Stands (record h { finished = true; end_waits = true }) lim b true given
 stands_end_whole h lim b given e none w s =
     let r = reading_of h lim b given e s in
     let state = with_given r.before h.state in
@@ -279,7 +279,7 @@ stands_end_whole h lim b given e none w s =
     }
 
 -- inside a character, or too soon
-pub stands_end_short : (h : Held) (lim : Limits) (b : List ℕ) (given : List Token) (f : DocFault) → h.refused ≡ None → Ends {T = Unit {0}} (Err f) h → Stands h lim b false given → Stands (record h { finished = true; refused = Some f }) lim b true given
+pub stands_end_short : (h : ReaderView) (lim : Limits) (b : List ℕ) (given : List Token) (f : DocFault) → h.refused ≡ None → Ends {T = Unit {0}} (Err f) h → Stands h lim b false given → Stands (record h { finished = true; refused = Some f }) lim b true given
 stands_end_short h lim b given f e ends s =
     let r = reading_of h lim b given e s in
     let state = with_given r.before h.state in

@@ -4,20 +4,11 @@ use lib.Utf8.{scalars, encodes}
 use Rattle.gcx_model.specs.Faults as faults
 use Rattle.gcx_model.specs.Faults.{size}
 use Rattle.doc_chars.specs.declared.chars.CharFault.{CharFault}
-use Rattle.doc_chars.specs.Stream.{IsFront, IsNotUtf8, Carry, StandsFor, GoesOn}
+use Rattle.doc_chars.specs.Stream.{Carry, StandsFor, GoesOn}
 use Rattle.doc_chars.proofs.Streams.{scalars_of}
 
-pub front_tie : (bs : List ℕ) → IsFront bs → faults.IsCharFront bs
-front_tie bs f = record { c = f.c; rest = f.rest; scalar = f.scalar; bytes = f.bytes; more = f.more }
-
-pub bad_tie : (bs : List ℕ) → IsNotUtf8 bs → faults.IsNotUtf8 bs
-bad_tie bs h = record {
-  no_char = λ c rest s e. h.no_char c rest s e;
-  no_front = λ f. h.no_front (record { c = f.c; rest = f.rest; scalar = f.scalar; bytes = f.bytes; more = f.more });
-}
-
 pub decodes_tie : (carry : Carry) (b cs : List ℕ) → StandsFor carry b cs → faults.Decodes b cs carry.bytes
-decodes_tie carry b cs s = record { chars = scalars_of cs s.decodes.chars; parts = s.decodes.bytes; part = front_tie carry.bytes s.decodes.front }
+decodes_tie carry b cs s = record { chars = scalars_of cs s.decodes.chars; parts = s.decodes.bytes; part = s.decodes.front }
 
 -- the characters that a piece gives, and what stands behind them
 pub record Parts (b cs : List ℕ) : Type 0 where

@@ -68,8 +68,8 @@ mode_of ns mode.EndSpace = laws.EndSpace
 mode_of ns mode.Question = laws.Question
 mode_of ns mode.Target = laws.Target
 mode_of ns mode.TargetMark = laws.TargetMark
-mode_of ns mode.Note = laws.InNote 0
-mode_of ns mode.NoteMark = laws.InNote 1
+mode_of ns mode.Instruction = laws.InInstruction 0
+mode_of ns mode.InstructionMark = laws.InInstruction 1
 mode_of ns (mode.DocWord i) = laws.DocWord (drop i doc_word)
 mode_of ns mode.DocSpace = laws.DocSpace
 mode_of ns mode.Doc = laws.Doc
@@ -79,8 +79,8 @@ mode_of ns mode.BangDash = laws.BangDash
 mode_of ns mode.Comment = laws.Comment
 mode_of ns mode.CommentDash = laws.CommentDash
 mode_of ns mode.CommentEnd = laws.CommentEnd
-mode_of ns (mode.SectionWord i) = laws.SectionWord (drop i cdata_word)
-mode_of ns (mode.Section n) = laws.InSection (brackets_of n)
+mode_of ns (mode.CDSectWord i) = laws.CDSectWord (drop i cdata_word)
+mode_of ns (mode.CDSect n) = laws.InCDSect (brackets_of n)
 mode_of ns (mode.InReference r) = laws.InReference (referring_of r)
 
 abbrev pub scan_state : Scan → State

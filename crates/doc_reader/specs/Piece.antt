@@ -9,7 +9,7 @@ use Rattle.doc_chars.specs.declared.chars.CharFault.TheVariants.{Utf8 as not_utf
 use Rattle.doc_laws.specs.Machine.{State, is_whole}
 use Rattle.doc_laws.specs.Judging.{judged_steps}
 use Rattle.doc_reader.specs.Judged.{Judged, fault}
-use Rattle.doc_reader.specs.Standing.{Held, IsFault, GoesOnBy}
+use Rattle.doc_reader.specs.Standing.{ReaderView, IsFault, GoesOnBy}
 use Rattle.doc_reader.specs.declared.stop.Stop.{Stop}
 use Rattle.doc_reader.specs.declared.stop.Stop.TheVariants.{Refused, Memory}
 use Rattle.doc_reader.specs.declared.token.Token.{Token}
@@ -28,19 +28,19 @@ ReadTo (Ok at) lim place old cs new = (at ≡ place + size cs) × (judged_steps 
 ReadTo (Err s) lim place old cs new = Judged {T = Unit {0}} (Err s) lim place old cs new
 
 -- behind a piece, or behind what stopped it
-abbrev pub Took : {T : Type 0} → Result T DocFault → Held → Limits → List ℕ → List Token → Type 0
+abbrev pub Took : {T : Type 0} → Result T DocFault → ReaderView → Limits → List ℕ → List Token → Type 0
 Took (Ok x) h lim b given = GoesOnBy None h lim b given × IsFault None lim b false
 Took (Err f) h lim b given = GoesOnBy (Some f) h lim b given × IsFault (Some f) lim b false
 
 -- what reading leaves
-pub record IsSame (old new : Held) : Type 0 where
+pub record IsSame (old new : ReaderView) : Type 0 where
   pub limits : new.limits ≡ old.limits
   pub refused : new.refused ≡ old.refused
   pub finished : new.finished ≡ old.finished
   pub end_waits : new.end_waits ≡ old.end_waits
 
 -- the input ends inside a character, too soon, or with a whole document
-abbrev pub Ends : {T : Type 0} → Result T DocFault → Held → Type 0
+abbrev pub Ends : {T : Type 0} → Result T DocFault → ReaderView → Type 0
 Ends (Ok x) h = (h.carry.bytes ≡ []) × (is_whole h.state ≡ true)
 Ends (Err f) h =
     ((0 < length h.carry.bytes) × (f ≡ Utf8 (h.carry.seen - length h.carry.bytes)))

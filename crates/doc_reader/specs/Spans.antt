@@ -8,7 +8,7 @@ use Rattle.gcx_model.specs.Fronts.{is_inside}
 use Rattle.doc_laws.specs.Machine as laws
 use Rattle.doc_laws.specs.Machine.{State}
 use Rattle.doc_reader.specs.declared.machine.span.Span.{Span}
-use Rattle.doc_reader.specs.declared.machine.span.Span.TheVariants.{Text, Value, TagName, AttributeName, Comment, Note, Section}
+use Rattle.doc_reader.specs.declared.machine.span.Span.TheVariants.{Text, Value, TagName, AttributeName, Comment, Instruction, CDSect}
 
 -- the characters that stand in a span
 abbrev pub stands : Span → ℕ → Bool
@@ -17,8 +17,8 @@ stands (Value q) c = is_value_char q c
 stands TagName c = is_part_char c
 stands AttributeName c = is_part_char c
 stands Comment c = is_char c && not (c == 45)
-stands Note c = is_char c && not (c == 63)
-stands Section c = is_char c && not (c == 93)
+stands Instruction c = is_char c && not (c == 63)
+stands CDSect c = is_char c && not (c == 93)
 
 -- the members of NameChar below #x80
 abbrev pub is_short_part : ℕ → Bool
@@ -41,8 +41,8 @@ spread (Value q) s bytes = record s { run = s.run ++ bytes }
 spread TagName s bytes = record s { name = s.name ++ bytes }
 spread AttributeName s bytes = record s { attr = s.attr ++ bytes }
 spread Comment s bytes = s
-spread Note s bytes = s
-spread Section s bytes = record s { run = s.run ++ bytes }
+spread Instruction s bytes = s
+spread CDSect s bytes = record s { run = s.run ++ bytes }
 
 -- the mode is that of the span, and there is room for so many bytes
 abbrev pub HasRoom : Limits → ℕ → Span → State → Type 0
@@ -51,8 +51,8 @@ HasRoom lim most (Value q) s = (s.mode ≡ laws.InValue q) × (most ≤ lim.text
 HasRoom lim most TagName s = (s.mode ≡ laws.StartName) × (most ≤ lim.name - length s.name)
 HasRoom lim most AttributeName s = (s.mode ≡ laws.AttributeName) × (most ≤ lim.name - length s.attr)
 HasRoom lim most Comment s = s.mode ≡ laws.Comment
-HasRoom lim most Note s = s.mode ≡ laws.InNote 0
-HasRoom lim most Section s = (s.mode ≡ laws.InSection 0) × (most ≤ lim.text - length s.run)
+HasRoom lim most Instruction s = s.mode ≡ laws.InInstruction 0
+HasRoom lim most CDSect s = (s.mode ≡ laws.InCDSect 0) × (most ≤ lim.text - length s.run)
 
 pub record Allows (lim : Limits) (most : ℕ) (span : Span) (s : State) : Type 0 where
   pub run : length s.run ≤ lim.text

@@ -29,7 +29,7 @@ given_end t = EndOfDocument
 
 -- what contracts see of a reader: with the machine's state, whose tokens are those that weren't given, the bytes of a character that
 -- a piece cut, how many bytes the characters read take, how many bytes were fed of those that may be, and the refusal
-pub record Held : Type 0 where
+pub record ReaderView : Type 0 where
   pub limits : Limits
   pub state : State
   pub carry : Carry
@@ -40,22 +40,22 @@ pub record Held : Type 0 where
   pub end_waits : Bool
 
 -- finish wasn't called
-abbrev pub IsOpen : Held → Type 0
+abbrev pub IsOpen : ReaderView → Type 0
 IsOpen h = h.finished ≡ false
 
 -- finish was called
-abbrev pub IsDone : Held → Type 0
+abbrev pub IsDone : ReaderView → Type 0
 IsDone h = h.finished ≡ true
 
 -- a refusal was answered
-abbrev pub IsRefused : Held → Type 0
+abbrev pub IsRefused : ReaderView → Type 0
 IsRefused h = h.refused ≡ None → ⊥
 
 abbrev pub end_token : Bool → List Token
 end_token waits = if waits then (EndOfDocument ∷ []) else []
 
 -- the tokens that wait, in their order
-abbrev pub waiting : Held → List Token
+abbrev pub waiting : ReaderView → List Token
 waiting h = map given_token h.state.tokens ++ end_token h.end_waits
 
 -- what feed and finish answer, and answer again
@@ -63,7 +63,7 @@ abbrev pub answer_by : Option DocFault → Result ⊤ DocFault
 answer_by None = Ok tt
 answer_by (Some f) = Err f
 
-abbrev pub answer_of : Held → Result ⊤ DocFault
+abbrev pub answer_of : ReaderView → Result ⊤ DocFault
 answer_of h = answer_by h.refused
 
 -- The tokens that a reader gives of bytes are those that are seen: those of the tags, and EndOfDocument as the end of the document node.
@@ -98,7 +98,7 @@ abbrev pub with_given : List Said → State → State
 with_given before s = record s { tokens = before ++ s.tokens }
 
 -- All characters of the bytes were read and make no fault, and a front of a character is carried.
-pub record IsReading (h : Held) (lim : Limits) (b : List ℕ) (given : List Token) : Type 0 where
+pub record IsReading (h : ReaderView) (lim : Limits) (b : List ℕ) (given : List Token) : Type 0 where
   pub chars : List ℕ
   pub stream : StandsFor h.carry b chars
   pub place : h.place ≡ size chars
@@ -134,18 +134,18 @@ pub record HasLost (waits : List Said) (lim : Limits) (b : List ℕ) (given : Li
   pub chars : List ℕ
   pub read : HasRead waits lim b chars given
 
-abbrev pub GoesOnBy : Option DocFault → Held → Limits → List ℕ → List Token → Type 0
+abbrev pub GoesOnBy : Option DocFault → ReaderView → Limits → List ℕ → List Token → Type 0
 GoesOnBy None h lim b given = IsReading h lim b given
 GoesOnBy (Some Memory) h lim b given = HasLost h.state.tokens lim b given
 GoesOnBy (Some f) h lim b given = HasStopped h.state.tokens lim b given
 
 -- what an open reader goes on from; after finish nothing goes on
-abbrev pub GoesOn : Bool → Held → Limits → List ℕ → List Token → Type 0
+abbrev pub GoesOn : Bool → ReaderView → Limits → List ℕ → List Token → Type 0
 GoesOn false h lim b given = (h.end_waits ≡ false) × GoesOnBy h.refused h lim b given
 GoesOn true h lim b given = Unit {0}
 
 -- The reader with these limits was fed exactly these bytes, in whatever pieces, and gave these tokens.
-pub record Stands (h : Held) (lim : Limits) (b : List ℕ) (ended : Bool) (given : List Token) : Type 0 where
+pub record Stands (h : ReaderView) (lim : Limits) (b : List ℕ) (ended : Bool) (given : List Token) : Type 0 where
   pub limits : h.limits ≡ lim
   pub finished : h.finished ≡ ended
   -- its answer is the fault of the bytes
@@ -164,7 +164,7 @@ taken None = []
 taken (Some t) = t ∷ []
 
 -- the answer is the same, and whether finish was called
-pub record Keeps (old new : Held) : Type 0 where
+pub record Keeps (old new : ReaderView) : Type 0 where
   pub finished : new.finished ≡ old.finished
   pub answer : answer_of new ≡ answer_of old
 

@@ -35,9 +35,9 @@ pub(crate) enum Mode {
     /// Behind a `?` directly behind that name.
     TargetMark,
     /// In a processing instruction.
-    Note,
+    Instruction,
     /// Behind a `?` in a processing instruction.
-    NoteMark,
+    InstructionMark,
     /// Behind `<!D` and so many characters.
     DocWord(usize),
     DocSpace,
@@ -51,9 +51,9 @@ pub(crate) enum Mode {
     CommentDash,
     CommentEnd,
     /// Behind `<![` and so many characters.
-    SectionWord(usize),
+    CDSectWord(usize),
     /// In a CDATA section, behind so many brackets, up to two.
-    Section(Brackets),
+    CDSect(Brackets),
     InReference(Referring),
 }
 

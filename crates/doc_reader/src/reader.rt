@@ -27,13 +27,13 @@ pub struct Reader {
 }
 
 impl Model for Reader {
-    ghost use Rattle.doc_reader.specs.Standing.{Held};
+    ghost use Rattle.doc_reader.specs.Standing.{ReaderView};
 
-    ghost Value = { Held };
+    ghost Value = { ReaderView };
 
-    ghost use Rattle.doc_reader.specs.Inside.{held, IsSound};
+    ghost use Rattle.doc_reader.specs.Inside.{view_of, IsSound};
 
-    ghost view = { held };
+    ghost view = { view_of };
 
     ghost invariant = { IsSound };
 }

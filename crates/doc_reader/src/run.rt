@@ -1,6 +1,7 @@
 ghost use Rattle.std.specs.Prelude.{◌≡◌, ◌++◌, [], length, OnOk};
 ghost use Rattle.std.specs.Char.{encode_utf8};
-ghost use Rattle.gcx_model.specs.Document.{is_space, is_blank};
+ghost use Rattle.gcx_base.specs.Characters.{is_white};
+ghost use Rattle.gcx_model.specs.Document.{is_blank};
 
 use gcx_base::{Memory, Text};
 use std::alloc::Global;
@@ -24,7 +25,7 @@ impl Model for Run {
 
 /// White space (XML 1.0, section 2.3).
 fn is_white(c: u8) -> bool
-    ensures { result ≡ is_space c }
+    ensures { result ≡ is_white c }
 {
     c == b' ' || c == b'\t' || c == b'\r' || c == b'\n'
 }

@@ -8,7 +8,7 @@ between low high c = nat_le low c && nat_le c high
 abbrev pub is_char : ℕ → Bool
 is_char c = (c == 9) || ((c == 10) || ((c == 13) || (between 32 55295 c || (between 57344 65533 c || between 65536 1114111 c))))
 
--- S, a character of it
+-- white space: S, a character of it
 abbrev pub is_white : ℕ → Bool
 is_white c = (c == 32) || ((c == 9) || ((c == 13) || (c == 10)))
 

@@ -14,7 +14,7 @@ use Rattle.gcx_model.specs.declared.fault.DocFault.{DocFault}
 use Rattle.gcx_model.specs.declared.fault.DocFault.TheVariants as fault
 use Rattle.doc_laws.proofs.Pieces.{fault_stays}
 use Rattle.doc_reader.specs.Judged.{given_token}
-use Rattle.doc_reader.specs.Standing.{Held, Stands, Keeps, Accepted, Answers, Takes, taken, waiting, reader_tokens}
+use Rattle.doc_reader.specs.Standing.{ReaderView, Stands, Keeps, Accepted, Answers, Takes, taken, waiting, reader_tokens}
 use Rattle.doc_reader.specs.declared.token.Token.{Token}
 use Rattle.doc_reader.specs.declared.token.Token.TheVariants.{EndOfDocument}
 use Rattle.tree_eval.specs.Tokens.{token_of}
@@ -27,14 +27,14 @@ use Rattle.gcx_cmd.specs.Document.{BytesSpell, IsWhole, HasGrown, HasRead, EndsB
 -- ---- tokens taken one after another
 
 -- These tokens were taken of a reader, and grew the tree.
-pub record HasTaken (old new : Held) (before after : Tree) : Type 0 where
+pub record HasTaken (old new : ReaderView) (before after : Tree) : Type 0 where
   pub tokens : List Token
   pub waits : waiting old ≡ tokens ++ waiting new
   pub tree_is : after ≡ grow_all (map token_of tokens) before
   pub stands : (lim : Limits) (b : List ℕ) (ended : Bool) (given : List Token) → Stands old lim b ended given → Stands new lim b ended (given ++ tokens)
   pub keeps : Keeps old new
 
-pub taken_none : (h : Held) (t : Tree) → HasTaken h h t t
+pub taken_none : (h : ReaderView) (t : Tree) → HasTaken h h t t
 taken_none h t = record {
   tokens = [];
   waits = refl;
@@ -50,7 +50,7 @@ grow_more (t ∷ ts) us P = grow_more ts us (grow t P)
 grown_on : (xs ys : List Token) (P Q R : Tree) → Q ≡ grow_all (map token_of xs) P → R ≡ grow_all (map token_of ys) Q → R ≡ grow_all (map token_of (xs ++ ys)) P
 grown_on xs ys P Q R h k = k ∙ ap (grow_all (map token_of ys)) h ∙ sym (grow_more (map token_of xs) (map token_of ys) P) ∙ ap (λ (l : List Said). grow_all l P) (sym (map-append token_of xs ys))
 
-pub taken_on : (a b c : Held) (s t u : Tree) (x : Token) → HasTaken a b s t → waiting b ≡ x ∷ waiting c
+pub taken_on : (a b c : ReaderView) (s t u : Tree) (x : Token) → HasTaken a b s t → waiting b ≡ x ∷ waiting c
     → ((lim : Limits) (bs : List ℕ) (ended : Bool) (given : List Token) → Stands b lim bs ended given → Stands c lim bs ended (given ++ (x ∷ [])))
     → Keeps b c → u ≡ grow (token_of x) t → HasTaken a c s u
 taken_on a b c s t u x h waits on keeps tree = record {
@@ -62,13 +62,13 @@ taken_on a b c s t u x h waits on keeps tree = record {
 }
 
 -- all that waited were taken
-pub taken_all : (a b : Held) (s t : Tree) → (h : HasTaken a b s t) → waiting b ≡ [] → h.tokens ≡ waiting a
+pub taken_all : (a b : ReaderView) (s t : Tree) → (h : HasTaken a b s t) → waiting b ≡ [] → h.tokens ≡ waiting a
 taken_all a b s t h none = sym (h.waits ∙ ap (λ (l : List Token). h.tokens ++ l) none ∙ append-nil h.tokens)
 
-pub taken_tree : (a b : Held) (s t : Tree) → HasTaken a b s t → waiting b ≡ [] → t ≡ grow_all (map token_of (waiting a)) s
+pub taken_tree : (a b : ReaderView) (s t : Tree) → HasTaken a b s t → waiting b ≡ [] → t ≡ grow_all (map token_of (waiting a)) s
 taken_tree a b s t h none = h.tree_is ∙ ap (λ (l : List Token). grow_all (map token_of l) s) (taken_all a b s t h none)
 
-pub taken_stands : (a b : Held) (s t : Tree) → HasTaken a b s t → waiting b ≡ [] → (lim : Limits) (bs : List ℕ) (ended : Bool) (given : List Token) → Stands a lim bs ended given → Stands b lim bs ended (given ++ waiting a)
+pub taken_stands : (a b : ReaderView) (s t : Tree) → HasTaken a b s t → waiting b ≡ [] → (lim : Limits) (bs : List ℕ) (ended : Bool) (given : List Token) → Stands a lim bs ended given → Stands b lim bs ended (given ++ waiting a)
 taken_stands a b s t h none lim bs ended given st = subst (λ (l : List Token). Stands b lim bs ended (given ++ l)) (taken_all a b s t h none) (h.stands lim bs ended given st)
 
 -- ---- refusals
@@ -118,10 +118,10 @@ none_within lim b ended (past_limit h w e) = absurd (no_some (fault.TooLong lim.
 
 -- ---- a piece, and the end
 
-pub grown_none : (h : Held) → Stands h full_limits [] false [] → waiting h ≡ [] → HasGrown h opening []
+pub grown_none : (h : ReaderView) → Stands h full_limits [] false [] → waiting h ≡ [] → HasGrown h opening []
 grown_none h s none = record { given = []; stands = s; nothing_waits = none; tree_is = refl; within = omega arith }
 
-pub piece_grown : (r0 r1 r2 : Held) (s t : Tree) (b piece : List ℕ) → HasGrown r0 s b
+pub piece_grown : (r0 r1 r2 : ReaderView) (s t : Tree) (b piece : List ℕ) → HasGrown r0 s b
     → ((lim : Limits) (b : List ℕ) (given : List Token) → Stands r0 lim b false given → Stands r1 lim (b ++ piece) false given)
     → ((lim : Limits) (b : List ℕ) (given : List Token) → Stands r0 lim b false given → FaultIs lim (b ++ piece) false None)
     → ((lim : Limits) (b : List ℕ) (ended : Bool) (given : List Token) → Stands r1 lim b ended given → Stands r2 lim b ended (given ++ waiting r1))
@@ -143,7 +143,7 @@ tokens_back (End ∷ ts) = ap (λ (l : List Said). End ∷ l) (tokens_back ts)
 document_tree : (d : Nodes) → grow_all (map token_of (reader_tokens d)) opening ≡ tree_of d
 document_tree d = ap (λ (l : List Said). grow_all l opening) (map-append token_of (map given_token (tokens d)) (EndOfDocument ∷ []) ∙ ap (λ (l : List Said). l ++ (End ∷ [])) (tokens_back (tokens d)))
 
-pub whole_grown : (r0 r1 : Held) (s t : Tree) (b : List ℕ) → (h : HasGrown r0 s b) → Accepted b (h.given ++ waiting r1) → FaultIs full_limits b true None
+pub whole_grown : (r0 r1 : ReaderView) (s t : Tree) (b : List ℕ) → (h : HasGrown r0 s b) → Accepted b (h.given ++ waiting r1) → FaultIs full_limits b true None
     → t ≡ grow_all (map token_of (waiting r1)) s → IsWhole b t
 whole_grown r0 r1 s t b h a clean tree = record {
   document = a.document;
@@ -155,10 +155,10 @@ whole_grown r0 r1 s t b h a clean tree = record {
 
 -- ---- a source
 
-pub read_none : (r : Held) (t : Tree) (a : Option (List ℕ)) → Consumes a a [] → HasGrown r t [] → HasRead r t a a 0
+pub read_none : (r : ReaderView) (t : Tree) (a : Option (List ℕ)) → Consumes a a [] → HasGrown r t [] → HasRead r t a a 0
 read_none r t a same h = record { bytes = []; moved = same; grown = h; counted = omega arith }
 
-pub read_on : (r0 r1 : Held) (s t : Tree) (a b c : Option (List ℕ)) (count more n : ℕ) (piece : List ℕ) → (h : HasRead r0 s a b count) → Consumes b c piece
+pub read_on : (r0 r1 : ReaderView) (s t : Tree) (a b c : Option (List ℕ)) (count more n : ℕ) (piece : List ℕ) → (h : HasRead r0 s a b count) → Consumes b c piece
     → HasGrown r1 t (h.bytes ++ piece) → n ≤ length piece → more ≤ count + n → HasRead r1 t a c more
 read_on r0 r1 s t a b c count more n piece h moved grown some counted = record {
   bytes = h.bytes ++ piece;
@@ -175,20 +175,20 @@ all_read bytes read a c told moved at_end = go c (subst (λ (l : Option (List �
     go None m e = absurd m
     go (Some rest) m e = m ∙ ap (λ (l : List ℕ). read ++ l) e ∙ append-nil read
 
-pub end_found : (T : Type 0) (r : Held) (s t : Tree) (e : DocumentEnd) (bytes : List ℕ) (a b c : Option (List ℕ)) (count : ℕ) → (h : HasRead r s a b count) → a ≡ Some bytes → Consumes b c [] → IsAtEnd c
+pub end_found : (T : Type 0) (r : ReaderView) (s t : Tree) (e : DocumentEnd) (bytes : List ℕ) (a b c : Option (List ℕ)) (count : ℕ) → (h : HasRead r s a b count) → a ≡ Some bytes → Consumes b c [] → IsAtEnd c
     → EndsBy {T = T} true h.bytes (Err e) (IsWhole h.bytes t) → Finds (Err e) bytes
 end_found T r s t (end.Refused f) bytes a b c count h told moved at_end k =
     subst (λ (l : List ℕ). FaultIs full_limits l true (Some f)) (sym (all_read bytes (h.bytes ++ []) a c told (Consumes-trans a b c h.bytes [] h.moved moved) at_end ∙ append-nil h.bytes)) k
 end_found T r s t end.Fault bytes a b c count h told moved at_end k = tt
 end_found T r s t end.Memory bytes a b c count h told moved at_end k = tt
 
-pub whole_found : (r : Held) (s t : Tree) (bytes : List ℕ) (a b c : Option (List ℕ)) (count : ℕ) → (h : HasRead r s a b count) → a ≡ Some bytes → Consumes b c [] → IsAtEnd c
+pub whole_found : (r : ReaderView) (s t : Tree) (bytes : List ℕ) (a b c : Option (List ℕ)) (count : ℕ) → (h : HasRead r s a b count) → a ≡ Some bytes → Consumes b c [] → IsAtEnd c
     → IsWhole h.bytes t → IsWhole bytes t
 whole_found r s t bytes a b c count h told moved at_end k =
     subst (λ (l : List ℕ). IsWhole l t) (sym (all_read bytes (h.bytes ++ []) a c told (Consumes-trans a b c h.bytes [] h.moved moved) at_end ∙ append-nil h.bytes)) k
 
 -- a refusal stays with the bytes that weren't read
-pub piece_found : (T : Type 0) (r : Held) (s : Tree) (P : Type 0) (e : DocumentEnd) (bytes piece : List ℕ) (a b c : Option (List ℕ)) (count : ℕ) → (h : HasRead r s a b count) → a ≡ Some bytes → Consumes b c piece
+pub piece_found : (T : Type 0) (r : ReaderView) (s : Tree) (P : Type 0) (e : DocumentEnd) (bytes piece : List ℕ) (a b c : Option (List ℕ)) (count : ℕ) → (h : HasRead r s a b count) → a ≡ Some bytes → Consumes b c piece
     → EndsBy {T = T} false (h.bytes ++ piece) (Err e) P → Finds (Err e) bytes
 piece_found T r s P (end.Refused f) bytes piece a b c count h told moved k = stays c (subst (λ (l : Option (List ℕ)). Consumes l c (h.bytes ++ piece)) told (Consumes-trans a b c h.bytes piece h.moved moved))
   where
@@ -209,5 +209,5 @@ says_of_found end.Fault bytes h = tt
 says_of_found end.Memory bytes h = tt
 
 -- not so many bytes are read
-pub never_past : (r : Held) (t : Tree) (a b : Option (List ℕ)) (count : ℕ) → HasRead r t a b count → full_limits.bytes < count → ⊥
+pub never_past : (r : ReaderView) (t : Tree) (a b : Option (List ℕ)) (count : ℕ) → HasRead r t a b count → full_limits.bytes < count → ⊥
 never_past r t a b count h past = let c = h.counted in let w = h.grown.within in omega arith

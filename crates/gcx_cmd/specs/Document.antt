@@ -11,7 +11,7 @@ use Rattle.gcx_model.specs.Grammar.{SpellsDocument}
 use Rattle.gcx_model.specs.Faults.{FaultIs}
 use Rattle.gcx_model.specs.declared.fault.DocFault.{DocFault}
 use Rattle.gcx_model.specs.declared.fault.DocFault.TheVariants as fault
-use Rattle.doc_reader.specs.Standing.{Held, Stands, waiting}
+use Rattle.doc_reader.specs.Standing.{ReaderView, Stands, waiting}
 use Rattle.doc_reader.specs.declared.token.Token.{Token}
 use Rattle.tree_eval.specs.Tokens.{token_of}
 use Rattle.gcx_cmd.specs.declared.document.DocumentEnd.{DocumentEnd}
@@ -33,7 +33,7 @@ pub record IsWhole (bytes : List ℕ) (tree : Tree) : Type 0 where
   pub no_fault : FaultIs full_limits bytes true None
 
 -- The reader was fed these bytes, which have no fault, and its tokens grew the tree; none waits.
-pub record HasGrown (reader : Held) (tree : Tree) (bytes : List ℕ) : Type 0 where
+pub record HasGrown (reader : ReaderView) (tree : Tree) (bytes : List ℕ) : Type 0 where
   pub given : List Token
   pub stands : Stands reader full_limits bytes false given
   pub nothing_waits : waiting reader ≡ []
@@ -41,7 +41,7 @@ pub record HasGrown (reader : Held) (tree : Tree) (bytes : List ℕ) : Type 0 wh
   pub within : length bytes ≤ full_limits.bytes
 
 -- some bytes were read, and grew the tree
-pub record HasRead (reader : Held) (tree : Tree) (before after : Option (List ℕ)) (count : ℕ) : Type 0 where
+pub record HasRead (reader : ReaderView) (tree : Tree) (before after : Option (List ℕ)) (count : ℕ) : Type 0 where
   pub bytes : List ℕ
   pub moved : Consumes before after bytes
   pub grown : HasGrown reader tree bytes

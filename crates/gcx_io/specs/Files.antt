@@ -6,7 +6,7 @@ use Rattle.gcx_io.specs.Held.{File}
 use Rattle.gcx_io.specs.declared.place.Place.{Place}
 
 -- the files, and what each handle has left
-pub record Held : Type 0 where
+pub record OpenFiles : Type 0 where
   pub files : List File
   pub rests : List (List ℕ)
 

@@ -60,9 +60,9 @@ pub(crate) struct Files {
 }
 
 impl Model for Files {
-    ghost use Rattle.gcx_io.specs.Files.{Held, rests_of};
+    ghost use Rattle.gcx_io.specs.Files.{OpenFiles, rests_of};
 
-    ghost Value = { Held };
+    ghost Value = { OpenFiles };
 
     ghost view = { λ f. record { files = f.entries.items; rests = rests_of f.entries.items f.places.items } };
 }

@@ -104,7 +104,7 @@ adds (element before name inner) h r s k P e l f =
 more_root : (x y : Node) (zs more : List Node) → has_root ((x ∷ (y ∷ zs)) ++ more) ≡ true
 more_root x y zs more = refl
 
-document_comes : (d : Nodes) → IsDocument d → may_all (tokens d ++ End ∷ []) opening ≡ true
+pub document_comes : (d : Nodes) → IsDocument d → may_all (tokens d ++ End ∷ []) opening ≡ true
 document_comes none h = absurd h
 document_comes (text before bytes) h = absurd h
 document_comes (element (element b n c) name inner) h = absurd h

@@ -1,6 +1,7 @@
 -- Documents as trees (XML 1.0, sections 2.1 and 3; that a text of white space alone is no node is this project's).
-use Rattle.std.specs.Prelude.{ℕ, ◌==◌, ◌||◌, ◌≡◌, Bool, true, false, List, [], ◌∷◌, ◌++◌}
+use Rattle.std.specs.Prelude.{ℕ, ◌≡◌, Bool, true, false, List, [], ◌∷◌, ◌++◌}
 use Rattle.std.specs.List.{list_all}
+use Rattle.gcx_base.specs.Characters.{is_white}
 use Rattle.gcx_model.specs.Attributes.{IsNameBytes}
 use Rattle.gcx_model.specs.Tree.{Token, Start, Chars, End, Tree, opening, grow_all}
 
@@ -10,13 +11,9 @@ pub data Nodes : Type 0 where
   element : (before : Nodes) (name : List ℕ) (children : Nodes) → Nodes
   text : (before : Nodes) (bytes : List ℕ) → Nodes
 
--- white space: #x20, #x9, #xD, #xA (XML 1.0, section 2.3)
-abbrev pub is_space : ℕ → Bool
-is_space c = (c == 32) || ((c == 9) || ((c == 13) || (c == 10)))
-
 -- only white space, or nothing
 abbrev pub is_blank : List ℕ → Bool
-is_blank bytes = list_all is_space bytes
+is_blank bytes = list_all is_white bytes
 
 -- whether a text stands last
 abbrev pub ends_with_text : Nodes → Bool

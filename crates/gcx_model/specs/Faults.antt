@@ -3,6 +3,7 @@ use Rattle.std.specs.Prelude.{ℕ, ◌≡◌, ◌+◌, ◌<◌, ◌≤◌, ◌�
 use Rattle.std.specs.Char.{len_utf8}
 use lib.Utf8.{scalar, scalars, encode, encodes}
 use Rattle.gcx_base.specs.Characters.{is_start_char}
+pub use Rattle.gcx_base.specs.Utf8.{IsCharFront, IsNotUtf8}
 use Rattle.gcx_base.specs.declared.limits.Limits.{Limits}
 use Rattle.gcx_model.specs.Document.{Nodes}
 use Rattle.gcx_model.specs.Attributes.{Attributes}
@@ -86,19 +87,6 @@ fault_of (AtSyntax k) = Syntax k
 fault_of (AtDepth k) = Depth k
 fault_of (AtName k) = NameLong k
 fault_of (AtText k) = TextLong k
-
--- the bytes are a proper front of one character; none at all are one too
-pub record IsCharFront (bs : List ℕ) : Type 0 where
-  pub c : ℕ
-  pub rest : List ℕ
-  pub scalar : scalar c ≡ true
-  pub bytes : encode c ≡ bs ++ rest
-  pub more : 0 < length rest
-
--- no character begins the bytes, and none would with more of them
-pub record IsNotUtf8 (bs : List ℕ) : Type 0 where
-  pub no_char : (c : ℕ) (rest : List ℕ) → scalar c ≡ true → bs ≡ encode c ++ rest → ⊥
-  pub no_front : IsCharFront bs → ⊥
 
 -- b is these characters, and a proper front of one more
 pub record Decodes (b cs tail : List ℕ) : Type 0 where

@@ -8,7 +8,7 @@ use Rattle.gcx_model.specs.Document.{is_blank, tokens}
 use Rattle.gcx_model.specs.Tree.{Token, Start, Chars}
 use Rattle.gcx_model.specs.References.{BegunReference, begun_spelling, IsBegun}
 use Rattle.gcx_model.specs.Attributes.{is_name, is_blank_text, is_gap, is_quote, is_fresh, Value, Head, Attributes, no_attribute, attribute, value_spelling, head_spelling, attributes_spelling, attribute_names, IsValue, IsHead, IsAttributes, value_run}
-use Rattle.gcx_model.specs.Markup.{Remark, remark_spelling, comment_start, IsRemark, Section, cdata_word, cdata_start, section_spelling, IsSection, settled, Note, note_spelling, IsNote, Declaration, doc_word, doc_start, is_literal_char, declaration_spelling, IsDeclaration}
+use Rattle.gcx_model.specs.Markup.{CommentText, comment_spelling, comment_start, IsCommentText, CDSect, cdata_word, cdata_start, cdsect_spelling, IsCDSect, settled, InstructionData, data_spelling, IsInstructionData, Declaration, doc_word, doc_start, is_literal_char, declaration_spelling, IsDeclaration}
 use Rattle.gcx_model.specs.Grammar.{Content, start_tag, spelling, has_element, has_type, may_type, may_open, IsContent, run, attribute_nodes, nodes}
 
 -- the open elements, the innermost last: with each the content before it
@@ -38,18 +38,18 @@ pub data Piece : Type 0 where
   question : Piece
   target : (read : List ℕ) → Piece
   target_mark : (name : List ℕ) → Piece
-  note : (name : List ℕ) (c : ℕ) (note : Note) → Piece
+  in_instruction : (name : List ℕ) (c : ℕ) (instruction_data : InstructionData) → Piece
   doc_wording : (read : List ℕ) (left : List ℕ) → Piece
   doc_gap : (gap : List ℕ) → Piece
   doc : (gap : List ℕ) (c : ℕ) (declaration : Declaration) → Piece
   doc_literal : (gap : List ℕ) (c : ℕ) (declaration : Declaration) (quote : ℕ) (characters : List ℕ) → Piece
   bang : Piece
   bang_dash : Piece
-  remark : Remark → Piece
-  remark_dash : Remark → Piece
-  remark_end : Remark → Piece
-  section_word : (read : List ℕ) (left : List ℕ) → Piece
-  section : Section → Piece
+  in_comment : CommentText → Piece
+  comment_dash : CommentText → Piece
+  comment_end : CommentText → Piece
+  cdsect_word : (read : List ℕ) (left : List ℕ) → Piece
+  in_cdsect : CDSect → Piece
   amp : (begun : BegunReference) → Piece
 
 abbrev pub frames_spelling : Frames → List ℕ
@@ -76,18 +76,18 @@ piece_spelling (ended n sp c) = 60 ∷ (47 ∷ (n ++ (sp ++ (c ∷ []))))
 piece_spelling question = 60 ∷ (63 ∷ [])
 piece_spelling (target n) = 60 ∷ (63 ∷ n)
 piece_spelling (target_mark n) = 60 ∷ (63 ∷ (n ++ (63 ∷ [])))
-piece_spelling (note n c d) = 60 ∷ (63 ∷ (n ++ (c ∷ note_spelling d)))
+piece_spelling (in_instruction n c d) = 60 ∷ (63 ∷ (n ++ (c ∷ data_spelling d)))
 piece_spelling (doc_wording m r) = 60 ∷ (33 ∷ (68 ∷ m))
 piece_spelling (doc_gap g) = doc_start ++ g
 piece_spelling (doc g c d) = doc_start ++ (g ++ (c ∷ declaration_spelling d))
 piece_spelling (doc_literal g c d q l) = doc_start ++ (g ++ (c ∷ (declaration_spelling d ++ (q ∷ l))))
 piece_spelling bang = 60 ∷ (33 ∷ [])
 piece_spelling bang_dash = 60 ∷ (33 ∷ (45 ∷ []))
-piece_spelling (remark r) = comment_start ++ remark_spelling r
-piece_spelling (remark_dash r) = comment_start ++ (remark_spelling r ++ (45 ∷ []))
-piece_spelling (remark_end r) = comment_start ++ (remark_spelling r ++ (45 ∷ (45 ∷ [])))
-piece_spelling (section_word m r) = 60 ∷ (33 ∷ (91 ∷ m))
-piece_spelling (section d) = cdata_start ++ section_spelling d
+piece_spelling (in_comment r) = comment_start ++ comment_spelling r
+piece_spelling (comment_dash r) = comment_start ++ (comment_spelling r ++ (45 ∷ []))
+piece_spelling (comment_end r) = comment_start ++ (comment_spelling r ++ (45 ∷ (45 ∷ [])))
+piece_spelling (cdsect_word m r) = 60 ∷ (33 ∷ (91 ∷ m))
+piece_spelling (in_cdsect d) = cdata_start ++ cdsect_spelling d
 piece_spelling (amp r) = begun_spelling r
 
 abbrev pub front_spelling : Frames → Content → Piece → List ℕ
@@ -145,18 +145,18 @@ IsPiece fs x (ended n sp c) = IsInnermost fs n × (is_blank_text sp ≡ true) ×
 IsPiece fs x question = Unit {0}
 IsPiece fs x (target n) = is_name n ≡ true
 IsPiece fs x (target_mark n) = is_name n ≡ true
-IsPiece fs x (note n c d) = (is_name n ≡ true) × (is_white c ≡ true) × IsNote d
+IsPiece fs x (in_instruction n c d) = (is_name n ≡ true) × (is_white c ≡ true) × IsInstructionData d
 IsPiece fs x (doc_wording m r) = (may_type (inside fs) (has_type x) ≡ true) × (m ++ r ≡ doc_word)
 IsPiece fs x (doc_gap g) = (may_type (inside fs) (has_type x) ≡ true) × (is_gap g ≡ true)
 IsPiece fs x (doc g c d) = (may_type (inside fs) (has_type x) ≡ true) × (is_gap g ≡ true) × (is_start_char c ≡ true) × IsDeclaration d
 IsPiece fs x (doc_literal g c d q l) = (may_type (inside fs) (has_type x) ≡ true) × (is_gap g ≡ true) × (is_start_char c ≡ true) × IsDeclaration d × (is_quote q ≡ true) × (list_all (is_literal_char q) l ≡ true)
 IsPiece fs x bang = Unit {0}
 IsPiece fs x bang_dash = Unit {0}
-IsPiece fs x (remark r) = IsRemark r
-IsPiece fs x (remark_dash r) = IsRemark r
-IsPiece fs x (remark_end r) = IsRemark r
-IsPiece fs x (section_word m r) = (inside fs ≡ true) × (m ++ r ≡ cdata_word)
-IsPiece fs x (section d) = (inside fs ≡ true) × IsSection d
+IsPiece fs x (in_comment r) = IsCommentText r
+IsPiece fs x (comment_dash r) = IsCommentText r
+IsPiece fs x (comment_end r) = IsCommentText r
+IsPiece fs x (cdsect_word m r) = (inside fs ≡ true) × (m ++ r ≡ cdata_word)
+IsPiece fs x (in_cdsect d) = (inside fs ≡ true) × IsCDSect d
 IsPiece fs x (amp r) = (inside fs ≡ true) × IsBegun r
 
 abbrev pub IsFront : Frames → Content → Piece → Type 0
@@ -174,7 +174,7 @@ part_run (value_amp h v r) = value_run v
 part_run other = []
 
 abbrev pub piece_run : Content → Piece → List ℕ
-piece_run x (section d) = run x ++ settled d
+piece_run x (in_cdsect d) = run x ++ settled d
 piece_run x (tag n ats p) = part_run p
 piece_run x (slashed n ats sp) = []
 piece_run x other = run x

@@ -5,7 +5,7 @@ use Rattle.gcx_base.specs.Characters.{is_white, is_start_char}
 use Rattle.gcx_model.specs.Document.{Nodes, none, element, text, is_blank}
 use Rattle.gcx_model.specs.References.{Reference, reference_spelling, reference_char, IsReference}
 use Rattle.gcx_model.specs.Attributes.{is_name, is_blank_text, is_gap, is_text_char, Attributes, no_attribute, attribute, attributes_spelling, IsAttributes, value_run}
-use Rattle.gcx_model.specs.Markup.{Remark, remark_spelling, comment_start, IsRemark, Section, cdata_start, section_spelling, brackets, IsSection, settled, Note, note_spelling, marks, IsNote, Declaration, doc_start, declaration_spelling, IsDeclaration}
+use Rattle.gcx_model.specs.Markup.{CommentText, comment_spelling, comment_start, IsCommentText, CDSect, cdata_start, cdsect_spelling, brackets, IsCDSect, settled, InstructionData, data_spelling, marks, IsInstructionData, Declaration, doc_start, declaration_spelling, IsDeclaration}
 
 -- What stands between two tags or outside them: nothing, or a byte order mark; or content and behind it one thing more.
 pub data Content : Type 0 where
@@ -16,11 +16,11 @@ pub data Content : Type 0 where
   -- a character of text
   char : (before : Content) (c : ℕ) → Content
   reference : (before : Content) (r : Reference) → Content
-  cdata : (before : Content) (section : Section) → Content
-  comment : (before : Content) (remark : Remark) → Content
+  cdata : (before : Content) (cdsect : CDSect) → Content
+  comment : (before : Content) (comment_text : CommentText) → Content
   -- a processing instruction that is its target alone
   bare : (before : Content) (target : List ℕ) → Content
-  instruction : (before : Content) (target : List ℕ) (c : ℕ) (note : Note) → Content
+  instruction : (before : Content) (target : List ℕ) (c : ℕ) (instruction_data : InstructionData) → Content
   doctype : (before : Content) (gap : List ℕ) (c : ℕ) (declaration : Declaration) → Content
   -- an empty-element tag
   single : (before : Content) (name : List ℕ) (ats : Attributes) (sp : List ℕ) → Content
@@ -46,10 +46,10 @@ spelling mark = 65279 ∷ []
 spelling (space before c) = spelling before ++ (c ∷ [])
 spelling (char before c) = spelling before ++ (c ∷ [])
 spelling (reference before r) = spelling before ++ reference_spelling r
-spelling (cdata before d) = spelling before ++ (cdata_start ++ (section_spelling d ++ (62 ∷ [])))
-spelling (comment before r) = spelling before ++ (comment_start ++ (remark_spelling r ++ (45 ∷ (45 ∷ (62 ∷ [])))))
+spelling (cdata before d) = spelling before ++ (cdata_start ++ (cdsect_spelling d ++ (62 ∷ [])))
+spelling (comment before r) = spelling before ++ (comment_start ++ (comment_spelling r ++ (45 ∷ (45 ∷ (62 ∷ [])))))
 spelling (bare before n) = spelling before ++ (60 ∷ (63 ∷ (n ++ (63 ∷ (62 ∷ [])))))
-spelling (instruction before n c d) = spelling before ++ (60 ∷ (63 ∷ (n ++ (c ∷ (note_spelling d ++ (62 ∷ []))))))
+spelling (instruction before n c d) = spelling before ++ (60 ∷ (63 ∷ (n ++ (c ∷ (data_spelling d ++ (62 ∷ []))))))
 spelling (doctype before g c d) = spelling before ++ (doc_start ++ (g ++ (c ∷ (declaration_spelling d ++ (62 ∷ [])))))
 spelling (single before n ats sp) = spelling before ++ single_tag n ats sp
 spelling (tagged before n ats sp inner sp2) = spelling before ++ (start_tag n ats sp ++ (spelling inner ++ end_tag n sp2))
@@ -98,10 +98,10 @@ IsContent inside mark = inside ≡ false
 IsContent inside (space before c) = IsContent inside before × (inside ≡ false) × (is_white c ≡ true)
 IsContent inside (char before c) = IsContent inside before × (inside ≡ true) × (is_text_char c ≡ true)
 IsContent inside (reference before r) = IsContent inside before × (inside ≡ true) × IsReference r
-IsContent inside (cdata before d) = IsContent inside before × (inside ≡ true) × IsSection d × (brackets d ≡ 2)
-IsContent inside (comment before r) = IsContent inside before × IsRemark r
+IsContent inside (cdata before d) = IsContent inside before × (inside ≡ true) × IsCDSect d × (brackets d ≡ 2)
+IsContent inside (comment before r) = IsContent inside before × IsCommentText r
 IsContent inside (bare before n) = IsContent inside before × (is_name n ≡ true)
-IsContent inside (instruction before n c d) = IsContent inside before × (is_name n ≡ true) × (is_white c ≡ true) × IsNote d × (marks d ≡ 1)
+IsContent inside (instruction before n c d) = IsContent inside before × (is_name n ≡ true) × (is_white c ≡ true) × IsInstructionData d × (marks d ≡ 1)
 IsContent inside (doctype before g c d) = IsContent inside before × (may_type inside (has_type before) ≡ true) × (is_gap g ≡ true) × (is_start_char c ≡ true) × IsDeclaration d
 IsContent inside (single before n ats sp) = IsContent inside before × (may_open inside (has_element before) ≡ true) × (is_name n ≡ true) × (is_blank_text sp ≡ true) × IsAttributes ats
 IsContent inside (tagged before n ats sp inner sp2) = IsContent inside before × (may_open inside (has_element before) ≡ true) × (is_name n ≡ true) × (is_blank_text sp ≡ true) × IsContent true inner × (is_blank_text sp2 ≡ true) × IsAttributes ats

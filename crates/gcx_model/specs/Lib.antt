@@ -30,6 +30,7 @@ pub mod Grammar
 pub mod Fronts
 pub mod Faults
 pub mod Seen
+pub mod Within
 pub mod CondView
 pub mod ItemView
 pub mod Given

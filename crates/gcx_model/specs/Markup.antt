@@ -7,20 +7,20 @@ use Rattle.gcx_base.specs.Characters.{is_char}
 use Rattle.gcx_model.specs.Attributes.{is_quote}
 
 -- The text of a comment: characters other than '-', each behind at most one '-'.
-pub data Remark : Type 0 where
-  blank_remark : Remark
-  plain : (before : Remark) (c : ℕ) → Remark
-  dashed : (before : Remark) (c : ℕ) → Remark
+pub data CommentText : Type 0 where
+  blank_comment : CommentText
+  plain : (before : CommentText) (c : ℕ) → CommentText
+  dashed : (before : CommentText) (c : ℕ) → CommentText
 
 -- The characters of a CDATA section behind its '<![CDATA[', without the last '>'.
-pub data Section : Type 0 where
-  blank_section : Section
-  further : (before : Section) (c : ℕ) → Section
+pub data CDSect : Type 0 where
+  blank_cdsect : CDSect
+  further : (before : CDSect) (c : ℕ) → CDSect
 
 -- The characters of a processing instruction behind its target and a white space, without the last '>'.
-pub data Note : Type 0 where
-  blank_note : Note
-  note_char : (before : Note) (c : ℕ) → Note
+pub data InstructionData : Type 0 where
+  blank_data : InstructionData
+  data_char : (before : InstructionData) (c : ℕ) → InstructionData
 
 -- What stands in a document type declaration behind the first character of its name: characters and literals.
 pub data Declaration : Type 0 where
@@ -28,19 +28,19 @@ pub data Declaration : Type 0 where
   doc_char : (before : Declaration) (c : ℕ) → Declaration
   literal : (before : Declaration) (quote : ℕ) (characters : List ℕ) → Declaration
 
-abbrev pub remark_spelling : Remark → List ℕ
-remark_spelling blank_remark = []
-remark_spelling (plain r c) = remark_spelling r ++ (c ∷ [])
-remark_spelling (dashed r c) = remark_spelling r ++ (45 ∷ (c ∷ []))
+abbrev pub comment_spelling : CommentText → List ℕ
+comment_spelling blank_comment = []
+comment_spelling (plain r c) = comment_spelling r ++ (c ∷ [])
+comment_spelling (dashed r c) = comment_spelling r ++ (45 ∷ (c ∷ []))
 
 -- <!--
 abbrev pub comment_start : List ℕ
 comment_start = 60 ∷ (33 ∷ (45 ∷ (45 ∷ [])))
 
-abbrev pub IsRemark : Remark → Type 0
-IsRemark blank_remark = Unit {0}
-IsRemark (plain r c) = IsRemark r × (is_char c ≡ true) × ((c == 45) ≡ false)
-IsRemark (dashed r c) = IsRemark r × (is_char c ≡ true) × ((c == 45) ≡ false)
+abbrev pub IsCommentText : CommentText → Type 0
+IsCommentText blank_comment = Unit {0}
+IsCommentText (plain r c) = IsCommentText r × (is_char c ≡ true) × ((c == 45) ≡ false)
+IsCommentText (dashed r c) = IsCommentText r × (is_char c ≡ true) × ((c == 45) ≡ false)
 
 -- CDATA
 abbrev pub cdata_word : List ℕ
@@ -50,47 +50,47 @@ cdata_word = 67 ∷ (68 ∷ (65 ∷ (84 ∷ (65 ∷ []))))
 abbrev pub cdata_start : List ℕ
 cdata_start = 60 ∷ (33 ∷ (91 ∷ (cdata_word ++ (91 ∷ []))))
 
-abbrev pub section_spelling : Section → List ℕ
-section_spelling blank_section = []
-section_spelling (further d c) = section_spelling d ++ (c ∷ [])
+abbrev pub cdsect_spelling : CDSect → List ℕ
+cdsect_spelling blank_cdsect = []
+cdsect_spelling (further d c) = cdsect_spelling d ++ (c ∷ [])
 
 -- how many brackets stand at the end, up to two
 abbrev pub one_more : ℕ → ℕ
 one_more n = cond (n == 0) 1 2
 
-abbrev pub brackets : Section → ℕ
-brackets blank_section = 0
+abbrev pub brackets : CDSect → ℕ
+brackets blank_cdsect = 0
 brackets (further d c) = cond (c == 93) (one_more (brackets d)) 0
 
-abbrev pub ends_section : Section → ℕ → Bool
-ends_section d c = (c == 62) && (brackets d == 2)
+abbrev pub ends_cdsect : CDSect → ℕ → Bool
+ends_cdsect d c = (c == 62) && (brackets d == 2)
 
 -- no ']]>' is in it
-abbrev pub IsSection : Section → Type 0
-IsSection blank_section = Unit {0}
-IsSection (further d c) = IsSection d × (is_char c ≡ true) × (ends_section d c ≡ false)
+abbrev pub IsCDSect : CDSect → Type 0
+IsCDSect blank_cdsect = Unit {0}
+IsCDSect (further d c) = IsCDSect d × (is_char c ≡ true) × (ends_cdsect d c ≡ false)
 
 -- the bytes of its characters, but for the brackets at the end that can belong to ']]>'
-abbrev pub settled : Section → List ℕ
-settled blank_section = []
+abbrev pub settled : CDSect → List ℕ
+settled blank_cdsect = []
 settled (further d c) = cond (c == 93) (cond (brackets d == 2) (settled d ++ (93 ∷ [])) (settled d)) (settled d ++ (replicate (brackets d) 93 ++ encode c))
 
-abbrev pub note_spelling : Note → List ℕ
-note_spelling blank_note = []
-note_spelling (note_char d c) = note_spelling d ++ (c ∷ [])
+abbrev pub data_spelling : InstructionData → List ℕ
+data_spelling blank_data = []
+data_spelling (data_char d c) = data_spelling d ++ (c ∷ [])
 
 -- whether a question mark stands at the end
-abbrev pub marks : Note → ℕ
-marks blank_note = 0
-marks (note_char d c) = cond (c == 63) 1 0
+abbrev pub marks : InstructionData → ℕ
+marks blank_data = 0
+marks (data_char d c) = cond (c == 63) 1 0
 
-abbrev pub ends_note : Note → ℕ → Bool
-ends_note d c = (c == 62) && (marks d == 1)
+abbrev pub ends_data : InstructionData → ℕ → Bool
+ends_data d c = (c == 62) && (marks d == 1)
 
 -- no '?>' is in it
-abbrev pub IsNote : Note → Type 0
-IsNote blank_note = Unit {0}
-IsNote (note_char d c) = IsNote d × (is_char c ≡ true) × (ends_note d c ≡ false)
+abbrev pub IsInstructionData : InstructionData → Type 0
+IsInstructionData blank_data = Unit {0}
+IsInstructionData (data_char d c) = IsInstructionData d × (is_char c ≡ true) × (ends_data d c ≡ false)
 
 -- OCTYPE
 abbrev pub doc_word : List ℕ

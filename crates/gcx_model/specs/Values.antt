@@ -5,15 +5,12 @@ use Rattle.std.specs.List.{list_all, before_first, after_first}
 use Rattle.std.specs.Ordering.{int_cmp, nat_cmp, ordering_reverse, is_some_and, is_eq, is_ne, is_lt, is_le, is_gt, is_ge}
 use Rattle.std.specs.declared.cmp.Ordering.{Ordering}
 use Rattle.std.specs.Cmp.Lexicographic.{slice_cmp}
+use Rattle.gcx_base.specs.Characters.{is_white}
 use Rattle.gcx_base.specs.declared.rel.Rel.{Rel}
 use Rattle.gcx_base.specs.declared.rel.Rel.TheVariants.{Eq, Ne, Lt, Le, Gt, Ge}
 
 -- ---- The number as which a value counts: optional white space, an optional sign, digits with an optional point among
 -- or round them (at least one digit), optional white space.
-
--- white space (XML 1.0, section 2.3)
-abbrev pub is_white : ℕ → Bool
-is_white c = (c == 32) || (c == 9) || (c == 13) || (c == 10)
 
 abbrev pub is_digit : ℕ → Bool
 is_digit c = nat_le 48 c && nat_le c 57

@@ -8,7 +8,8 @@ use Rattle.std.proofs.lemmas.List.Sums.{take_while-cons}
 use Rattle.std.proofs.lemmas.Option.{cond_some}
 use Rattle.std.proofs.lemmas.Bool.{and_from, and_parts}
 use Rattle.std.proofs.lemmas.Bool.Decides.{nat_tests}
-use Rattle.gcx_model.specs.Values.{is_white, is_digit, is_point, without_front, without_back, trimmed, is_negative, without_sign, whole_of, fraction_of, is_numeral, Decimal, decimal, decimal_of, number, Sign, Bare, Plus, Minus, sign_bytes, is_minus, Numeral, Whole, Pointed, numeral_bytes, before_point, behind_point, CountsAs}
+use Rattle.gcx_base.specs.Characters.{is_white}
+use Rattle.gcx_model.specs.Values.{is_digit, is_point, without_front, without_back, trimmed, is_negative, without_sign, whole_of, fraction_of, is_numeral, Decimal, decimal, decimal_of, number, Sign, Bare, Plus, Minus, sign_bytes, is_minus, Numeral, Whole, Pointed, numeral_bytes, before_point, behind_point, CountsAs}
 use Rattle.xq_values.proofs.Digits.{is_digit-≤}
 
 -- ---- from a value to its parts

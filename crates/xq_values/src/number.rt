@@ -1,7 +1,8 @@
 ghost use Rattle.std.specs.Prelude.{◌≡◌, ◌≤◌, ◌<◌, ◌-◌, ◌*◌, ◌^◌, ◌++◌, [], ◌∷◌, ◌==◌, ◌↔◌, length, MatchOption, position, true};
 ghost use Rattle.std.specs.List.{list_all};
 ghost use Rattle.std.specs.Ordering.{nat_cmp};
-ghost use Rattle.gcx_model.specs.Values.{against, CountsAs, Decimal, decimal_of, digits_from, fraction_of, is_digit, is_negative, is_point, is_white, number, trimmed, whole_of, without_front, without_sign};
+ghost use Rattle.gcx_base.specs.Characters.{is_white};
+ghost use Rattle.gcx_model.specs.Values.{against, CountsAs, Decimal, decimal_of, digits_from, fraction_of, is_digit, is_negative, is_point, number, trimmed, whole_of, without_front, without_sign};
 
 use std::cmp::Ordering;
 use std::marker::Model;

@@ -3,7 +3,7 @@ ghost use Rattle.std.specs.Prelude.{◌≡◌, drop};
 ghost use Rattle.gcx_model.specs.Attributes.{is_quote as is_quote_char};
 ghost use Rattle.gcx_model.specs.Fronts.{is_inside};
 ghost use Rattle.gcx_model.specs.Markup.{cdata_word, doc_word as octype, is_doc_char};
-ghost use Rattle.doc_laws.specs.Machine.{State, on_question, on_target, on_target_mark, on_note, on_doc_word, on_doc_space, on_doc, on_doc_literal, on_bang, on_bang_dash, on_comment, on_comment_dash, on_comment_end, on_section_word};
+ghost use Rattle.doc_laws.specs.Machine.{State, on_question, on_target, on_target_mark, on_instruction, on_doc_word, on_doc_space, on_doc, on_doc_literal, on_bang, on_bang_dash, on_comment, on_comment_dash, on_comment_end, on_cdsect_word};
 ghost use Rattle.doc_reader.specs.Machine.{scan_state};
 ghost use Rattle.doc_reader.specs.Steps.{turned, Taken};
 
@@ -34,7 +34,7 @@ pub(crate) fn bang(inside: bool, typed: bool, c: char) -> Option<Mode>
 {
     match c {
         '-' => Some(Mode::BangDash),
-        '[' if inside => Some(Mode::SectionWord(0)),
+        '[' if inside => Some(Mode::CDSectWord(0)),
         'D' if !typed => Some(Mode::DocWord(0)),
         _ => None,
     }
@@ -97,7 +97,7 @@ pub(crate) fn target(c: char) -> Option<Mode>
     if is_name_char(c) {
         Some(Mode::Target)
     } else if is_space(c) {
-        Some(Mode::Note)
+        Some(Mode::Instruction)
     } else if c == '?' {
         Some(Mode::TargetMark)
     } else {
@@ -112,26 +112,26 @@ pub(crate) fn target_mark(c: char) -> Option<Mode>
 }
 
 /// In a processing instruction.
-pub(crate) fn note(c: char) -> Option<Mode>
-    ensures { (s : State) → turned s result ≡ on_note s 0 c }
+pub(crate) fn instruction(c: char) -> Option<Mode>
+    ensures { (s : State) → turned s result ≡ on_instruction s 0 c }
 {
     if c == '?' {
-        Some(Mode::NoteMark)
+        Some(Mode::InstructionMark)
     } else if is_xml_char(c) {
-        Some(Mode::Note)
+        Some(Mode::Instruction)
     } else {
         None
     }
 }
 
 /// Behind a `?` in it.
-pub(crate) fn note_mark(c: char) -> Option<Mode>
-    ensures { (s : State) → turned s result ≡ on_note s 1 c }
+pub(crate) fn instruction_mark(c: char) -> Option<Mode>
+    ensures { (s : State) → turned s result ≡ on_instruction s 1 c }
 {
     if c == '>' {
         Some(Mode::Between)
     } else {
-        note(c)
+        instruction(c)
     }
 }
 
@@ -172,13 +172,13 @@ pub(crate) fn doc_literal(quote: char, c: char) -> Option<Mode>
 }
 
 /// Behind so many characters of `CDATA`.
-pub(crate) fn section_word(i: usize, c: char) -> Option<Mode>
-    ensures { (s : State) → turned s result ≡ on_section_word s (drop i cdata_word) c }
+pub(crate) fn cdsect_word(i: usize, c: char) -> Option<Mode>
+    ensures { (s : State) → turned s result ≡ on_cdsect_word s (drop i cdata_word) c }
 {
     match CDATA.get(i) {
-        Some(d) if *d == c => Some(Mode::SectionWord(i + 1)),
+        Some(d) if *d == c => Some(Mode::CDSectWord(i + 1)),
         Some(_) => None,
-        None if c == '[' => Some(Mode::Section(Brackets::None)),
+        None if c == '[' => Some(Mode::CDSect(Brackets::None)),
         None => None,
     }
 }

@@ -23,8 +23,8 @@ pub(crate) enum Span {
     TagName,
     AttributeName,
     Comment,
-    Note,
-    Section,
+    Instruction,
+    CDSect,
 }
 
 impl Span {
@@ -39,8 +39,8 @@ impl Span {
             Span::Value(quote) => is_text(c) && c != quote,
             Span::TagName | Span::AttributeName => is_short_name_char(b),
             Span::Comment => is_xml_char(c) && c != '-',
-            Span::Note => is_xml_char(c) && c != '?',
-            Span::Section => is_xml_char(c) && c != ']',
+            Span::Instruction => is_xml_char(c) && c != '?',
+            Span::CDSect => is_xml_char(c) && c != ']',
         };
         b.is_ascii() && stands
     }
@@ -134,11 +134,11 @@ pub(crate) fn span_at(m: &Scan, limits: Limits) -> Option<(Span, usize)>
     match m.mode {
         Mode::Between if m.names.has_open() => Some((Span::Text, most - run)),
         Mode::InValue(quote) => Some((Span::Value(quote), most - run)),
-        Mode::Section(Brackets::None) => Some((Span::Section, most - run)),
+        Mode::CDSect(Brackets::None) => Some((Span::CDSect, most - run)),
         Mode::StartName => Some((Span::TagName, name.saturating_sub(m.name.len()))),
         Mode::AttributeName => Some((Span::AttributeName, name.saturating_sub(m.attr.len()))),
         Mode::Comment => Some((Span::Comment, usize::MAX)),
-        Mode::Note => Some((Span::Note, usize::MAX)),
+        Mode::Instruction => Some((Span::Instruction, usize::MAX)),
         _ => None,
     }
 }
@@ -148,10 +148,10 @@ pub(crate) fn keep(m: &mut Scan, span: Span, front: &str) -> Result<(), Memory>
     ensures { Becomes result (scan_state m.old) (spread span (scan_state m.old) front.now) (scan_state m.new) }
 {
     match span {
-        Span::Text | Span::Value(_) | Span::Section => m.run.push_str(front)?,
+        Span::Text | Span::Value(_) | Span::CDSect => m.run.push_str(front)?,
         Span::TagName => m.name.extend_from_slice(front.as_bytes())?,
         Span::AttributeName => m.attr.extend_from_slice(front.as_bytes())?,
-        Span::Comment | Span::Note => {}
+        Span::Comment | Span::Instruction => {}
     }
     Ok(())
 }

@@ -8,14 +8,14 @@ ghost use Rattle.doc_reader.specs.Steps.{Taken, Stepped};
 use super::Scan;
 use super::end_tag::{end_name, ended};
 use super::markup::{
-    bang, bang_dash, comment, comment_dash, comment_end, doc, doc_literal, doc_space, doc_word,
-    note, note_mark, question, section_word, target, target_mark,
+    bang, bang_dash, cdsect_word, comment, comment_dash, comment_end, doc, doc_literal, doc_space,
+    doc_word, instruction, instruction_mark, question, target, target_mark,
 };
 use super::tag::{
     attribute_name, equals, in_value, in_value_reference, less, named, slash, start_name,
     start_space, tag,
 };
-use super::text::{between, in_reference, opening, section, turn};
+use super::text::{between, cdsect, in_reference, opening, turn};
 use crate::mode::Mode;
 use gcx_base::Memory;
 
@@ -50,8 +50,8 @@ pub(crate) fn advance(m: &mut Scan, c: char) -> Result<bool, Memory>
         Mode::Question => Ok(turn(m, question(c))),
         Mode::Target => Ok(turn(m, target(c))),
         Mode::TargetMark => Ok(turn(m, target_mark(c))),
-        Mode::Note => Ok(turn(m, note(c))),
-        Mode::NoteMark => Ok(turn(m, note_mark(c))),
+        Mode::Instruction => Ok(turn(m, instruction(c))),
+        Mode::InstructionMark => Ok(turn(m, instruction_mark(c))),
         Mode::DocWord(i) => Ok(turn(m, doc_word(i, c))),
         Mode::DocSpace => Ok(turn(m, doc_space(c))),
         Mode::Doc => Ok(doc(m, c)),
@@ -61,8 +61,8 @@ pub(crate) fn advance(m: &mut Scan, c: char) -> Result<bool, Memory>
         Mode::Comment => Ok(turn(m, comment(c))),
         Mode::CommentDash => Ok(turn(m, comment_dash(c))),
         Mode::CommentEnd => Ok(turn(m, comment_end(c))),
-        Mode::SectionWord(i) => Ok(turn(m, section_word(i, c))),
-        Mode::Section(brackets) => section(m, brackets, c),
+        Mode::CDSectWord(i) => Ok(turn(m, cdsect_word(i, c))),
+        Mode::CDSect(brackets) => cdsect(m, brackets, c),
         Mode::InReference(referring) => in_reference(m, referring, c),
     }
 }

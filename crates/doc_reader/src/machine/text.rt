@@ -1,7 +1,7 @@
 //! Text between tags, its references and its CDATA sections.
 ghost use Rattle.std.specs.Prelude.{◌≡◌, replicate};
 ghost use Rattle.gcx_model.specs.Attributes.{is_text_char};
-ghost use Rattle.doc_laws.specs.Machine.{InReference, Between, on_between, on_opening, on_section, on_referred, refer};
+ghost use Rattle.doc_laws.specs.Machine.{InReference, Between, on_between, on_opening, on_cdsect, on_referred, refer};
 ghost use Rattle.doc_reader.specs.Machine.{scan_state, referring_of, brackets_of};
 ghost use Rattle.doc_reader.specs.Steps.{turned, bracketed, Taken, Stepped, Becomes};
 
@@ -101,19 +101,19 @@ fn bracket(m: &mut Scan, brackets: Brackets) -> Result<(), Memory>
     ensures { Becomes result (scan_state m.old) (bracketed (scan_state m.old) (brackets_of brackets)) (scan_state m.new) }
 {
     m.mode = match brackets {
-        Brackets::None => Mode::Section(Brackets::One),
-        Brackets::One => Mode::Section(Brackets::Two),
+        Brackets::None => Mode::CDSect(Brackets::One),
+        Brackets::One => Mode::CDSect(Brackets::Two),
         Brackets::Two => {
             m.run.push(']')?;
-            Mode::Section(Brackets::Two)
+            Mode::CDSect(Brackets::Two)
         }
     };
     Ok(())
 }
 
 /// In a CDATA section.
-pub(crate) fn section(m: &mut Scan, brackets: Brackets, c: char) -> Result<bool, Memory>
-    ensures { Stepped result (scan_state m.old) (on_section (scan_state m.old) (brackets_of brackets) c) (scan_state m.new) }
+pub(crate) fn cdsect(m: &mut Scan, brackets: Brackets, c: char) -> Result<bool, Memory>
+    ensures { Stepped result (scan_state m.old) (on_cdsect (scan_state m.old) (brackets_of brackets) c) (scan_state m.new) }
 {
     if c == ']' {
         bracket(m, brackets)?;
@@ -124,7 +124,7 @@ pub(crate) fn section(m: &mut Scan, brackets: Brackets, c: char) -> Result<bool,
     } else if is_xml_char(c) {
         m.run.push_str(brackets.text())?;
         m.run.push(c)?;
-        m.mode = Mode::Section(Brackets::None);
+        m.mode = Mode::CDSect(Brackets::None);
         Ok(true)
     } else {
         Ok(false)

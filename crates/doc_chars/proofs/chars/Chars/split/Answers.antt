@@ -1,7 +1,7 @@
 use Rattle.std.proofs.Common.{◌+◌, ◌-◌, ◌++◌, ℕ, List, take, drop, length, ap, sym, subst, arith, length-append, length-drop}
 use Rattle.std.proofs.lemmas.List.{take_rest}
 use Rattle.doc_chars.specs.declared.chars.CharFault.{CharFault}
-use Rattle.doc_chars.specs.Stream.{Carry, IsFront, StandsFor, Breaks, still_carried}
+use Rattle.doc_chars.specs.Stream.{Carry, IsCharFront, StandsFor, Breaks, still_carried}
 use Rattle.doc_chars.proofs.Bytes.{front_short}
 use Rattle.doc_chars.proofs.Streams.{are_text, left_front, left_bytes, kept_count, kept_below, cut_given, goes_on, breaks}
 use Rattle.doc_chars.proofs.chars.Chars.split.Goals as goal
@@ -58,7 +58,7 @@ invariant_of-self c =
     let within = c.cut_piece-cut.ensures.within in
     let parts = length-append (still_carried cut.first (take a.count a.bytes)) (drop cut.whole piece) in
     record {
-      front = subst IsFront (sym left) front;
+      front = subst IsCharFront (sym left) front;
       room = omega (arith, count, short, kept, rest, parts);
       seen = omega (arith, count, few, seen, within, rest, length-drop cut.whole piece);
     }

@@ -1,0 +1,5 @@
+use Rattle.doc_laws.proofs.Growing as from
+use Rattle.doc_laws.proofs.laws.seen_grew.Goals as goal
+
+pub returns : goal.returns
+returns c = from.seen_leads
