@@ -37,3 +37,5 @@ pub mod Moved
 pub mod Meaning
 pub mod Documents
 pub mod More
+pub mod Goes
+pub mod Bindings

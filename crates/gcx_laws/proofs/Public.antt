@@ -23,11 +23,11 @@ use Rattle.gcx_model.specs.Needs.{Needs}
 use Rattle.gcx_laws.specs.Bridges.{GrowIsFeeding, LeadsIsFeeding, TokensAreFound, NodesAreNumbered, HitsBySteps, MatchesAreHits, FirstIsLeast, LoopsBindHits, OneChain, LoopsInOrder}
 use Rattle.gcx_laws.specs.Laws.{GoesOn, PrefixLaw, AllClosed, ClosedLaw, PlacedOnce, BalanceLaw, EmptyAtEnd, is_taking, OnceLaw, OffsAtMatches, TakenStays, PointLaw, ResumeLaw, NeedLaw, TruthHeld, TurnsHeld, LoopHeld, CopyHeld, is_write, PlanWrites}
 use Rattle.gcx_laws.proofs.Lists.{any_in, any_from}
-use Rattle.gcx_laws.proofs.Matches.{Grown-grow, Grown-opening, Matches-in, Matches-from, Matches-rising}
+use Rattle.gcx_laws.proofs.Matches.{Grown-grow, Grown-opening, Numbered-high, Matches-in, Matches-from, Matches-rising}
 use Rattle.gcx_laws.proofs.Order.{Ordered-grow, chain_is}
 use Rattle.gcx_laws.proofs.Chains.{above_in, hits_above, chain_hits, chain_from, chain_once}
 use Rattle.gcx_laws.proofs.Prefix.{Before, Same, More}
-use Rattle.gcx_laws.proofs.Whole.{prefix, run_is_done}
+use Rattle.gcx_laws.proofs.Whole.{run_grows_all, run_is_done}
 use Rattle.gcx_laws.proofs.PointForms.{resume}
 use Rattle.gcx_laws.proofs.Points.{point}
 use Rattle.gcx_laws.proofs.Writes.{written}
@@ -117,14 +117,16 @@ goes_on a b (Same e) = (([], ap (λ (z : Out). z.acts) (sym e) ∙ sym (append-n
 goes_on a b (More f r e) = ((r, e), λ d. absurd (true≢false (sym d ∙ f)))
 
 pub prefix_law : PrefixLaw
-prefix_law P Q l m d =
-    let r = fed_all opening P l in
+prefix_law P Q l m d env b =
+    let w : Grown P = grown_from P l in
     let s = fed_all P Q m in
-    let e : Q ≡ grow_all s.0 (tree r.0) = s.2 ∙ ap (grow_all s.0) r.2 in
-    goes_on (run d env0 P) (run d env0 Q) (subst (λ (z : Tree). Before (run d env0 z) (run d env0 Q)) (sym r.2) (subst (λ (z : Tree). Before (run d env0 (tree r.0)) (run d env0 z)) (sym e) (prefix r.0 s.0 d)))
+    goes_on (run d env P) (run d env Q) (subst (λ (z : Tree). Before (run d env P) (run d env z)) (sym s.2) (run_grows_all s.0 P w d env (λ x. let h = Numbered-high 0 P.nodes w.numbered (env x) (b x) in omega arith)))
+
+pub root_from : (P : Tree) → Leads opening P → In Root P.nodes
+root_from P l = from_tokens (λ P. In Root P.nodes) root_in P l
 
 pub closed_law : ClosedLaw
-closed_law P l = from_tokens (λ P. AllClosed P → (d : BodyTree) → (run d env0 P).done ≡ true) (λ ts c d. run_is_done (tree ts) (grown ts) (closed_all (tree ts) (c Root (root_in ts))) d env0 (λ x. root_in ts)) P l
+closed_law P l c d env b = run_is_done P (grown_from P l) (closed_all P (c Root (root_from P l))) d env b
 
 -- Placed
 

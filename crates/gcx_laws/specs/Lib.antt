@@ -1,2 +1,4 @@
+pub mod Binding
 pub mod Bridges
+pub mod Going
 pub mod Laws

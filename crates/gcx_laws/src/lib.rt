@@ -1,14 +1,18 @@
 //! The laws on the definitions of `gcx_model`. Each is the contract of a function that does nothing: who calls it knows the law.
 #![tactic(auto)]
 
+mod binding;
 mod bridges;
+mod going;
 mod laws;
 
+pub use binding::copy_bound_law;
 pub use bridges::{
     demand_is_reached, documents_grow, first_is_least, gives_by_kind, grow_is_feeding,
     hits_by_steps, leads_is_feeding, loops_bind_hits, loops_in_order, matches_are_hits,
     nodes_are_numbered, one_chain, one_statement, paths_by_rows, signed_is_off, tokens_are_found,
 };
+pub use going::{known_goes_on, peak_goes_on, trace_goes_on};
 pub use laws::{
     balance_law, bound_law, closed_law, copy_held, empty_at_end, given_stays, gone_stays,
     held_by_act, held_by_feed, known_is_front, loop_held, need_law, normal_is_good, normal_law,
