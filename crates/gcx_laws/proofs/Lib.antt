@@ -39,3 +39,4 @@ pub mod Documents
 pub mod More
 pub mod Goes
 pub mod Bindings
+pub mod Straight

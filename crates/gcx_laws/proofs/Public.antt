@@ -1,14 +1,14 @@
 -- The laws as they are stated.
-use Rattle.std.proofs.Common.{◌≡◌, ℕ, ◌<◌, ◌≤◌, true, false, ◌&&◌, List, [], ◌∷◌, ◌++◌, refl, sym, ◌∙◌, ap, subst, inl, inr, ◌⊎◌, arith, Some, None, Option}
+use Rattle.std.proofs.Common.{◌≡◌, ℕ, ◌<◌, ◌≤◌, true, false, ◌&&◌, List, [], ◌∷◌, ◌++◌, refl, sym, ◌∙◌, ap, subst, inl, inr, arith, Some, None, Option}
 use Rattle.std.specs.Prelude.{drop}
 use Rattle.std.specs.List.{filter}
 use Rattle.std.proofs.lemmas.List.{append-nil, take-append-drop}
 use Rattle.std.proofs.lemmas.Bool.{and_parts, and_from, false≢true, true≢false}
 use Rattle.gcx_base.specs.declared.steps.Step.{Step}
 use Rattle.gcx_model.specs.Tree.{Node, Root, serial_of, above, Tree, Token, opening, grow, grow_all}
-use Rattle.gcx_model.specs.Paths.{head, reach, hits, matches, first}
+use Rattle.gcx_model.specs.Paths.{head, reach, hits, matches}
 use Rattle.gcx_model.specs.Members.{In, Once}
-use Rattle.gcx_model.specs.Nodes.{Grown, Ordered}
+use Rattle.gcx_model.specs.Nodes.{Grown, Ordered, Rising}
 use Rattle.gcx_model.specs.Core.{BodyTree, Then, If, For, OffTree, RoleRowTree, PlanTree}
 use Rattle.gcx_model.specs.Truth.{truth}
 use Rattle.gcx_model.specs.Run.{Action, Offed, Out, copy, run, env0}
@@ -91,12 +91,20 @@ hits_by_steps P w n s rest m i = (
 pub matches_are_hits : MatchesAreHits
 matches_are_hits P w n path = ((λ m. ((λ i. Matches-in P n path m i), (λ h. Matches-from P n path m h.0 h.1))), Matches-rising P w n path)
 
+-- the first of nodes by rising serial has the smallest one
+least_head : (ms : List Node) → Rising ms → (m : Node) → ((head ms ≡ Some m) → In m ms × ((j : Node) → In j ms → serial_of m ≤ serial_of j)) × (In m ms × ((j : Node) → In j ms → serial_of m ≤ serial_of j) → (head ms ≡ Some m))
+least_head [] r m = ((λ e. cc), (λ h. absurd h.0))
+least_head (a ∷ rest) r m = (
+  (λ e. (inl (some_same _ _ e), λ j i. let f = ap serial_of (some_same _ _ e) in elim i [ inl g ↦ (let k = ap serial_of g in omega arith) | inr k ↦ (let l = r.0 j k in omega arith) ])),
+  (λ h. elim h.0 [ inl e ↦ ap Some e | inr k ↦ (let l = r.0 m k in let q = h.1 a (inl refl) in absurd (omega arith)) ]),
+)
+
+none_head : (ms : List Node) → ((head ms ≡ None) → (m : Node) → In m ms → ⊥) × (((m : Node) → In m ms → ⊥) → (head ms ≡ None))
+none_head [] = ((λ e m i. i), (λ h. refl))
+none_head (a ∷ rest) = ((λ e. absurd (cc)), (λ h. absurd (h a (inl refl))))
+
 pub first_is_least : FirstIsLeast
-first_is_least P w n path = go (matches P n path) refl
-  where
-    go : (ms : List Node) → matches P n path ≡ ms → ((matches P n path ≡ []) × (first P n path ≡ None)) ⊎ ((m : Node) × (rest : List Node) × (matches P n path ≡ m ∷ rest) × (first P n path ≡ Some m))
-    go [] e = inl (e, ap head e)
-    go (m ∷ rest) e = inr (m, rest, e, ap head e)
+first_is_least P w n path = (least_head (matches P n path) (Matches-rising P w n path), none_head (matches P n path))
 
 pub loops_bind_hits : LoopsBindHits
 loops_bind_hits P w n path m i = (

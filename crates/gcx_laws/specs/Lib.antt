@@ -2,3 +2,4 @@ pub mod Binding
 pub mod Bridges
 pub mod Going
 pub mod Laws
+pub mod LoopRules

@@ -5,6 +5,7 @@ mod binding;
 mod bridges;
 mod going;
 mod laws;
+mod loop_rules;
 
 pub use binding::copy_bound_law;
 pub use bridges::{
@@ -19,3 +20,4 @@ pub use laws::{
     offs_at_matches, once_law, placed_once, plan_bytes, plan_writes, point_law, prefix_law,
     resume_law, taken_stays, truth_held, turn_law, turns_held, unsigned_law,
 };
+pub use loop_rules::{fsa_by_loop, path_by_loop, straight_by_loop, variables_of_loops};
