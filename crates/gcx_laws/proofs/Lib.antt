@@ -40,3 +40,5 @@ pub mod More
 pub mod Goes
 pub mod Bindings
 pub mod Straight
+pub mod Departures
+pub mod Traces

@@ -3,3 +3,4 @@ pub mod Bridges
 pub mod Going
 pub mod Laws
 pub mod LoopRules
+pub mod Trace

@@ -6,6 +6,7 @@ mod bridges;
 mod going;
 mod laws;
 mod loop_rules;
+mod trace;
 
 pub use binding::copy_bound_law;
 pub use bridges::{
@@ -21,3 +22,7 @@ pub use laws::{
     resume_law, taken_stays, truth_held, turn_law, turns_held, unsigned_law,
 };
 pub use loop_rules::{fsa_by_loop, path_by_loop, straight_by_loop, variables_of_loops};
+pub use trace::{
+    departed_are_gone, events_are_reached, one_demand_run, one_telling, peak_is_greatest,
+    trace_by_events,
+};
