@@ -42,3 +42,4 @@ pub mod Bindings
 pub mod Straight
 pub mod Departures
 pub mod Traces
+pub mod Spelling

@@ -5,6 +5,7 @@ mod binding;
 mod bridges;
 mod going;
 mod laws;
+mod line_texts;
 mod loop_rules;
 mod trace;
 
@@ -21,6 +22,7 @@ pub use laws::{
     offs_at_matches, once_law, placed_once, plan_bytes, plan_writes, point_law, prefix_law,
     resume_law, taken_stays, truth_held, turn_law, turns_held, unsigned_law,
 };
+pub use line_texts::{line_by_text, lines_by_text};
 pub use loop_rules::{fsa_by_loop, path_by_loop, straight_by_loop, variables_of_loops};
 pub use trace::{
     departed_are_gone, events_are_reached, one_demand_run, one_telling, peak_is_greatest,
