@@ -65,7 +65,7 @@ module _ (core : BodyTree) (good : Good core) (ts : List Token) (k : ℕ) (top :
       append_none (x ∷ xs) = ap (λ z. x ∷ z) (append_none xs)
   facts_at pre (g ∷ top) f h = subst (λ (z : List Frame). Fact (tree ts) (grown ts) core good z f below) (append_assoc pre (g ∷ []) top) (facts_at (pre ++ g ∷ []) top f h.1)
 
-  fact : (f : Frame) → At f → Fact (tree ts) (grown ts) core good top f below
+  pub fact : (f : Frame) → At f → Fact (tree ts) (grown ts) core good top f below
   fact f st = facts_at [] top f (facts (tree ts) (grown ts) core good (root_in ts) (so_far core (tree ts) k) (top ++ f ∷ below) st)
 
   -- the present match of a loop is a match of its step from its parent's node, and of the variable's path

@@ -38,3 +38,9 @@ pub mod Moved
 pub mod Meaning
 pub mod Documents
 pub mod More
+pub mod Goes
+pub mod Bindings
+pub mod Straight
+pub mod Departures
+pub mod Traces
+pub mod Spelling

@@ -42,7 +42,7 @@ use Rattle.gcx_laws.proofs.CoreStates.{tree, grown, so_far_stays, taken_acted}
 use Rattle.gcx_laws.proofs.Evaluator as over
 use Rattle.gcx_laws.proofs.Growing.{grows, fed_all, grow_all-append}
 use Rattle.gcx_laws.proofs.Bridge.{path_is, held_is, is_held_is}
-use Rattle.gcx_laws.proofs.Public.{from_tokens, from_plan, from_state, reached_leads, offs_at_matches, plan_writes, prefix_law}
+use Rattle.gcx_laws.proofs.Public.{from_tokens, from_plan, from_state, reached_leads, offs_at_matches, plan_writes, prefix_law, root_from}
 
 -- the kinds of roles
 
@@ -259,7 +259,7 @@ unsigned_law core good plan pl P k r top below o d env = from_state core good (�
 
 -- what is written
 
-flat_map-append : {X A : Type 0} (f : X → List A) (xs ys : List X) → flat_map f (xs ++ ys) ≡ flat_map f xs ++ flat_map f ys
+pub flat_map-append : {X A : Type 0} (f : X → List A) (xs ys : List X) → flat_map f (xs ++ ys) ≡ flat_map f xs ++ flat_map f ys
 flat_map-append f [] ys = refl
 flat_map-append f (x ∷ xs) ys = ap (λ z. f x ++ z) (flat_map-append f xs ys) ∙ sym (append_assoc (f x) (flat_map f xs) (flat_map f ys))
 
@@ -274,7 +274,7 @@ plan_bytes q plan pl P =
 
 pub known_is_front : KnownIsFront
 known_is_front q s P l d m =
-    let h = (prefix_law P (tree_of d) l m (normal q)).0 in
+    let h = (prefix_law P (tree_of d) l m (normal q) env0 (λ x. root_from P l)).0 in
     (flat_map bytes_of h.0, sym (normal_law q s d) ∙ (ap (flat_map bytes_of) h.1 ∙ flat_map-append bytes_of (run (normal q) env0 P).acts h.0))
 
 -- the rows behind a token, and behind an action

@@ -1,14 +1,14 @@
 -- The laws as they are stated.
-use Rattle.std.proofs.Common.{◌≡◌, ℕ, ◌<◌, ◌≤◌, true, false, ◌&&◌, List, [], ◌∷◌, ◌++◌, refl, sym, ◌∙◌, ap, subst, inl, inr, ◌⊎◌, arith, Some, None, Option}
+use Rattle.std.proofs.Common.{◌≡◌, ℕ, ◌<◌, ◌≤◌, true, false, ◌&&◌, List, [], ◌∷◌, ◌++◌, refl, sym, ◌∙◌, ap, subst, inl, inr, arith, Some, None, Option}
 use Rattle.std.specs.Prelude.{drop}
 use Rattle.std.specs.List.{filter}
 use Rattle.std.proofs.lemmas.List.{append-nil, take-append-drop}
 use Rattle.std.proofs.lemmas.Bool.{and_parts, and_from, false≢true, true≢false}
 use Rattle.gcx_base.specs.declared.steps.Step.{Step}
 use Rattle.gcx_model.specs.Tree.{Node, Root, serial_of, above, Tree, Token, opening, grow, grow_all}
-use Rattle.gcx_model.specs.Paths.{head, reach, hits, matches, first}
+use Rattle.gcx_model.specs.Paths.{head, reach, hits, matches}
 use Rattle.gcx_model.specs.Members.{In, Once}
-use Rattle.gcx_model.specs.Nodes.{Grown, Ordered}
+use Rattle.gcx_model.specs.Nodes.{Grown, Ordered, Rising}
 use Rattle.gcx_model.specs.Core.{BodyTree, Then, If, For, OffTree, RoleRowTree, PlanTree}
 use Rattle.gcx_model.specs.Truth.{truth}
 use Rattle.gcx_model.specs.Run.{Action, Offed, Out, copy, run, env0}
@@ -23,11 +23,11 @@ use Rattle.gcx_model.specs.Needs.{Needs}
 use Rattle.gcx_laws.specs.Bridges.{GrowIsFeeding, LeadsIsFeeding, TokensAreFound, NodesAreNumbered, HitsBySteps, MatchesAreHits, FirstIsLeast, LoopsBindHits, OneChain, LoopsInOrder}
 use Rattle.gcx_laws.specs.Laws.{GoesOn, PrefixLaw, AllClosed, ClosedLaw, PlacedOnce, BalanceLaw, EmptyAtEnd, is_taking, OnceLaw, OffsAtMatches, TakenStays, PointLaw, ResumeLaw, NeedLaw, TruthHeld, TurnsHeld, LoopHeld, CopyHeld, is_write, PlanWrites}
 use Rattle.gcx_laws.proofs.Lists.{any_in, any_from}
-use Rattle.gcx_laws.proofs.Matches.{Grown-grow, Grown-opening, Matches-in, Matches-from, Matches-rising}
+use Rattle.gcx_laws.proofs.Matches.{Grown-grow, Grown-opening, Numbered-high, Matches-in, Matches-from, Matches-rising}
 use Rattle.gcx_laws.proofs.Order.{Ordered-grow, chain_is}
 use Rattle.gcx_laws.proofs.Chains.{above_in, hits_above, chain_hits, chain_from, chain_once}
 use Rattle.gcx_laws.proofs.Prefix.{Before, Same, More}
-use Rattle.gcx_laws.proofs.Whole.{prefix, run_is_done}
+use Rattle.gcx_laws.proofs.Whole.{run_grows_all, run_is_done}
 use Rattle.gcx_laws.proofs.PointForms.{resume}
 use Rattle.gcx_laws.proofs.Points.{point}
 use Rattle.gcx_laws.proofs.Writes.{written}
@@ -91,12 +91,20 @@ hits_by_steps P w n s rest m i = (
 pub matches_are_hits : MatchesAreHits
 matches_are_hits P w n path = ((λ m. ((λ i. Matches-in P n path m i), (λ h. Matches-from P n path m h.0 h.1))), Matches-rising P w n path)
 
+-- the first of nodes by rising serial has the smallest one
+least_head : (ms : List Node) → Rising ms → (m : Node) → ((head ms ≡ Some m) → In m ms × ((j : Node) → In j ms → serial_of m ≤ serial_of j)) × (In m ms × ((j : Node) → In j ms → serial_of m ≤ serial_of j) → (head ms ≡ Some m))
+least_head [] r m = ((λ e. cc), (λ h. absurd h.0))
+least_head (a ∷ rest) r m = (
+  (λ e. (inl (some_same _ _ e), λ j i. let f = ap serial_of (some_same _ _ e) in elim i [ inl g ↦ (let k = ap serial_of g in omega arith) | inr k ↦ (let l = r.0 j k in omega arith) ])),
+  (λ h. elim h.0 [ inl e ↦ ap Some e | inr k ↦ (let l = r.0 m k in let q = h.1 a (inl refl) in absurd (omega arith)) ]),
+)
+
+none_head : (ms : List Node) → ((head ms ≡ None) → (m : Node) → In m ms → ⊥) × (((m : Node) → In m ms → ⊥) → (head ms ≡ None))
+none_head [] = ((λ e m i. i), (λ h. refl))
+none_head (a ∷ rest) = ((λ e. absurd (cc)), (λ h. absurd (h a (inl refl))))
+
 pub first_is_least : FirstIsLeast
-first_is_least P w n path = go (matches P n path) refl
-  where
-    go : (ms : List Node) → matches P n path ≡ ms → ((matches P n path ≡ []) × (first P n path ≡ None)) ⊎ ((m : Node) × (rest : List Node) × (matches P n path ≡ m ∷ rest) × (first P n path ≡ Some m))
-    go [] e = inl (e, ap head e)
-    go (m ∷ rest) e = inr (m, rest, e, ap head e)
+first_is_least P w n path = (least_head (matches P n path) (Matches-rising P w n path), none_head (matches P n path))
 
 pub loops_bind_hits : LoopsBindHits
 loops_bind_hits P w n path m i = (
@@ -117,14 +125,16 @@ goes_on a b (Same e) = (([], ap (λ (z : Out). z.acts) (sym e) ∙ sym (append-n
 goes_on a b (More f r e) = ((r, e), λ d. absurd (true≢false (sym d ∙ f)))
 
 pub prefix_law : PrefixLaw
-prefix_law P Q l m d =
-    let r = fed_all opening P l in
+prefix_law P Q l m d env b =
+    let w : Grown P = grown_from P l in
     let s = fed_all P Q m in
-    let e : Q ≡ grow_all s.0 (tree r.0) = s.2 ∙ ap (grow_all s.0) r.2 in
-    goes_on (run d env0 P) (run d env0 Q) (subst (λ (z : Tree). Before (run d env0 z) (run d env0 Q)) (sym r.2) (subst (λ (z : Tree). Before (run d env0 (tree r.0)) (run d env0 z)) (sym e) (prefix r.0 s.0 d)))
+    goes_on (run d env P) (run d env Q) (subst (λ (z : Tree). Before (run d env P) (run d env z)) (sym s.2) (run_grows_all s.0 P w d env (λ x. let h = Numbered-high 0 P.nodes w.numbered (env x) (b x) in omega arith)))
+
+pub root_from : (P : Tree) → Leads opening P → In Root P.nodes
+root_from P l = from_tokens (λ P. In Root P.nodes) root_in P l
 
 pub closed_law : ClosedLaw
-closed_law P l = from_tokens (λ P. AllClosed P → (d : BodyTree) → (run d env0 P).done ≡ true) (λ ts c d. run_is_done (tree ts) (grown ts) (closed_all (tree ts) (c Root (root_in ts))) d env0 (λ x. root_in ts)) P l
+closed_law P l c d env b = run_is_done P (grown_from P l) (closed_all P (c Root (root_from P l))) d env b
 
 -- Placed
 

@@ -1,5 +1,5 @@
 -- That the definitions say what the words say, where their form is another one.
-use Rattle.std.specs.Prelude.{◌≡◌, ℕ, true, List, [], ◌∷◌, ◌++◌, length, ◌↔◌, ◌⊎◌, Some, None}
+use Rattle.std.specs.Prelude.{◌≡◌, ℕ, ◌≤◌, true, List, ◌∷◌, ◌++◌, length, ◌↔◌, Some, None}
 use Rattle.gcx_base.specs.declared.steps.Step.{Step}
 use Rattle.gcx_model.specs.Document.{Nodes, IsDocument, tree_of}
 use Rattle.gcx_model.specs.Tree.{Node, serial_of, above, Tree, Token, opening, grow, grow_all, is_closed}
@@ -41,10 +41,11 @@ abbrev pub MatchesAreHits : Type 0
 MatchesAreHits = (P : Tree) → Grown P → (n : ℕ) (path : List Step)
     → ((m : Node) → In m (matches P n path) ↔ (In m P.nodes × (hits n path m ≡ true))) × Rising (matches P n path)
 
--- First is a match, and no match has a smaller serial.
+-- First is the one match than which no match has a smaller serial, and there is none exactly where there is no match.
 abbrev pub FirstIsLeast : Type 0
 FirstIsLeast = (P : Tree) → Grown P → (n : ℕ) (path : List Step)
-    → ((matches P n path ≡ []) × (first P n path ≡ None)) ⊎ ((m : Node) × (rest : List Node) × (matches P n path ≡ m ∷ rest) × (first P n path ≡ Some m))
+    → ((m : Node) → (first P n path ≡ Some m) ↔ (In m (matches P n path) × ((j : Node) → In j (matches P n path) → serial_of m ≤ serial_of j)))
+    × ((first P n path ≡ None) ↔ ((m : Node) → In m (matches P n path) → ⊥))
 
 -- Nested loops over the steps of a path bind innermost the nodes that it hits.
 abbrev pub LoopsBindHits : Type 0

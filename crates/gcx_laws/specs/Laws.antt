@@ -23,16 +23,20 @@ use Rattle.gcx_model.specs.Normal.{normal, known}
 abbrev pub GoesOn : Out → Out → Type 0
 GoesOn a b = ((rest : List Action) × (b.acts ≡ a.acts ++ rest)) × (a.done ≡ true → b ≡ a)
 
+-- each variable is bound to a node of the tree
+abbrev pub InTree : Env → Tree → Type 0
+InTree env P = (x : ℕ) → In (env x) P.nodes
+
 -- Prefix law
 abbrev pub PrefixLaw : Type 0
-PrefixLaw = (P Q : Tree) → Leads opening P → Leads P Q → (d : BodyTree) → GoesOn (run d env0 P) (run d env0 Q)
+PrefixLaw = (P Q : Tree) → Leads opening P → Leads P Q → (d : BodyTree) (env : Env) → InTree env P → GoesOn (run d env P) (run d env Q)
 
 abbrev pub AllClosed : Tree → Type 0
 AllClosed P = (m : Node) → In m P.nodes → is_closed P m ≡ true
 
 -- Closed law
 abbrev pub ClosedLaw : Type 0
-ClosedLaw = (P : Tree) → Leads opening P → AllClosed P → (d : BodyTree) → (run d env0 P).done ≡ true
+ClosedLaw = (P : Tree) → Leads opening P → AllClosed P → (d : BodyTree) (env : Env) → InTree env P → (run d env P).done ≡ true
 
 -- Normal law
 abbrev pub NormalLaw : Type 0

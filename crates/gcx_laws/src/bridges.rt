@@ -35,7 +35,7 @@ pub fn matches_are_hits()
     ensures { MatchesAreHits }
 {}
 
-/// First is the first of the matches, or none where there is none.
+/// First is the match of the smallest serial, or none where there is none.
 pub fn first_is_least()
     ensures { FirstIsLeast }
 {}

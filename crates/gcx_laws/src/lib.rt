@@ -1,17 +1,30 @@
 //! The laws on the definitions of `gcx_model`. Each is the contract of a function that does nothing: who calls it knows the law.
 #![tactic(auto)]
 
+mod binding;
 mod bridges;
+mod going;
 mod laws;
+mod line_texts;
+mod loop_rules;
+mod trace;
 
+pub use binding::copy_bound_law;
 pub use bridges::{
     demand_is_reached, documents_grow, first_is_least, gives_by_kind, grow_is_feeding,
     hits_by_steps, leads_is_feeding, loops_bind_hits, loops_in_order, matches_are_hits,
     nodes_are_numbered, one_chain, one_statement, paths_by_rows, signed_by_role, signed_is_off, tokens_are_found,
 };
+pub use going::{known_goes_on, peak_goes_on, trace_goes_on};
 pub use laws::{
     balance_law, bound_law, closed_law, copy_held, empty_at_end, given_stays, gone_stays,
     held_by_act, held_by_feed, known_is_front, loop_held, need_law, normal_is_good, normal_law,
     offs_at_matches, once_law, placed_once, plan_bytes, plan_writes, point_law, prefix_law,
     resume_law, taken_stays, truth_held, turn_law, turns_held, unsigned_law,
+};
+pub use line_texts::{line_by_text, lines_by_text};
+pub use loop_rules::{fsa_by_loop, path_by_loop, straight_by_loop, variables_of_loops};
+pub use trace::{
+    departed_are_gone, events_are_reached, one_demand_run, one_telling, peak_is_greatest,
+    trace_by_events,
 };

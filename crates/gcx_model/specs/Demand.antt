@@ -1,22 +1,32 @@
 -- The demand run: every possible action before each token; its peak and its trace (this project's).
-use Rattle.std.specs.Prelude.{ℕ, Bool, not, List, [], ◌∷◌, ◌++◌, map, length, ◌==◌, filter, flat_map, reverse, drop, max, Option, Some, None, codes}
+use Rattle.std.specs.Prelude.{ℕ, List, [], ◌∷◌, ◌++◌, map, length, flat_map, drop, max, Option, Some, None, codes}
 use Rattle.std.specs.Fmt.{decimal}
 use Rattle.gcx_base.specs.declared.kind.Kind.{Kind}
 use Rattle.gcx_base.specs.declared.kind.Kind.TheVariants.{Document, Element, Text}
 use Rattle.gcx_model.specs.Tree.{Node, Root, Under, serial_of, kind_of, Tree, Token, Start, Chars, End, opening, grow}
-use Rattle.gcx_model.specs.Paths.{any}
 use Rattle.gcx_model.specs.Query.{ExprTree}
 use Rattle.gcx_model.specs.Core.{PlanTree}
 use Rattle.gcx_model.specs.Run.{Action, Wrote, Offed}
 use Rattle.gcx_model.specs.Placed.{plan_of}
-use Rattle.gcx_model.specs.Held.{roles_given, held}
+use Rattle.gcx_model.specs.Held.{roles_given, held, departed}
 use Rattle.gcx_model.specs.Growth.{tokens_of}
 use Rattle.gcx_model.specs.Points.{actions}
 use Rattle.gcx_model.specs.Normal.{normal}
 
+-- what a line tells of a node's kind: of a text no more than that it is one
+pub data LineKind : Type 0 where
+  DocumentNode : LineKind
+  ElementNode : (name : List ℕ) → LineKind
+  TextNode : LineKind
+
+abbrev pub line_kind : Kind → LineKind
+line_kind Document = DocumentNode
+line_kind (Element name) = ElementNode name
+line_kind (Text b) = TextNode
+
 -- a node was opened, with the roles given to it; a node was closed; so many bytes were written; a statement of this role was carried out, its base bound to this node; a node left the buffer
 pub data Line : Type 0 where
-  Opened : (serial : ℕ) (kind : Kind) (roles : List ℕ) → Line
+  Opened : (serial : ℕ) (kind : LineKind) (roles : List ℕ) → Line
   Closed : (serial : ℕ) → Line
   Written : (bytes : ℕ) → Line
   SignedOff : (serial role : ℕ) → Line
@@ -26,12 +36,9 @@ abbrev pub action_line : Action → Line
 action_line (Wrote b) = Written (length b)
 action_line (Offed o m) = SignedOff m o.role
 
-abbrev pub has_node : List Node → Node → Bool
-has_node ns n = any (λ m. serial_of m == serial_of n) ns
-
--- the nodes that were there before and aren't there now, by falling serial
+-- a line for each node that was there before and isn't there now, by falling serial
 abbrev pub left : (before now : List Node) → List Line
-left before now = map (λ n. Left (serial_of n)) (reverse (filter (λ n. not (has_node now n)) before))
+left before now = map Left (departed before now)
 
 -- the actions `acts`, behind the actions A over the tree P
 abbrev pub act_lines : PlanTree → Tree → (A acts : List Action) → List Line
@@ -39,7 +46,7 @@ act_lines plan P A [] = []
 act_lines plan P A (a ∷ acts) = action_line a ∷ (left (held plan P A) (held plan P (A ++ a ∷ [])) ++ act_lines plan P (A ++ a ∷ []) acts)
 
 abbrev pub opened_line : PlanTree → Tree → Node → Line
-opened_line plan P n = Opened (serial_of n) (kind_of n) (roles_given plan P n)
+opened_line plan P n = Opened (serial_of n) (line_kind (kind_of n)) (roles_given plan P n)
 
 -- the line of the token that made Q of P, and the node that it opened
 abbrev pub feed_line : PlanTree → Token → (at : Option Node) → (P Q : Tree) → List Line
@@ -60,10 +67,10 @@ demand plan (t ∷ ts) P = feed_lines plan t P (grow t P) (actions plan P) ++ de
 abbrev pub trace_lines : PlanTree → List Token → List Line
 trace_lines plan ts = opened_line plan opening Root ∷ (act_lines plan opening [] (actions plan opening) ++ demand plan ts opening)
 
-abbrev pub kind_text : Kind → List ℕ
-kind_text Document = codes "/"
-kind_text (Element name) = name
-kind_text (Text b) = codes "#"
+abbrev pub kind_text : LineKind → List ℕ
+kind_text DocumentNode = codes "/"
+kind_text (ElementNode name) = name
+kind_text TextNode = codes "#"
 
 -- a space and the number
 abbrev pub number_text : ℕ → List ℕ

@@ -1,5 +1,5 @@
 -- Which nodes have which roles, which roles are taken back, and which nodes are held (ICDE 2007; that open nodes are held, and roles without counts, are this project's).
-use Rattle.std.specs.Prelude.{ℕ, Bool, false, not, ◌&&◌, ◌||◌, List, [], ◌∷◌, ◌++◌, length, ◌==◌, filter, Option, Some, None, sum, map, slice_index_or}
+use Rattle.std.specs.Prelude.{ℕ, Bool, false, not, ◌&&◌, ◌||◌, List, [], ◌∷◌, ◌++◌, length, ◌==◌, filter, reverse, Option, Some, None, sum, map, slice_index_or}
 use Rattle.gcx_base.specs.declared.steps.Step.{Step}
 use Rattle.gcx_model.specs.Tree.{Node, serial_of, above, within, Tree, is_open_at}
 use Rattle.gcx_model.specs.Paths.{any, all, head, hits, matches, first}
@@ -91,6 +91,14 @@ is_held plan P A n = is_open_at P.at (serial_of n) || any (λ m. within (serial_
 -- Held
 abbrev pub held : PlanTree → Tree → List Action → List Node
 held plan P A = filter (is_held plan P A) P.nodes
+
+-- a node of this serial is there
+abbrev pub has_serial : List Node → ℕ → Bool
+has_serial ns s = any (λ m. serial_of m == s) ns
+
+-- the serials of the nodes that were there before and aren't there now, by falling serial; the nodes stand by rising serial
+abbrev pub departed : (before now : List Node) → List ℕ
+departed before now = map serial_of (reverse (filter (λ n. not (has_serial now (serial_of n))) before))
 
 -- the sums of Given and of Taken: the pairs of a node and a role for which it holds
 abbrev pub sum_given : PlanTree → Tree → ℕ
