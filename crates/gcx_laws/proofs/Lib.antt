@@ -37,3 +37,4 @@ pub mod Moved
 pub mod Meaning
 pub mod Documents
 pub mod More
+pub mod Keeping

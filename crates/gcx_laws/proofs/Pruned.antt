@@ -20,7 +20,7 @@ use Rattle.gcx_laws.proofs.Need.{Operand_needs, Cond_needs, Conds_need}
 abbrev pub pruned : (Node → Bool) → Tree → Tree
 pruned keep P = record { nodes = filter keep P.nodes; at = P.at }
 
-filter_all : {X : Type 0} (q : X → Bool) (xs : List X) → ((x : X) → In x xs → q x ≡ true) → filter q xs ≡ xs
+pub filter_all : {X : Type 0} (q : X → Bool) (xs : List X) → ((x : X) → In x xs → q x ≡ true) → filter q xs ≡ xs
 filter_all q [] h = refl
 filter_all q (x ∷ xs) h = rw (h x (inl refl)) (ap (λ z. x ∷ z) (filter_all q xs (λ y i. h y (inr i))))
 

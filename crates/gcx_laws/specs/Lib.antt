@@ -1,2 +1,3 @@
 pub mod Bridges
+pub mod Kept
 pub mod Laws

@@ -2,12 +2,17 @@
 #![tactic(auto)]
 
 mod bridges;
+mod kept;
 mod laws;
 
 pub use bridges::{
     demand_is_reached, documents_grow, first_is_least, gives_by_kind, grow_is_feeding,
     hits_by_steps, leads_is_feeding, loops_bind_hits, loops_in_order, matches_are_hits,
     nodes_are_numbered, one_chain, one_statement, paths_by_rows, signed_is_off, tokens_are_found,
+};
+pub use kept::{
+    closed_stays, copy_kept, first_kept, later_kept, matches_kept, point_stays, so_far_stays,
+    taken_are_there, truth_kept,
 };
 pub use laws::{
     balance_law, bound_law, closed_law, copy_held, empty_at_end, given_stays, gone_stays,
