@@ -38,3 +38,4 @@ pub mod Meaning
 pub mod Documents
 pub mod More
 pub mod Keeping
+pub mod Moving

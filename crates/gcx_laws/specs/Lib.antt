@@ -1,3 +1,4 @@
 pub mod Bridges
 pub mod Kept
 pub mod Laws
+pub mod Moves

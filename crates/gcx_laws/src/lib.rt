@@ -4,6 +4,7 @@
 mod bridges;
 mod kept;
 mod laws;
+mod moves;
 
 pub use bridges::{
     demand_is_reached, documents_grow, first_is_least, gives_by_kind, grow_is_feeding,
@@ -19,4 +20,8 @@ pub use laws::{
     held_by_act, held_by_feed, known_is_front, loop_held, need_law, normal_is_good, normal_law,
     offs_at_matches, once_law, placed_once, plan_bytes, plan_writes, point_law, prefix_law,
     resume_law, taken_stays, truth_held, turn_law, turns_held, unsigned_law,
+};
+pub use moves::{
+    branch_move, branch_waits, empty_rest, first_round, last_round, loop_waits, next_round,
+    no_round, off_move, points_are_stacks, round_waits, run_is_done, write_move,
 };
