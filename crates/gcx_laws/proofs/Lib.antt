@@ -39,3 +39,4 @@ pub mod Documents
 pub mod More
 pub mod Keeping
 pub mod Moving
+pub mod CopyFrames

@@ -1,4 +1,5 @@
 pub mod Bridges
+pub mod Copying
 pub mod Kept
 pub mod Laws
 pub mod Moves

@@ -2,6 +2,7 @@
 #![tactic(auto)]
 
 mod bridges;
+mod copying;
 mod kept;
 mod laws;
 mod moves;
@@ -11,6 +12,7 @@ pub use bridges::{
     hits_by_steps, leads_is_feeding, loops_bind_hits, loops_in_order, matches_are_hits,
     nodes_are_numbered, one_chain, one_statement, paths_by_rows, signed_is_off, tokens_are_found,
 };
+pub use copying::copy_goes_on;
 pub use kept::{
     closed_stays, copy_kept, first_kept, later_kept, matches_kept, point_stays, so_far_stays,
     taken_are_there, truth_kept,
