@@ -44,3 +44,6 @@ pub mod Straight
 pub mod Departures
 pub mod Traces
 pub mod Spelling
+pub mod Keeping
+pub mod Moving
+pub mod CopyFrames

@@ -17,7 +17,7 @@ use Rattle.gcx_laws.proofs.Prefix.{Before, Same, More, Bound, Bound-bind, loop_m
 abbrev pub after : List Action → Out → Out
 after before o = record { acts = before ++ o.acts; done = o.done }
 
-after-after : (a b : List Action) (o : Out) → after a (after b o) ≡ after (a ++ b) o
+pub after-after : (a b : List Action) (o : Out) → after a (after b o) ≡ after (a ++ b) o
 after-after a b o = rw (append_assoc a b o.acts) refl
 
 pub seq-idle : (a : Out) → seq a (idle true) ≡ a
@@ -38,7 +38,7 @@ seq-assoc a b c = go a b c a.done b.done refl refl
 pub seq-done : (a b : Out) → a.done ≡ true → seq a b ≡ after a.acts b
 seq-done a b e = rw e refl
 
-seq-after : (xs : List Action) (a b : Out) → seq (after xs a) b ≡ after xs (seq a b)
+pub seq-after : (xs : List Action) (a b : Out) → seq (after xs a) b ≡ after xs (seq a b)
 seq-after xs a b = go a.done
   where
     go : (d : Bool) → seq_if d (after xs a) b ≡ after xs (seq_if d a b)

@@ -37,7 +37,7 @@ module _ (P : Tree) where
     First : (r : List Action) → a.acts ≡ before ++ r → Cut_seq a b before rest
     Second : a.done ≡ true → (c : List Action) → before ≡ a.acts ++ c → b.acts ≡ c ++ rest → Cut_seq a b before rest
 
-  cut_seq : (a b : Out) (before rest : List Action) → (seq a b).acts ≡ before ++ rest → Cut_seq a b before rest
+  pub cut_seq : (a b : Out) (before rest : List Action) → (seq a b).acts ≡ before ++ rest → Cut_seq a b before rest
   cut_seq a b before rest e = go a.done refl e
     where
       from : Cut a.acts b.acts before rest → a.done ≡ true → Cut_seq a b before rest
@@ -53,14 +53,14 @@ module _ (P : Tree) where
     Outside : before ≡ [] → Cut_loop f ns before
     Within : (pre : List Node) (n : Node) (post : List Node) (c rest : List Action) → ns ≡ pre ++ n ∷ post → (loop f pre true).done ≡ true → before ≡ (loop f pre true).acts ++ c → (f n).acts ≡ c ++ rest → Cut_loop f ns before
 
-  none_left : {X : Type 0} (xs ys : List X) → [] ≡ xs ++ ys → xs ≡ []
+  pub none_left : {X : Type 0} (xs ys : List X) → [] ≡ xs ++ ys → xs ≡ []
   none_left [] ys e = refl
   none_left (x ∷ xs) ys e = absurd (cc)
 
   seq_done_acts : (a b : Out) → a.done ≡ true → ((seq a b).done ≡ b.done) × ((seq a b).acts ≡ a.acts ++ b.acts)
   seq_done_acts a b e = (rw e refl, rw e refl)
 
-  cut_loop : (f : Node → Out) (ns : List Node) (over : Bool) (before rest : List Action) → (loop f ns over).acts ≡ before ++ rest → Cut_loop f ns before
+  pub cut_loop : (f : Node → Out) (ns : List Node) (over : Bool) (before rest : List Action) → (loop f ns over).acts ≡ before ++ rest → Cut_loop f ns before
   cut_loop f [] over before rest e = Outside (none_left before rest e)
   cut_loop f (n ∷ ns) over before rest e = go (λ c h. cut_loop f ns over c rest h) (cut_seq (f n) (loop f ns over) before rest e)
     where
@@ -76,7 +76,7 @@ module _ (P : Tree) where
       go ih (Second d c g h) = more d c g (ih c h)
 
   -- nothing taken, or all of it
-  one_action : (xs : List Action) (x : Action) (r : List Action) → x ∷ [] ≡ xs ++ r → (xs ≡ []) ⊎ (xs ≡ x ∷ [])
+  pub one_action : (xs : List Action) (x : Action) (r : List Action) → x ∷ [] ≡ xs ++ r → (xs ≡ []) ⊎ (xs ≡ x ∷ [])
   one_action [] x r e = inl refl
   one_action (y ∷ ys) x r e =
       let h : x ≡ y = cc in

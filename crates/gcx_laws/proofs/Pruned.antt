@@ -20,7 +20,7 @@ use Rattle.gcx_laws.proofs.Need.{Operand_needs, Cond_needs, Conds_need}
 abbrev pub pruned : (Node → Bool) → Tree → Tree
 pruned keep P = record { nodes = filter keep P.nodes; at = P.at }
 
-filter_all : {X : Type 0} (q : X → Bool) (xs : List X) → ((x : X) → In x xs → q x ≡ true) → filter q xs ≡ xs
+pub filter_all : {X : Type 0} (q : X → Bool) (xs : List X) → ((x : X) → In x xs → q x ≡ true) → filter q xs ≡ xs
 filter_all q [] h = refl
 filter_all q (x ∷ xs) h = rw (h x (inl refl)) (ap (λ z. x ∷ z) (filter_all q xs (λ y i. h y (inr i))))
 
@@ -38,7 +38,7 @@ map_same : {X Y : Type 0} (f g : X → Y) (xs : List X) → ((x : X) → In x xs
 map_same f g [] h = refl
 map_same f g (x ∷ xs) h = rw (h x (inl refl), map_same f g xs (λ y i. h y (inr i))) refl
 
-loop_same : (f g : Node → Out) (ns : List Node) (over : Bool) → ((n : Node) → In n ns → f n ≡ g n) → loop f ns over ≡ loop g ns over
+pub loop_same : (f g : Node → Out) (ns : List Node) (over : Bool) → ((n : Node) → In n ns → f n ≡ g n) → loop f ns over ≡ loop g ns over
 loop_same f g [] over h = refl
 loop_same f g (n ∷ ns) over h = rw (h n (inl refl), loop_same f g ns over (λ m i. h m (inr i))) refl
 

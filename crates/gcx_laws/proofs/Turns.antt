@@ -165,7 +165,7 @@ acts_to : (P : Tree) (d : BodyTree) (env : Env) (a b : List Action) (fs : List F
 acts_to P d env a b fs e h = subst (λ (z : List Action). IsPoint P d env z fs) e h
 
 -- the rounds up to one, that one too
-loop_to : (f : Node → Out) (pre : List Node) (n : Node) → (loop f pre true).done ≡ true → (f n).done ≡ true → ((loop f (pre ++ n ∷ []) true).done ≡ true) × ((loop f (pre ++ n ∷ []) true).acts ≡ (loop f pre true).acts ++ (f n).acts)
+pub loop_to : (f : Node → Out) (pre : List Node) (n : Node) → (loop f pre true).done ≡ true → (f n).done ≡ true → ((loop f (pre ++ n ∷ []) true).done ≡ true) × ((loop f (pre ++ n ∷ []) true).acts ≡ (loop f pre true).acts ++ (f n).acts)
 loop_to f pre n d e =
     let r : loop f (pre ++ n ∷ []) true ≡ after (loop f pre true).acts (f n) = loop-append f pre (n ∷ []) true ∙ (seq-done (loop f pre true) (seq (f n) (idle true)) d ∙ ap (after (loop f pre true).acts) (seq-idle (f n))) in
     (ap (λ (z : Out). z.done) r ∙ e, ap (λ (z : Out). z.acts) r)

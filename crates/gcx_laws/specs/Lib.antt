@@ -5,3 +5,6 @@ pub mod Laws
 pub mod LineTexts
 pub mod LoopRules
 pub mod Trace
+pub mod Copying
+pub mod Kept
+pub mod Moves

@@ -8,6 +8,9 @@ mod laws;
 mod line_texts;
 mod loop_rules;
 mod trace;
+mod copying;
+mod kept;
+mod moves;
 
 pub use binding::copy_bound_law;
 pub use bridges::{
@@ -16,6 +19,11 @@ pub use bridges::{
     nodes_are_numbered, one_chain, one_statement, paths_by_rows, signed_by_role, signed_is_off, tokens_are_found,
 };
 pub use going::{known_goes_on, peak_goes_on, trace_goes_on};
+pub use copying::copy_goes_on;
+pub use kept::{
+    closed_stays, copy_kept, first_kept, later_kept, matches_kept, point_stays, so_far_stays,
+    taken_are_there, truth_kept,
+};
 pub use laws::{
     balance_law, bound_law, closed_law, copy_held, empty_at_end, given_stays, gone_stays,
     held_by_act, held_by_feed, known_is_front, loop_held, need_law, normal_is_good, normal_law,
@@ -27,4 +35,8 @@ pub use loop_rules::{fsa_by_loop, path_by_loop, straight_by_loop, variables_of_l
 pub use trace::{
     departed_are_gone, events_are_reached, one_demand_run, one_telling, peak_is_greatest,
     trace_by_events,
+};
+pub use moves::{
+    branch_move, branch_waits, empty_rest, first_round, last_round, loop_waits, next_round,
+    no_round, off_move, points_are_stacks, round_waits, run_is_done, write_move,
 };

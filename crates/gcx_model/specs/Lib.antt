@@ -18,6 +18,7 @@ pub mod Held
 pub mod Growth
 pub mod Points
 pub mod Needs
+pub mod Copying
 pub mod Sound
 pub mod Normal
 pub mod Demand
