@@ -38,3 +38,6 @@ pub mod Moved
 pub mod Meaning
 pub mod Documents
 pub mod More
+pub mod Told
+pub mod PastForms
+pub mod Bases
