@@ -113,7 +113,7 @@ plain : (core : BodyTree) (r : RoleRowTree) → In r (roles_of core) → Plain r
 plain core r (inl e) = plain_own 0 r e
 plain core r (inr i) = plain_rows core r i
 
-row_in : (rs : List RoleRowTree) (j : ℕ) (r : RoleRowTree) → row_at rs j ≡ Some r → In r rs
+pub row_in : (rs : List RoleRowTree) (j : ℕ) (r : RoleRowTree) → row_at rs j ≡ Some r → In r rs
 row_in [] j r e = absurd (cc)
 row_in (q ∷ rs) zero r e = inl (cc)
 row_in (q ∷ rs) (suc j) r e = inr (row_in rs j r e)
@@ -229,7 +229,7 @@ no_append : (xs : List Step) (s : Step) → is_empty (xs ++ s ∷ []) ≡ false
 no_append [] s = refl
 no_append (x ∷ xs) s = refl
 
-cancel : (xs ys zs : List Step) → xs ++ ys ≡ xs ++ zs → ys ≡ zs
+pub cancel : (xs ys zs : List Step) → xs ++ ys ≡ xs ++ zs → ys ≡ zs
 cancel [] ys zs e = e
 cancel (x ∷ xs) ys zs e = cancel xs ys zs (cc)
 

@@ -47,3 +47,6 @@ pub mod Spelling
 pub mod Keeping
 pub mod Moving
 pub mod CopyFrames
+pub mod Told
+pub mod PastForms
+pub mod Bases

@@ -14,7 +14,7 @@ use Rattle.gcx_laws.proofs.Matches.{Grown, Numbered-high, added, added_at, Match
 use Rattle.gcx_laws.proofs.Freeze.{stays_closed, closed_added, hits_within}
 use Rattle.gcx_laws.proofs.Chains.{above_in}
 
-any-append : {X : Type 0} (p : X → Bool) (xs ys : List X) → any p (xs ++ ys) ≡ (any p xs || any p ys)
+pub any-append : {X : Type 0} (p : X → Bool) (xs ys : List X) → any p (xs ++ ys) ≡ (any p xs || any p ys)
 any-append p [] ys = refl
 any-append p (x ∷ xs) ys = ap (λ z. p x || z) (any-append p xs ys) ∙ or-assoc (p x) (any p xs) (any p ys)
   where
@@ -22,11 +22,11 @@ any-append p (x ∷ xs) ys = ap (λ z. p x || z) (any-append p xs ys) ∙ or-ass
     or-assoc true b c = refl
     or-assoc false b c = refl
 
-any_none : {X : Type 0} (p : X → Bool) (xs : List X) → ((x : X) → In x xs → p x ≡ false) → any p xs ≡ false
+pub any_none : {X : Type 0} (p : X → Bool) (xs : List X) → ((x : X) → In x xs → p x ≡ false) → any p xs ≡ false
 any_none p [] h = refl
 any_none p (x ∷ xs) h = rw (h x (inl refl)) (any_none p xs (λ y i. h y (inr i)))
 
-any_same : {X : Type 0} (p q : X → Bool) (xs : List X) → ((x : X) → In x xs → p x ≡ q x) → any p xs ≡ any q xs
+pub any_same : {X : Type 0} (p q : X → Bool) (xs : List X) → ((x : X) → In x xs → p x ≡ q x) → any p xs ≡ any q xs
 any_same p q [] h = refl
 any_same p q (x ∷ xs) h = rw (h x (inl refl), any_same p q xs (λ y i. h y (inr i))) refl
 

@@ -8,3 +8,4 @@ pub mod Trace
 pub mod Copying
 pub mod Kept
 pub mod Moves
+pub mod Pasts

@@ -11,12 +11,14 @@ mod trace;
 mod copying;
 mod kept;
 mod moves;
+mod pasts;
 
 pub use binding::copy_bound_law;
 pub use bridges::{
     demand_is_reached, documents_grow, first_is_least, gives_by_kind, grow_is_feeding,
     hits_by_steps, leads_is_feeding, loops_bind_hits, loops_in_order, matches_are_hits,
-    nodes_are_numbered, one_chain, one_statement, paths_by_rows, signed_by_role, signed_is_off, tokens_are_found,
+    nodes_are_numbered, one_chain, one_statement, paths_by_rows, signed_by_role, signed_is_off,
+    tokens_are_found,
 };
 pub use going::{known_goes_on, peak_goes_on, trace_goes_on};
 pub use copying::copy_goes_on;
@@ -39,4 +41,7 @@ pub use trace::{
 pub use moves::{
     branch_move, branch_waits, empty_rest, first_round, last_round, loop_waits, next_round,
     no_round, off_move, points_are_stacks, round_waits, run_is_done, write_move,
+};
+pub use pasts::{
+    core_state_past, live_by_bases, own_tells, past_acts, past_feeds, past_opens, reach_held,
 };
