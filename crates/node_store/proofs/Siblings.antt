@@ -58,6 +58,14 @@ after_listed p (c ∷ cs) k e = go (c == p) e (after_listed p cs k)
     go true h rest = or_right (c == k) _ (head_listed cs k h)
     go false h rest = or_right (c == k) _ (rest h)
 
+before_step : (k c j : ℕ) (b : Bool) (cs : List ℕ) → cond b (Some c) (before k cs) ≡ Some j → (before k cs ≡ Some j → is_listed j cs ≡ true) → is_listed j (c ∷ cs) ≡ true
+before_step k c j true cs e rest = let same : c ≡ j = search e in ap (λ b. b || is_listed j cs) (eq-eqb c j same)
+before_step k c j false cs e rest = or_right (c == j) _ (rest e)
+
+pub before_listed : (k : ℕ) (cs : List ℕ) (j : ℕ) → before k cs ≡ Some j → is_listed j cs ≡ true
+before_listed k [] j e = absurd (cc)
+before_listed k (c ∷ cs) j e = before_step k c j (starts k cs) cs e (before_listed k cs j)
+
 pub no_last : (cs : List ℕ) → last_of cs ≡ None → cs ≡ []
 no_last [] e = refl
 no_last (c ∷ cs) e = absurd (cc)

@@ -1,5 +1,5 @@
 -- The rows of a slab's cells, and what each call makes of them.
-use Rattle.std.proofs.Common.{◌≡◌, ◌+◌, ◌≤◌, ℕ, List, [], ◌∷◌, Option, Some, None, cond, refl, sym, ap, subst, ◌∙◌, arith, rules, inl, inr, count_by, is_some, map}
+use Rattle.std.proofs.Common.{◌≡◌, ◌+◌, ◌≤◌, ℕ, List, [], ◌∷◌, Option, Some, None, cond, refl, sym, ap, subst, ◌∙◌, arith, rules, inl, inr, count_by, is_some, map, true}
 use Rattle.std.specs.Prelude.{option_map, IsSome, IfSome, slice_index_or}
 use Rattle.std.specs.FinMap.{empty, get, len}
 use Rattle.std.proofs.Math.ListN.{get_or-map}
@@ -9,12 +9,12 @@ use Rattle.slab.specs.Slab as slab
 use Rattle.slab.proofs.SlabLemmas.{Updates-with_value}
 use Rattle.std.proofs.lemmas.Bool.{cases_eq, eq-eqb, ne_eqb}
 use Rattle.node_store.specs.declared.slab_nodes.Cell.{Cell}
-use Rattle.node_store.specs.Rows.{Entry, Rows, with_payload, changed_at, planted, appended, unlinked, last_of, after, children_of, parent_of, IsTree}
+use Rattle.node_store.specs.Rows.{Entry, Rows, with_payload, changed_at, planted, appended, unlinked, last_of, children_of, parent_of, is_listed, IsTree}
 use Rattle.node_store.specs.Links.{Linked, cell_at, rows_of, linked_at, Holds, altered, put, fresh_cell, with_last, with_paid, joined, IsSound}
 use Rattle.node_store.specs.declared.store.Place.{Place}
 use Rattle.node_store.specs.Slots.{index_of, linked_of, cells_of, links}
 use Rattle.node_store.proofs.Maps.{some_row, is_there, parent_at, child_at, used_parent, used_child}
-use Rattle.node_store.proofs.Siblings.{head_listed, after_listed}
+use Rattle.node_store.proofs.Siblings.{head_listed, last_listed, after_listed, before_listed}
 use Rattle.node_store.proofs.Trees.{tree_empty, tree_planted, tree_appended, tree_unlinked, tree_paid, len_paid}
 use Rattle.node_store.proofs.Held.{get_row, len_rows, rows_is, sound_of, holds_empty, holds_planted, holds_appended, holds_unlinked, holds_paid}
 
@@ -130,14 +130,24 @@ module _ {T : Type 0} (s : Slab (Cell T)) (root : Option ℕ) (most : ℕ) (soun
       let is = cell_is q c there used in
       places_used c.first (λ k e. used_child here k q (sound.tree.down k q (child_at here q k is.0 is.1 ∙ head_listed is.0.children k (sym (ap (λ m. m.first) is.2) ∙ e))))
 
+  pub last_used : (q : ℕ) (c : Cell T) → slab.get s q ≡ Some c → IsSome (get here q) → IfSome c.last (λ p. IsSome (get here p.0))
+  last_used q c there used =
+      let is = cell_is q c there used in
+      places_used c.last (λ k e. used_child here k q (sound.tree.down k q (child_at here q k is.0 is.1 ∙ last_listed is.0.children k (sym (ap (λ m. m.last) is.2) ∙ e))))
+
+  beside_used : (k : ℕ) (a : Option ℕ) → is_listed k (children_of here a) ≡ true → IsSome (get here k)
+  beside_used k None h = absurd (cc)
+  beside_used k (Some a) h = used_child here k a (sound.tree.down k a h)
+
   pub next_used : (q : ℕ) (c : Cell T) → slab.get s q ≡ Some c → IsSome (get here q) → IfSome c.next (λ p. IsSome (get here p.0))
   next_used q c there used =
       let is = cell_is q c there used in
-      places_used c.next (λ k e. beside k is.0.parent (sym (ap (λ m. m.next) is.2) ∙ e))
-    where
-      beside : (k : ℕ) (a : Option ℕ) → after q (children_of here a) ≡ Some k → IsSome (get here k)
-      beside k None h = absurd (cc)
-      beside k (Some a) h = used_child here k a (sound.tree.down k a (after_listed q (children_of here (Some a)) k h))
+      places_used c.next (λ k e. beside_used k is.0.parent (after_listed q (children_of here is.0.parent) k (sym (ap (λ m. m.next) is.2) ∙ e)))
+
+  pub prev_used : (q : ℕ) (c : Cell T) → slab.get s q ≡ Some c → IsSome (get here q) → IfSome c.prev (λ p. IsSome (get here p.0))
+  prev_used q c there used =
+      let is = cell_is q c there used in
+      places_used c.prev (λ k e. beside_used k is.0.parent (before_listed q (children_of here is.0.parent) k (sym (ap (λ m. m.prev) is.2) ∙ e)))
 
   -- the root is in use
   pub root_used : (o : Option Place) → index_of o ≡ root → IfSome o (λ p. IsSome (get here p.0))

@@ -1,4 +1,5 @@
--- What a store keeps in its cells, and the rows that the cells hold. All definitions here are this project's.
+-- What a store keeps in its cells, and the rows that the cells hold. This follows the code: private functions and a
+-- store's model speak of it, and no clause of a public call. All definitions here are this project's.
 use Rattle.std.specs.Prelude.{◌≡◌, ◌==◌, ◌≤◌, ◌+◌, ℕ, zero, suc, List, [], ◌∷◌, length, Option, Some, None, if◌then◌else◌, option_map, slice_index_or}
 use Rattle.std.specs.FinMap as map
 use Rattle.node_store.specs.Rows.{Entry, Rows, head_of, last_of, after, before, children_of, IsTree}

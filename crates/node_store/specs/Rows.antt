@@ -100,6 +100,9 @@ module _ {T : Type 0} where
   abbrev pub next_of : Rows T → ℕ → Option ℕ
   next_of rows p = after p (children_of rows (parent_of rows p))
 
+  abbrev pub prev_of : Rows T → ℕ → Option ℕ
+  prev_of rows p = before p (children_of rows (parent_of rows p))
+
   -- p is a child of the row at q
   abbrev pub is_child : Rows T → ℕ → ℕ → Bool
   is_child rows q p = is_listed p (children_in (map.get rows q))

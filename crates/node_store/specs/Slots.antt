@@ -1,4 +1,4 @@
--- The cells that a slab's slots hold.
+-- The cells that a slab's slots hold. This follows the code: private functions and the model of `SlabNodes` speak of it.
 use Rattle.std.specs.Prelude.{ℕ, Option, map, option_map}
 use Rattle.slab.specs.Slab.{Slab, get}
 use Rattle.node_store.specs.Links.{Linked, Cells}

@@ -1,7 +1,7 @@
 //! A place in a store, to walk from.
 ghost use Rattle.std.specs.Prelude.{◌≡◌, Option, Some, None, IfSome, IsSome, option_map};
 ghost use Rattle.std.specs.FinMap as map;
-ghost use Rattle.node_store.specs.Rows.{parent_of, next_of, head_of, children_in};
+ghost use Rattle.node_store.specs.Rows.{parent_of, next_of, prev_of, head_of, last_of, children_in};
 
 use crate::{NodeStore, Place};
 use std::alloc::AllocError;
@@ -59,12 +59,34 @@ impl<'a, N: NodeStore<T>, T> At<'a, N, T> {
         }
     }
 
+    /// The last child, or None where there is no child.
+    pub fn last(&self) -> Option<At<'a, N, T>>
+        ensures store { IfSome result (λ a. a.store.now ≡ self.now.store.now) }
+        ensures place { option_map (λ a. a.place.0) result ≡ last_of (children_in (map.get (N.rows self.now.store.now) self.now.place.0)) }
+    {
+        match self.store.last(self.place) {
+            Some(place) => Some(At::new(self.store, place)),
+            None => None,
+        }
+    }
+
     /// The next child of the same parent, or None at the last.
     pub fn next(&self) -> Option<At<'a, N, T>>
         ensures store { IfSome result (λ a. a.store.now ≡ self.now.store.now) }
         ensures place { option_map (λ a. a.place.0) result ≡ next_of (N.rows self.now.store.now) self.now.place.0 }
     {
         match self.store.next(self.place) {
+            Some(place) => Some(At::new(self.store, place)),
+            None => None,
+        }
+    }
+
+    /// The child before of the same parent, or None at the first.
+    pub fn prev(&self) -> Option<At<'a, N, T>>
+        ensures store { IfSome result (λ a. a.store.now ≡ self.now.store.now) }
+        ensures place { option_map (λ a. a.place.0) result ≡ prev_of (N.rows self.now.store.now) self.now.place.0 }
+    {
+        match self.store.prev(self.place) {
             Some(place) => Some(At::new(self.store, place)),
             None => None,
         }

@@ -22,7 +22,8 @@ struct Cell<T> {
     payload: T,
 }
 
-/// A store whose rows stand in a slab.
+/// A store whose rows stand in a slab. Where no cell is dead, `plant` and `append` may move all cells into more room,
+/// which doubles: over many calls each row costs the same. All other calls cost what the trait says.
 #[derive(Debug, Drop)]
 pub struct SlabNodes<T> {
     cells: Slab<Cell<T>>,
@@ -71,6 +72,8 @@ impl<T> NodeStore<T> for SlabNodes<T> {
 
     ghost root_of = { λ s. s.root };
 
+    ghost loans = { λ _. [] };
+
     ghost with_paid = { λ s p x. record s { rows = changed_at (with_payload x) p s.rows } };
 
     ghost use Rattle.std.proofs.Common.{refl};
@@ -80,6 +83,8 @@ impl<T> NodeStore<T> for SlabNodes<T> {
     ghost written_most = { λ s p x used. refl };
 
     ghost written_root = { λ s p x used. refl };
+
+    ghost written_loans = { λ s p x used. refl };
 
     fn plant(&mut self, payload: T) -> Result<Place, Refused<T>> {
         let place = add(&mut self.cells, None, None, payload)?;
@@ -121,8 +126,16 @@ impl<T> NodeStore<T> for SlabNodes<T> {
         cell_at(&self.cells, place).first
     }
 
+    fn last(&self, place: Place) -> Option<Place> {
+        cell_at(&self.cells, place).last
+    }
+
     fn next(&self, place: Place) -> Option<Place> {
         cell_at(&self.cells, place).next
+    }
+
+    fn prev(&self, place: Place) -> Option<Place> {
+        cell_at(&self.cells, place).prev
     }
 
     fn payload(&self, place: Place) -> &T {
