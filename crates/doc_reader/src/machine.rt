@@ -123,6 +123,3 @@ pub(crate) fn read_text(m: &mut Machine, limits: Limits, place: u64, text: &str)
         }
     }
 }
-
-#[cfg(test)]
-mod tests;

@@ -221,6 +221,3 @@ impl Reader {
         }
     }
 }
-
-#[cfg(test)]
-mod tests;

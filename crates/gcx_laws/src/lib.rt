@@ -3,15 +3,15 @@
 
 mod binding;
 mod bridges;
+mod copying;
 mod going;
+mod kept;
 mod laws;
 mod line_texts;
 mod loop_rules;
-mod trace;
-mod copying;
-mod kept;
 mod moves;
 mod pasts;
+mod trace;
 
 pub use binding::copy_bound_law;
 pub use bridges::{
@@ -20,8 +20,8 @@ pub use bridges::{
     nodes_are_numbered, one_chain, one_statement, paths_by_rows, signed_by_role, signed_is_off,
     tokens_are_found,
 };
-pub use going::{known_goes_on, peak_goes_on, trace_goes_on};
 pub use copying::copy_goes_on;
+pub use going::{known_goes_on, peak_goes_on, trace_goes_on};
 pub use kept::{
     closed_stays, copy_kept, first_kept, later_kept, matches_kept, point_stays, so_far_stays,
     taken_are_there, truth_kept,
@@ -34,14 +34,14 @@ pub use laws::{
 };
 pub use line_texts::{line_by_text, lines_by_text};
 pub use loop_rules::{fsa_by_loop, path_by_loop, straight_by_loop, variables_of_loops};
-pub use trace::{
-    departed_are_gone, events_are_reached, one_demand_run, one_telling, peak_is_greatest,
-    trace_by_events,
-};
 pub use moves::{
     branch_move, branch_waits, empty_rest, first_round, last_round, loop_waits, next_round,
     no_round, off_move, points_are_stacks, round_waits, run_is_done, write_move,
 };
 pub use pasts::{
     core_state_past, live_by_bases, own_tells, past_acts, past_feeds, past_opens, reach_held,
+};
+pub use trace::{
+    departed_are_gone, events_are_reached, one_demand_run, one_telling, peak_is_greatest,
+    trace_by_events,
 };

@@ -1,10 +1,11 @@
 //! Queries and their cores.
 use crate::large::{copied, looking_far, repeated};
+use gcx_base::{Axis, Step, Test};
 use gcx_model::{Body, Item, QueryFault, What};
 use std::alloc::Global;
 use std::process::Abort;
 use std::test::Fail;
-use xq_normal::{normalise, put_cond, put_step};
+use xq_normal::{normalise, put_cond, put_step, put_steps};
 use xq_parse::parse;
 
 fn put_shown(out: &mut String, body: &Body) -> Result<(), Fail> {
@@ -120,4 +121,34 @@ fn a_core_that_is_too_large_is_refused(rt: HostRuntime) -> Result<(), Fail> {
     is_past(&rt, alloc, &looking_far(alloc, 8_001)?, What::Steps, 8_000)?;
     assert_eq!(rt; refusal(alloc, &copied(alloc, 8)?)?, None);
     is_past(&rt, alloc, &copied(alloc, 9)?, What::Conditions, 8_388_608)
+}
+
+#[test]
+fn no_steps_are_a_point(rt: HostRuntime) -> Result<(), Fail> {
+    let alloc = rt.alloc();
+    let mut out = String::new(alloc);
+    put_steps(&mut out, &[])?;
+    let any = [
+        Step {
+            axis: Axis::Descendant,
+            test: Test::AnyText,
+        },
+        Step {
+            axis: Axis::Child,
+            test: Test::AnyNode,
+        },
+    ];
+    out.push_str(" and ")?;
+    put_steps(&mut out, &any)?;
+    assert_eq!(rt; out.as_str(), ". and descendant::text()/child::node()");
+    Ok(())
+}
+
+#[test]
+fn nothing_is_written_by_nothing(rt: HostRuntime) -> Result<(), Fail> {
+    let alloc = rt.alloc();
+    let query = parse(alloc, b"()")?;
+    let core = normalise(alloc, &query)?;
+    assert!(rt; core.body.items().is_empty());
+    Ok(())
 }

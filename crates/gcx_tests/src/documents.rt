@@ -480,4 +480,5 @@ fn an_end_inside_each_construct_is_too_soon(rt: HostRuntime) -> Result<(), Fail>
     are_cut(&rt, rt.alloc(), rows)
 }
 
+mod forms;
 mod limits;

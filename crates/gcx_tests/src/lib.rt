@@ -11,8 +11,12 @@ mod documents;
 #[cfg(test)]
 mod large;
 #[cfg(test)]
+mod literals;
+#[cfg(test)]
 mod plans;
 #[cfg(test)]
 mod queries;
 #[cfg(test)]
 mod runs;
+#[cfg(test)]
+mod tokens;

@@ -36,6 +36,22 @@ fn are_refused(rt: &impl Abort, alloc: Global, rows: &[(&[u8], QueryFault)]) -> 
 }
 
 #[test]
+fn each_form_is_printed(rt: HostRuntime) -> Result<(), Fail> {
+    let rows: &[(&[u8], &str)] = &[
+        (b"<r>{/a, <b/>}</r>", "<r>{/a, <b></b>}</r>"),
+        (
+            b"if (/a = -3.14) then () else ()",
+            "if (/a = -3.14) then () else ()",
+        ),
+        (
+            b"for $x in /a, $y in $x//node() where not(true()) and (\"1\" <= $y/text() or true() and exists($x/*)) return ((), /b), ()",
+            "for $x in /a, $y in $x//node() where not(true()) and (\"1\" <= $y/text() or true() and exists($x/*)) return ((), /b), ()",
+        ),
+    ];
+    are_printed(&rt, rt.alloc(), rows)
+}
+
+#[test]
 fn paths_are_printed(rt: HostRuntime) -> Result<(), Fail> {
     let rows: &[(&[u8], &str)] = &[
         (b"/a", "/a"),

@@ -9,6 +9,3 @@ mod text;
 
 pub use compiler::compile;
 pub use text::explain;
-
-#[cfg(test)]
-mod tests;

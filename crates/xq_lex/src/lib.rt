@@ -13,6 +13,3 @@ mod token;
 pub use lexer::lex;
 pub use sign::Sign;
 pub use token::{Tok, TokKind, Tokens};
-
-#[cfg(test)]
-mod tests;

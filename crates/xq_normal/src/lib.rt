@@ -15,6 +15,3 @@ mod text;
 
 pub use normal::normalise;
 pub use text::{put_cond, put_step, put_steps};
-
-#[cfg(test)]
-mod tests;

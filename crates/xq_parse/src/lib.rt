@@ -12,6 +12,3 @@ mod route;
 mod scope;
 
 pub use query_text::parse;
-
-#[cfg(test)]
-mod tests;

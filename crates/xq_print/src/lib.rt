@@ -10,6 +10,3 @@ pub use cond::{put_where, rel_text};
 pub use expr::print;
 pub use literal::{put_number, put_string};
 pub use path::{put_name, put_test};
-
-#[cfg(test)]
-mod tests;

@@ -8,7 +8,7 @@ use std::alloc::Global;
 use std::test::Fail;
 
 /// Limits that small documents pass.
-fn small(bytes: u64) -> Limits
+pub(super) fn small(bytes: u64) -> Limits
     ensures bytes { result.bytes ≡ bytes }
     ensures depth { result.depth ≡ 2 }
 {

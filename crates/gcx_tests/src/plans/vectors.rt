@@ -4,6 +4,14 @@ use std::test::Fail;
 
 const SHOWN: &[Row] = &[
     (
+        "()",
+        r#"var 0 root
+role 0 own 0
+plan
+off 0 0 . . own
+"#,
+    ),
+    (
         r#"<r>{for $x in /a/b return $x}</r>"#,
         r#"var 0 root
 var 1 of 0 child::a straight
