@@ -40,3 +40,5 @@ pub mod More
 pub mod Keeping
 pub mod Moving
 pub mod CopyFrames
+pub mod CopyCut
+pub mod CopyMoves

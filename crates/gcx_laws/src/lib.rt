@@ -12,7 +12,10 @@ pub use bridges::{
     hits_by_steps, leads_is_feeding, loops_bind_hits, loops_in_order, matches_are_hits,
     nodes_are_numbered, one_chain, one_statement, paths_by_rows, signed_is_off, tokens_are_found,
 };
-pub use copying::copy_goes_on;
+pub use copying::{
+    copy_begins, copy_ends, copy_goes_on, copy_is_cut, copy_steps, copy_waits, fine_point_stays,
+    fine_points, fine_resume, inside_held,
+};
 pub use kept::{
     closed_stays, copy_kept, first_kept, later_kept, matches_kept, point_stays, so_far_stays,
     taken_are_there, truth_kept,
