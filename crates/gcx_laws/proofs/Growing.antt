@@ -21,7 +21,7 @@ start_comes : (p : Node) (name ns : List ℕ) (nodes : List Node) → (p ≡ Roo
 start_comes Root name ns nodes h = ap not (h refl)
 start_comes (Under p s k) name ns nodes h = refl
 
-fed_from : (P Q : Tree) → Grow P Q → Fed P Q
+pub fed_from : (P Q : Tree) → Grow P Q → Fed P Q
 fed_from P Q (opened p name at h n a) = (
   Start name,
   subst (λ (z : Option Node). may_come_at z (Start name) P.nodes ≡ true) (sym at) (start_comes p name [] P.nodes h),

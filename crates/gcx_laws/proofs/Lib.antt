@@ -42,3 +42,4 @@ pub mod Moving
 pub mod CopyFrames
 pub mod CopyCut
 pub mod CopyMoves
+pub mod TurnsReached

@@ -3,3 +3,4 @@ pub mod Copying
 pub mod Kept
 pub mod Laws
 pub mod Moves
+pub mod Turning

@@ -6,6 +6,7 @@ mod copying;
 mod kept;
 mod laws;
 mod moves;
+mod turning;
 
 pub use bridges::{
     demand_is_reached, documents_grow, first_is_least, gives_by_kind, grow_is_feeding,
@@ -30,3 +31,4 @@ pub use moves::{
     branch_move, branch_waits, empty_rest, first_round, last_round, loop_waits, next_round,
     no_round, off_move, points_are_stacks, round_waits, run_is_done, write_move,
 };
+pub use turning::{one_turn_more, turns_reach, turns_reach_all};
