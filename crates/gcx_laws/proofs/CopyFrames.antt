@@ -104,7 +104,7 @@ IsWithin-trans P n m a b fs gs h (Within {m = q} {before = b'} {below = gs'} pre
     (Within pre post (ComesTo-trans P n m q a b' fs gs' h comes) has e dn)
 
 module _ (P : Tree) (w : Grown P) where
-  child_above : (n : ℕ) (m : Node) → In m P.nodes → (hits n (child_step ∷ []) m) ≡ true → n < serial_of m
+  pub child_above : (n : ℕ) (m : Node) → In m P.nodes → (hits n (child_step ∷ []) m) ≡ true → n < serial_of m
   child_above n m i h = go (any_in (λ (j : Node). reach n child_step j && hits (serial_of j) [] m) (above m) h)
     where
       at : (j : Node) → passes child_step.test (kind_of j) ≡ true → lies child_step.axis n j ≡ true → serial_of m ≡ serial_of j → In j P.nodes → n < serial_of m

@@ -50,3 +50,6 @@ pub mod CopyFrames
 pub mod Told
 pub mod PastForms
 pub mod Bases
+pub mod CopyCut
+pub mod CopyMoves
+pub mod TurnsReached

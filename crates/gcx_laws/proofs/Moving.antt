@@ -16,7 +16,7 @@ use Rattle.gcx_laws.proofs.Turns.{next_turn, leave_loop, leave_branch, pass_item
 use Rattle.gcx_laws.proofs.Public.{grown_from}
 
 -- the next element of a list behind its first k
-take_next : {X : Type 0} (k : ℕ) (xs : List X) (a : X) (ys : List X) → xs ≡ take k xs ++ a ∷ ys → (k < length xs) × (take (suc k) xs ≡ take k xs ++ a ∷ [])
+pub take_next : {X : Type 0} (k : ℕ) (xs : List X) (a : X) (ys : List X) → xs ≡ take k xs ++ a ∷ ys → (k < length xs) × (take (suc k) xs ≡ take k xs ++ a ∷ [])
 take_next zero [] a ys e = absurd (cc)
 take_next zero (x ∷ xs) a ys e = (omega arith, let f : x ≡ a = cc in ap (λ z. z ∷ []) f)
 take_next (suc k) [] a ys e = absurd (cc)

@@ -111,7 +111,7 @@ resume P w d env before fs (InCopy {x = x} {d = rest} before' rest' e) =
     ∙ (seq-after before (behind (length before) o) (run rest env P)
     ∙ ap (after before) (ap (seq (behind (length before) o)) (sym (seq-idle (run rest env P)))))
 
-same_when_done : (a b : Out) → Before a b → a.done ≡ true → a ≡ b
+pub same_when_done : (a b : Out) → Before a b → a.done ≡ true → a ≡ b
 same_when_done a b (Same e) d = e
 same_when_done a b (More f r e) d = absurd (true≢false (sym d ∙ f))
 

@@ -9,3 +9,4 @@ pub mod Copying
 pub mod Kept
 pub mod Moves
 pub mod Pasts
+pub mod Turning

@@ -12,6 +12,7 @@ mod loop_rules;
 mod moves;
 mod pasts;
 mod trace;
+mod turning;
 
 pub use binding::copy_bound_law;
 pub use bridges::{
@@ -22,6 +23,10 @@ pub use bridges::{
 };
 pub use copying::copy_goes_on;
 pub use going::{known_goes_on, peak_goes_on, trace_goes_on};
+pub use copying::{
+    copy_begins, copy_ends, copy_goes_on, copy_is_cut, copy_steps, copy_waits, fine_point_stays,
+    fine_points, fine_resume, inside_held,
+};
 pub use kept::{
     closed_stays, copy_kept, first_kept, later_kept, matches_kept, point_stays, so_far_stays,
     taken_are_there, truth_kept,
@@ -45,3 +50,4 @@ pub use trace::{
     departed_are_gone, events_are_reached, one_demand_run, one_telling, peak_is_greatest,
     trace_by_events,
 };
+pub use turning::{one_turn_more, turns_reach, turns_reach_all};

@@ -19,6 +19,7 @@ pub mod Growth
 pub mod Points
 pub mod Needs
 pub mod Copying
+pub mod Turning
 pub mod Sound
 pub mod Normal
 pub mod Demand
