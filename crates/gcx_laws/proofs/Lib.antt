@@ -41,3 +41,5 @@ pub mod More
 pub mod Told
 pub mod PastForms
 pub mod Bases
+pub mod Ahead
+pub mod Changes
