@@ -55,13 +55,16 @@ some_first : {X : Type 0} (xs : List X) (x : X) → In x xs → (y : X) × (head
 some_first [] x i = absurd i
 some_first (y ∷ ys) x i = (y, refl, inl refl)
 
-head_in : {X : Type 0} (xs : List X) (x : X) → head xs ≡ Some x → In x xs
+pub head_in : {X : Type 0} (xs : List X) (x : X) → head xs ≡ Some x → In x xs
 head_in [] x h = absurd (cc)
 head_in (y ∷ ys) x h = let is : y ≡ x = cc in inl is
 
-node_is : (n : ℕ) (o : Option Node) → is_node n o ≡ true → (x : Node) × (o ≡ Some x) × (serial_of x ≡ n)
+pub node_is : (n : ℕ) (o : Option Node) → is_node n o ≡ true → (x : Node) × (o ≡ Some x) × (serial_of x ≡ n)
 node_is n None h = absurd (false≢true h)
 node_is n (Some x) h = (x, refl, eqb-true (serial_of x) n h)
+
+is_seen : (n : ℕ) (o : Option Node) (x : Node) → o ≡ Some x → serial_of x ≡ n → is_node n o ≡ true
+is_seen n o x e f = ap (is_node n) e ∙ eq-eqb (serial_of x) n f
 
 module _ (past : Past) (is : IsPast past) where
   abbrev P : Tree
@@ -127,6 +130,15 @@ module _ (past : Past) (is : IsPast past) where
       first_kept : (k : ℕ) (x : Node) → first past.tree k s.tail ≡ Some x → is_held past.plan past.tree past.acts x ≡ true → first (held_tree past.plan past.tree past.acts) k s.tail ≡ Some x
       first_kept k x f h = ap head (filter_comm (hits k s.tail) (is_held past.plan P A) P.nodes) ∙ head_kept (is_held past.plan P A) (matches P k s.tail) x f h
 
+      first_same : s.kind ≡ First → (k : Node) → In k (matches past.tree (serial_of m) s.rel) → (x : Node) → first (held_tree past.plan past.tree past.acts) (serial_of k) s.tail ≡ Some x → first past.tree (serial_of k) s.tail ≡ Some x
+      first_same e k i x f =
+          let a = In-filter (hits (serial_of k) s.tail) x (held past.plan P A) (head_in (matches (held_tree past.plan P A) (serial_of k) s.tail) x f) in
+          let b = In-filter (is_held past.plan P A) x P.nodes a.0 in
+          let y = some_first (matches P (serial_of k) s.tail) x (Matches-from P (serial_of k) s.tail x b.0 a.1) in
+          let g : gives P (serial_of m) s.rel s.tail First y.0 ≡ true = any_from (λ (t : Node). is_node (serial_of y.0) (first P (serial_of t) s.tail)) k (matches P (serial_of m) s.rel) i (is_seen (serial_of y.0) (first P (serial_of k) s.tail) y.0 y.1 refl) in
+          let h : is_held past.plan P A y.0 ≡ true = reached_held y.0 (Matches-in P (serial_of k) s.tail y.0 y.2).0 (subst (λ (c : RoleKind). gives P (serial_of m) s.rel s.tail c y.0 ≡ true) (sym e) g) in
+          y.1 ∙ (sym (first_kept (serial_of k) y.0 y.1 h) ∙ f)
+
       held_tells : (n : Node) → In n past.tree.nodes → is_held past.plan past.tree past.acts n ≡ true → reaches (held_tree past.plan past.tree past.acts) s m n ≡ reaches past.tree s m n
       held_tells n j h = go s.kind refl
         where
@@ -152,25 +164,16 @@ module _ (past : Past) (is : IsPast past) where
                   let top : kept a.0 ≡ true = held_up n a.0 j (hits_above P w a.0 s.tail n q.0 j hit) h in
                   any_from (λ (z : Node). is_node (serial_of n) (first (held_tree past.plan P A) (serial_of z) s.tail)) a.0 (matches (held_tree past.plan P A) (serial_of m) s.rel)
                   (In-kept (hits (serial_of m) s.rel) a.0 (held past.plan P A) (In-kept kept a.0 P.nodes q.0 top) q.1)
-                  (ap (is_node (serial_of n)) (first_kept (serial_of a.0) f.0 f.1 (subst (λ (z : Node). kept z ≡ true) (sym same) h)) ∙ eq-eqb (serial_of f.0) (serial_of n) f.2)
+                  (is_seen (serial_of n) (first (held_tree past.plan P A) (serial_of a.0) s.tail) f.0 (first_kept (serial_of a.0) f.0 f.1 (subst (λ (z : Node). kept z ≡ true) (sym same) h)) f.2)
 
               back : gives (held_tree past.plan past.tree past.acts) (serial_of m) s.rel s.tail First n ≡ true → gives past.tree (serial_of m) s.rel s.tail First n ≡ true
               back g =
                   let a = any_in (λ (x : Node). is_node (serial_of n) (first (held_tree past.plan P A) (serial_of x) s.tail)) (matches (held_tree past.plan P A) (serial_of m) s.rel) g in
                   let f = node_is (serial_of n) (first (held_tree past.plan P A) (serial_of a.0) s.tail) a.2 in
                   let q = In-filter (hits (serial_of m) s.rel) a.0 (held past.plan P A) a.1 in
-                  let q' = In-filter kept a.0 P.nodes q.0 in
-                  let x = In-filter (hits (serial_of a.0) s.tail) f.0 (held past.plan P A) (head_in (matches (held_tree past.plan P A) (serial_of a.0) s.tail) f.0 f.1) in
-                  let x' = In-filter kept f.0 P.nodes x.0 in
-                  let y = some_first (matches P (serial_of a.0) s.tail) f.0 (Matches-from P (serial_of a.0) s.tail f.0 x'.0 x.1) in
-                  let z = Matches-in P (serial_of a.0) s.tail y.0 y.2 in
-                  let am : In a.0 (matches P (serial_of m) s.rel) = Matches-from P (serial_of m) s.rel a.0 q'.0 q.1 in
-                  let gy : gives P (serial_of m) s.rel s.tail First y.0 ≡ true = any_from (λ (t : Node). is_node (serial_of y.0) (first P (serial_of t) s.tail)) a.0 (matches P (serial_of m) s.rel) am (ap (is_node (serial_of y.0)) y.1 ∙ eq-eqb (serial_of y.0) (serial_of y.0) refl) in
-                  let hy : kept y.0 ≡ true = reached_held y.0 z.0 (subst (λ (k : RoleKind). gives P (serial_of m) s.rel s.tail k y.0 ≡ true) (sym e) gy) in
-                  let both : Some y.0 ≡ Some f.0 = sym (first_kept (serial_of a.0) y.0 y.1 hy) ∙ f.1 in
-                  let same : y.0 ≡ f.0 = cc in
+                  let am : In a.0 (matches P (serial_of m) s.rel) = Matches-from P (serial_of m) s.rel a.0 (In-filter kept a.0 P.nodes q.0).0 q.1 in
                   any_from (λ (t : Node). is_node (serial_of n) (first P (serial_of t) s.tail)) a.0 (matches P (serial_of m) s.rel) am
-                  (ap (is_node (serial_of n)) y.1 ∙ eq-eqb (serial_of y.0) (serial_of n) (ap serial_of same ∙ f.2))
+                  (is_seen (serial_of n) (first P (serial_of a.0) s.tail) f.0 (first_same e a.0 am f.0 f.1) f.2)
 
 module _ (past : Past) (is : IsPast past) (s : OffTree) (stands : In s (offs_in past.plan.body)) where
   abbrev own : OffTree

@@ -53,3 +53,5 @@ pub mod Bases
 pub mod CopyCut
 pub mod CopyMoves
 pub mod TurnsReached
+pub mod Ahead
+pub mod Changes

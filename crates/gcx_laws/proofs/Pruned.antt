@@ -34,7 +34,7 @@ flat_map_kept f keep (x ∷ xs) h = go (keep x) refl (h x (inl refl)) (flat_map_
     go false e (inl k) ih = absurd (true≢false (sym k ∙ e))
     go false e (inr k) ih = rw k ih
 
-map_same : {X Y : Type 0} (f g : X → Y) (xs : List X) → ((x : X) → In x xs → f x ≡ g x) → map f xs ≡ map g xs
+pub map_same : {X Y : Type 0} (f g : X → Y) (xs : List X) → ((x : X) → In x xs → f x ≡ g x) → map f xs ≡ map g xs
 map_same f g [] h = refl
 map_same f g (x ∷ xs) h = rw (h x (inl refl), map_same f g xs (λ y i. h y (inr i))) refl
 

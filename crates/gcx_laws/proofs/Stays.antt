@@ -45,7 +45,7 @@ all_from p (y ∷ ys) h = and_from _ _ (h y (inl refl)) (all_from p ys (λ x i. 
 
 module _ (t : Token) (P : Tree) (w : Grown P) where
   -- a new node has the next number
-  new_serial : (j : Node) → In j (added t P) → serial_of j ≡ length P.nodes
+  pub new_serial : (j : Node) → In j (added t P) → serial_of j ≡ length P.nodes
   new_serial j i = go P.at t i
     where
       go : (at : Option Node) (t : Token) → In j (added_at at t P) → serial_of j ≡ length P.nodes
@@ -97,7 +97,7 @@ module _ (t : Token) (P : Tree) (w : Grown P) where
       ∙ (or-false _
       ∙ any_same (λ (j : Node). is_node (serial_of n) (first (grow t P) (serial_of j) tail)) (λ (j : Node). is_node (serial_of n) (first P (serial_of j) tail)) (matches P m rel) (λ j q. first_old n (serial_of j) tail i))))
 
-  gives_new : (m : ℕ) (rel tail : List Step) (k : RoleKind) (n : Node) → In n P.nodes → length P.nodes ≤ m → gives (grow t P) m rel tail k n ≡ false
+  pub gives_new : (m : ℕ) (rel tail : List Step) (k : RoleKind) (n : Node) → In n P.nodes → length P.nodes ≤ m → gives (grow t P) m rel tail k n ≡ false
   gives_new m rel tail Own n i l = no_hits_new m rel n i l
   gives_new m rel tail Whole n i l = any_none (hits m (rel ++ tail)) (above n) (λ j q. no_hits_new m (rel ++ tail) j (above_in P w n j i q) l)
   gives_new m rel tail First n i l = gives_same m rel tail First n i ∙ any_none (λ (j : Node). is_node (serial_of n) (first P (serial_of j) tail)) (matches P m rel) (λ j q.

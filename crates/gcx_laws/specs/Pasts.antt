@@ -1,16 +1,16 @@
 -- Laws on what a buffer has behind it: which pasts there are, what the held nodes tell of statements, statements in advance, and how rows change.
-use Rattle.std.specs.Prelude.{◌≡◌, ℕ, ◌≤◌, true, false, List, ◌↔◌, ◌⊎◌}
-use Rattle.gcx_model.specs.Tree.{Node, serial_of, Tree, Token}
+use Rattle.std.specs.Prelude.{◌≡◌, ℕ, ◌≤◌, true, false, not, cond, ◌&&◌, ◌||◌, List, [], ◌∷◌, ◌++◌, filter, map, length, drop, ◌==◌, ◌↔◌, ◌⊎◌, Some}
+use Rattle.gcx_model.specs.Tree.{Node, serial_of, above, Tree, Token, grow, is_open_at}
 use Rattle.gcx_model.specs.Paths.{matches}
 use Rattle.gcx_model.specs.Members.{In}
 use Rattle.gcx_model.specs.Core.{BodyTree, OffTree, PlanTree}
-use Rattle.gcx_model.specs.Run.{Wrote, Offed}
+use Rattle.gcx_model.specs.Run.{Action, Wrote, Offed}
 use Rattle.gcx_model.specs.Cores.{Good}
 use Rattle.gcx_model.specs.Placed.{offs_in, Placed}
-use Rattle.gcx_model.specs.Held.{path_of, signed, reaches, live, held, held_tree}
+use Rattle.gcx_model.specs.Held.{path_of, given, signed, reaches, taken, live, roles_live, held, held_tree, is_held}
 use Rattle.gcx_model.specs.Growth.{may_come}
 use Rattle.gcx_model.specs.Points.{so_far, CoreState}
-use Rattle.gcx_model.specs.Past.{Past, opening_past, past_fed, past_acted, IsPast, is_signed}
+use Rattle.gcx_model.specs.Past.{Past, opening_past, past_fed, past_acted, IsPast, is_ahead, open_nodes, is_signed, roles_signed, parent_serial, row_of, rows_of}
 
 -- In a core state there is a past, however many of its actions were taken before the last token.
 abbrev pub CoreStatePast : Type 0
@@ -51,3 +51,79 @@ abbrev pub ReachHeld : Type 0
 ReachHeld = (past : Past) → IsPast past → (s : OffTree) → In s (offs_in past.plan.body) → (m : Node) → In m (bases past s) → signed past.acts s m ≡ false → (n : Node) → In n past.tree.nodes
     → (In n (held past.plan past.tree past.acts) → reaches (held_tree past.plan past.tree past.acts) s m n ≡ reaches past.tree s m n)
     × ((In n (held past.plan past.tree past.acts) → ⊥) → reaches past.tree s m n ≡ false)
+
+-- the token opens this node
+abbrev pub Opens : Tree → Token → Node → Type 0
+Opens P t n = In n (grow t P).nodes × (In n P.nodes → ⊥)
+
+-- A token opens one node at most: with the next number, as a child of the innermost open node. Each open node stays open then.
+abbrev pub NewNode : Type 0
+NewNode = (P : Tree) (t : Token) (n : Node) → Opens P t n
+    → (drop (length P.nodes) (grow t P).nodes ≡ n ∷ [])
+    × (serial_of n ≡ length P.nodes)
+    × (above n ≡ n ∷ open_nodes P)
+    × ((p : Node) × (P.at ≡ Some p) × (parent_serial n ≡ Some (serial_of p)))
+    × ((m : Node) → In m (open_nodes P) → is_open_at (grow t P).at (serial_of m) ≡ true)
+
+-- No statement is signed at a new node.
+abbrev pub NewUnsigned : Type 0
+NewUnsigned = (past : Past) → IsPast past → (t : Token) (n : Node) → Opens past.tree t n
+    → ((o : OffTree) → signed past.acts o n ≡ false) × (roles_signed past.plan past.acts n ≡ [])
+
+-- At a new node what is taken depends on those actions alone that are in advance behind its token.
+abbrev pub AheadTakes : Type 0
+AheadTakes = (past : Past) → IsPast past → (t : Token) (n : Node) → Opens past.tree t n → (r : ℕ)
+    → taken past.plan (grow t past.tree) past.acts n r ≡ taken past.plan (grow t past.tree) (filter (is_ahead (grow t past.tree)) past.acts) n r
+
+-- A role is taken from a new node exactly where the node is given it and its statement is carried out in advance at each match of its base's path from which it reaches the node; such a match is the node or above it.
+abbrev pub AheadSigned : Type 0
+AheadSigned = (past : Past) → IsPast past → (t : Token) (n : Node) → Opens past.tree t n → (s : OffTree) → In s (offs_in past.plan.body)
+    → (taken past.plan (grow t past.tree) past.acts n s.role ≡ true)
+    ↔ ((given past.plan (grow t past.tree) n s.role ≡ true)
+    × ((m : Node) → In m (above n) → In m (matches (grow t past.tree) 0 (path_of past.plan s.base)) → reaches (grow t past.tree) s m n ≡ true → In (Offed s (serial_of m)) (filter (is_ahead (grow t past.tree)) past.acts)))
+
+-- What is in advance behind a token was so before it.
+abbrev pub AheadBefore : Type 0
+AheadBefore = (past : Past) → IsPast past → (t : Token) (a : Action) → In a past.acts → is_ahead (grow t past.tree) a ≡ true → is_ahead past.tree a ≡ true
+
+-- A node that was there has the same roles live behind a token; what is signed at it doesn't depend on the tree. So of its row the token changes at most whether it is open.
+abbrev pub LiveByFeed : Type 0
+LiveByFeed = (past : Past) → IsPast past → (t : Token) (n : Node) → In n past.tree.nodes
+    → ((r : ℕ) → live past.plan (grow t past.tree) past.acts n r ≡ live past.plan past.tree past.acts n r)
+    × (row_of (past_fed t past) n ≡ record (row_of past n) { is_open = is_open_at (grow t past.tree).at (serial_of n) })
+
+-- The rows behind a token are those of the nodes held before it and of the new one, as far as these are held.
+abbrev pub RowsByFeed : Type 0
+RowsByFeed = (past : Past) → IsPast past → (t : Token)
+    → rows_of (past_fed t past) ≡ map (row_of (past_fed t past)) (filter (is_held past.plan (grow t past.tree) past.acts) (held past.plan past.tree past.acts ++ drop (length past.tree.nodes) (grow t past.tree).nodes))
+
+-- The rows behind an action are those of the nodes held before it, as far as these are held; a write changes none.
+abbrev pub RowsByAct : Type 0
+RowsByAct = (past : Past) → IsPast past
+    → ((a : Action) → rows_of (past_acted a past) ≡ map (row_of (past_acted a past)) (filter (is_held past.plan past.tree (past.acts ++ a ∷ [])) (held past.plan past.tree past.acts)))
+    × ((b : List ℕ) → rows_of (past_acted (Wrote b) past) ≡ rows_of past)
+
+-- A statement that is carried out leaves the other roles of a node as they were. Its own is live then exactly where another base that isn't signed reaches the node,
+abbrev pub LiveByAct : Type 0
+LiveByAct = (past : Past) → IsPast past → (s : OffTree) → In s (offs_in past.plan.body) → (m : Node) → In m (bases past s) → (n : Node) → In n past.tree.nodes
+    → ((r : ℕ) → (r ≡ s.role → ⊥) → live past.plan past.tree (past.acts ++ Offed s (serial_of m) ∷ []) n r ≡ live past.plan past.tree past.acts n r)
+    × ((live past.plan past.tree (past.acts ++ Offed s (serial_of m) ∷ []) n s.role ≡ true)
+    ↔ ((b : Node) × In b (bases past s) × (signed past.acts s b ≡ false) × (serial_of b ≡ serial_of m → ⊥) × (reaches past.tree s b n ≡ true)))
+
+-- so the node loses it exactly where it had it and each base that reaches the node is this one or signed.
+abbrev pub LosesByAct : Type 0
+LosesByAct = (past : Past) → IsPast past → (s : OffTree) → In s (offs_in past.plan.body) → (m : Node) → In m (bases past s) → (n : Node) → In n past.tree.nodes
+    → ((live past.plan past.tree past.acts n s.role ≡ true) × (live past.plan past.tree (past.acts ++ Offed s (serial_of m) ∷ []) n s.role ≡ false))
+    ↔ ((live past.plan past.tree past.acts n s.role ≡ true) × ((b : Node) → In b (bases past s) → reaches past.tree s b n ≡ true → (serial_of b ≡ serial_of m) ⊎ (signed past.acts s b ≡ true)))
+
+-- The roles of a row then: its old ones, without that role where it isn't live any more.
+abbrev pub RolesByAct : Type 0
+RolesByAct = (past : Past) → IsPast past → (s : OffTree) → In s (offs_in past.plan.body) → (m : Node) → In m (bases past s) → (n : Node) → In n past.tree.nodes
+    → roles_live past.plan past.tree (past.acts ++ Offed s (serial_of m) ∷ []) n
+    ≡ cond (live past.plan past.tree (past.acts ++ Offed s (serial_of m) ∷ []) n s.role) (roles_live past.plan past.tree past.acts n) (filter (λ r. not (r == s.role)) (roles_live past.plan past.tree past.acts n))
+
+-- And the roles signed at it: the same, and at the statement's node its role too.
+abbrev pub SignedByAct : Type 0
+SignedByAct = (past : Past) → IsPast past → (s : OffTree) → In s (offs_in past.plan.body) → (m n : Node)
+    → ((r : ℕ) → is_signed past.plan (past.acts ++ Offed s (serial_of m) ∷ []) n r ≡ (is_signed past.plan past.acts n r || ((r == s.role) && (serial_of m == serial_of n))))
+    × ((serial_of m ≡ serial_of n → ⊥) → roles_signed past.plan (past.acts ++ Offed s (serial_of m) ∷ []) n ≡ roles_signed past.plan past.acts n)

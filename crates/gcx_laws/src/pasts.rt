@@ -1,4 +1,4 @@
-ghost use Rattle.gcx_laws.specs.Pasts.{CoreStatePast, PastOpens, PastFeeds, PastActs, LiveByBases, OwnTells, ReachHeld};
+ghost use Rattle.gcx_laws.specs.Pasts.{CoreStatePast, PastOpens, PastFeeds, PastActs, LiveByBases, OwnTells, ReachHeld, NewNode, NewUnsigned, AheadTakes, AheadSigned, AheadBefore, LiveByFeed, RowsByFeed, RowsByAct, LiveByAct, LosesByAct, RolesByAct, SignedByAct};
 
 /// In a core state there is a past, however many of its actions were taken before the last token.
 pub fn core_state_past()
@@ -33,4 +33,64 @@ pub fn own_tells()
 /// From a base that isn't signed a statement reaches the same nodes over the held ones as over the tree.
 pub fn reach_held()
     ensures { ReachHeld }
+{}
+
+/// A token opens one node at most, the next child of the innermost open node.
+pub fn new_node()
+    ensures { NewNode }
+{}
+
+/// No statement is signed at a new node.
+pub fn new_unsigned()
+    ensures { NewUnsigned }
+{}
+
+/// At a new node what is taken depends on the actions in advance alone.
+pub fn ahead_takes()
+    ensures { AheadTakes }
+{}
+
+/// A role is taken from a new node where its statement was carried out in advance at each base that reaches the node.
+pub fn ahead_signed()
+    ensures { AheadSigned }
+{}
+
+/// What is in advance behind a token was so before it.
+pub fn ahead_before()
+    ensures { AheadBefore }
+{}
+
+/// A node that was there keeps its roles behind a token.
+pub fn live_by_feed()
+    ensures { LiveByFeed }
+{}
+
+/// The rows behind a token are those of nodes that were held before it, and of the new one.
+pub fn rows_by_feed()
+    ensures { RowsByFeed }
+{}
+
+/// The rows behind an action are those of nodes that were held before it; a write changes none.
+pub fn rows_by_act()
+    ensures { RowsByAct }
+{}
+
+/// Which roles are live at a node behind a statement.
+pub fn live_by_act()
+    ensures { LiveByAct }
+{}
+
+/// Which nodes lose a role by a statement.
+pub fn loses_by_act()
+    ensures { LosesByAct }
+{}
+
+/// The roles of a row behind a statement.
+pub fn roles_by_act()
+    ensures { RolesByAct }
+{}
+
+/// The roles signed at a row behind a statement.
+pub fn signed_by_act()
+    ensures { SignedByAct }
 {}
