@@ -35,10 +35,8 @@ start_comes : (p : Node) (name : List ℕ) (nodes : List Node) → IsNameBytes n
 start_comes Root name nodes n h = and_from _ _ (name_tested name n) (ap not (h refl))
 start_comes (Under p s k) name nodes n h = name_tested name n
 
-fed_from : (P Q : Tree) → Grow P Q → Fed P Q
-fed_from P Q (opened p name named at h n a) = (
 pub fed_from : (P Q : Tree) → Grow P Q → Fed P Q
-fed_from P Q (opened p name at h n a) = (
+fed_from P Q (opened p name named at h n a) = (
   Start name,
   subst (λ (z : Option Node). may_come_at z (Start name) P.nodes ≡ true) (sym at) (start_comes p name P.nodes named h),
   tree_same Q (grow (Start name) P) (n ∙ sym (ap (λ (z : Option Node). (grow_at z (Start name) P).nodes) at)) (a ∙ sym (ap (λ (z : Option Node). (grow_at z (Start name) P).at) at)),

@@ -21,7 +21,6 @@ pub use bridges::{
     nodes_are_numbered, one_chain, one_statement, paths_by_rows, signed_by_role, signed_is_off,
     tokens_are_found,
 };
-pub use copying::copy_goes_on;
 pub use going::{known_goes_on, peak_goes_on, trace_goes_on};
 pub use copying::{
     copy_begins, copy_ends, copy_goes_on, copy_is_cut, copy_steps, copy_waits, fine_point_stays,
