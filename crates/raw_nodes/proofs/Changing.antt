@@ -18,7 +18,8 @@ use Rattle.raw_nodes.specs.Spots.{Spot, same_ptr, places, found, updated}
 use Rattle.raw_nodes.specs.Nodes.{place_of, index_in, cells_of, Numbered, Chain, IsFree, IsStore, Keeps}
 use Rattle.raw_nodes.specs.Heaps.{IsHeap}
 use Rattle.raw_nodes.specs.Edits.{to_row, to_last, join_put}
-use Rattle.raw_nodes.specs.Raw.{raw_of, IsRaw, Ready, Spares, Appends, Plants}
+use Rattle.raw_nodes.specs.Raw.{raw_of, IsRaw, Spares}
+use Rattle.raw_nodes.specs.Steps.{Ready, Appends, Plants}
 use Rattle.raw_nodes.specs.declared.arena.Arena.{Arena}
 use Rattle.raw_nodes.specs.declared.arena.Link.{Link}
 use Rattle.raw_nodes.specs.declared.node.Node.{Node}
@@ -26,8 +27,15 @@ use Rattle.raw_nodes.specs.declared.heap.Heap.{Heap}
 use Rattle.raw_nodes.specs.declared.rows.RawRows.{RawRows}
 use Rattle.raw_nodes.proofs.Blocks.{held_at, found_at, held_within, place_alike}
 use Rattle.raw_nodes.proofs.Looks.{look, look_node, found_living, look_updated, look_altered, last_in, index_alike, Lives, Calm, calm_still, calm_updated, calm_both, chain_calm, join_looks, held_elsewhere, places_updated, numbered_updated, alive_still}
-use Rattle.raw_nodes.proofs.Stored.{last_used, alive_of, below, rows_less}
+use Rattle.raw_nodes.proofs.Stored.{last_used, alive_of, below, rows_most, rows_less}
 use Rattle.raw_nodes.proofs.Readying.{keeps, dead_look}
+
+-- how many cells are spare where a block is made only for a row more than all cells held
+spared : (len cells now was most : ℕ) → len ≤ cells → cells ≤ was + 255 → was ≤ most → len + 1 ≤ most → (len < cells → now ≡ cells) → (len ≡ cells → now ≡ cells + 256) → now ≤ most + 255
+spared len cells now was most held spare above more left full = elim (cases_eq len cells) [
+  | inl e ↦ omega (arith, full e)
+  | inr n ↦ omega (arith, left (omega arith))
+]
 
 -- ---- rows that are not there
 
@@ -212,6 +220,9 @@ module _ {T : Type 0} where
         let within = new.heap.links.ok in
         Fits-of_lt (omega (arith, bound, counted, long, small, within.0, within.1))
 
+    spare_kept : (most : ℕ) → old.most ≤ most → fin.len rows + 1 ≤ most → length made ≤ most + 255
+    spare_kept most above more = spared (fin.len rows) (length old.heap.arena.cells) (length made) old.most most (rows_most old.heap.arena.cells) raw.spare above more ready.spares.0 ready.spares.1
+
     used_apart : (j : ℕ) → IsSome (fin.get rows j) → j ≢ spot
     used_apart j used e = go (fin.get rows spot) spot_free (subst (λ k. IsSome (fin.get rows k)) e used)
       where
@@ -263,6 +274,8 @@ module _ {T : Type 0} where
                 heap = heap_kept new.heap arena ready.heap (ap places is ∙ plant_places) (subst (Numbered 0) (sym is) (numbered_updated (to_row None None x) (λ m. refl) made link.ptr ready.heap.numbered));
                 store = subst (λ cs. IsStore cs n.next (Some link) 1 most) (sym is)
                     (store_is planted_cells (planted fin.empty spot x) n.next (Some link) 1 most plant_holds plant_tree (sym one_row) (omega (arith, highest)) ready.later plant_free);
+                spare = subst (λ k. k ≤ most + 255) (sym (ap length is ∙ long_alike made planted_cells plant_places))
+                    (spare_kept most (omega (arith, highest, ready.fields.2)) (omega (arith, highest, ap fin.len none ∙ fin.len-empty _ _)));
               }
 
           pub plants : Plants (raw_of old) (raw_of planted_raw) spot x
@@ -409,6 +422,8 @@ module _ {T : Type 0} where
                       (subst (Numbered 0) (sym is) (calm_four.numbers (numbered_updated (to_row (Some up) m.last x) (λ k. refl) made link.ptr ready.heap.numbered)));
                   store = subst (λ cs. IsStore cs n.next new.root (new.len + 1) most) (sym is)
                       (store_is four (appended rows q spot x) n.next new.root (new.len + 1) most four_holds four_tree four_len (omega (arith, highest)) ready.later four_free);
+                  spare = subst (λ k. k ≤ most + 255) (sym (ap length is ∙ long_alike made four four_places))
+                      (spare_kept most (omega (arith, highest, ready.fields.2)) (omega (arith, highest, ready.fields.1, raw.store.count)));
                 }
 
             rows_four : rows_of (cells_of arena.cells) ≡ appended rows q spot x

@@ -1,11 +1,12 @@
 -- What the links of a row's node tell.
-use Rattle.std.proofs.Common.{◌≡◌, ℕ, Option, Some, None, List, refl, sym, ap, subst, ◌∙◌, rules}
+use Rattle.std.proofs.Common.{◌≡◌, ℕ, Option, Some, None, List, length, refl, sym, ap, ◌∙◌}
+use Rattle.std.proofs.lemmas.List.{length-map}
 use Rattle.std.specs.Prelude.{option_map, IsSome, IfSome}
 use Rattle.std.specs.FinMap as fin
 use Rattle.node_store.specs.declared.store.Place.{Place}
-use Rattle.node_store.specs.Rows.{Rows, Entry, parent_of, children_of, children_in, head_of, next_of, after}
+use Rattle.node_store.specs.Rows.{Rows, Entry}
 use Rattle.node_store.specs.Links.{rows_of, linked_at}
-use Rattle.node_store.proofs.Maps.{some_row, is_there, parent_at}
+use Rattle.node_store.proofs.Maps.{some_row, is_there}
 use Rattle.raw_nodes.specs.Spots.{Spot, found}
 use Rattle.raw_nodes.specs.Nodes.{place_of, index_in, cells_of, Keeps}
 use Rattle.raw_nodes.specs.Raw.{IsRaw}
@@ -14,7 +15,7 @@ use Rattle.raw_nodes.specs.declared.node.Node.{Node}
 use Rattle.raw_nodes.specs.declared.rows.RawRows.{RawRows}
 use Rattle.raw_nodes.proofs.Blocks.{held_at, found_at}
 use Rattle.raw_nodes.proofs.Looks.{look_node, found_living}
-use Rattle.raw_nodes.proofs.Stored.{alive_of, parent_used, first_used, next_used}
+use Rattle.raw_nodes.proofs.Stored.{alive_of, parent_used, first_used, last_used, next_used, prev_used}
 use Rattle.raw_nodes.proofs.Readying.{keeps}
 
 module _ {T : Type 0} where
@@ -41,6 +42,10 @@ module _ {T : Type 0} where
         keeps cells n (linked_at rows k e)
         (sym (look_node cells k n (ap (held_at cells) (sym at) ∙ sym (found_at cells link.ptr) ∙ is)) ∙ raw.store.sound.holds k ∙ ap (option_map (linked_at rows k)) has)
 
+    -- each cell has a link
+    pub links_long : length r.heap.links.items ≡ length cells
+    links_long = sym (length-map r.heap.links.items (λ (l : Link). l.ptr)) ∙ sym (ap length raw.heap.table) ∙ length-map cells (λ (s : Spot (Node T)). s.at)
+
     -- the root
     root_is_used : (j : ℕ) → index_in cells r.root ≡ Some j → IsSome (fin.get rows j)
     root_is_used j h = let top = raw.store.sound.tree.top j h in is_there rows j top.0 top.1
@@ -64,8 +69,14 @@ module _ {T : Type 0} where
       first_is_used : (j : ℕ) → index_in cells n.first ≡ Some j → IsSome (fin.get rows j)
       first_is_used j h = first_used rows (index_in cells r.root) raw.store.sound.tree k row.0 row.1 j (sym links.first ∙ h)
 
+      last_is_used : (j : ℕ) → index_in cells n.last ≡ Some j → IsSome (fin.get rows j)
+      last_is_used j h = last_used rows (index_in cells r.root) raw.store.sound.tree k row.0 row.1 j (sym links.last ∙ h)
+
       next_is_used : (j : ℕ) → index_in cells n.next ≡ Some j → IsSome (fin.get rows j)
       next_is_used j h = next_used rows (index_in cells r.root) raw.store.sound.tree k row.0 row.1 j (sym links.next ∙ h)
+
+      prev_is_used : (j : ℕ) → index_in cells n.prev ≡ Some j → IsSome (fin.get rows j)
+      prev_is_used j h = prev_used rows (index_in cells r.root) raw.store.sound.tree k row.0 row.1 j (sym links.prev ∙ h)
 
       pub parent_links : IfSome n.parent (λ l. IsSome (fin.get rows (place_of cells l.ptr)))
       parent_links = used_links cells rows n.parent parent_is_used
@@ -73,8 +84,14 @@ module _ {T : Type 0} where
       pub first_links : IfSome n.first (λ l. IsSome (fin.get rows (place_of cells l.ptr)))
       first_links = used_links cells rows n.first first_is_used
 
+      pub last_links : IfSome n.last (λ l. IsSome (fin.get rows (place_of cells l.ptr)))
+      last_links = used_links cells rows n.last last_is_used
+
       pub next_links : IfSome n.next (λ l. IsSome (fin.get rows (place_of cells l.ptr)))
       next_links = used_links cells rows n.next next_is_used
+
+      pub prev_links : IfSome n.prev (λ l. IsSome (fin.get rows (place_of cells l.ptr)))
+      prev_links = used_links cells rows n.prev prev_is_used
 
       pub parent_places : (o : Option Place) → option_map (λ p. p.0) o ≡ index_in cells n.parent → IfSome o (λ p. IsSome (fin.get rows p.0))
       parent_places o e = used_places rows o (index_in cells n.parent) e parent_is_used
@@ -82,20 +99,11 @@ module _ {T : Type 0} where
       pub first_places : (o : Option Place) → option_map (λ p. p.0) o ≡ index_in cells n.first → IfSome o (λ p. IsSome (fin.get rows p.0))
       first_places o e = used_places rows o (index_in cells n.first) e first_is_used
 
+      pub last_places : (o : Option Place) → option_map (λ p. p.0) o ≡ index_in cells n.last → IfSome o (λ p. IsSome (fin.get rows p.0))
+      last_places o e = used_places rows o (index_in cells n.last) e last_is_used
+
       pub next_places : (o : Option Place) → option_map (λ p. p.0) o ≡ index_in cells n.next → IfSome o (λ p. IsSome (fin.get rows p.0))
       next_places o e = used_places rows o (index_in cells n.next) e next_is_used
 
-      pub parent_value : index_in cells n.parent ≡ parent_of rows k
-      parent_value = links.parent ∙ sym (parent_at rows k row.0 row.1)
-
-      pub first_value : index_in cells n.first ≡ head_of (children_in (fin.get rows k))
-      first_value = links.first ∙ ap (λ o. head_of (children_in o)) (sym row.1)
-
-      pub next_value : index_in cells n.next ≡ next_of rows k
-      next_value = links.next ∙ ap (λ a. after k (children_of rows a)) (sym (parent_at rows k row.0 row.1))
-
-      pub paid_value : option_map (λ e. e.payload) (fin.get rows k) ≡ n.payload
-      paid_value = ap (option_map (λ e. e.payload)) row.1 ∙ sym links.payload
-
-      pub paid_there : IsSome n.payload
-      paid_there = subst (λ o. IsSome o) (sym links.payload) (search rules)
+      pub prev_places : (o : Option Place) → option_map (λ p. p.0) o ≡ index_in cells n.prev → IfSome o (λ p. IsSome (fin.get rows p.0))
+      prev_places o e = used_places rows o (index_in cells n.prev) e prev_is_used

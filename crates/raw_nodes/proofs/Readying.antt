@@ -9,7 +9,8 @@ use Rattle.node_store.specs.Links.{Linked, rows_of, linked_at, Holds}
 use Rattle.raw_nodes.specs.Spots.{Spot, places, IsApart}
 use Rattle.raw_nodes.specs.Nodes.{place_of, index_in, linked_in, cells_of, Chain, dead_nodes, head_link, IsFree, Keeps}
 use Rattle.raw_nodes.specs.Heaps.{IsHeap, Grows, addresses}
-use Rattle.raw_nodes.specs.Raw.{IsRaw, Ready}
+use Rattle.raw_nodes.specs.Raw.{IsRaw}
+use Rattle.raw_nodes.specs.Steps.{Ready}
 use Rattle.raw_nodes.specs.declared.arena.Link.{Link}
 use Rattle.raw_nodes.specs.declared.node.Node.{Node}
 use Rattle.raw_nodes.specs.declared.rows.RawRows.{RawRows}

@@ -8,7 +8,7 @@ use Rattle.std.proofs.lemmas.List.{map-append, length-append, length-map}
 use denote.RawPtr.{Ptr}
 use Rattle.node_store.specs.Rows.{Rows, Entry, children_of, head_of, last_of, before, after, starts, is_listed, Distinct, IsTree}
 use Rattle.node_store.specs.Links.{Linked, rows_of, linked_at, IsSound}
-use Rattle.node_store.proofs.Siblings.{head_listed, last_listed, after_listed, listed_apart, or_right, none_or}
+use Rattle.node_store.proofs.Siblings.{head_listed, last_listed, after_listed, before_listed, listed_apart, or_right, none_or}
 use Rattle.node_store.proofs.Maps.{some_row, parent_at, child_at, used_parent, used_child}
 use Rattle.node_store.proofs.Held.{get_row, len_rows, rows_is, sound_of, holds_empty}
 use Rattle.node_store.proofs.Trees.{tree_empty}
@@ -20,14 +20,6 @@ use Rattle.raw_nodes.proofs.Blocks.{held_at, found_at, held_within, place_at}
 use Rattle.raw_nodes.proofs.Looks.{look, node_of, unmapped}
 
 -- ---- siblings that a list tells
-
-before_step : (k c j : ℕ) (b : Bool) (cs : List ℕ) → cond b (Some c) (before k cs) ≡ Some j → (before k cs ≡ Some j → is_listed j cs ≡ true) → is_listed j (c ∷ cs) ≡ true
-before_step k c j true cs e rest = let same : c ≡ j = search e in ap (λ b. b || is_listed j cs) (eq-eqb c j same)
-before_step k c j false cs e rest = or_right (c == j) _ (rest e)
-
-pub before_listed : (k : ℕ) (cs : List ℕ) (j : ℕ) → before k cs ≡ Some j → is_listed j cs ≡ true
-before_listed k [] j e = absurd (cc)
-before_listed k (c ∷ cs) j e = before_step k c j (starts k cs) cs e (before_listed k cs j)
 
 starts_listed : (k : ℕ) (cs : List ℕ) → starts k cs ≡ true → is_listed k cs ≡ true
 starts_listed k [] e = absurd (cc)
@@ -98,6 +90,13 @@ module _ {T : Type 0} where
 
   pub cells_long : (cells : List (Spot (Node T))) → length (cells_of cells) ≡ length cells
   cells_long cells = length-map cells (λ s. linked_in cells s.held)
+
+  -- each row has a cell of its own
+  pub rows_most : (cells : List (Spot (Node T))) → fin.len (rows_of (cells_of cells)) ≤ length cells
+  rows_most cells =
+      let long = cells_long cells in
+      let most = count_most (cells_of cells) in
+      omega (arith, len_rows (cells_of cells))
 
   -- a dead cell is one without a row
   pub rows_less : (cells : List (Spot (Node T))) (k : ℕ) → k < length cells → look cells k ≡ None → fin.len (rows_of (cells_of cells)) < length cells

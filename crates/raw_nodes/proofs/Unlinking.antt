@@ -13,7 +13,8 @@ use Rattle.raw_nodes.specs.Spots.{Spot, places, found, written, updated}
 use Rattle.raw_nodes.specs.Nodes.{place_of, index_in, linked_in, cells_of, Numbered, Chain, IsFree, IsStore, Keeps, paid_node}
 use Rattle.raw_nodes.specs.Edits.{to_dead, join_put}
 use Rattle.raw_nodes.specs.Lends.{with_written}
-use Rattle.raw_nodes.specs.Raw.{raw_of, IsRaw, Unlinks}
+use Rattle.raw_nodes.specs.Raw.{raw_of, IsRaw}
+use Rattle.raw_nodes.specs.Steps.{Unlinks}
 use Rattle.raw_nodes.specs.declared.arena.Arena.{Arena}
 use Rattle.raw_nodes.specs.declared.arena.Link.{Link}
 use Rattle.raw_nodes.specs.declared.node.Node.{Node}
@@ -210,6 +211,7 @@ module _ {T : Type 0} where
               store = subst (λ cs. IsStore cs (Some link) root (old.len - 1) old.most) (sym is)
                   (subst (λ r. IsStore closed (Some link) r (old.len - 1) old.most) (sym root_is)
                   (store_is closed (unlinked rows_were k) (Some link) root_now (old.len - 1) old.most closed_holds closed_tree count (omega (arith, fits, counted)) (k ∷ raw.store.dead.0) closed_free));
+              spare = subst (λ n. n ≤ old.most + 255) (sym (ap length is ∙ long_alike were closed closed_places)) raw.spare;
             }
 
         pub unlinks : Unlinks (raw_of old) (raw_of unlinked_raw) k
@@ -310,4 +312,5 @@ module _ {T : Type 0} where
           heap = heap_kept old.heap (with_written old.heap.arena link.ptr (paid_node m w)) raw.heap paid_calm.places_same (paid_calm.numbers raw.heap.numbered);
           store = store_is paid_cells (changed_at (with_payload w) k rows_before) old.free old.root old.len old.most paid_holds paid_tree
               (raw.store.count ∙ sym (len_paid rows_before (index_in before_it old.root) k e has w)) (omega (arith, counted, fits)) raw.store.dead.0 paid_free;
+          spare = subst (λ n. n ≤ old.most + 255) (sym paid_long) raw.spare;
         }

@@ -1,4 +1,5 @@
--- What one call makes of the nodes. All definitions here are this project's.
+-- What one call makes of the nodes. This follows the code: only private functions speak of it. All definitions here are
+-- this project's.
 use Rattle.std.specs.Prelude.{List, Option, Some, None}
 use Rattle.raw_nodes.specs.Spots.{Spot, updated}
 use Rattle.raw_nodes.specs.declared.arena.Link.{Link}

@@ -1,4 +1,5 @@
--- How blocks, links and cells agree. All definitions here are this project's.
+-- How blocks, links and cells agree. This follows the code: only private functions and the store's model speak of it.
+-- All definitions here are this project's.
 use Rattle.std.specs.Prelude.{◌≡◌, List, [], ◌∷◌, ◌++◌, map, length, Some}
 use denote.RawPtr.{Ptr}
 use Rattle.raw_nodes.specs.Spots.{Spot, places, IsApart}

@@ -1,4 +1,4 @@
--- What the cells end as, once a `&mut` into one has ended.
+-- What the cells end as, once a `&mut` into one has ended. This follows the code: only private functions speak of it.
 use Rattle.std.specs.Borrow.{Fml, RattleType, MutBor, Lends}
 use denote.RawPtr.{Ptr}
 use Rattle.raw_nodes.specs.Spots.{written}

@@ -7,3 +7,4 @@ pub mod Ownership
 pub mod Places
 pub mod Raw
 pub mod Spots
+pub mod Steps

@@ -1,4 +1,4 @@
--- What a node ends as, once a `&mut` to its payload has ended.
+-- What a node ends as, once a `&mut` to its payload has ended. This follows the code: only private functions speak of it.
 use Rattle.std.specs.Borrow.{Fml, RattleType, MutBor, Lends}
 use Rattle.raw_nodes.specs.Nodes.{paid_node}
 use Rattle.raw_nodes.specs.declared.node.Node.{Node}

@@ -1,4 +1,5 @@
--- What the cells hold, as a store's cells are seen. All definitions here are this project's.
+-- What the cells hold, as a store's cells are seen. This follows the code: only private functions and the store's model
+-- speak of it. All definitions here are this project's.
 use Rattle.std.specs.Prelude.{◌≡◌, ◌<◌, ℕ, suc, true, if◌then◌else◌, List, [], ◌∷◌, map, length, Option, Some, None, option_map, slice_index_or}
 use Rattle.std.specs.FinMap as fin
 use denote.RawPtr.{Ptr}

@@ -1,4 +1,5 @@
--- Cells that lie anywhere in memory, each with what it holds.
+-- Cells that lie anywhere in memory, each with what it holds. This follows the code: only private functions and types
+-- speak of it.
 use Rattle.std.specs.Prelude.{◌≡◌, ℕ, zero, suc, ◌^◌, Bool, true, false, ◌&&◌, ◌==◌, ◌-◌, ◌*◌, ◌≤◌, length, drop, if◌then◌else◌, List, [], ◌∷◌, map, Option, Some, None}
 use Rattle.std.specs.List.{IsDistinct}
 use Rattle.raw_nodes.specs.Places.{somes}

@@ -3,7 +3,7 @@ ghost use Rattle.std.specs.Prelude.{◌≡◌, ℕ, ◌<◌, List, Option, Some,
 ghost use Rattle.std.specs.Vec.Ownership.{FitsInBlock};
 ghost use base.Fml.{ftrue};
 ghost use denote.RawPtr.{Ptr};
-ghost use Rattle.raw_nodes.specs.Places.{IsRun, IsFilled};
+ghost use Rattle.raw_nodes.specs.Places.{IsFilled};
 ghost use Rattle.raw_nodes.specs.Spots.{IsIn};
 ghost use Rattle.raw_nodes.specs.Ownership.{cells_own, cells_lent, deed_owns};
 

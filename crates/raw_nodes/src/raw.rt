@@ -1,8 +1,8 @@
 //! A store over raw blocks.
-ghost use Rattle.std.specs.Prelude.{◌≡◌, ◌+◌, ◌<◌, ℕ, Option, Some, None, IfOk, IfErr, OnOk, OnErr, IsOk, IfSome, IsSome, max, option_map, is_some, if◌then◌else◌, []};
+ghost use Rattle.std.specs.Prelude.{◌≡◌, ◌+◌, ◌<◌, ◌≤◌, ℕ, Option, Some, None, IfOk, IfErr, OnOk, OnErr, IsOk, IfSome, IsSome, max, option_map, is_some, if◌then◌else◌, []};
 ghost use Rattle.std.specs.Borrow.{Lends, sem};
 ghost use Rattle.std.specs.FinMap as map;
-ghost use Rattle.node_store.specs.Rows.{Entry, Rows, IsTree, planted, appended, unlinked, parent_of, next_of, head_of, children_in, changed_at, with_payload};
+ghost use Rattle.node_store.specs.Rows.{Entry, Rows, IsTree, planted, appended, unlinked, parent_of, next_of, prev_of, head_of, last_of, children_in, changed_at, with_payload};
 ghost use Rattle.raw_nodes.specs.Raw.{Spares};
 
 use crate::rows::RawRows;
@@ -11,6 +11,11 @@ use std::alloc::Global;
 use std::marker::Model;
 
 /// A store whose rows stand in blocks of 256 cells.
+///
+/// A table has the link to each cell, so a place costs one look there, and a cell keeps its own number, so a link costs
+/// one look at the cell behind it. No call goes over rows or siblings. A call that makes a block writes its 256 cells,
+/// and may move the table into twice the room: over many calls each row costs the same. At its end a store looks at each
+/// cell once, drops the payload where there is one, and frees each block.
 pub struct RawNodes<T> {
     rows: RawRows<T>,
 }
@@ -40,9 +45,12 @@ impl<T> RawNodes<T> {
         }
     }
 
-    /// How many cells all blocks together have.
+    /// How many cells all blocks together have: at least one for each row, and at most 255 more than the greatest number of
+    /// rows so far. One number is read.
     pub fn cells(&self) -> usize
-        ensures { result ≡ self.now.cells }
+        ensures value { result ≡ self.now.cells }
+        ensures held { map.len self.now.rows ≤ result }
+        ensures spare { result ≤ self.now.most + 255 }
     {
         self.rows.heap.links.len()
     }
@@ -55,6 +63,8 @@ impl<T> NodeStore<T> for RawNodes<T> {
 
     ghost root_of = { λ s. s.root };
 
+    ghost loans = { λ _. [] };
+
     ghost with_paid = { λ s p x. record s { rows = changed_at (with_payload x) p s.rows } };
 
     ghost use Rattle.std.proofs.Common.{refl};
@@ -64,6 +74,8 @@ impl<T> NodeStore<T> for RawNodes<T> {
     ghost written_most = { λ s p x used. refl };
 
     ghost written_root = { λ s p x used. refl };
+
+    ghost written_loans = { λ s p x used. refl };
 
     /// The same as the trait's. A dead cell is used before a block is made: where `cells` is above the number of rows,
     /// no memory is taken.
@@ -82,7 +94,7 @@ impl<T> NodeStore<T> for RawNodes<T> {
     }
 
     /// The same as the trait's. A dead cell is used before a block is made: where `cells` is above the number of rows,
-    /// no memory is taken. The cells of a new block are linked once, so that over many calls each row costs the same.
+    /// no memory is taken.
     fn append(&mut self, parent: Place, payload: T) -> Result<Place, Refused<T>>
         requires { IsSome (map.get self.old.rows parent.0) }
         ensures free { IfOk result (λ p. map.get self.old.rows p.0 ≡ None) }
@@ -117,8 +129,16 @@ impl<T> NodeStore<T> for RawNodes<T> {
         self.rows.place_at(self.rows.node(place).first)
     }
 
+    fn last(&self, place: Place) -> Option<Place> {
+        self.rows.place_at(self.rows.node(place).last)
+    }
+
     fn next(&self, place: Place) -> Option<Place> {
         self.rows.place_at(self.rows.node(place).next)
+    }
+
+    fn prev(&self, place: Place) -> Option<Place> {
+        self.rows.place_at(self.rows.node(place).prev)
     }
 
     fn payload(&self, place: Place) -> &T {

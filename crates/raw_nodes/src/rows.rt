@@ -5,7 +5,8 @@ ghost use Rattle.node_store.specs.Rows.{Entry};
 ghost use Rattle.node_store.specs.Links.{linked_at};
 ghost use Rattle.raw_nodes.specs.Spots.{found};
 ghost use Rattle.raw_nodes.specs.Nodes.{place_of, index_in, Keeps};
-ghost use Rattle.raw_nodes.specs.Raw.{raw_of, IsRaw, Ready, Appends, Plants, Unlinks};
+ghost use Rattle.raw_nodes.specs.Raw.{raw_of, IsRaw};
+ghost use Rattle.raw_nodes.specs.Steps.{Ready, Appends, Plants, Unlinks};
 
 use crate::arena::Link;
 use crate::edit::{join, set_dead, set_last, set_row};

@@ -5,6 +5,7 @@ use super::*;
 use node_store::{At, NodeStore, Place, SlabNodes};
 use std::alloc::Global;
 use std::fmt::Write;
+use std::fs;
 use std::process::Abort;
 use std::test::Fail;
 
@@ -17,24 +18,32 @@ enum Call {
     Write(u32, u32),
 }
 
-const CALLS: [(Call, &str, usize); 16] = [
-    (Call::Plant(1), "1", 1),
-    (Call::Append(1, 2), "1(2)", 2),
-    (Call::Append(1, 3), "1(2 3)", 3),
-    (Call::Append(1, 4), "1(2 3 4)", 4),
-    (Call::Unlink(3), "1(2 4)", 4),
-    (Call::Append(2, 5), "1(2(5) 4)", 4),
-    (Call::Append(2, 6), "1(2(5 6) 4)", 5),
-    (Call::Append(6, 7), "1(2(5 6(7)) 4)", 6),
-    (Call::Write(6, 8), "1(2(5 8(7)) 4)", 6),
-    (Call::Unlink(5), "1(2(8(7)) 4)", 6),
-    (Call::Unlink(4), "1(2(8(7)))", 6),
-    (Call::Unlink(7), "1(2(8))", 6),
-    (Call::Unlink(8), "1(2)", 6),
-    (Call::Unlink(2), "1", 6),
-    (Call::Unlink(1), "", 6),
-    (Call::Plant(9), "9", 6),
+// A call, the rows after it as `draw` writes them forward and backward, and the greatest number of rows so far.
+const CALLS: [(Call, &str, &str, usize); 16] = [
+    (Call::Plant(1), "1", "1", 1),
+    (Call::Append(1, 2), "1(2)", "1(2)", 2),
+    (Call::Append(1, 3), "1(2 3)", "1(3 2)", 3),
+    (Call::Append(1, 4), "1(2 3 4)", "1(4 3 2)", 4),
+    (Call::Unlink(3), "1(2 4)", "1(4 2)", 4),
+    (Call::Append(2, 5), "1(2(5) 4)", "1(4 2(5))", 4),
+    (Call::Append(2, 6), "1(2(5 6) 4)", "1(4 2(6 5))", 5),
+    (Call::Append(6, 7), "1(2(5 6(7)) 4)", "1(4 2(6(7) 5))", 6),
+    (Call::Write(6, 8), "1(2(5 8(7)) 4)", "1(4 2(8(7) 5))", 6),
+    (Call::Unlink(5), "1(2(8(7)) 4)", "1(4 2(8(7)))", 6),
+    (Call::Unlink(4), "1(2(8(7)))", "1(2(8(7)))", 6),
+    (Call::Unlink(7), "1(2(8))", "1(2(8))", 6),
+    (Call::Unlink(8), "1(2)", "1(2)", 6),
+    (Call::Unlink(2), "1", "1", 6),
+    (Call::Unlink(1), "", "", 6),
+    (Call::Plant(9), "9", "9", 6),
 ];
+
+/// Which child of a row comes first in a drawing.
+#[derive(Clone, Copy)]
+enum Order {
+    Forward,
+    Backward,
+}
 
 // The row with this payload: the one at `from`, one below it, or one after it.
 fn find<N: NodeStore<u32>>(
@@ -93,11 +102,26 @@ fn make_call<N: NodeStore<u32>>(store: &mut N, call: &Call) -> Result<(), Fail> 
     Ok(())
 }
 
-// The rows from `at` on, each with its children in parentheses.
+fn head<'a, N: NodeStore<u32>>(at: At<'a, N, u32>, order: Order) -> Option<At<'a, N, u32>> {
+    match order {
+        Order::Forward => at.first(),
+        Order::Backward => at.last(),
+    }
+}
+
+fn follower<'a, N: NodeStore<u32>>(at: At<'a, N, u32>, order: Order) -> Option<At<'a, N, u32>> {
+    match order {
+        Order::Forward => at.next(),
+        Order::Backward => at.prev(),
+    }
+}
+
+// The rows from `at` on in this order, each with its children in parentheses.
 fn draw<N: NodeStore<u32>>(
     rt: &impl Abort,
     out: &mut String,
     at: At<'_, N, u32>,
+    order: Order,
     parent: Option<u32>,
     steps: u32,
 ) -> Result<(), Fail> {
@@ -107,27 +131,39 @@ fn draw<N: NodeStore<u32>>(
     if steps == 0 {
         return Ok(());
     }
-    if let Some(first) = at.first() {
+    if let Some(child) = head(at, order) {
         out.push('(')?;
-        draw(rt, out, first, Some(payload), steps - 1)?;
+        draw(rt, out, child, order, Some(payload), steps - 1)?;
         out.push(')')?;
     }
-    if let Some(next) = at.next() {
+    if let Some(sibling) = follower(at, order) {
         out.push(' ')?;
-        draw(rt, out, next, parent, steps - 1)?;
+        draw(rt, out, sibling, order, parent, steps - 1)?;
     }
     Ok(())
 }
 
+fn draw_all<N: NodeStore<u32>>(
+    rt: &impl Abort,
+    alloc: Global,
+    store: &N,
+    order: Order,
+) -> Result<String, Fail> {
+    let mut out = String::new(alloc);
+    if let Some(root) = store.root() {
+        draw(rt, &mut out, At::new(store, root), order, None, 999)?;
+    }
+    Ok(out)
+}
+
 fn run<N: NodeStore<u32>>(rt: &impl Abort, alloc: Global, store: &mut N) -> Result<(), Fail> {
-    for (step, drawn, most) in &CALLS {
+    for (step, forward, backward, most) in &CALLS {
         make_call(store, step)?;
-        let mut out = String::new(alloc);
-        if let Some(root) = store.root() {
-            draw(rt, &mut out, At::new(&*store, root), None, 999)?;
-        }
-        assert_eq!(rt; out.as_str(), *drawn);
-        assert_eq!(rt; store.most(), *most, "at {drawn}");
+        let drawn = draw_all(rt, alloc, &*store, Order::Forward)?;
+        assert_eq!(rt; drawn.as_str(), *forward);
+        let drawn = draw_all(rt, alloc, &*store, Order::Backward)?;
+        assert_eq!(rt; drawn.as_str(), *backward);
+        assert_eq!(rt; store.most(), *most, "at {forward}");
     }
     Ok(())
 }
@@ -157,6 +193,9 @@ fn a_leaf_in_the_middle_leaves(rt: HostRuntime) -> Result<(), Fail> {
     assert_eq!(&rt; store.first(a), Some(b));
     assert_eq!(&rt; store.next(b), Some(d));
     assert_eq!(&rt; store.next(d), None);
+    assert_eq!(&rt; store.last(a), Some(d));
+    assert_eq!(&rt; store.prev(d), Some(b));
+    assert_eq!(&rt; store.prev(b), None);
     assert_eq!(&rt; store.cells(), 256);
     Ok(())
 }
@@ -177,5 +216,48 @@ fn a_dead_cell_is_used_before_a_block(rt: HostRuntime) -> Result<(), Fail> {
         make_call(&mut store, call)?;
         assert_eq!(&rt; store.cells(), *cells);
     }
+    Ok(())
+}
+
+/// So wide a payload that blocks show in the memory of the process.
+type Wide = [u64; 32];
+
+const WIDE: Wide = [7; 32];
+
+const STORES: u32 = 10_000;
+
+// How many pages of memory the process has, as Linux tells it.
+fn pages(rt: &HostRuntime) -> Result<u64, Fail> {
+    let text = fs::read_to_string(rt, "/proc/self/statm")?;
+    let mut numbers = text.split_whitespace();
+    numbers.next();
+    Ok(numbers.next().ok_or("no second number")?.parse::<u64>()?)
+}
+
+// Makes a store, gives it two blocks, and lets it go.
+fn fill_two_blocks(rt: &impl Abort, alloc: Global) -> Result<(), Fail> {
+    let mut store = RawNodes::new(alloc);
+    store.plant(WIDE)?;
+    for _ in 1..257 {
+        let root = store.root().ok_or("no root")?;
+        store.append(root, WIDE)?;
+    }
+    assert_eq!(rt; store.cells(), 512);
+    Ok(())
+}
+
+// No clause says that a block is given back. One block of each store would take more than 800 MB, and 400 MB are granted
+// to an allocator that keeps freed memory for a while.
+#[test]
+fn blocks_are_given_back(rt: HostRuntime) -> Result<(), Fail> {
+    let before = pages(&rt)?;
+    for _ in 0..STORES {
+        fill_two_blocks(&rt, rt.alloc())?;
+    }
+    let after = pages(&rt)?;
+    assert!(&rt;
+        after < before.saturating_add(100_000),
+        "{before} pages, then {after}"
+    );
     Ok(())
 }

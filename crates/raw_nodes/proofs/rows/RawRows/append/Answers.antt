@@ -2,7 +2,8 @@ use Rattle.std.proofs.Common.{◌+◌, Some, IsSome, sym, ap, subst, ◌∙◌}
 use Rattle.std.specs.Prelude.{IfSome}
 use Rattle.raw_nodes.specs.Spots.{found, updated}
 use Rattle.raw_nodes.specs.Edits.{to_last, join_put}
-use Rattle.raw_nodes.specs.Raw.{raw_of, Appends}
+use Rattle.raw_nodes.specs.Raw.{raw_of}
+use Rattle.raw_nodes.specs.Steps.{Appends}
 use Rattle.raw_nodes.specs.declared.rows.RawRows.{RawRows}
 use Rattle.raw_nodes.proofs.Stored.{number_is}
 use Rattle.raw_nodes.proofs.Changing.{link_found, no_payload, up_found, up_found_two, parent_found_three, last_found_three, link_found_three, append_raw, appends, room}

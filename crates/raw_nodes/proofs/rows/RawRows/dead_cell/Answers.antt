@@ -1,6 +1,6 @@
 use Rattle.std.proofs.Common.{◌≡◌, Some, None, rules, refl, arith}
 use Rattle.raw_nodes.specs.Heaps.{Grows}
-use Rattle.raw_nodes.specs.Raw.{Ready}
+use Rattle.raw_nodes.specs.Steps.{Ready}
 use Rattle.raw_nodes.specs.declared.rows.RawRows.{RawRows}
 use Rattle.raw_nodes.proofs.Readying.{ready_old, ready_new, full_rows, ok_more}
 use Rattle.raw_nodes.proofs.rows.RawRows.dead_cell.Goals as goal

@@ -1,4 +1,4 @@
-use Rattle.std.proofs.Common.{None, sym, ap, subst, ◌∙◌}
+use Rattle.std.proofs.Common.{None, ◌+◌, ◌≤◌, length, arith, sym, ap, subst, ◌∙◌}
 use Rattle.node_store.specs.Links.{rows_of}
 use Rattle.raw_nodes.specs.Nodes.{cells_of, IsStore}
 use Rattle.raw_nodes.proofs.Stored.{store_empty, no_rows}
@@ -9,6 +9,7 @@ returns-clause-raw g c =
     record {
       heap = c.new.ensures.heap;
       store = subst (λ cells. IsStore cells None None 0 0) (sym c.new.ensures.cells) store_empty;
+      spare = subst (λ cells. length cells ≤ 0 + 255) (sym c.new.ensures.cells) (omega arith);
     }
 
 pub returns-clause-empty : goal.returns-clause-empty

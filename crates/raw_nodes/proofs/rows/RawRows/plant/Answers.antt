@@ -1,5 +1,6 @@
 use Rattle.std.proofs.Common.{Some, sym, subst}
-use Rattle.raw_nodes.specs.Raw.{raw_of, Plants}
+use Rattle.raw_nodes.specs.Raw.{raw_of}
+use Rattle.raw_nodes.specs.Steps.{Plants}
 use Rattle.raw_nodes.specs.declared.rows.RawRows.{RawRows}
 use Rattle.raw_nodes.proofs.Stored.{number_is}
 use Rattle.raw_nodes.proofs.Changing.{link_found, no_payload, plant_raw, plants}
