@@ -1,7 +1,7 @@
 -- The copy of a node, from its rows.
-use Rattle.std.proofs.Common.{◌≡◌, ◌⊎◌, ℕ, zero, suc, ◌+◌, ◌-◌, ◌<◌, ◌≤◌, Bool, true, false, cond, ◌&&◌, List, [], ◌∷◌, ◌++◌, length, get_or, drop, refl, sym, ◌∙◌, ap, subst, inl, inr, arith, eqb, append_assoc, append-nil, Option}
+use Rattle.std.proofs.Common.{◌≡◌, ◌⊎◌, ℕ, zero, suc, ◌+◌, ◌-◌, ◌<◌, ◌≤◌, Bool, true, false, cond, ◌&&◌, List, [], ◌∷◌, ◌++◌, length, get_or, refl, sym, ◌∙◌, ap, subst, inl, inr, arith, eqb, append_assoc, append-nil, Option}
 use Rattle.std.specs.List.{filter, flat_map}
-use Rattle.std.proofs.lemmas.List.{drop_more, drop_all, get_or_default, get_or_past}
+use Rattle.std.proofs.lemmas.List.{drop_all, get_or_default, get_or_past}
 use Rattle.std.proofs.lemmas.Bool.{cases_lt, cases_order, ne_eqb, eq-eqb, false≢true}
 use Rattle.gcx_base.specs.declared.steps.Axis.TheVariants.{Child}
 use Rattle.gcx_base.specs.declared.steps.Test.TheVariants.{AnyNode}
@@ -17,7 +17,7 @@ use Rattle.tree_eval.specs.Rows.{kind_in, is_text, node_at, nodes_of, tree_of_ro
 use Rattle.tree_eval.specs.Copies.{whole, kids, bytes_below}
 use Rattle.tree_eval.proofs.Nodes.{Rises, are_nodes, length-nodes_of}
 use Rattle.tree_eval.proofs.Steps.{hits_one, lies_low}
-use Rattle.tree_eval.proofs.Order.{number, rises, row_node}
+use Rattle.tree_eval.proofs.Order.{number, rises, row_node, drop_on}
 
 no_and : (a b : Bool) → b ≡ false → (a && b) ≡ false
 no_and true b e = e
@@ -36,9 +36,6 @@ module _ (rows : List Row) (nested : IsNested rows) where
   abbrev node : ℕ → Node
   node i = node_at (nodes_of rows) i
 
-  drop_on : (i : ℕ) → i ≤ length rows → drop i (nodes_of rows) ≡ node i ∷ drop (suc i) (nodes_of rows)
-  drop_on i h = let e : i + 1 ≡ suc i = omega arith in drop_more (nodes_of rows) i Root (omega (arith, length-nodes_of rows)) ∙ ap (λ k. node i ∷ drop k (nodes_of rows)) e
-
   -- whether the node of a row is a child
   row_child : (n k : ℕ) → k < length rows → hits n (child_step ∷ []) (node (suc k)) ≡ eqb (parent_in rows k) n
   row_child n k h =
@@ -49,7 +46,7 @@ module _ (rows : List Row) (nested : IsNested rows) where
       ∙ rw (node_kind (get_or rows k no_row).content, number rows nested (parent_in rows k) (omega arith)) refl
 
   kids_at : (n k : ℕ) (b : Bool) → k < length rows → eqb (parent_in rows k) n ≡ b → kids rows n (suc k) ≡ cond b (node (suc k) ∷ kids rows n (suc (suc k))) (kids rows n (suc (suc k)))
-  kids_at n k b h e = ap (filter (hits n (child_step ∷ []))) (drop_on (suc k) (omega arith)) ∙ ap (λ c. cond c (node (suc k) ∷ kids rows n (suc (suc k))) (kids rows n (suc (suc k)))) (row_child n k h ∙ e)
+  kids_at n k b h e = ap (filter (hits n (child_step ∷ []))) (drop_on rows nested (suc k) (omega arith)) ∙ ap (λ c. cond c (node (suc k) ∷ kids rows n (suc (suc k))) (kids rows n (suc (suc k)))) (row_child n k h ∙ e)
 
   -- a child, and the rest of the children
   pub kids_here : (n k : ℕ) → k < length rows → parent_in rows k ≡ n → kids rows n (suc k) ≡ node (suc k) ∷ kids rows n (suc (suc k))
@@ -79,7 +76,7 @@ module _ (rows : List Row) (nested : IsNested rows) where
   early n zero i h t = let e : i ≡ i + 0 = omega arith in ap (kids rows n) e
   early n (suc d) i h t =
       let e : suc i + d ≡ i + suc d = omega arith in
-      ap (filter (hits n (child_step ∷ []))) (drop_on i (omega arith))
+      ap (filter (hits n (child_step ∷ []))) (drop_on rows nested i (omega arith))
       ∙ ap (λ c. cond c (node i ∷ kids rows n (suc i)) (kids rows n (suc i))) (no_child n (node i) (rises rows nested i (omega arith)) (let f = number rows nested i (omega arith) in omega arith))
       ∙ early n d (suc i) (omega arith) t
       ∙ ap (kids rows n) e

@@ -3,7 +3,10 @@ pub mod Steps
 pub mod Order
 pub mod Taking
 pub mod Copying
-pub mod Marking
+pub mod Numbers
+pub mod Children
+pub mod Below
+pub mod Counting
 pub mod Values
 pub mod Operands
 pub mod Weight

@@ -1,6 +1,7 @@
 -- Where the nodes below a node stand: right behind it, up to the first row whose parent stands before it.
-use Rattle.std.proofs.Common.{◌≡◌, ℕ, zero, suc, ◌<◌, ◌≤◌, true, false, List, length, get_or, refl, sym, ◌∙◌, subst, inl, inr, arith}
+use Rattle.std.proofs.Common.{◌≡◌, ℕ, zero, suc, ◌+◌, ◌<◌, ◌≤◌, true, false, List, ◌∷◌, length, get_or, drop, refl, sym, ◌∙◌, ap, subst, inl, inr, arith}
 use Rattle.std.proofs.lemmas.Bool.{cases_lt, cases_order, ne_eqb, eq-eqb, or_left, or_right}
+use Rattle.std.proofs.lemmas.List.{drop_more}
 use Rattle.gcx_model.specs.Tree.{Node, Root, Under, serial_of, within}
 use Rattle.tree_eval.specs.declared.row.Row.{Row}
 use Rattle.tree_eval.specs.Rows.{kind_in, node_at, nodes_of, no_row, parent_in, IsNested}
@@ -23,6 +24,9 @@ module _ (rows : List Row) (nested : IsNested rows) where
 
   pub rises : (i : ℕ) → i ≤ length rows → Rises (node i)
   rises i h = (are_nodes rows).rises i (omega (arith, length-nodes_of rows))
+
+  pub drop_on : (i : ℕ) → i ≤ length rows → drop i (nodes_of rows) ≡ node i ∷ drop (suc i) (nodes_of rows)
+  drop_on i h = let e : i + 1 ≡ suc i = omega arith in drop_more (nodes_of rows) i Root (omega (arith, length-nodes_of rows)) ∙ ap (λ k. node i ∷ drop k (nodes_of rows)) e
 
   inside_by : (b n j : ℕ) → j < b → n ≤ j → j < length rows → ((k : ℕ) → n ≤ k → k ≤ j → n ≤ parent_in rows k) → within n (node (suc j)) ≡ true
   inside_by zero n j lt le h all = absurd (omega arith)

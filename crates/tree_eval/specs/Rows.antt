@@ -1,9 +1,9 @@
 -- Rows of nodes, each with its parent's number, as the nodes of an open tree.
-use Rattle.std.specs.Prelude.{◌≡◌, ℕ, zero, suc, ◌≤◌, ◌<◌, Bool, true, false, List, [], ◌∷◌, ◌++◌, length, Option, Some, None, option_map}
+use Rattle.std.specs.Prelude.{◌≡◌, ℕ, zero, suc, ◌≤◌, ◌<◌, Bool, true, false, List, [], ◌∷◌, ◌++◌, length, set, Option, Some, None, option_map, unwrap_or, is_some, not}
 use Rattle.std.proofs.Common.{get_or}
 use Rattle.gcx_base.specs.declared.kind.Kind.{Kind}
 use Rattle.gcx_base.specs.declared.kind.Kind.TheVariants.{Document, Element, Text}
-use Rattle.gcx_model.specs.Tree.{Node, Root, Under, kind_of, within}
+use Rattle.gcx_model.specs.Tree.{Node, Root, Under, kind_of, within, is_open_at}
 use Rattle.gcx_model.specs.Tree as model
 use Rattle.tree_eval.specs.declared.row.Content.{Content}
 use Rattle.tree_eval.specs.declared.row.Content.TheVariants as content
@@ -33,7 +33,7 @@ abbrev pub tree_of_rows : List Row → Option ℕ → model.Tree
 tree_of_rows rows at = record { nodes = nodes_of rows; at = option_map (node_at (nodes_of rows)) at }
 
 abbrev pub no_row : Row
-no_row = record { parent = 0; content = content.Text [] }
+no_row = record { parent = 0; end = None; content = content.Text [] }
 
 -- the parent's number in the row with this index
 abbrev pub parent_in : List Row → ℕ → ℕ
@@ -43,6 +43,28 @@ parent_in rows k = (get_or rows k no_row).parent
 abbrev pub parent_of : List Row → ℕ → Option ℕ
 parent_of rows zero = None
 parent_of rows (suc k) = Some (parent_in rows k)
+
+-- the end that is kept in the row with this index
+abbrev pub end_in : List Row → ℕ → Option ℕ
+end_in rows k = (get_or rows k no_row).end
+
+-- the end that is kept for a node; the document node has no row
+abbrev pub end_kept : List Row → ℕ → Option ℕ
+end_kept rows zero = None
+end_kept rows (suc k) = end_in rows k
+
+-- the index of the first row behind those below a node: what is kept, and of an open node the end of the rows
+abbrev pub end_at : List Row → ℕ → ℕ
+end_at rows n = unwrap_or (end_kept rows n) (length rows)
+
+-- the row with this end
+abbrev pub closed_at : Row → ℕ → Row
+closed_at r n = record { parent = r.parent; end = Some n; content = r.content }
+
+-- the rows where the node ends behind all of them
+abbrev pub with_end : List Row → ℕ → List Row
+with_end rows zero = rows
+with_end rows (suc k) = set rows k (closed_at (get_or rows k no_row) (length rows))
 
 abbrev pub is_text : Kind → Bool
 is_text Document = false
@@ -59,19 +81,23 @@ abbrev pub IsOpenAt : List Row → Option ℕ → Type 0
 IsOpenAt rows None = Unit {0}
 IsOpenAt rows (Some p) = IsOpen rows p
 
--- a parent stands before its children and isn't a text, and behind a node that isn't in the node i there is no child of i
-pub record IsNested (rows : List Row) : Type 0 where
-  pub low : (k : ℕ) → k < length rows → parent_in rows k ≤ k
-  pub holders : (k : ℕ) → k < length rows → is_text (kind_of (node_at (nodes_of rows) (parent_in rows k))) ≡ false
-  pub nested : (i j l : ℕ) → i ≤ j → j ≤ l → l < length rows → parent_in rows j < i → parent_in rows l ≡ i → ⊥
-
-pub record IsTree (rows : List Row) (at : Option ℕ) : Type 0 where
-  pub nested : IsNested rows
-  pub innermost : IsOpenAt rows at
-
 -- the rows behind those in the node p begin at this index
 pub record IsBehind (rows : List Row) (p next : ℕ) : Type 0 where
   pub from : p ≤ next
   pub to : next ≤ length rows
   pub inside : (k : ℕ) → p ≤ k → k < next → p ≤ parent_in rows k
   pub outside : next < length rows → parent_in rows next < p
+
+-- a parent stands before its children and isn't a text, behind a node that isn't in the node i there is no child of i,
+-- and the rows below a node end at its end
+pub record IsNested (rows : List Row) : Type 0 where
+  pub low : (k : ℕ) → k < length rows → parent_in rows k ≤ k
+  pub holders : (k : ℕ) → k < length rows → is_text (kind_of (node_at (nodes_of rows) (parent_in rows k))) ≡ false
+  pub nested : (i j l : ℕ) → i ≤ j → j ≤ l → l < length rows → parent_in rows j < i → parent_in rows l ≡ i → ⊥
+  pub ends : (n : ℕ) → n ≤ length rows → IsBehind rows n (end_at rows n)
+
+-- an end is kept of each node that is closed
+pub record IsTree (rows : List Row) (at : Option ℕ) : Type 0 where
+  pub nested : IsNested rows
+  pub innermost : IsOpenAt rows at
+  pub closed : (k : ℕ) → k < length rows → is_some (end_in rows k) ≡ not (is_open_at (tree_of_rows rows at).at (suc k))

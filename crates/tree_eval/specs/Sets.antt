@@ -1,10 +1,28 @@
 -- Sets of nodes, and what one step reaches from a set.
-use Rattle.std.specs.Prelude.{Bool, false, ◌&&◌}
+use Rattle.std.specs.Prelude.{ℕ, suc, ◌-◌, Bool, false, ◌&&◌, List, map, take, drop}
+use Rattle.std.specs.List.{filter}
 use Rattle.gcx_base.specs.declared.steps.Axis.{Axis}
 use Rattle.gcx_base.specs.declared.steps.Axis.TheVariants.{Child, Descendant}
 use Rattle.gcx_base.specs.declared.steps.Step.{Step}
-use Rattle.gcx_model.specs.Tree.{Node, Root, Under, kind_of, above}
+use Rattle.gcx_base.specs.declared.steps.Test.{Test}
+use Rattle.gcx_model.specs.Tree.{Node, Root, Under, serial_of, kind_of, above}
 use Rattle.gcx_model.specs.Paths.{any, passes}
+use Rattle.tree_eval.specs.declared.row.Row.{Row}
+use Rattle.tree_eval.specs.Rows.{nodes_of}
+
+-- the numbers of the nodes in the set, in document order
+abbrev pub members : (Node → Bool) → List Row → List ℕ
+members f rows = map serial_of (filter f (nodes_of rows))
+
+-- the numbers of the nodes of the rows in the range that pass the test
+abbrev pub passing : Test → List Row → (from end : ℕ) → List ℕ
+passing t rows from end = map serial_of (filter (λ m. passes t (kind_of m)) (take (end - from) (drop (suc from) (nodes_of rows))))
+
+abbrev pub child_step : Test → Step
+child_step t = record { axis = Child; test = t }
+
+abbrev pub descendant_step : Test → Step
+descendant_step t = record { axis = Descendant; test = t }
 
 -- the parent is in the set
 abbrev pub child_of : (Node → Bool) → Node → Bool
@@ -24,7 +42,3 @@ along Descendant f m = below f m
 -- what the step reaches from the set
 abbrev pub stepped : Step → (Node → Bool) → Node → Bool
 stepped s f m = passes s.test (kind_of m) && along s.axis f m
-
--- the set and all below its nodes
-abbrev pub with_below : (Node → Bool) → Node → Bool
-with_below f m = any f (above m)

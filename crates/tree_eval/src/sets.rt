@@ -1,12 +1,11 @@
-//! Sets of nodes, as a flag for each node, the document node first.
-ghost use Rattle.std.specs.Prelude.{◌≡◌, ◌+◌, ◌&&◌, Bool, List, [], IfOk, length, map};
-ghost use Rattle.std.specs.List.{filter};
-ghost use Rattle.gcx_model.specs.Tree.{Node, serial_of, kind_of};
-ghost use Rattle.gcx_model.specs.Paths.{passes, hits};
+//! Sets of nodes, as their numbers in document order.
+ghost use Rattle.std.specs.Prelude.{◌≡◌, ◌≤◌, ◌++◌, Bool, [], IfOk, OnOk, length};
+ghost use Rattle.gcx_model.specs.Tree.{Node, serial_of};
+ghost use Rattle.gcx_model.specs.Paths.{passes, reach, hits};
 ghost use Rattle.tree_eval.specs.Rows.{kind_in, node_at, nodes_of, IsNested};
-ghost use Rattle.tree_eval.specs.Sets.{child_of, with_below, stepped};
+ghost use Rattle.tree_eval.specs.Sets.{members, passing, child_step, descendant_step, stepped};
 
-use crate::row::{Content, Row};
+use crate::row::{Content, Row, end_of};
 use gcx_base::{Axis, Memory, Step, Test};
 use std::alloc::Global;
 
@@ -23,62 +22,103 @@ fn passes(test: &Test, content: &Content) -> bool
     }
 }
 
-/// The children of the set's nodes that pass the test.
-fn children(alloc: Global, rows: &[Row], test: &Test, set: &[bool]) -> Result<Vec<bool>, Memory>
+/// Appends the children of the node that pass the test.
+fn put_children(
+    found: &mut Vec<usize>,
+    rows: &[Row],
+    test: &Test,
+    node: usize,
+) -> Result<(), Memory>
     requires nested { IsNested rows.now }
-    requires sized { length set.now ≡ length rows.now + 1 }
-    ensures { IfOk result (λ reached. (f : Node → Bool) → set.now ≡ map f (nodes_of rows.now) → reached.items ≡ map (λ m. passes test.now (kind_of m) && child_of f m) (nodes_of rows.now)) }
+    ensures { OnOk result (found.new.items ≡ found.old.items ++ members (reach node (child_step test.now)) rows.now) }
 {
-    let mut reached = Vec::new(alloc);
-    reached.push(false)?;
-    for row in rows {
-        let is_reached = set[row.parent] && passes(test, &row.content);
-        reached.push(is_reached)?;
+    let end = end_of(rows, node);
+    let mut next = node;
+    while next < end {
+        if passes(test, &rows[next].content) {
+            found.push(next + 1)?;
+        }
+        next = end_of(rows, next + 1);
     }
-    Ok(reached)
+    Ok(())
 }
 
-/// The set and all below its nodes.
-fn with_descendants(alloc: Global, rows: &[Row], set: &[bool]) -> Result<Vec<bool>, Memory>
+/// The children of the set's nodes that pass the test.
+fn children(alloc: Global, rows: &[Row], test: &Test, set: &[usize]) -> Result<Vec<usize>, Memory>
     requires nested { IsNested rows.now }
-    requires sized { length set.now ≡ length rows.now + 1 }
-    ensures sized { IfOk result (λ all. length all.items ≡ length rows.now + 1) }
-    ensures all { IfOk result (λ all. (f : Node → Bool) → set.now ≡ map f (nodes_of rows.now) → all.items ≡ map (with_below f) (nodes_of rows.now)) }
+    ensures { IfOk result (λ found. (f : Node → Bool) → set.now ≡ members f rows.now → found.items ≡ members (stepped (child_step test.now) f) rows.now) }
 {
-    let mut all = Vec::new(alloc);
-    all.push(set[0])?;
-    for (k, row) in rows.iter().enumerate() {
-        let is_in = set[k + 1] || all[row.parent];
-        all.push(is_in)?;
+    let mut found = Vec::new(alloc);
+    for node in set {
+        put_children(&mut found, rows, test, *node)?;
     }
-    Ok(all)
+    // The children of a node and of one below it interleave.
+    if !found.is_sorted() {
+        found.sort()?;
+    }
+    Ok(found)
+}
+
+/// Appends the nodes of the rows in the range that pass the test.
+fn put_passing(
+    found: &mut Vec<usize>,
+    rows: &[Row],
+    test: &Test,
+    from: usize,
+    end: usize,
+) -> Result<(), Memory>
+    requires nested { IsNested rows.now }
+    requires within { end ≤ length rows.now }
+    ensures { OnOk result (found.new.items ≡ found.old.items ++ passing test.now rows.now from end) }
+{
+    for index in from..end {
+        if passes(test, &rows[index].content) {
+            found.push(index + 1)?;
+        }
+    }
+    Ok(())
+}
+
+/// The nodes below the set's nodes that pass the test.
+fn descendants(
+    alloc: Global,
+    rows: &[Row],
+    test: &Test,
+    set: &[usize],
+) -> Result<Vec<usize>, Memory>
+    requires nested { IsNested rows.now }
+    ensures { IfOk result (λ found. (f : Node → Bool) → set.now ≡ members f rows.now → found.items ≡ members (stepped (descendant_step test.now) f) rows.now) }
+{
+    let mut found = Vec::new(alloc);
+    let mut done: usize = 0;
+    for node in set {
+        // What is below a node inside the rows that are done stands there already.
+        let end = end_of(rows, *node);
+        put_passing(&mut found, rows, test, done.max(*node), end)?;
+        done = done.max(end);
+    }
+    Ok(found)
 }
 
 /// What a step reaches from the set.
-fn step_from(alloc: Global, rows: &[Row], step: &Step, set: &[bool]) -> Result<Vec<bool>, Memory>
+fn step_from(alloc: Global, rows: &[Row], step: &Step, set: &[usize]) -> Result<Vec<usize>, Memory>
     requires nested { IsNested rows.now }
-    requires sized { length set.now ≡ length rows.now + 1 }
-    ensures { IfOk result (λ reached. (f : Node → Bool) → set.now ≡ map f (nodes_of rows.now) → reached.items ≡ map (stepped step.now f) (nodes_of rows.now)) }
+    ensures { IfOk result (λ reached. (f : Node → Bool) → set.now ≡ members f rows.now → reached.items ≡ members (stepped step.now f) rows.now) }
 {
     match step.axis {
         Axis::Child => children(alloc, rows, &step.test, set),
-        Axis::Descendant => {
-            let all = with_descendants(alloc, rows, set)?;
-            children(alloc, rows, &step.test, &all)
-        }
+        Axis::Descendant => descendants(alloc, rows, &step.test, set),
     }
 }
 
 /// The set of the node alone, of the document node where there is no such node.
-fn single(alloc: Global, rows: &[Row], node: usize) -> Result<Vec<bool>, Memory>
-    ensures { IfOk result (λ set. set.items ≡ map (hits (serial_of (node_at (nodes_of rows.now) node)) []) (nodes_of rows.now)) }
+fn single(alloc: Global, rows: &[Row], node: usize) -> Result<Vec<usize>, Memory>
+    requires { IsNested rows.now }
+    ensures { IfOk result (λ set. set.items ≡ members (hits (serial_of (node_at (nodes_of rows.now) node)) []) rows.now) }
 {
     let node = if node <= rows.len() { node } else { 0 };
     let mut set = Vec::new(alloc);
-    set.push(node == 0)?;
-    for k in 0..rows.len() {
-        set.push(k + 1 == node)?;
-    }
+    set.push(node)?;
     Ok(set)
 }
 
@@ -88,26 +128,13 @@ pub(crate) fn hit(
     rows: &[Row],
     node: usize,
     steps: &[Step],
-) -> Result<Vec<bool>, Memory>
+) -> Result<Vec<usize>, Memory>
     requires nested { IsNested rows.now }
-    ensures { IfOk result (λ set. set.items ≡ map (hits (serial_of (node_at (nodes_of rows.now) node)) steps.now) (nodes_of rows.now)) }
+    ensures { IfOk result (λ set. set.items ≡ members (hits (serial_of (node_at (nodes_of rows.now) node)) steps.now) rows.now) }
 {
     let mut set = single(alloc, rows, node)?;
     for step in steps {
         set = step_from(alloc, rows, step, &set)?;
     }
     Ok(set)
-}
-
-/// The nodes of the set in document order.
-pub(crate) fn members(alloc: Global, set: &[bool]) -> Result<Vec<usize>, Memory>
-    ensures { IfOk result (λ found. (h : Node → Bool) (nodes : List Node) → set.now ≡ map h nodes → map (node_at nodes) found.items ≡ filter h nodes) }
-{
-    let mut found = Vec::new(alloc);
-    for (node, is_in) in set.iter().enumerate() {
-        if *is_in {
-            found.push(node)?;
-        }
-    }
-    Ok(found)
 }

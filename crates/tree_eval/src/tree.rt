@@ -3,11 +3,11 @@ ghost use Rattle.gcx_model.specs.Tree.{Root, serial_of, opening, grow};
 ghost use Rattle.gcx_model.specs.Paths.{matches, value};
 ghost use Rattle.gcx_model.specs.Answer.{copy_of};
 ghost use Rattle.tree_eval.specs.Tokens.{token_of};
-ghost use Rattle.tree_eval.specs.Rows.{node_at, parent_of};
+ghost use Rattle.tree_eval.specs.Rows.{node_at, parent_of, with_end};
 
 use crate::copies::put_copy;
 use crate::row::{Content, Row};
-use crate::sets::{hit, members};
+use crate::sets::hit;
 use crate::texts::value_of;
 use doc_reader::Token;
 use gcx_base::{Memory, Step};
@@ -61,14 +61,23 @@ impl Tree {
         match token {
             Token::Start(name) => {
                 let content = Content::Element(name);
-                self.rows.push(Row { parent, content })?;
+                self.rows.push(Row {
+                    parent,
+                    end: None,
+                    content,
+                })?;
                 self.at = Some(self.rows.len());
             }
             Token::Text(text) => {
+                let end = Some(self.rows.len() + 1);
                 let content = Content::Text(text);
-                self.rows.push(Row { parent, content })?;
+                self.rows.push(Row {
+                    parent,
+                    end,
+                    content,
+                })?;
             }
-            Token::End | Token::EndOfDocument => self.at = parent_of(&self.rows, parent),
+            Token::End | Token::EndOfDocument => self.at = close(&mut self.rows, parent),
         }
         Ok(())
     }
@@ -83,8 +92,7 @@ impl Tree {
         ensures root { OnOk result (node_at self.now.nodes 0 ≡ Root) }
         ensures found { IfOk result (λ found. map (node_at self.now.nodes) found.items ≡ matches self.now (serial_of (node_at self.now.nodes node)) steps.now) }
     {
-        let set = hit(alloc, &self.rows, node, steps)?;
-        let found = members(alloc, &set)?;
+        let found = hit(alloc, &self.rows, node, steps)?;
         Ok(found)
     }
 
@@ -105,11 +113,13 @@ impl Tree {
     }
 }
 
-/// The parent of a node, if it isn't the document node.
-fn parent_of(rows: &[Row], node: usize) -> Option<usize>
-    requires { node ≤ length rows.now }
-    ensures { result ≡ parent_of rows.now node }
+/// Keeps the end of an open node. Answers its parent, if it isn't the document node.
+fn close(rows: &mut [Row], node: usize) -> Option<usize>
+    requires { node ≤ length rows.old }
+    ensures parent { result ≡ parent_of rows.old node }
+    ensures rows { rows.new ≡ with_end rows.old node }
 {
-    let row = rows.get(node.checked_sub(1)?)?;
-    Some(row.parent)
+    let index = node.checked_sub(1)?;
+    rows[index].end = Some(rows.len());
+    Some(rows[index].parent)
 }

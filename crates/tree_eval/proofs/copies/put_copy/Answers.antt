@@ -1,10 +1,15 @@
 use Rattle.std.proofs.Common.{◌≡◌, ◌++◌, sym, ◌∙◌, ap, arith}
+use Rattle.gcx_model.specs.Tree.{kind_of}
 use Rattle.gcx_model.specs.Answer.{copy_of}
-use Rattle.tree_eval.specs.Rows.{node_at, nodes_of}
+use Rattle.tree_eval.specs.Rows.{is_text, node_at, nodes_of}
 use Rattle.tree_eval.specs.Copies.{whole}
+use Rattle.tree_eval.proofs.Nodes.{are_nodes}
 use Rattle.tree_eval.proofs.Copying.{root_copy, no_node_copy}
 use Rattle.tree_eval.proofs.copies.put_copy.Goals as goal
 use Rattle.tree_eval.proofs.copies.put_copy.Goals.{else-node-gt0-via-then-node-gt0+else-node-rows, else-node-gt0-via-else-node-gt0}
+
+pub put_below-requires-clause-holder : goal.put_below-requires-clause-holder
+put_below-requires-clause-holder c = ap (λ m. is_text (kind_of m)) (are_nodes c.args.rows.now).first
 
 pub returns-in_ok-put_below : goal.returns-in_ok-put_below
 returns-in_ok-put_below c =

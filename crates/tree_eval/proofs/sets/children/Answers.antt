@@ -1,18 +1,25 @@
-use Rattle.std.proofs.Common.{◌&&◌, ◌++◌, ◌∷◌, [], false, refl, ◌∙◌, ap}
-use Rattle.gcx_model.specs.Tree.{kind_of}
-use Rattle.gcx_model.specs.Paths.{passes}
-use Rattle.tree_eval.specs.Sets.{child_of}
-use Rattle.tree_eval.proofs.Marking.{first_flag, all_flags, child_next, and_then, and_else}
+use Rattle.std.proofs.Common.{◌≡◌, get_or, refl, ◌∙◌, ap}
+use Rattle.std.specs.Prelude.{flat_map}
+use Rattle.std.proofs.lemmas.List.{take_all}
+use Rattle.std.proofs.lemmas.List.Sorted.{IsPermutation-refl, IsNonDecreasingBy-from_sort}
+use Rattle.gcx_model.specs.Paths.{reach}
+use Rattle.tree_eval.specs.Sets.{members, child_step}
+use Rattle.tree_eval.proofs.Counting.{in_order, are_in_order, more_children}
 use Rattle.tree_eval.proofs.sets.children.Goals as goal
-use Rattle.tree_eval.proofs.sets.children.Goals.{then-set-row, else-set-row}
+use Rattle.tree_eval.proofs.sets.children.Goals.{then-not-is_sorted+in_ok-sort, else-not-is_sorted}
 
-pub loop-row-init : goal.loop-row-init
-loop-row-init c f e = c.in_ok-push.ensures.items ∙ (ap (λ l. l ++ false ∷ []) c.new-reached.ensures.items ∙ first_flag c.args.rows.now (λ m. passes c.args.test.now (kind_of m) && child_of f m) false refl)
-
-pub loop-row-preserved : goal.loop-row-preserved
-loop-row-preserved c f e =
-    child_next c.args.rows.now c.requires.nested c.loop-row.row-index c.loop-row-test.true c.row-item.result c.row-item.is c.args.test.now f c.args.set.now _ _ _ e (c.loop-row.invariant f e) c.in_ok-push-2.ensures.items
-    (elim c.if-set-row.branch [ then-set-row w ↦ and_then _ _ _ w.if-set-row.true (w.is_reached-is ∙ w.passes-is_reached.ensures) | else-set-row w ↦ and_else _ _ _ w.if-set-row.false w.is_reached-is ])
+pub loop-node-preserved : goal.loop-node-preserved
+loop-node-preserved c = more_children (λ n. members (reach n (child_step c.args.test.now)) c.args.rows.now) c.args.set.now c.loop-node.found.items c.put_children.new.found.items c.loop-node.node-index (get_or c.args.set.now c.loop-node.node-index 0) c.loop-node-test.true refl c.loop-node.invariant c.in_ok-put_children.ensures
 
 pub returns : goal.returns
-returns c f e = all_flags c.args.rows.now (λ m. passes c.args.test.now (kind_of m) && child_of f m) c.loop-row.row-index _ c.loop-row-test.false (c.loop-row.invariant f e)
+returns c f e =
+    let all : c.loop-node.found.items ≡ flat_map (λ n. members (reach n (child_step c.args.test.now)) c.args.rows.now) c.args.set.now = c.loop-node.invariant ∙ ap (flat_map (λ n. members (reach n (child_step c.args.test.now)) c.args.rows.now)) (take_all c.loop-node.node-index c.args.set.now c.loop-node-test.false) in
+    elim c.if-not-is_sorted.branch [
+      | then-not-is_sorted+in_ok-sort w ↦
+          ap (λ v. v.items) w.found-is
+          ∙ in_order c.args.rows.now c.requires.nested c.args.test.now f c.args.set.now c.loop-node.found.items w.sort.new.self.items e all w.sort.ensures.permutation (IsNonDecreasingBy-from_sort (λ x. x) w.sort.new.self.items w.in_ok-sort.ensures.sorted)
+      | else-not-is_sorted w ↦
+          ap (λ v. v.items) w.found-is
+          ∙ in_order c.args.rows.now c.requires.nested c.args.test.now f c.args.set.now c.loop-node.found.items c.loop-node.found.items e all (IsPermutation-refl c.loop-node.found.items)
+          (are_in_order c.deref.result.now c.loop-node.found.items c.is_sorted.result c.is_sorted.ensures.cases w.if-not-is_sorted.false c.deref.ensures.value)
+    ]

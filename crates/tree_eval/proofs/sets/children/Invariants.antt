@@ -1,9 +1,8 @@
-use Rattle.std.proofs.Common.{◌≡◌, ◌+◌, ◌&&◌, Bool, map, take}
-use Rattle.gcx_model.specs.Tree.{Node, kind_of}
-use Rattle.gcx_model.specs.Paths.{passes}
-use Rattle.tree_eval.specs.Rows.{nodes_of}
-use Rattle.tree_eval.specs.Sets.{child_of}
+use Rattle.std.proofs.Common.{◌≡◌, take}
+use Rattle.std.specs.Prelude.{flat_map}
+use Rattle.gcx_model.specs.Paths.{reach}
+use Rattle.tree_eval.specs.Sets.{members, child_step}
 use Rattle.tree_eval.proofs.sets.children.Given as goal
 
-abbrev pub invariant-loop-row : goal.invariant-loop-row
-invariant-loop-row l = (f : Node → Bool) → l.set ≡ map f (nodes_of l.rows) → l.reached.items ≡ map (λ m. passes l.test (kind_of m) && child_of f m) (take (l.row-index + 1) (nodes_of l.rows))
+abbrev pub invariant-loop-node : goal.invariant-loop-node
+invariant-loop-node l = l.found.items ≡ flat_map (λ n. members (reach n (child_step l.test)) l.rows) (take l.node-index l.set)

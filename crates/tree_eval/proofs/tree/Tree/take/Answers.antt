@@ -1,7 +1,8 @@
-use Rattle.std.proofs.Common.{◌≡◌, length, rules, inl, inr, sym, ◌∙◌, ap}
+use Rattle.std.proofs.Common.{◌≡◌, length, rules, inl, inr, sym, ◌∙◌, ap, arith}
 use Rattle.gcx_model.specs.Tree.{grow, Tree, Token, End}
 use Rattle.tree_eval.specs.Tokens.{token_of}
-use Rattle.tree_eval.proofs.Taking.{started, texted, ended}
+use Rattle.tree_eval.specs.Rows.{parent_of}
+use Rattle.tree_eval.proofs.Taking.{started, texted, lent, ended}
 use Rattle.tree_eval.proofs.tree.Tree.take.Goals as goal
 
 grown : (T : Tree) (P Q : Tree) (t u : Token) → T ≡ grow u P → P ≡ Q → t ≡ u → T ≡ grow t Q
@@ -13,10 +14,14 @@ invariant_of-self-in-Start c =
     (started _ _ _ _ _ c.in-Start.name c.self.invariant c.in-Some.is c.in_ok-push-in-Start.ensures.items e).0
 
 pub invariant_of-self-in-Continue-branch-2 : goal.invariant_of-self-in-Continue-branch-2
-invariant_of-self-in-Continue-branch-2 c = (texted _ _ _ _ c.in-Text.text c.self.invariant c.in-Some.is c.in_ok-push-in-Text.ensures.items).0
+invariant_of-self-in-Continue-branch-2 c =
+    let e : c.len-in-Text.result ≡ length c.self.inside.rows.items = search rules in
+    (texted _ _ _ _ _ c.in-Text.text c.self.invariant c.in-Some.is (omega (arith, e)) c.in_ok-push-in-Text.ensures.items).0
 
 pub invariant_of-self-in-End : goal.invariant_of-self-in-End
-invariant_of-self-in-End c = (ended _ _ _ _ c.self.invariant c.in-Some.is (c.parent_of-self-inside.ensures ∙ ap (λ l. Rattle.tree_eval.specs.Rows.parent_of l c.in-Some.parent) c.deref.ensures.value)).0
+invariant_of-self-in-End c =
+    (ended _ _ _ _ _ c.self.invariant c.in-Some.is (lent c.self.inside.rows.items c.deref_mut.result.now c.close-self-inside.new.rows c.self.inside.rows.len c.in-Some.parent c.deref_mut.ensures.value c.deref_mut.ensures.len c.close-self-inside.ensures.rows)
+    (c.close-self-inside.ensures.parent ∙ ap (λ l. parent_of l c.in-Some.parent) c.deref_mut.ensures.value)).0
 
 pub returns-in_ok-push-in-Start-clause-ok : goal.returns-in_ok-push-in-Start-clause-ok
 returns-in_ok-push-in-Start-clause-ok c =
@@ -25,9 +30,11 @@ returns-in_ok-push-in-Start-clause-ok c =
 
 pub returns-in_ok-push-in-Text-clause-ok : goal.returns-in_ok-push-in-Text-clause-ok
 returns-in_ok-push-in-Text-clause-ok c =
-    grown _ _ _ _ _ (texted _ _ _ _ c.in-Text.text c.self.invariant c.in-Some.is c.in_ok-push-in-Text.ensures.items).1 c.self.view_is (ap token_of c.in-Text.is)
+    let e : c.len-in-Text.result ≡ length c.self.inside.rows.items = search rules in
+    grown _ _ _ _ _ (texted _ _ _ _ _ c.in-Text.text c.self.invariant c.in-Some.is (omega (arith, e)) c.in_ok-push-in-Text.ensures.items).1 c.self.view_is (ap token_of c.in-Text.is)
 
 pub returns-in-End-clause-ok : goal.returns-in-End-clause-ok
 returns-in-End-clause-ok c =
     let e : token_of c.args.token ≡ End = elim c.in-End.is [ inl x ↦ ap token_of x | inr x ↦ ap token_of x ] in
-    grown _ _ _ _ _ (ended _ _ _ _ c.self.invariant c.in-Some.is (c.parent_of-self-inside.ensures ∙ ap (λ l. Rattle.tree_eval.specs.Rows.parent_of l c.in-Some.parent) c.deref.ensures.value)).1 c.self.view_is e
+    grown _ _ _ _ _ (ended _ _ _ _ _ c.self.invariant c.in-Some.is (lent c.self.inside.rows.items c.deref_mut.result.now c.close-self-inside.new.rows c.self.inside.rows.len c.in-Some.parent c.deref_mut.ensures.value c.deref_mut.ensures.len c.close-self-inside.ensures.rows)
+    (c.close-self-inside.ensures.parent ∙ ap (λ l. parent_of l c.in-Some.parent) c.deref_mut.ensures.value)).1 c.self.view_is e

@@ -1,8 +1,0 @@
-use Rattle.std.proofs.Common.{◌≡◌, ◌+◌, [], map, take}
-use Rattle.gcx_model.specs.Tree.{serial_of}
-use Rattle.gcx_model.specs.Paths.{hits}
-use Rattle.tree_eval.specs.Rows.{node_at, nodes_of}
-use Rattle.tree_eval.proofs.sets.single.Given as goal
-
-abbrev pub invariant-loop-k : goal.invariant-loop-k
-invariant-loop-k l = l.set.items ≡ map (hits (serial_of (node_at (nodes_of l.rows) l.node)) []) (take (l.k + 1) (nodes_of l.rows))
