@@ -28,7 +28,7 @@ use Rattle.gcx_laws.proofs.Copies.{copying, copy_on, copy_over}
 use Rattle.gcx_laws.proofs.Growing.{fed_all}
 use Rattle.gcx_laws.proofs.Public.{grown_from, reached_leads, point_law, need_law}
 use Rattle.gcx_laws.proofs.Keeping.{root_of, point_stays, matches_kept}
-use Rattle.gcx_laws.proofs.Moving.{take_next, one_action, points_are_stacks}
+use Rattle.gcx_laws.proofs.Moving.{take_next, no_more, one_action, points_are_stacks}
 use Rattle.gcx_laws.proofs.CopyFrames.{at_once, Top, top, step_over, Up, up, copy_is, child_in, mid_in, next_is, comes, goes_on, closes}
 use Rattle.gcx_laws.proofs.CopyCut.{copy_is_cut, within_all}
 
@@ -321,7 +321,7 @@ module _ (plan : PlanTree) (P : Tree) (k : ℕ) (m : Node) (present : Option Nod
         ap (λ z. seq (seq (seq (loop (copy_all P) z (is_closed P m)) (at_once (ended (kind_of m)))) (copy_left P inner)) (to_come P fs)) e
         ∙ ap (λ z. seq (seq (seq (idle z) (at_once (ended (kind_of m)))) (copy_left P inner)) (to_come P fs)) c in
         let r = fine_run plan P k st.grown (Inside m present ∷ inner) fs st.point ∙ ap (after (so_far plan P k)) o in
-        record { all = sym (ap (λ (z : Out). z.acts) r ∙ append-nil (so_far plan P k)); is_done = ap (λ (z : Out). z.done) r }
+        no_more plan P k false (sym (ap (λ (z : Out). z.acts) r ∙ append-nil (so_far plan P k))) (ap (λ (z : Out). z.done) r)
 
 pub copy_steps : CopySteps
 copy_steps plan P k m present inner fs c post st e = (step_text plan P k m present inner fs st c post e, step_element plan P k m present inner fs st c post e)

@@ -18,8 +18,8 @@ pub use copying::{
     fine_points, fine_resume, inside_held,
 };
 pub use kept::{
-    closed_stays, copy_kept, first_kept, later_kept, matches_kept, point_stays, so_far_stays,
-    taken_are_there, truth_kept,
+    closed_stays, copy_kept, first_kept, later_kept, matches_kept, point_stays, reached_grows,
+    so_far_stays, taken_are_there, truth_kept,
 };
 pub use laws::{
     balance_law, bound_law, closed_law, copy_held, empty_at_end, given_stays, gone_stays,
@@ -29,6 +29,6 @@ pub use laws::{
 };
 pub use moves::{
     branch_move, branch_waits, empty_rest, first_round, last_round, loop_waits, next_round,
-    no_round, off_move, points_are_stacks, round_waits, run_is_done, write_move,
+    no_round, off_move, opening_point, points_are_stacks, round_waits, run_is_done, write_move,
 };
 pub use turning::{one_turn_more, turns_reach, turns_reach_all};
