@@ -1,5 +1,5 @@
 -- How a copy goes on.
-use Rattle.std.proofs.Common.{◌≡◌, ℕ, suc, Bool, true, false, cond, List, [], ◌∷◌, ◌++◌, length, refl, sym, ◌∙◌, ap, subst, inl, inr, arith, append_assoc, eqb, Some, None, Option}
+use Rattle.std.proofs.Common.{◌≡◌, ℕ, suc, Bool, true, false, cond, List, [], ◌∷◌, ◌++◌, length, refl, sym, ◌∙◌, ap, subst, inl, inr, ◌⊎◌, arith, append_assoc, eqb, Some, None, Option}
 use Rattle.std.specs.Prelude.{drop}
 use Rattle.std.proofs.lemmas.List.{append-nil, length-append}
 use Rattle.gcx_base.specs.declared.kind.Kind.TheVariants.{Document, Element, Text}
@@ -15,10 +15,10 @@ use Rattle.gcx_model.specs.Held.{held, held_tree, is_held}
 use Rattle.gcx_model.specs.Growth.{Leads}
 use Rattle.gcx_model.specs.Points.{actions, so_far, CoreState, Frame, Rest, Round, Part, behind, to_come, IsPoint, Begins, Past, InLoop, InYes, InNo, PointAt}
 use Rattle.gcx_model.specs.Points as points
-use Rattle.gcx_model.specs.Copying.{CopyFrame, Inside, has_inside, begun, ended, copy_all, copies, ComesTo, Itself, Below, IsWithin, Within, next_children, copy_left, CopyingAt, FinePoint}
+use Rattle.gcx_model.specs.Copying.{CopyFrame, Inside, has_inside, begun, ended, copy_all, copies, last_of, ComesTo, Itself, Below, IsWithin, Within, next_children, copy_left, CopyingAt, FinePoint}
 use Rattle.gcx_laws.specs.Moves.{IsNext, NoneLeft, AtPoint, IsStack, Bottom, InBranch, InRound, InCopy}
-use Rattle.gcx_laws.specs.Copying.{AtStart, AtEnd, Amid, AtFinePoint, FineResume, FinePoints, FinePointStays, CopyBegins, CopySteps, CopyEnds, CopyWaits, InsideHeld}
-use Rattle.gcx_laws.proofs.Lists.{In, In-right, In-filter}
+use Rattle.gcx_laws.specs.Copying.{AtStart, AtEnd, Amid, AtFinePoint, FineResume, FinePoints, FinePointStays, CopyBegins, CopySteps, CopyEnds, CopyWaits, CopyFramesStand, InsideHeld}
+use Rattle.gcx_laws.proofs.Lists.{In, In-left, In-right, In-filter}
 use Rattle.gcx_laws.proofs.Matches.{Grown, Matches-in}
 use Rattle.gcx_laws.proofs.Freeze.{within_self, within_trans}
 use Rattle.std.proofs.lemmas.Bool.{eq-eqb}
@@ -374,3 +374,56 @@ pub inside_held : InsideHeld
 inside_held core good plan pl P k cs [] m present below fs st = held_copy core good plan pl P k cs (Inside m present ∷ below) fs st m present (inl refl)
 inside_held core good plan pl P k cs (f ∷ up) m present below fs st =
     held_copy core good plan pl P k cs (f ∷ (up ++ Inside m present ∷ below)) fs st m present (inr (In-right (Inside m present) up (Inside m present ∷ below) (inl refl)))
+
+-- what the frames stand on
+
+module _ (P : Tree) (n : Node) where
+  abbrev Lower : Node → List CopyFrame → Type 0
+  Lower m below = (below ≡ []) ⊎ ((o : Node) × (rest : List CopyFrame) × (below ≡ Inside o (Some m) ∷ rest))
+
+  abbrev Stand : Node → Option Node → List CopyFrame → Type 0
+  Stand m present below = (has_inside (kind_of m) ≡ true) × ((c : Node) → present ≡ Some c → In c (children P m)) × Lower m below
+
+  last_in : (ns : List Node) (c : Node) → last_of ns ≡ Some c → In c ns
+  last_in [] c e = absurd (cc)
+  last_in (m ∷ []) c e = inl (cc)
+  last_in (m ∷ o ∷ ns) c e = inr (last_in (o ∷ ns) c e)
+
+  in_middle : (ns pre : List Node) (c d : Node) (post : List Node) → ns ≡ pre ++ c ∷ post → Some c ≡ Some d → In d ns
+  in_middle ns pre c d post e f = let g : c ≡ d = cc in subst (λ (z : List Node). In d z) (sym e) (In-right d pre (c ∷ post) (inl g))
+
+  comes_lower : (m : Node) (before : List Action) (fs : List CopyFrame) → ComesTo P n m before fs → Lower m fs
+  comes_lower m before fs Itself = inl refl
+  comes_lower m before fs (Below {m = o} {below = below} pre c post h has e dn) = inr (o, below, refl)
+
+  inside_same : (o m : Node) (a b : Option Node) (fs gs : List CopyFrame) → Inside o a ∷ fs ≡ Inside m b ∷ gs → (o ≡ m) × (a ≡ b) × (fs ≡ gs)
+  inside_same o m a b fs gs e = (cc, cc, cc)
+
+  stand_to : (o m : Node) (a b : Option Node) (fs gs : List CopyFrame) → Inside o a ∷ fs ≡ Inside m b ∷ gs → Stand o a fs → Stand m b gs
+  stand_to o m a b fs gs e h =
+      let q = inside_same o m a b fs gs e in
+      subst (λ (z : Node). Stand z b gs) q.0 (subst (λ (z : Option Node). Stand o z gs) q.1 (subst (λ (z : List CopyFrame). Stand o a z) q.2 h))
+
+  comes_stand : (q : Node) (before : List Action) (fs : List CopyFrame) → ComesTo P n q before fs → (up : List CopyFrame) (m : Node) (present : Option Node) (below : List CopyFrame) → fs ≡ up ++ Inside m present ∷ below → Stand m present below
+  comes_stand q before fs Itself [] m present below e = absurd (cc)
+  comes_stand q before fs Itself (f ∷ up) m present below e = absurd (cc)
+  comes_stand q before fs (Below {m = o} {before = b} {below = fs'} pre c post h has ch dn) [] m present below e =
+      stand_to o m (Some c) present fs' below e (has, (λ d f. in_middle (children P o) pre c d post ch f), comes_lower o b fs' h)
+  comes_stand q before fs (Below {m = o} {before = b} {below = fs'} pre c post h has ch dn) (f ∷ up) m present below e =
+      let tails : fs' ≡ up ++ Inside m present ∷ below = cc in
+      comes_stand o b fs' h up m present below tails
+
+  within_stand : (before : List Action) (fs : List CopyFrame) → IsWithin P n before fs → (up : List CopyFrame) (m : Node) (present : Option Node) (below : List CopyFrame) → fs ≡ up ++ Inside m present ∷ below → Stand m present below
+  within_stand before fs (Within {m = o} {before = b} {below = fs'} pre post h has ch dn) [] m present below e =
+      stand_to o m (last_of pre) present fs' below e (has, (λ d f. subst (λ (z : List Node). In d z) (sym ch) (In-left d pre post (last_in pre d f))), comes_lower o b fs' h)
+  within_stand before fs (Within {m = o} {before = b} {below = fs'} pre post h has ch dn) (f ∷ up) m present below e =
+      let tails : fs' ≡ up ++ Inside m present ∷ below = cc in
+      comes_stand o b fs' h up m present below tails
+
+pub copy_frames_stand : CopyFramesStand
+copy_frames_stand plan P k [] m present below fs st =
+    let c : CopyingAt plan P k (Inside m present ∷ below) fs = st in
+    within_stand P (c.env c.var) c.made (Inside m present ∷ below) c.inside [] m present below refl
+copy_frames_stand plan P k (f ∷ up) m present below fs st =
+    let c : CopyingAt plan P k (f ∷ (up ++ Inside m present ∷ below)) fs = st in
+    within_stand P (c.env c.var) c.made (f ∷ (up ++ Inside m present ∷ below)) c.inside (f ∷ up) m present below refl

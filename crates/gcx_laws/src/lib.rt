@@ -14,8 +14,8 @@ pub use bridges::{
     nodes_are_numbered, one_chain, one_statement, paths_by_rows, signed_is_off, tokens_are_found,
 };
 pub use copying::{
-    copy_begins, copy_ends, copy_goes_on, copy_is_cut, copy_steps, copy_waits, fine_point_stays,
-    fine_points, fine_resume, inside_held,
+    copy_begins, copy_ends, copy_frames_stand, copy_goes_on, copy_is_cut, copy_steps, copy_waits,
+    fine_point_stays, fine_points, fine_resume, inside_held,
 };
 pub use kept::{
     closed_stays, copy_kept, first_kept, later_kept, matches_kept, point_stays, reached_grows,
