@@ -15,7 +15,7 @@ use Rattle.gcx_model.specs.Held.{held, held_tree, is_held}
 use Rattle.gcx_model.specs.Growth.{Leads}
 use Rattle.gcx_model.specs.Points.{actions, so_far, CoreState, Frame, Rest, Round, Part, behind, to_come, IsPoint, Begins, Past, InLoop, InYes, InNo, PointAt}
 use Rattle.gcx_model.specs.Points as points
-use Rattle.gcx_model.specs.Copying.{CopyFrame, Inside, has_inside, begun, ended, copy_all, copies, last_of, ComesTo, Itself, Below, IsWithin, Within, next_children, copy_left, CopyingAt, FinePoint}
+use Rattle.gcx_model.specs.Copying.{CopyFrame, Inside, has_inside, begun, ended, copy_all, copies, last_of, ComesTo, Itself, Below, IsWithin, InNode, next_children, copy_left, CopyingAt, FinePoint}
 use Rattle.gcx_laws.specs.Moves.{IsNext, NoneLeft, AtPoint, IsStack, Bottom, InBranch, InRound, InCopy}
 use Rattle.gcx_laws.specs.Copying.{AtStart, AtEnd, Amid, AtFinePoint, FineResume, FinePoints, FinePointStays, CopyBegins, CopySteps, CopyEnds, CopyWaits, CopyFramesStand, InsideHeld}
 use Rattle.gcx_laws.proofs.Lists.{In, In-left, In-right, In-filter}
@@ -144,7 +144,7 @@ fine_at : (plan : PlanTree) (P : Tree) (k : ℕ) (x : ℕ) (d : BodyTree) (env :
 fine_at plan P k x d env made below st [] h = absurd (no_frames P (env x) made [] h refl)
   where
     no_frames : (P : Tree) (n : Node) (before : List Action) (fs : List CopyFrame) → IsWithin P n before fs → fs ≡ [] → ⊥
-    no_frames P n before fs (Within pre post c has e dn) f = cc
+    no_frames P n before fs (InNode pre post c has e dn) f = cc
 fine_at plan P k x d env made below st (f ∷ inner) h = (f ∷ inner, d, env, below, record { var = x; env = env; made = made; point = st; inside = h })
 
 fine_cut : (plan : PlanTree) (P : Tree) (k : ℕ) → Leads opening P → (x : ℕ) (d : BodyTree) (env : Env) (made : ℕ) (below : List Frame) → PointAt plan P k (Part x env made ∷ Rest d env ∷ below) → AnyFine plan P k
@@ -189,7 +189,7 @@ module _ (plan : PlanTree) (P : Tree) (k : ℕ) (x : ℕ) (d : BodyTree) (env : 
   begin_text b e = one_action plan P k (Copy x) d env fs (Wrote (escaped b)) (copy_is P v (env x) node_in ∙ ap (λ z. copy_with z inner_copies) e) st
 
   within_first : has_inside (kind_of (env x)) ≡ true → (made : List Action) → begun (kind_of (env x)) ≡ made → IsWithin P (env x) made (Inside (env x) None ∷ [])
-  within_first h made e = subst (λ (z : List Action). IsWithin P (env x) z (Inside (env x) None ∷ [])) (append-nil (begun (kind_of (env x))) ∙ e) (Within [] (children P (env x)) Itself h refl refl)
+  within_first h made e = subst (λ (z : List Action). IsWithin P (env x) z (Inside (env x) None ∷ [])) (append-nil (begun (kind_of (env x))) ∙ e) (InNode [] (children P (env x)) Itself h refl refl)
 
   begin_element : (name : List ℕ) → kind_of (env x) ≡ Element name → IsNext plan P k (Wrote (start_tag name)) × FinePoint plan P (suc k) (Inside (env x) None ∷ []) (Rest d env ∷ fs)
   begin_element name e =
@@ -290,7 +290,7 @@ module _ (plan : PlanTree) (P : Tree) (k : ℕ) (m : Node) (present : Option Nod
     step_element name t =
         let a : Action = Wrote (start_tag name) in
         let h : IsWithin P whole ((seen.start ++ (begun (kind_of m) ++ (copies P seen.pre).acts)) ++ (begun (kind_of c) ++ [])) (Inside c None ∷ Inside m (Some c) ∷ inner) =
-        Within [] (children P c) (Below seen.pre c post seen.comes seen.has children_are seen.done) (ap has_inside t) refl refl in
+        InNode [] (children P c) (Below seen.pre c post seen.comes seen.has children_are seen.done) (ap has_inside t) refl refl in
         advance plan P k st.grown (Inside m present ∷ inner) fs at_copy a (Inside c None) (Inside m (Some c) ∷ inner)
         (subst (λ (z : List Action). IsWithin P whole (z ++ a ∷ []) (Inside c None ∷ Inside m (Some c) ∷ inner)) (sym seen.before_is)
         (subst (λ (z : List Action). IsWithin P whole ((seen.start ++ (begun (kind_of m) ++ (copies P seen.pre).acts)) ++ z) (Inside c None ∷ Inside m (Some c) ∷ inner)) (append-nil (begun (kind_of c)) ∙ ap begun t) h))
@@ -351,8 +351,8 @@ module _ (P : Tree) (w : Grown P) (n : Node) (i : In n P.nodes) where
   comes_all m before fs (Below {m = q} {before = b} {below = below} pre c post h has e dn) o present (inr j) = comes_all q b below h o present j
 
   within_all_lie : (before : List Action) (fs : List CopyFrame) → IsWithin P n before fs → (o : Node) (present : Option Node) → In (Inside o present) fs → Lies o
-  within_all_lie before fs (Within {m = q} {before = b} {below = below} pre post h has e dn) o present (inl f) = let g : q ≡ o = cc in subst (λ (z : Node). Lies z) g (comes_lies q b below h)
-  within_all_lie before fs (Within {m = q} {before = b} {below = below} pre post h has e dn) o present (inr j) = comes_all q b below h o present j
+  within_all_lie before fs (InNode {m = q} {before = b} {below = below} pre post h has e dn) o present (inl f) = let g : q ≡ o = cc in subst (λ (z : Node). Lies z) g (comes_lies q b below h)
+  within_all_lie before fs (InNode {m = q} {before = b} {below = below} pre post h has e dn) o present (inr j) = comes_all q b below h o present j
 
 held_copy : (core : BodyTree) → Good core → (plan : PlanTree) → Placed core plan → (P : Tree) (k : ℕ) → CoreState plan P k → (inner : List CopyFrame) (fs : List Frame) → CopyingAt plan P k inner fs → (m : Node) (present : Option Node) → In (Inside m present) inner
     → In m (held plan P (so_far plan P k)) × (children (held_tree plan P (so_far plan P k)) m ≡ children P m)
@@ -414,9 +414,9 @@ module _ (P : Tree) (n : Node) where
       comes_stand o b fs' h up m present below tails
 
   within_stand : (before : List Action) (fs : List CopyFrame) → IsWithin P n before fs → (up : List CopyFrame) (m : Node) (present : Option Node) (below : List CopyFrame) → fs ≡ up ++ Inside m present ∷ below → Stand m present below
-  within_stand before fs (Within {m = o} {before = b} {below = fs'} pre post h has ch dn) [] m present below e =
+  within_stand before fs (InNode {m = o} {before = b} {below = fs'} pre post h has ch dn) [] m present below e =
       stand_to o m (last_of pre) present fs' below e (has, (λ d f. subst (λ (z : List Node). In d z) (sym ch) (In-left d pre post (last_in pre d f))), comes_lower o b fs' h)
-  within_stand before fs (Within {m = o} {before = b} {below = fs'} pre post h has ch dn) (f ∷ up) m present below e =
+  within_stand before fs (InNode {m = o} {before = b} {below = fs'} pre post h has ch dn) (f ∷ up) m present below e =
       let tails : fs' ≡ up ++ Inside m present ∷ below = cc in
       comes_stand o b fs' h up m present below tails
 
