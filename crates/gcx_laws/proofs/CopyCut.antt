@@ -10,7 +10,7 @@ use Rattle.gcx_model.specs.Core.{Copy}
 use Rattle.gcx_model.specs.Answer.{child_step, children}
 use Rattle.gcx_model.specs.Written.{start_tag, end_tag, escaped}
 use Rattle.gcx_model.specs.Run.{Action, Wrote, Out, wrote, seq, loop, copy_with}
-use Rattle.gcx_model.specs.Copying.{CopyFrame, Inside, has_inside, begun, ended, copy_all, copies, last_of, ComesTo, Itself, Below, IsWithin, Within}
+use Rattle.gcx_model.specs.Copying.{CopyFrame, Inside, has_inside, begun, ended, copy_all, copies, last_of, ComesTo, Itself, Below, IsWithin, InNode}
 use Rattle.gcx_laws.specs.Copying.{Cut, AtStart, AtEnd, Amid, CopyIsCut}
 use Rattle.gcx_laws.proofs.Lists.{In, In-left}
 use Rattle.gcx_laws.proofs.Matches.{Grown, Grown-grow, Numbered-high, Matches-grow, Matches-in, added}
@@ -38,7 +38,7 @@ module _ (P : Tree) (w : Grown P) where
 
   -- the frames behind the copies of the first children
   here : (n : Node) (pre post : List Node) (before : List Action) → has_inside (kind_of n) ≡ true → children P n ≡ pre ++ post → (copies P pre).done ≡ true → before ≡ begun (kind_of n) ++ (copies P pre).acts → Cut P n before
-  here n pre post before h e dn is = Amid (Inside n (last_of pre) ∷ []) (subst (λ (z : List Action). IsWithin P n z (Inside n (last_of pre) ∷ [])) (sym is) (Within pre post Itself h e dn))
+  here n pre post before h e dn is = Amid (Inside n (last_of pre) ∷ []) (subst (λ (z : List Action). IsWithin P n z (Inside n (last_of pre) ∷ [])) (sym is) (InNode pre post Itself h e dn))
 
   module _ (n : Node) (i : In n P.nodes) (ih : (m : Node) → In m (children P n) → (before rest : List Action) → (copy_all P m).acts ≡ before ++ rest → Cut P m before) (before : List Action) where
     abbrev inner : Out
@@ -141,10 +141,10 @@ module _ (t : Token) (P : Tree) (w : Grown P) where
       (Below pre c _ (comes_stays n o b below h) has (children_more o pre (c ∷ post) e) (ap (λ (z : Out). z.done) (sym same) ∙ dn))
 
   within_stays : (n : Node) (before : List Action) (fs : List CopyFrame) → IsWithin P n before fs → IsWithin (grow t P) n before fs
-  within_stays n before fs (Within {m = o} {before = b} {below = below} pre post h has e dn) =
+  within_stays n before fs (InNode {m = o} {before = b} {below = below} pre post h has e dn) =
       let same = copies_stay pre (first_in o pre post e) dn in
       subst (λ (z : List Action). IsWithin (grow t P) n (b ++ (begun (kind_of o) ++ z)) (Inside o (last_of pre) ∷ below)) (sym (ap (λ (z : Out). z.acts) same))
-      (Within pre _ (comes_stays n o b below h) has (children_more o pre post e) (ap (λ (z : Out). z.done) (sym same) ∙ dn))
+      (InNode pre _ (comes_stays n o b below h) has (children_more o pre post e) (ap (λ (z : Out). z.done) (sym same) ∙ dn))
 
 pub within_all : (ts : List Token) (P : Tree) → Grown P → (n : Node) (before : List Action) (fs : List CopyFrame) → IsWithin P n before fs → IsWithin (grow_all ts P) n before fs
 within_all [] P w n before fs h = h

@@ -9,7 +9,7 @@ use Rattle.gcx_model.specs.Paths.{reach, lies, passes, hits}
 use Rattle.gcx_model.specs.Answer.{child_step, children}
 use Rattle.gcx_model.specs.Run.{Action, Out, seq, loop, copy_with, copy}
 use Rattle.gcx_model.specs.Points.{later}
-use Rattle.gcx_model.specs.Copying.{CopyFrame, Inside, has_inside, begun, ended, copy_all, copies, last_of, ComesTo, Itself, Below, IsWithin, Within, next_children, copy_left}
+use Rattle.gcx_model.specs.Copying.{CopyFrame, Inside, has_inside, begun, ended, copy_all, copies, last_of, ComesTo, Itself, Below, IsWithin, InNode, next_children, copy_left}
 use Rattle.gcx_laws.specs.Copying.{CopyGoesOn}
 use Rattle.gcx_laws.proofs.Lists.{In, any_in, In-right}
 use Rattle.gcx_laws.proofs.Matches.{Grown, Rising, Rising-filter, Numbered-high, Matches-in}
@@ -68,7 +68,7 @@ pub record Top (P : Tree) (n : Node) (before : List Action) (m : Node) (present 
   pub present_is : present ≡ last_of pre
 
 pub top : (P : Tree) (n : Node) (before : List Action) (m : Node) (present : Option Node) (below : List CopyFrame) → IsWithin P n before (Inside m present ∷ below) → Top P n before m present below
-top P n before m present below (Within {before = start} pre post comes has e dn) = record { start = start; pre = pre; post = post; comes = comes; has = has; children_are = e; done = dn; before_is = refl; present_is = refl }
+top P n before m present below (InNode {before = start} pre post comes has e dn) = record { start = start; pre = pre; post = post; comes = comes; has = has; children_are = e; done = dn; before_is = refl; present_is = refl }
 
 -- where the copies of the first children are done, and so is that of the next one
 pub step_over : (P : Tree) (n m : Node) (start : List Action) (below : List CopyFrame) (pre : List Node) (c : Node) (post : List Node) (acts : List Action) → ComesTo P n m start below → has_inside (kind_of m) ≡ true → children P m ≡ pre ++ c ∷ post → (copies P pre).done ≡ true
@@ -80,7 +80,7 @@ step_over P n m start below pre c post acts comes has e dn is =
     ap (λ z. start ++ (begun (kind_of m) ++ z)) acts_are ∙ (ap (λ z. start ++ z) (sym (append_assoc (begun (kind_of m)) (copies P pre).acts acts)) ∙ sym (append_assoc start (begun (kind_of m) ++ (copies P pre).acts) acts)) in
     subst (λ (z : List Action). IsWithin P n z (Inside m (Some c) ∷ below)) before_is
     (subst (λ (z : Option Node). IsWithin P n (start ++ (begun (kind_of m) ++ (copies P (pre ++ c ∷ [])).acts)) (Inside m z ∷ below)) (last-push pre c)
-    (Within (pre ++ c ∷ []) post comes has (e ∙ sym (append_assoc pre (c ∷ []) post)) l.0))
+    (InNode (pre ++ c ∷ []) post comes has (e ∙ sym (append_assoc pre (c ∷ []) post)) l.0))
 
 -- where the copy of a node is done
 abbrev pub Up : Tree → Node → List Action → List CopyFrame → Type 0
@@ -99,9 +99,9 @@ ComesTo-trans P n m o a b fs gs h (Below {m = q} {before = b'} {below = gs'} pre
     (Below pre c post (ComesTo-trans P n m q a b' fs gs' h comes) has e dn)
 
 pub IsWithin-trans : (P : Tree) (n m : Node) (a b : List Action) (fs gs : List CopyFrame) → ComesTo P n m a fs → IsWithin P m b gs → IsWithin P n (a ++ b) (gs ++ fs)
-IsWithin-trans P n m a b fs gs h (Within {m = q} {before = b'} {below = gs'} pre post comes has e dn) =
+IsWithin-trans P n m a b fs gs h (InNode {m = q} {before = b'} {below = gs'} pre post comes has e dn) =
     subst (λ (z : List Action). IsWithin P n z (Inside q (last_of pre) ∷ (gs' ++ fs))) (append_assoc a b' (begun (kind_of q) ++ (copies P pre).acts))
-    (Within pre post (ComesTo-trans P n m q a b' fs gs' h comes) has e dn)
+    (InNode pre post (ComesTo-trans P n m q a b' fs gs' h comes) has e dn)
 
 module _ (P : Tree) (w : Grown P) where
   pub child_above : (n : ℕ) (m : Node) → In m P.nodes → (hits n (child_step ∷ []) m) ≡ true → n < serial_of m
@@ -184,7 +184,7 @@ module _ (P : Tree) (w : Grown P) where
 
   -- and as far as these frames
   pub goes_on : (n : Node) (before : List Action) (fs : List CopyFrame) → In n P.nodes → IsWithin P n before fs → copy_all P n ≡ after before (copy_left P fs)
-  goes_on n before fs i (Within {m = o} {before = b} {below = below} pre post h has e dn) =
+  goes_on n before fs i (InNode {m = o} {before = b} {below = below} pre post h has e dn) =
       let ih = comes n o b below i h in
       let a : Out = copies P pre in
       let l : Out = loop (copy_all P) post (is_closed P o) in

@@ -1,5 +1,5 @@
 -- How a copy goes on.
-use Rattle.std.proofs.Common.{◌≡◌, ℕ, suc, Bool, true, false, cond, List, [], ◌∷◌, ◌++◌, length, refl, sym, ◌∙◌, ap, subst, inl, inr, arith, append_assoc, eqb, Some, None, Option}
+use Rattle.std.proofs.Common.{◌≡◌, ℕ, suc, Bool, true, false, cond, List, [], ◌∷◌, ◌++◌, length, refl, sym, ◌∙◌, ap, subst, inl, inr, ◌⊎◌, arith, append_assoc, eqb, Some, None, Option}
 use Rattle.std.specs.Prelude.{drop}
 use Rattle.std.proofs.lemmas.List.{append-nil, length-append}
 use Rattle.gcx_base.specs.declared.kind.Kind.TheVariants.{Document, Element, Text}
@@ -15,10 +15,10 @@ use Rattle.gcx_model.specs.Held.{held, held_tree, is_held}
 use Rattle.gcx_model.specs.Growth.{Leads}
 use Rattle.gcx_model.specs.Points.{actions, so_far, CoreState, Frame, Rest, Round, Part, behind, to_come, IsPoint, Begins, Past, InLoop, InYes, InNo, PointAt}
 use Rattle.gcx_model.specs.Points as points
-use Rattle.gcx_model.specs.Copying.{CopyFrame, Inside, has_inside, begun, ended, copy_all, copies, ComesTo, Itself, Below, IsWithin, Within, next_children, copy_left, CopyingAt, FinePoint}
+use Rattle.gcx_model.specs.Copying.{CopyFrame, Inside, has_inside, begun, ended, copy_all, copies, last_of, ComesTo, Itself, Below, IsWithin, InNode, next_children, copy_left, CopyingAt, FinePoint}
 use Rattle.gcx_laws.specs.Moves.{IsNext, NoneLeft, AtPoint, IsStack, Bottom, InBranch, InRound, InCopy}
-use Rattle.gcx_laws.specs.Copying.{AtStart, AtEnd, Amid, AtFinePoint, FineResume, FinePoints, FinePointStays, CopyBegins, CopySteps, CopyEnds, CopyWaits, InsideHeld}
-use Rattle.gcx_laws.proofs.Lists.{In, In-right, In-filter}
+use Rattle.gcx_laws.specs.Copying.{AtStart, AtEnd, Amid, AtFinePoint, FineResume, FinePoints, FinePointStays, CopyBegins, CopySteps, CopyEnds, CopyWaits, CopyFramesStand, InsideHeld}
+use Rattle.gcx_laws.proofs.Lists.{In, In-left, In-right, In-filter}
 use Rattle.gcx_laws.proofs.Matches.{Grown, Matches-in}
 use Rattle.gcx_laws.proofs.Freeze.{within_self, within_trans}
 use Rattle.std.proofs.lemmas.Bool.{eq-eqb}
@@ -28,7 +28,7 @@ use Rattle.gcx_laws.proofs.Copies.{copying, copy_on, copy_over}
 use Rattle.gcx_laws.proofs.Growing.{fed_all}
 use Rattle.gcx_laws.proofs.Public.{grown_from, reached_leads, point_law, need_law}
 use Rattle.gcx_laws.proofs.Keeping.{root_of, point_stays, matches_kept}
-use Rattle.gcx_laws.proofs.Moving.{take_next, one_action, points_are_stacks}
+use Rattle.gcx_laws.proofs.Moving.{take_next, no_more, one_action, points_are_stacks}
 use Rattle.gcx_laws.proofs.CopyFrames.{at_once, Top, top, step_over, Up, up, copy_is, child_in, mid_in, next_is, comes, goes_on, closes}
 use Rattle.gcx_laws.proofs.CopyCut.{copy_is_cut, within_all}
 
@@ -144,7 +144,7 @@ fine_at : (plan : PlanTree) (P : Tree) (k : ℕ) (x : ℕ) (d : BodyTree) (env :
 fine_at plan P k x d env made below st [] h = absurd (no_frames P (env x) made [] h refl)
   where
     no_frames : (P : Tree) (n : Node) (before : List Action) (fs : List CopyFrame) → IsWithin P n before fs → fs ≡ [] → ⊥
-    no_frames P n before fs (Within pre post c has e dn) f = cc
+    no_frames P n before fs (InNode pre post c has e dn) f = cc
 fine_at plan P k x d env made below st (f ∷ inner) h = (f ∷ inner, d, env, below, record { var = x; env = env; made = made; point = st; inside = h })
 
 fine_cut : (plan : PlanTree) (P : Tree) (k : ℕ) → Leads opening P → (x : ℕ) (d : BodyTree) (env : Env) (made : ℕ) (below : List Frame) → PointAt plan P k (Part x env made ∷ Rest d env ∷ below) → AnyFine plan P k
@@ -189,7 +189,7 @@ module _ (plan : PlanTree) (P : Tree) (k : ℕ) (x : ℕ) (d : BodyTree) (env : 
   begin_text b e = one_action plan P k (Copy x) d env fs (Wrote (escaped b)) (copy_is P v (env x) node_in ∙ ap (λ z. copy_with z inner_copies) e) st
 
   within_first : has_inside (kind_of (env x)) ≡ true → (made : List Action) → begun (kind_of (env x)) ≡ made → IsWithin P (env x) made (Inside (env x) None ∷ [])
-  within_first h made e = subst (λ (z : List Action). IsWithin P (env x) z (Inside (env x) None ∷ [])) (append-nil (begun (kind_of (env x))) ∙ e) (Within [] (children P (env x)) Itself h refl refl)
+  within_first h made e = subst (λ (z : List Action). IsWithin P (env x) z (Inside (env x) None ∷ [])) (append-nil (begun (kind_of (env x))) ∙ e) (InNode [] (children P (env x)) Itself h refl refl)
 
   begin_element : (name : List ℕ) → kind_of (env x) ≡ Element name → IsNext plan P k (Wrote (start_tag name)) × FinePoint plan P (suc k) (Inside (env x) None ∷ []) (Rest d env ∷ fs)
   begin_element name e =
@@ -290,7 +290,7 @@ module _ (plan : PlanTree) (P : Tree) (k : ℕ) (m : Node) (present : Option Nod
     step_element name t =
         let a : Action = Wrote (start_tag name) in
         let h : IsWithin P whole ((seen.start ++ (begun (kind_of m) ++ (copies P seen.pre).acts)) ++ (begun (kind_of c) ++ [])) (Inside c None ∷ Inside m (Some c) ∷ inner) =
-        Within [] (children P c) (Below seen.pre c post seen.comes seen.has children_are seen.done) (ap has_inside t) refl refl in
+        InNode [] (children P c) (Below seen.pre c post seen.comes seen.has children_are seen.done) (ap has_inside t) refl refl in
         advance plan P k st.grown (Inside m present ∷ inner) fs at_copy a (Inside c None) (Inside m (Some c) ∷ inner)
         (subst (λ (z : List Action). IsWithin P whole (z ++ a ∷ []) (Inside c None ∷ Inside m (Some c) ∷ inner)) (sym seen.before_is)
         (subst (λ (z : List Action). IsWithin P whole ((seen.start ++ (begun (kind_of m) ++ (copies P seen.pre).acts)) ++ z) (Inside c None ∷ Inside m (Some c) ∷ inner)) (append-nil (begun (kind_of c)) ∙ ap begun t) h))
@@ -321,7 +321,7 @@ module _ (plan : PlanTree) (P : Tree) (k : ℕ) (m : Node) (present : Option Nod
         ap (λ z. seq (seq (seq (loop (copy_all P) z (is_closed P m)) (at_once (ended (kind_of m)))) (copy_left P inner)) (to_come P fs)) e
         ∙ ap (λ z. seq (seq (seq (idle z) (at_once (ended (kind_of m)))) (copy_left P inner)) (to_come P fs)) c in
         let r = fine_run plan P k st.grown (Inside m present ∷ inner) fs st.point ∙ ap (after (so_far plan P k)) o in
-        record { all = sym (ap (λ (z : Out). z.acts) r ∙ append-nil (so_far plan P k)); is_done = ap (λ (z : Out). z.done) r }
+        no_more plan P k false (sym (ap (λ (z : Out). z.acts) r ∙ append-nil (so_far plan P k))) (ap (λ (z : Out). z.done) r)
 
 pub copy_steps : CopySteps
 copy_steps plan P k m present inner fs c post st e = (step_text plan P k m present inner fs st c post e, step_element plan P k m present inner fs st c post e)
@@ -351,8 +351,8 @@ module _ (P : Tree) (w : Grown P) (n : Node) (i : In n P.nodes) where
   comes_all m before fs (Below {m = q} {before = b} {below = below} pre c post h has e dn) o present (inr j) = comes_all q b below h o present j
 
   within_all_lie : (before : List Action) (fs : List CopyFrame) → IsWithin P n before fs → (o : Node) (present : Option Node) → In (Inside o present) fs → Lies o
-  within_all_lie before fs (Within {m = q} {before = b} {below = below} pre post h has e dn) o present (inl f) = let g : q ≡ o = cc in subst (λ (z : Node). Lies z) g (comes_lies q b below h)
-  within_all_lie before fs (Within {m = q} {before = b} {below = below} pre post h has e dn) o present (inr j) = comes_all q b below h o present j
+  within_all_lie before fs (InNode {m = q} {before = b} {below = below} pre post h has e dn) o present (inl f) = let g : q ≡ o = cc in subst (λ (z : Node). Lies z) g (comes_lies q b below h)
+  within_all_lie before fs (InNode {m = q} {before = b} {below = below} pre post h has e dn) o present (inr j) = comes_all q b below h o present j
 
 held_copy : (core : BodyTree) → Good core → (plan : PlanTree) → Placed core plan → (P : Tree) (k : ℕ) → CoreState plan P k → (inner : List CopyFrame) (fs : List Frame) → CopyingAt plan P k inner fs → (m : Node) (present : Option Node) → In (Inside m present) inner
     → In m (held plan P (so_far plan P k)) × (children (held_tree plan P (so_far plan P k)) m ≡ children P m)
@@ -374,3 +374,56 @@ pub inside_held : InsideHeld
 inside_held core good plan pl P k cs [] m present below fs st = held_copy core good plan pl P k cs (Inside m present ∷ below) fs st m present (inl refl)
 inside_held core good plan pl P k cs (f ∷ up) m present below fs st =
     held_copy core good plan pl P k cs (f ∷ (up ++ Inside m present ∷ below)) fs st m present (inr (In-right (Inside m present) up (Inside m present ∷ below) (inl refl)))
+
+-- what the frames stand on
+
+module _ (P : Tree) (n : Node) where
+  abbrev Lower : Node → List CopyFrame → Type 0
+  Lower m below = (below ≡ []) ⊎ ((o : Node) × (rest : List CopyFrame) × (below ≡ Inside o (Some m) ∷ rest))
+
+  abbrev Stand : Node → Option Node → List CopyFrame → Type 0
+  Stand m present below = (has_inside (kind_of m) ≡ true) × ((c : Node) → present ≡ Some c → In c (children P m)) × Lower m below
+
+  last_in : (ns : List Node) (c : Node) → last_of ns ≡ Some c → In c ns
+  last_in [] c e = absurd (cc)
+  last_in (m ∷ []) c e = inl (cc)
+  last_in (m ∷ o ∷ ns) c e = inr (last_in (o ∷ ns) c e)
+
+  in_middle : (ns pre : List Node) (c d : Node) (post : List Node) → ns ≡ pre ++ c ∷ post → Some c ≡ Some d → In d ns
+  in_middle ns pre c d post e f = let g : c ≡ d = cc in subst (λ (z : List Node). In d z) (sym e) (In-right d pre (c ∷ post) (inl g))
+
+  comes_lower : (m : Node) (before : List Action) (fs : List CopyFrame) → ComesTo P n m before fs → Lower m fs
+  comes_lower m before fs Itself = inl refl
+  comes_lower m before fs (Below {m = o} {below = below} pre c post h has e dn) = inr (o, below, refl)
+
+  inside_same : (o m : Node) (a b : Option Node) (fs gs : List CopyFrame) → Inside o a ∷ fs ≡ Inside m b ∷ gs → (o ≡ m) × (a ≡ b) × (fs ≡ gs)
+  inside_same o m a b fs gs e = (cc, cc, cc)
+
+  stand_to : (o m : Node) (a b : Option Node) (fs gs : List CopyFrame) → Inside o a ∷ fs ≡ Inside m b ∷ gs → Stand o a fs → Stand m b gs
+  stand_to o m a b fs gs e h =
+      let q = inside_same o m a b fs gs e in
+      subst (λ (z : Node). Stand z b gs) q.0 (subst (λ (z : Option Node). Stand o z gs) q.1 (subst (λ (z : List CopyFrame). Stand o a z) q.2 h))
+
+  comes_stand : (q : Node) (before : List Action) (fs : List CopyFrame) → ComesTo P n q before fs → (up : List CopyFrame) (m : Node) (present : Option Node) (below : List CopyFrame) → fs ≡ up ++ Inside m present ∷ below → Stand m present below
+  comes_stand q before fs Itself [] m present below e = absurd (cc)
+  comes_stand q before fs Itself (f ∷ up) m present below e = absurd (cc)
+  comes_stand q before fs (Below {m = o} {before = b} {below = fs'} pre c post h has ch dn) [] m present below e =
+      stand_to o m (Some c) present fs' below e (has, (λ d f. in_middle (children P o) pre c d post ch f), comes_lower o b fs' h)
+  comes_stand q before fs (Below {m = o} {before = b} {below = fs'} pre c post h has ch dn) (f ∷ up) m present below e =
+      let tails : fs' ≡ up ++ Inside m present ∷ below = cc in
+      comes_stand o b fs' h up m present below tails
+
+  within_stand : (before : List Action) (fs : List CopyFrame) → IsWithin P n before fs → (up : List CopyFrame) (m : Node) (present : Option Node) (below : List CopyFrame) → fs ≡ up ++ Inside m present ∷ below → Stand m present below
+  within_stand before fs (InNode {m = o} {before = b} {below = fs'} pre post h has ch dn) [] m present below e =
+      stand_to o m (last_of pre) present fs' below e (has, (λ d f. subst (λ (z : List Node). In d z) (sym ch) (In-left d pre post (last_in pre d f))), comes_lower o b fs' h)
+  within_stand before fs (InNode {m = o} {before = b} {below = fs'} pre post h has ch dn) (f ∷ up) m present below e =
+      let tails : fs' ≡ up ++ Inside m present ∷ below = cc in
+      comes_stand o b fs' h up m present below tails
+
+pub copy_frames_stand : CopyFramesStand
+copy_frames_stand plan P k [] m present below fs st =
+    let c : CopyingAt plan P k (Inside m present ∷ below) fs = st in
+    within_stand P (c.env c.var) c.made (Inside m present ∷ below) c.inside [] m present below refl
+copy_frames_stand plan P k (f ∷ up) m present below fs st =
+    let c : CopyingAt plan P k (f ∷ (up ++ Inside m present ∷ below)) fs = st in
+    within_stand P (c.env c.var) c.made (f ∷ (up ++ Inside m present ∷ below)) c.inside (f ∷ up) m present below refl

@@ -10,7 +10,7 @@ use Rattle.gcx_model.specs.Core.{PlanTree}
 use Rattle.gcx_model.specs.Run.{Action, Out, run, env0}
 use Rattle.gcx_model.specs.Growth.{Leads, stays, more}
 use Rattle.gcx_model.specs.Points.{actions, so_far, here, fed, acted, later, IsPoint}
-use Rattle.gcx_laws.specs.Kept.{TruthKept, CopyKept, MatchesKept, LaterKept, FirstKept, ClosedStays, TakenAreThere, SoFarStays, PointStays}
+use Rattle.gcx_laws.specs.Kept.{TruthKept, CopyKept, MatchesKept, LaterKept, FirstKept, ClosedStays, ReachedGrows, TakenAreThere, SoFarStays, PointStays}
 use Rattle.gcx_laws.proofs.Prefix.{Before, Same, More}
 use Rattle.gcx_laws.proofs.Whole.{run_grows_all}
 use Rattle.gcx_laws.proofs.Lists.{In}
@@ -77,6 +77,9 @@ actions_grow plan P Q l m =
     go : (Q : Tree) → Before (run plan.body env0 P) (run plan.body env0 Q) → (rest : List Action) × (actions plan Q ≡ actions plan P ++ rest)
     go Q (Same e) = ([], ap (λ (z : Out). z.acts) (sym e) ∙ sym (append-nil (actions plan P)))
     go Q (More f r e) = (r, e)
+
+pub reached_grows : ReachedGrows
+reached_grows plan P Q k j h = reached_leads plan P k Q j h
 
 pub taken_are_there : TakenAreThere
 taken_are_there plan P k here = omega arith

@@ -1,5 +1,5 @@
 -- How a point goes on.
-use Rattle.std.proofs.Common.{◌≡◌, ℕ, zero, suc, ◌<◌, Bool, true, false, List, [], ◌∷◌, ◌++◌, length, refl, sym, ◌∙◌, ap, subst, arith}
+use Rattle.std.proofs.Common.{◌≡◌, ℕ, zero, suc, ◌<◌, ◌≤◌, Bool, true, false, List, [], ◌∷◌, ◌++◌, length, refl, sym, ◌∙◌, ap, subst, arith}
 use Rattle.std.specs.Prelude.{take}
 use Rattle.std.proofs.lemmas.List.{append-nil}
 use Rattle.gcx_base.specs.declared.steps.Step.{Step}
@@ -10,7 +10,7 @@ use Rattle.gcx_model.specs.Truth.{Env, bind_var}
 use Rattle.gcx_model.specs.Run.{Action, Wrote, Offed, Out, idle, seq, loop, choose, run_item, run, env0}
 use Rattle.gcx_model.specs.Points.{actions, so_far, Frame, Rest, Round, Part, later, body_at, to_come, IsPoint, Begins, Past, InLoop, InYes, InNo, PointAt}
 use Rattle.gcx_model.specs.Points as points
-use Rattle.gcx_laws.specs.Moves.{IsNext, NoneLeft, AtPoint, WriteMove, OffMove, BranchMove, FirstRound, NoRound, NextRound, LastRound, EmptyRest, BranchWaits, LoopWaits, RoundWaits, AllEmpty, RunIsDone, IsStack, Bottom, InBranch, InRound, InCopy, PointsAreStacks}
+use Rattle.gcx_laws.specs.Moves.{IsNext, NoneLeft, AtPoint, OpeningPoint, WriteMove, OffMove, BranchMove, FirstRound, NoRound, NextRound, LastRound, EmptyRest, BranchWaits, LoopWaits, RoundWaits, AllEmpty, RunIsDone, IsStack, Bottom, InBranch, InRound, InCopy, PointsAreStacks}
 use Rattle.gcx_laws.proofs.PointForms.{resume, after, seq-assoc}
 use Rattle.gcx_laws.proofs.Turns.{next_turn, leave_loop, leave_branch, pass_item, enter_loop, enter_yes, enter_no}
 use Rattle.gcx_laws.proofs.Public.{grown_from}
@@ -25,7 +25,17 @@ take_next (suc k) (x ∷ xs) a ys e =
     let r = take_next k xs a ys f in
     (let l = r.0 in omega arith, ap (λ z. x ∷ z) r.1)
 
+-- where the first k are all, there are no more
+take_all : {X : Type 0} (k : ℕ) (xs : List X) → take k xs ≡ xs → length xs ≤ k
+take_all zero [] e = omega arith
+take_all zero (x ∷ xs) e = absurd (cc)
+take_all (suc k) [] e = omega arith
+take_all (suc k) (x ∷ xs) e = let f : take k xs ≡ xs = cc in let l = take_all k xs f in omega arith
+
 module _ (plan : PlanTree) (P : Tree) (k : ℕ) where
+  pub no_more : (done : Bool) → so_far plan P k ≡ actions plan P → (run plan.body env0 P).done ≡ done → NoneLeft plan P k done
+  no_more done e d = record { over = take_all k (actions plan P) e; all = e; is_done = d }
+
   -- what is still to come begins with the next action
   pub next : (fs : List Frame) → AtPoint plan P k fs → (a : Action) (more : List Action) → (to_come P fs).acts ≡ a ∷ more → IsNext plan P k a
   next fs st a more e =
@@ -41,7 +51,7 @@ module _ (plan : PlanTree) (P : Tree) (k : ℕ) where
   pub none_left : (fs : List Frame) → AtPoint plan P k fs → (done : Bool) → to_come P fs ≡ idle done → NoneLeft plan P k done
   none_left fs st done e =
       let r = resume P (grown_from P st.grown) plan.body env0 (so_far plan P k) fs st.point ∙ ap (after (so_far plan P k)) e in
-      record { all = sym (ap (λ (z : Out). z.acts) r ∙ append-nil (so_far plan P k)); is_done = ap (λ (z : Out). z.done) r }
+      no_more done (sym (ap (λ (z : Out). z.acts) r ∙ append-nil (so_far plan P k))) (ap (λ (z : Out). z.done) r)
 
   -- an item that is one action
   pub one_action : (i : ItemTree) (d : BodyTree) (env : Env) (fs : List Frame) (a : Action) → run_item i env P ≡ record { acts = a ∷ []; done = true } → AtPoint plan P k (Rest (Then i d) env ∷ fs)
@@ -73,6 +83,9 @@ module _ (plan : PlanTree) (P : Tree) (k : ℕ) where
   all_empty (Rest (Then i d) env ∷ fs) h = absurd h
   all_empty (Round x y s e env n ∷ fs) h = absurd h
   all_empty (Part x env made ∷ fs) h = absurd h
+
+pub opening_point : OpeningPoint
+opening_point plan P = Begins
 
 pub write_move : WriteMove
 write_move plan P k b d env fs st = one_action plan P k (Write b) d env fs (Wrote b) refl st

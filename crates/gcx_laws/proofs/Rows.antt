@@ -4,4 +4,5 @@ mod AnswerRows
 mod NormalRows
 mod PlanRows
 mod TraceRows
-mod HeldRows
+pub mod HeldRows
+mod TurnRows

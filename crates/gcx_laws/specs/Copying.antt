@@ -1,5 +1,5 @@
 -- How a copy goes on, by frames that look each at one node and its children alone.
-use Rattle.std.specs.Prelude.{◌≡◌, ℕ, suc, ◌≤◌, true, false, List, [], ◌∷◌, ◌++◌, length, Option, Some, None}
+use Rattle.std.specs.Prelude.{◌≡◌, ℕ, suc, ◌≤◌, true, false, List, [], ◌∷◌, ◌++◌, length, Option, Some, None, ◌⊎◌}
 use Rattle.gcx_base.specs.declared.kind.Kind.TheVariants.{Document, Element, Text}
 use Rattle.gcx_model.specs.Tree.{Node, kind_of, Tree, opening, is_closed}
 use Rattle.gcx_model.specs.Members.{In}
@@ -14,7 +14,7 @@ use Rattle.gcx_model.specs.Placed.{Placed}
 use Rattle.gcx_model.specs.Held.{held, held_tree}
 use Rattle.gcx_model.specs.Growth.{Leads}
 use Rattle.gcx_model.specs.Points.{actions, so_far, CoreState, Frame, Rest, to_come, PointAt}
-use Rattle.gcx_model.specs.Copying.{CopyFrame, Inside, copy_all, IsWithin, next_children, copy_left, FinePoint}
+use Rattle.gcx_model.specs.Copying.{CopyFrame, Inside, has_inside, copy_all, IsWithin, next_children, copy_left, FinePoint}
 use Rattle.gcx_laws.specs.Moves.{IsNext, NoneLeft, AtPoint}
 
 -- Behind the actions `before` of a copy come those that are left in its frames, and it is done where these are.
@@ -75,6 +75,12 @@ CopyEnds = (plan : PlanTree) (P : Tree) (k : ℕ) (m : Node) (present : Option N
 abbrev pub CopyWaits : Type 0
 CopyWaits = (plan : PlanTree) (P : Tree) (k : ℕ) (m : Node) (present : Option Node) (inner : List CopyFrame) (fs : List Frame)
     → AtFinePoint plan P k (Inside m present ∷ inner) fs → next_children P m present ≡ [] → is_closed P m ≡ false → NoneLeft plan P k false
+
+-- Each frame is of a node that can have children; its present node is one of these; and it stands at the bottom, or on the frame whose present child its node is.
+abbrev pub CopyFramesStand : Type 0
+CopyFramesStand = (plan : PlanTree) (P : Tree) (k : ℕ) (above : List CopyFrame) (m : Node) (present : Option Node) (below : List CopyFrame) (fs : List Frame)
+    → FinePoint plan P k (above ++ Inside m present ∷ below) fs
+    → (has_inside (kind_of m) ≡ true) × ((c : Node) → present ≡ Some c → In c (children P m)) × ((below ≡ []) ⊎ ((o : Node) × (rest : List CopyFrame) × (below ≡ Inside o (Some m) ∷ rest)))
 
 -- The nodes of these frames are held, and each has over the held nodes the children that it has over the tree.
 abbrev pub InsideHeld : Type 0

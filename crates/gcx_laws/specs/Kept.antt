@@ -9,7 +9,7 @@ use Rattle.gcx_model.specs.Core.{CondTree, PlanTree}
 use Rattle.gcx_model.specs.Truth.{Env, truth}
 use Rattle.gcx_model.specs.Run.{copy}
 use Rattle.gcx_model.specs.Growth.{Leads}
-use Rattle.gcx_model.specs.Points.{actions, so_far, CoreState, Frame, later, PointAt}
+use Rattle.gcx_model.specs.Points.{actions, so_far, ReachedFrom, CoreState, Frame, later, PointAt}
 use Rattle.gcx_model.specs.Needs.{Cond_needs}
 
 -- the tree with those of its nodes alone that are kept
@@ -45,6 +45,10 @@ FirstKept = (P : Tree) (keep : Node → Bool) (n : ℕ) (path : List Step)
 abbrev pub ClosedStays : Type 0
 ClosedStays = (P Q : Tree) → Leads opening P → Leads P Q → (n : Node) → In n P.nodes → is_closed P n ≡ true
     → (is_closed Q n ≡ true) × ((path : List Step) → matches Q (serial_of n) path ≡ matches P (serial_of n) path) × (value Q n ≡ value P n)
+
+-- What Feeds and Acts reach is a tree that has grown, with no fewer actions taken.
+abbrev pub ReachedGrows : Type 0
+ReachedGrows = (plan : PlanTree) (P Q : Tree) (k j : ℕ) → ReachedFrom plan P k Q j → Leads P Q × (k ≤ j)
 
 -- In a core state no more actions are taken than the run has,
 abbrev pub TakenAreThere : Type 0

@@ -1,5 +1,5 @@
 -- How a point goes on: one law for each small step of an evaluator, whatever stands below the frames that it speaks of.
-use Rattle.std.specs.Prelude.{◌≡◌, ℕ, suc, ◌<◌, Bool, true, false, List, [], ◌∷◌, ◌++◌, length}
+use Rattle.std.specs.Prelude.{◌≡◌, ℕ, suc, ◌<◌, ◌≤◌, Bool, true, false, List, [], ◌∷◌, ◌++◌, length}
 use Rattle.gcx_base.specs.declared.steps.Step.{Step}
 use Rattle.gcx_model.specs.Tree.{Node, serial_of, Tree, opening, is_closed}
 use Rattle.gcx_model.specs.Paths.{matches}
@@ -16,6 +16,7 @@ pub record IsNext (plan : PlanTree) (P : Tree) (k : ℕ) (a : Action) : Type 0 w
 
 -- behind k actions of the run none is left; whether it is done
 pub record NoneLeft (plan : PlanTree) (P : Tree) (k : ℕ) (done : Bool) : Type 0 where
+  pub over : length (actions plan P) ≤ k
   pub all : so_far plan P k ≡ actions plan P
   pub is_done : (run plan.body env0 P).done ≡ done
 
@@ -23,6 +24,10 @@ pub record NoneLeft (plan : PlanTree) (P : Tree) (k : ℕ) (done : Bool) : Type 
 pub record AtPoint (plan : PlanTree) (P : Tree) (k : ℕ) (fs : List Frame) : Type 0 where
   pub grown : Leads opening P
   pub point : PointAt plan P k fs
+
+-- A run begins with the plan's body.
+abbrev pub OpeningPoint : Type 0
+OpeningPoint = (plan : PlanTree) (P : Tree) → PointAt plan P 0 (Rest plan.body env0 ∷ [])
 
 -- Bytes are written: that is the next action.
 abbrev pub WriteMove : Type 0

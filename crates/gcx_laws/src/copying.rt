@@ -1,4 +1,4 @@
-ghost use Rattle.gcx_laws.specs.Copying.{CopyGoesOn, CopyIsCut, FineResume, FinePoints, FinePointStays, CopyBegins, CopySteps, CopyEnds, CopyWaits, InsideHeld};
+ghost use Rattle.gcx_laws.specs.Copying.{CopyGoesOn, CopyIsCut, FineResume, FinePoints, FinePointStays, CopyBegins, CopySteps, CopyEnds, CopyWaits, CopyFramesStand, InsideHeld};
 
 /// What is still to come of a copy follows on the actions before its frames.
 pub fn copy_goes_on()
@@ -43,6 +43,11 @@ pub fn copy_ends()
 /// With no next child yet, no action is left, and the run isn't done.
 pub fn copy_waits()
     ensures { CopyWaits }
+{}
+
+/// What the frames of a copy stand on.
+pub fn copy_frames_stand()
+    ensures { CopyFramesStand }
 {}
 
 /// Over the held nodes the nodes within a copy have the children that they have over the tree.

@@ -1,4 +1,4 @@
-ghost use Rattle.gcx_laws.specs.Kept.{TruthKept, CopyKept, MatchesKept, LaterKept, FirstKept, ClosedStays, TakenAreThere, SoFarStays, PointStays};
+ghost use Rattle.gcx_laws.specs.Kept.{TruthKept, CopyKept, MatchesKept, LaterKept, FirstKept, ClosedStays, ReachedGrows, TakenAreThere, SoFarStays, PointStays};
 
 /// A condition has the same truth where what it needs is kept.
 pub fn truth_kept()
@@ -28,6 +28,11 @@ pub fn first_kept()
 /// A closed node stays closed, and keeps its matches and its value.
 pub fn closed_stays()
     ensures { ClosedStays }
+{}
+
+/// What Feeds and Acts reach has grown.
+pub fn reached_grows()
+    ensures { ReachedGrows }
 {}
 
 /// In a core state no more actions are taken than there are.

@@ -23,12 +23,12 @@ pub use bridges::{
 };
 pub use going::{known_goes_on, peak_goes_on, trace_goes_on};
 pub use copying::{
-    copy_begins, copy_ends, copy_goes_on, copy_is_cut, copy_steps, copy_waits, fine_point_stays,
-    fine_points, fine_resume, inside_held,
+    copy_begins, copy_ends, copy_frames_stand, copy_goes_on, copy_is_cut, copy_steps, copy_waits,
+    fine_point_stays, fine_points, fine_resume, inside_held,
 };
 pub use kept::{
-    closed_stays, copy_kept, first_kept, later_kept, matches_kept, point_stays, so_far_stays,
-    taken_are_there, truth_kept,
+    closed_stays, copy_kept, first_kept, later_kept, matches_kept, point_stays, reached_grows,
+    so_far_stays, taken_are_there, truth_kept,
 };
 pub use laws::{
     balance_law, bound_law, closed_law, copy_held, empty_at_end, given_stays, gone_stays,
@@ -40,7 +40,7 @@ pub use line_texts::{line_by_text, lines_by_text};
 pub use loop_rules::{fsa_by_loop, path_by_loop, straight_by_loop, variables_of_loops};
 pub use moves::{
     branch_move, branch_waits, empty_rest, first_round, last_round, loop_waits, next_round,
-    no_round, off_move, points_are_stacks, round_waits, run_is_done, write_move,
+    no_round, off_move, opening_point, points_are_stacks, round_waits, run_is_done, write_move,
 };
 pub use pasts::{
     ahead_before, ahead_signed, ahead_takes, core_state_past, live_by_act, live_by_bases,

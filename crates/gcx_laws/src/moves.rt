@@ -1,4 +1,9 @@
-ghost use Rattle.gcx_laws.specs.Moves.{WriteMove, OffMove, BranchMove, FirstRound, NoRound, NextRound, LastRound, EmptyRest, BranchWaits, LoopWaits, RoundWaits, RunIsDone, PointsAreStacks};
+ghost use Rattle.gcx_laws.specs.Moves.{OpeningPoint, WriteMove, OffMove, BranchMove, FirstRound, NoRound, NextRound, LastRound, EmptyRest, BranchWaits, LoopWaits, RoundWaits, RunIsDone, PointsAreStacks};
+
+/// A run begins with the plan's body.
+pub fn opening_point()
+    ensures { OpeningPoint }
+{}
 
 /// Where bytes come next, they are the next action.
 pub fn write_move()

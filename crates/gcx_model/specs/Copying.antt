@@ -53,7 +53,7 @@ pub data ComesTo (P : Tree) (n : Node) : (m : Node) → (before : List Action) �
 
 -- These frames are the point behind the actions `before` of the copy of n: the one at the top is within the copy of its node, and those of the first children are done.
 pub data IsWithin (P : Tree) (n : Node) : (before : List Action) → List CopyFrame → Type 0 where
-  Within : {m : Node} {before : List Action} {below : List CopyFrame} → (pre post : List Node) → ComesTo P n m before below
+  InNode : {m : Node} {before : List Action} {below : List CopyFrame} → (pre post : List Node) → ComesTo P n m before below
       → has_inside (kind_of m) ≡ true → children P m ≡ pre ++ post → (copies P pre).done ≡ true → IsWithin P n (before ++ (begun (kind_of m) ++ (copies P pre).acts)) (Inside m (last_of pre) ∷ below)
 
 -- the children whose copies are still to come

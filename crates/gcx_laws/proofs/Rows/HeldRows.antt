@@ -25,7 +25,7 @@ behind_feeds plan (t ∷ ts) P = serials plan (grow t P) (actions plan P) ∷ (b
 abbrev behind_events : PlanTree → List Token → List (List ℕ)
 behind_events plan ts = serials plan opening [] ∷ (behind_acts plan opening [] (actions plan opening) ++ behind_feeds plan ts opening)
 
-abbrev plan_children : PlanTree
+abbrev pub plan_children : PlanTree
 plan_children = plan_of (normal query_children)
 
 held_children : behind_events plan_children tokens_children ≡
