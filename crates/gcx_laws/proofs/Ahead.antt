@@ -1,5 +1,5 @@
 -- A new node, and the statements that were carried out in advance.
-use Rattle.std.proofs.Common.{◌≡◌, ℕ, ◌<◌, Bool, true, false, not, ◌&&◌, ◌||◌, List, [], ◌∷◌, ◌++◌, length, refl, sym, ◌∙◌, ap, subst, inl, inr, arith, Some, None, Option, eqb}
+use Rattle.std.proofs.Common.{◌≡◌, ℕ, ◌<◌, Bool, true, false, not, ◌&&◌, ◌||◌, List, [], ◌∷◌, ◌++◌, length, refl, sym, ◌∙◌, ap, subst, inl, inr, arith, Some, None, Option}
 use Rattle.std.specs.Prelude.{drop}
 use Rattle.std.specs.List.{filter}
 use Rattle.std.proofs.Math.Seq.{drop-append_seam}
@@ -15,12 +15,13 @@ use Rattle.gcx_model.specs.Run.{Action, Wrote, Offed}
 use Rattle.gcx_model.specs.Placed.{is_own_kind, is_own, is_empty}
 use Rattle.gcx_model.specs.Held.{path_of, statement_of, is_node, gives, given, signed, reaches, all_signed, on_off, taken}
 use Rattle.gcx_model.specs.Past.{Past, IsPast, is_ahead, open_from, open_nodes, is_signed, parent_serial}
-use Rattle.gcx_laws.specs.Pasts.{Opens, NewNode, NewUnsigned, AheadTakes, AheadSigned, AheadBefore}
+use Rattle.gcx_laws.specs.Pasts.{Opens, NewNode, OpenNodes, NewUnsigned, AheadTakes, AheadSigned, AheadBefore}
 use Rattle.gcx_laws.proofs.Lists.{In-append, In-filter, In-kept, any_in, filter_none}
 use Rattle.gcx_laws.proofs.Matches.{Grown-grow, Numbered-high, Numbered-same, Matches-in, added, added_at, grow_nodes}
 use Rattle.gcx_laws.proofs.Freeze.{within_self, within_above, within_trans, hits_within, stays_closed}
 use Rattle.gcx_laws.proofs.Local.{within_is}
 use Rattle.gcx_laws.proofs.Stays.{all_in, all_from}
+use Rattle.gcx_laws.proofs.Public.{grown_from}
 use Rattle.gcx_laws.proofs.More.{signed_is_off}
 use Rattle.gcx_laws.proofs.Told.{taken_told}
 use Rattle.gcx_laws.proofs.Bases.{head_in, node_is, or_not, is_grown, tells}
@@ -40,13 +41,14 @@ added_only : (at : Option Node) (t : Token) (P : Tree) (n : Node) → In n (adde
     × (serial_of n ≡ length P.nodes)
     × (above n ≡ n ∷ open_from at)
     × ((p : Node) × (at ≡ Some p) × (parent_serial n ≡ Some (serial_of p)))
-    × ((k : ℕ) → is_open_at at k ≡ true → is_open_at (grow_at at t P).at k ≡ true)
+    × ((m : Node) → In m (open_from at) → In m (open_from (grow_at at t P).at))
+    × ((m : Node) → In m (open_from (grow_at at t P).at) → In m (above n))
 added_only None t P n i = absurd i
-added_only (Some p) (Start name) P n (inl e) = subst (λ (z : Node). (added_at (Some p) (Start name) P ≡ z ∷ []) × (serial_of z ≡ length P.nodes) × (above z ≡ z ∷ above p) × ((q : Node) × (Some p ≡ Some q) × (parent_serial z ≡ Some (serial_of q))) × ((k : ℕ) → within k p ≡ true → is_open_at (grow_at (Some p) (Start name) P).at k ≡ true)) e
-    (refl, refl, refl, (p, refl, refl), λ k o. or_right (eqb (length P.nodes) k) (within k p) o)
+added_only (Some p) (Start name) P n (inl e) = subst (λ (z : Node). (added_at (Some p) (Start name) P ≡ z ∷ []) × (serial_of z ≡ length P.nodes) × (above z ≡ z ∷ above p) × ((q : Node) × (Some p ≡ Some q) × (parent_serial z ≡ Some (serial_of q))) × ((m : Node) → In m (above p) → In m (open_from (grow_at (Some p) (Start name) P).at)) × ((m : Node) → In m (open_from (grow_at (Some p) (Start name) P).at) → In m (above z))) e
+    (refl, refl, refl, (p, refl, refl), (λ m o. inr o), (λ m o. o))
 added_only (Some p) (Start name) P n (inr i) = absurd i
-added_only (Some p) (Chars b) P n (inl e) = subst (λ (z : Node). (added_at (Some p) (Chars b) P ≡ z ∷ []) × (serial_of z ≡ length P.nodes) × (above z ≡ z ∷ above p) × ((q : Node) × (Some p ≡ Some q) × (parent_serial z ≡ Some (serial_of q))) × ((k : ℕ) → within k p ≡ true → is_open_at (grow_at (Some p) (Chars b) P).at k ≡ true)) e
-    (refl, refl, refl, (p, refl, refl), λ k o. o)
+added_only (Some p) (Chars b) P n (inl e) = subst (λ (z : Node). (added_at (Some p) (Chars b) P ≡ z ∷ []) × (serial_of z ≡ length P.nodes) × (above z ≡ z ∷ above p) × ((q : Node) × (Some p ≡ Some q) × (parent_serial z ≡ Some (serial_of q))) × ((m : Node) → In m (above p) → In m (open_from (grow_at (Some p) (Chars b) P).at)) × ((m : Node) → In m (open_from (grow_at (Some p) (Chars b) P).at) → In m (above z))) e
+    (refl, refl, refl, (p, refl, refl), (λ m o. o), (λ m o. inr o))
 added_only (Some p) (Chars b) P n (inr i) = absurd i
 added_only (Some p) End P n i = absurd i
 
@@ -64,8 +66,19 @@ new_node P t n h =
       q.1,
       q.2,
       q.3,
-      λ m i. q.4 (serial_of m) (open_is P.at m i),
+      q.4,
+      q.5,
     )
+
+pub open_nodes_are : OpenNodes
+open_nodes_are P l m i = (within_open P.at refl, open_is P.at m)
+  where
+    w : Grown P
+    w = grown_from P l
+
+    within_open : (at : Option Node) → P.at ≡ at → is_open_at at (serial_of m) ≡ true → In m (open_from at)
+    within_open None e h = absurd (false≢true h)
+    within_open (Some p) e h = within_is P w m p i (w.at_in p e) h
 
 -- a role that reaches n from m reaches into m's subtree
 gives_within : (P : Tree) → Grown P → (m : Node) (rel tail : List Step) (k : RoleKind) (n : Node) → In m P.nodes → In n P.nodes → gives P (serial_of m) rel tail k n ≡ true → within (serial_of m) n ≡ true
@@ -137,7 +150,7 @@ module _ (past : Past) (is : IsPast past) (t : Token) where
             let e = (new_node past.tree t n new).1 in
             let inside : within (serial_of m) n ≡ true = gives_within Q wide m o.rel o.tail o.kind n i new.0 g in
             let up : In m (n ∷ open_nodes past.tree) = subst (λ (z : List Node). In m z) (new_node past.tree t n new).2 (within_is Q wide m n i new.0 inside) in
-            and_from _ _ (elim up [ inl f ↦ (let g' = ap serial_of f in absurd (omega arith)) | inr k ↦ (new_node past.tree t n new).4 m k ])
+            and_from _ _ (elim up [ inl f ↦ (let g' = ap serial_of f in absurd (omega arith)) | inr k ↦ open_is Q.at m ((new_node past.tree t n new).4 m k) ])
             (ap not (false_from_ne_true (is_own o) (λ k. let f = own_alone Q o m n k g in absurd (omega arith))))
 
     taken_ahead : (o : OffTree) → all_signed (path_of past.plan) (grow t past.tree) past.acts n o ≡ all_signed (path_of past.plan) (grow t past.tree) (filter (is_ahead (grow t past.tree)) past.acts) n o

@@ -43,3 +43,4 @@ pub mod PastForms
 pub mod Bases
 pub mod Ahead
 pub mod Changes
+pub mod Awaited

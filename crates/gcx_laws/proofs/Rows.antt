@@ -5,3 +5,4 @@ mod NormalRows
 mod PlanRows
 mod TraceRows
 mod HeldRows
+mod PastRows

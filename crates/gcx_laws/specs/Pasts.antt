@@ -1,6 +1,6 @@
 -- Laws on what a buffer has behind it: which pasts there are, what the held nodes tell of statements, statements in advance, and how rows change.
 use Rattle.std.specs.Prelude.{◌≡◌, ℕ, ◌≤◌, true, false, not, cond, ◌&&◌, ◌||◌, List, [], ◌∷◌, ◌++◌, filter, map, length, drop, ◌==◌, ◌↔◌, ◌⊎◌, Some}
-use Rattle.gcx_model.specs.Tree.{Node, serial_of, above, Tree, Token, grow, is_open_at}
+use Rattle.gcx_model.specs.Tree.{Node, serial_of, above, Tree, Token, opening, grow, is_open_at}
 use Rattle.gcx_model.specs.Paths.{matches}
 use Rattle.gcx_model.specs.Members.{In}
 use Rattle.gcx_model.specs.Core.{BodyTree, OffTree, PlanTree}
@@ -8,9 +8,9 @@ use Rattle.gcx_model.specs.Run.{Action, Wrote, Offed}
 use Rattle.gcx_model.specs.Cores.{Good}
 use Rattle.gcx_model.specs.Placed.{offs_in, Placed}
 use Rattle.gcx_model.specs.Held.{path_of, given, signed, reaches, taken, live, roles_live, held, held_tree, is_held}
-use Rattle.gcx_model.specs.Growth.{may_come}
+use Rattle.gcx_model.specs.Growth.{Leads, may_come, level}
 use Rattle.gcx_model.specs.Points.{so_far, CoreState}
-use Rattle.gcx_model.specs.Past.{Past, opening_past, past_fed, past_acted, IsPast, is_ahead, open_nodes, is_signed, roles_signed, parent_serial, row_of, rows_of}
+use Rattle.gcx_model.specs.Past.{Past, opening_past, past_fed, past_acted, IsPast, is_ahead, open_nodes, is_signed, roles_signed, parent_serial, row_of, rows_of, waiting_offs}
 
 -- In a core state there is a past, however many of its actions were taken before the last token.
 abbrev pub CoreStatePast : Type 0
@@ -56,14 +56,19 @@ ReachHeld = (past : Past) → IsPast past → (s : OffTree) → In s (offs_in pa
 abbrev pub Opens : Tree → Token → Node → Type 0
 Opens P t n = In n (grow t P).nodes × (In n P.nodes → ⊥)
 
--- A token opens one node at most: with the next number, as a child of the innermost open node. Each open node stays open then.
+-- A token opens one node at most: with the next number, as a child of the innermost open node. The nodes that were open stay so, and none but the new one becomes open.
 abbrev pub NewNode : Type 0
 NewNode = (P : Tree) (t : Token) (n : Node) → Opens P t n
     → (drop (length P.nodes) (grow t P).nodes ≡ n ∷ [])
     × (serial_of n ≡ length P.nodes)
     × (above n ≡ n ∷ open_nodes P)
     × ((p : Node) × (P.at ≡ Some p) × (parent_serial n ≡ Some (serial_of p)))
-    × ((m : Node) → In m (open_nodes P) → is_open_at (grow t P).at (serial_of m) ≡ true)
+    × ((m : Node) → In m (open_nodes P) → In m (open_nodes (grow t P)))
+    × ((m : Node) → In m (open_nodes (grow t P)) → In m (above n))
+
+-- The open nodes are those that are open.
+abbrev pub OpenNodes : Type 0
+OpenNodes = (P : Tree) → Leads opening P → (m : Node) → In m P.nodes → (is_open_at P.at (serial_of m) ≡ true) ↔ In m (open_nodes P)
 
 -- No statement is signed at a new node.
 abbrev pub NewUnsigned : Type 0
@@ -127,3 +132,11 @@ abbrev pub SignedByAct : Type 0
 SignedByAct = (past : Past) → IsPast past → (s : OffTree) → In s (offs_in past.plan.body) → (m n : Node)
     → ((r : ℕ) → is_signed past.plan (past.acts ++ Offed s (serial_of m) ∷ []) n r ≡ (is_signed past.plan past.acts n r || ((r == s.role) && (serial_of m == serial_of n))))
     × ((serial_of m ≡ serial_of n → ⊥) → roles_signed past.plan (past.acts ++ Offed s (serial_of m) ∷ []) n ≡ roles_signed past.plan past.acts n)
+
+-- The statements that wait for the next token: none behind a token; and behind an action also its own, where it is in advance, with the level of its node.
+abbrev pub WaitingLaw : Type 0
+WaitingLaw = (past : Past) → IsPast past
+    → ((t : Token) → waiting_offs (past_fed t past) ≡ [])
+    × ((b : List ℕ) → waiting_offs (past_acted (Wrote b) past) ≡ waiting_offs past)
+    × ((s : OffTree) (m : Node) → In m past.tree.nodes
+    → waiting_offs (past_acted (Offed s (serial_of m)) past) ≡ waiting_offs past ++ cond (is_ahead past.tree (Offed s (serial_of m))) (record { level = level m; off = s } ∷ []) [])

@@ -19,6 +19,7 @@ pub use laws::{
 };
 pub use pasts::{
     ahead_before, ahead_signed, ahead_takes, core_state_past, live_by_act, live_by_bases,
-    live_by_feed, loses_by_act, new_node, new_unsigned, own_tells, past_acts, past_feeds,
-    past_opens, reach_held, roles_by_act, rows_by_act, rows_by_feed, signed_by_act,
+    live_by_feed, loses_by_act, new_node, new_unsigned, open_nodes_are, own_tells, past_acts,
+    past_feeds, past_opens, reach_held, roles_by_act, rows_by_act, rows_by_feed, signed_by_act,
+    waiting_law,
 };

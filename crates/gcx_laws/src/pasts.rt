@@ -1,4 +1,4 @@
-ghost use Rattle.gcx_laws.specs.Pasts.{CoreStatePast, PastOpens, PastFeeds, PastActs, LiveByBases, OwnTells, ReachHeld, NewNode, NewUnsigned, AheadTakes, AheadSigned, AheadBefore, LiveByFeed, RowsByFeed, RowsByAct, LiveByAct, LosesByAct, RolesByAct, SignedByAct};
+ghost use Rattle.gcx_laws.specs.Pasts.{CoreStatePast, PastOpens, PastFeeds, PastActs, LiveByBases, OwnTells, ReachHeld, NewNode, NewUnsigned, AheadTakes, AheadSigned, AheadBefore, LiveByFeed, RowsByFeed, RowsByAct, LiveByAct, LosesByAct, RolesByAct, SignedByAct, OpenNodes, WaitingLaw};
 
 /// In a core state there is a past, however many of its actions were taken before the last token.
 pub fn core_state_past()
@@ -93,4 +93,14 @@ pub fn roles_by_act()
 /// The roles signed at a row behind a statement.
 pub fn signed_by_act()
     ensures { SignedByAct }
+{}
+
+/// The open nodes are those that are open.
+pub fn open_nodes_are()
+    ensures { OpenNodes }
+{}
+
+/// Which statements wait for the next token, behind a token and behind an action.
+pub fn waiting_law()
+    ensures { WaitingLaw }
 {}
