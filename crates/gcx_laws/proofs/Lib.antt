@@ -44,3 +44,4 @@ pub mod Bases
 pub mod Ahead
 pub mod Changes
 pub mod Awaited
+pub mod RowFacts
