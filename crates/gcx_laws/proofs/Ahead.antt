@@ -1,5 +1,5 @@
 -- A new node, and the statements that were carried out in advance.
-use Rattle.std.proofs.Common.{◌≡◌, ℕ, ◌<◌, Bool, true, false, not, ◌&&◌, ◌||◌, List, [], ◌∷◌, ◌++◌, length, refl, sym, ◌∙◌, ap, subst, inl, inr, arith, Some, None, Option, eqb}
+use Rattle.std.proofs.Common.{◌≡◌, ℕ, ◌<◌, Bool, true, false, cond, not, ◌&&◌, ◌||◌, List, [], ◌∷◌, ◌++◌, length, refl, sym, ◌∙◌, ap, subst, inl, inr, arith, Some, None, Option}
 use Rattle.std.specs.Prelude.{drop}
 use Rattle.std.specs.List.{filter}
 use Rattle.std.proofs.Math.Seq.{drop-append_seam}
@@ -7,7 +7,7 @@ use Rattle.std.proofs.lemmas.Bool.{or_left, or_right, and_parts, and_from, true�
 use Rattle.std.proofs.lemmas.Bool.Decides.{same_from_decides}
 use Rattle.gcx_base.specs.declared.steps.Step.{Step}
 use Rattle.gcx_model.specs.Tree.{Node, serial_of, above, within, Tree, Token, Start, Chars, End, grow, grow_at, is_open_at}
-use Rattle.gcx_model.specs.Paths.{all, hits, matches, first}
+use Rattle.gcx_model.specs.Paths.{all, hits, matches, first, head}
 use Rattle.gcx_model.specs.Members.{In, count}
 use Rattle.gcx_model.specs.Nodes.{Grown}
 use Rattle.gcx_model.specs.Core.{RoleKind, Own, First, Whole, OffTree}
@@ -15,12 +15,13 @@ use Rattle.gcx_model.specs.Run.{Action, Wrote, Offed}
 use Rattle.gcx_model.specs.Placed.{is_own_kind, is_own, is_empty}
 use Rattle.gcx_model.specs.Held.{path_of, statement_of, is_node, gives, given, signed, reaches, all_signed, on_off, taken}
 use Rattle.gcx_model.specs.Past.{Past, IsPast, is_ahead, open_from, open_nodes, is_signed, parent_serial}
-use Rattle.gcx_laws.specs.Pasts.{Opens, NewNode, NewUnsigned, AheadTakes, AheadSigned, AheadBefore}
+use Rattle.gcx_laws.specs.Pasts.{Opens, NewNode, FirstBehind, OpenNodes, NewUnsigned, AheadTakes, AheadSigned, AheadBefore}
 use Rattle.gcx_laws.proofs.Lists.{In-append, In-filter, In-kept, any_in, filter_none}
-use Rattle.gcx_laws.proofs.Matches.{Grown-grow, Numbered-high, Numbered-same, Matches-in, added, added_at, grow_nodes}
+use Rattle.gcx_laws.proofs.Matches.{Grown-grow, Numbered-high, Numbered-same, Matches-in, added, added_at, grow_nodes, Matches-grow}
 use Rattle.gcx_laws.proofs.Freeze.{within_self, within_above, within_trans, hits_within, stays_closed}
 use Rattle.gcx_laws.proofs.Local.{within_is}
 use Rattle.gcx_laws.proofs.Stays.{all_in, all_from}
+use Rattle.gcx_laws.proofs.Public.{grown_from}
 use Rattle.gcx_laws.proofs.More.{signed_is_off}
 use Rattle.gcx_laws.proofs.Told.{taken_told}
 use Rattle.gcx_laws.proofs.Bases.{head_in, node_is, or_not, is_grown, tells}
@@ -31,22 +32,23 @@ all_same p q (x ∷ xs) h = rw (h x (inl refl), all_same p q xs (λ y i. h y (in
 
 -- the new node
 
-open_above : (p m : Node) → In m (above p) → within (serial_of m) p ≡ true
+pub open_above : (p m : Node) → In m (above p) → within (serial_of m) p ≡ true
 open_above p m i = within_above (serial_of m) m p i (within_self (serial_of m) m (eq-eqb (serial_of m) (serial_of m) refl))
 
--- of all that a token adds
+-- the node that a token adds
 added_only : (at : Option Node) (t : Token) (P : Tree) (n : Node) → In n (added_at at t P)
     → (added_at at t P ≡ n ∷ [])
     × (serial_of n ≡ length P.nodes)
     × (above n ≡ n ∷ open_from at)
     × ((p : Node) × (at ≡ Some p) × (parent_serial n ≡ Some (serial_of p)))
-    × ((k : ℕ) → is_open_at at k ≡ true → is_open_at (grow_at at t P).at k ≡ true)
+    × ((m : Node) → In m (open_from at) → In m (open_from (grow_at at t P).at))
+    × ((m : Node) → In m (open_from (grow_at at t P).at) → In m (above n))
 added_only None t P n i = absurd i
-added_only (Some p) (Start name) P n (inl e) = subst (λ (z : Node). (added_at (Some p) (Start name) P ≡ z ∷ []) × (serial_of z ≡ length P.nodes) × (above z ≡ z ∷ above p) × ((q : Node) × (Some p ≡ Some q) × (parent_serial z ≡ Some (serial_of q))) × ((k : ℕ) → within k p ≡ true → is_open_at (grow_at (Some p) (Start name) P).at k ≡ true)) e
-    (refl, refl, refl, (p, refl, refl), λ k o. or_right (eqb (length P.nodes) k) (within k p) o)
+added_only (Some p) (Start name) P n (inl e) = subst (λ (z : Node). (added_at (Some p) (Start name) P ≡ z ∷ []) × (serial_of z ≡ length P.nodes) × (above z ≡ z ∷ above p) × ((q : Node) × (Some p ≡ Some q) × (parent_serial z ≡ Some (serial_of q))) × ((m : Node) → In m (above p) → In m (open_from (grow_at (Some p) (Start name) P).at)) × ((m : Node) → In m (open_from (grow_at (Some p) (Start name) P).at) → In m (above z))) e
+    (refl, refl, refl, (p, refl, refl), (λ m o. inr o), (λ m o. o))
 added_only (Some p) (Start name) P n (inr i) = absurd i
-added_only (Some p) (Chars b) P n (inl e) = subst (λ (z : Node). (added_at (Some p) (Chars b) P ≡ z ∷ []) × (serial_of z ≡ length P.nodes) × (above z ≡ z ∷ above p) × ((q : Node) × (Some p ≡ Some q) × (parent_serial z ≡ Some (serial_of q))) × ((k : ℕ) → within k p ≡ true → is_open_at (grow_at (Some p) (Chars b) P).at k ≡ true)) e
-    (refl, refl, refl, (p, refl, refl), λ k o. o)
+added_only (Some p) (Chars b) P n (inl e) = subst (λ (z : Node). (added_at (Some p) (Chars b) P ≡ z ∷ []) × (serial_of z ≡ length P.nodes) × (above z ≡ z ∷ above p) × ((q : Node) × (Some p ≡ Some q) × (parent_serial z ≡ Some (serial_of q))) × ((m : Node) → In m (above p) → In m (open_from (grow_at (Some p) (Chars b) P).at)) × ((m : Node) → In m (open_from (grow_at (Some p) (Chars b) P).at) → In m (above z))) e
+    (refl, refl, refl, (p, refl, refl), (λ m o. o), (λ m o. inr o))
 added_only (Some p) (Chars b) P n (inr i) = absurd i
 added_only (Some p) End P n i = absurd i
 
@@ -64,11 +66,47 @@ new_node P t n h =
       q.1,
       q.2,
       q.3,
-      λ m i. q.4 (serial_of m) (open_is P.at m i),
+      q.4,
+      q.5,
     )
 
+pub first_behind : FirstBehind
+first_behind P t n h k path = (
+  ((λ e. is_first (matches P k path) refl (sym whole ∙ e)), (λ q. whole ∙ (ap (λ z. head (z ++ filter (hits k path) (n ∷ []))) q.1 ∙ ap (λ c. head (cond c (n ∷ []) [])) q.0))),
+  (λ m e. whole ∙ stays (matches P k path) m e),
+)
+  where
+    -- the matches behind the token: those before it, and the new node where it is one
+    whole : first (grow t P) k path ≡ head (matches P k path ++ filter (hits k path) (n ∷ []))
+    whole = ap head (Matches-grow t P k path ∙ ap (λ z. matches P k path ++ filter (hits k path) z) (added_only P.at t P n (is_added P t n h)).0)
+
+    stays : (xs : List Node) (m : Node) → head xs ≡ Some m → head (xs ++ filter (hits k path) (n ∷ [])) ≡ Some m
+    stays [] m e = absurd (cc)
+    stays (x ∷ xs) m e = e
+
+    new : (c : Bool) → hits k path n ≡ c → head (cond c (n ∷ []) []) ≡ Some n → hits k path n ≡ true
+    new true e f = e
+    new false e f = absurd (cc)
+
+    is_first : (xs : List Node) → matches P k path ≡ xs → head (matches P k path ++ filter (hits k path) (n ∷ [])) ≡ Some n → (hits k path n ≡ true) × (matches P k path ≡ [])
+    is_first [] e f = (new (hits k path n) refl (sym (ap (λ z. head (z ++ filter (hits k path) (n ∷ []))) e) ∙ f), e)
+    is_first (x ∷ xs) e f =
+        let g : Some x ≡ Some n = sym (ap (λ z. head (z ++ filter (hits k path) (n ∷ []))) e) ∙ f in
+        let same : x ≡ n = cc in
+        absurd (h.1 (subst (λ (z : Node). In z P.nodes) same (Matches-in P k path x (subst (λ (z : List Node). In x z) (sym e) (inl refl))).0))
+
+pub open_nodes_are : OpenNodes
+open_nodes_are P l m i = (within_open P.at refl, open_is P.at m)
+  where
+    w : Grown P
+    w = grown_from P l
+
+    within_open : (at : Option Node) → P.at ≡ at → is_open_at at (serial_of m) ≡ true → In m (open_from at)
+    within_open None e h = absurd (false≢true h)
+    within_open (Some p) e h = within_is P w m p i (w.at_in p e) h
+
 -- a role that reaches n from m reaches into m's subtree
-gives_within : (P : Tree) → Grown P → (m : Node) (rel tail : List Step) (k : RoleKind) (n : Node) → In m P.nodes → In n P.nodes → gives P (serial_of m) rel tail k n ≡ true → within (serial_of m) n ≡ true
+pub gives_within : (P : Tree) → Grown P → (m : Node) (rel tail : List Step) (k : RoleKind) (n : Node) → In m P.nodes → In n P.nodes → gives P (serial_of m) rel tail k n ≡ true → within (serial_of m) n ≡ true
 gives_within P w m rel tail Own n i j g = hits_within (serial_of m) rel n g
 gives_within P w m rel tail Whole n i j g =
     let r = any_in (hits (serial_of m) (rel ++ tail)) (above n) g in
@@ -137,7 +175,7 @@ module _ (past : Past) (is : IsPast past) (t : Token) where
             let e = (new_node past.tree t n new).1 in
             let inside : within (serial_of m) n ≡ true = gives_within Q wide m o.rel o.tail o.kind n i new.0 g in
             let up : In m (n ∷ open_nodes past.tree) = subst (λ (z : List Node). In m z) (new_node past.tree t n new).2 (within_is Q wide m n i new.0 inside) in
-            and_from _ _ (elim up [ inl f ↦ (let g' = ap serial_of f in absurd (omega arith)) | inr k ↦ (new_node past.tree t n new).4 m k ])
+            and_from _ _ (elim up [ inl f ↦ (let g' = ap serial_of f in absurd (omega arith)) | inr k ↦ open_is Q.at m ((new_node past.tree t n new).4 m k) ])
             (ap not (false_from_ne_true (is_own o) (λ k. let f = own_alone Q o m n k g in absurd (omega arith))))
 
     taken_ahead : (o : OffTree) → all_signed (path_of past.plan) (grow t past.tree) past.acts n o ≡ all_signed (path_of past.plan) (grow t past.tree) (filter (is_ahead (grow t past.tree)) past.acts) n o

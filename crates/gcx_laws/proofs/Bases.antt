@@ -77,7 +77,7 @@ module _ (past : Past) (is : IsPast past) where
   is_grown = grown_from past.tree is.grown
 
   -- a held node has what is above it held too
-  held_up : (n j : Node) → In n past.tree.nodes → In j (above n) → is_held past.plan past.tree past.acts n ≡ true → is_held past.plan past.tree past.acts j ≡ true
+  pub held_up : (n j : Node) → In n past.tree.nodes → In j (above n) → is_held past.plan past.tree past.acts n ≡ true → is_held past.plan past.tree past.acts j ≡ true
   held_up n j i k h =
       let w : Grown past.tree = is_grown in
       let ij : In j past.tree.nodes = above_in P w n j i k in

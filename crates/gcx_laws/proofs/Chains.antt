@@ -134,7 +134,7 @@ module _ (P : Tree) (w : Grown P) where
   pub reach_depth : (n j : Node) (s : Step) → In n P.nodes → In j P.nodes → is_child s.axis ≡ true → reach (serial_of n) s j ≡ true → depth j ≡ suc (depth n)
   reach_depth n j s i k e h = child_depth n j i k s.axis e (and_parts (passes s.test (kind_of j)) (lies s.axis (serial_of n) j) h).1
 
-  all_child_depth : (n : Node) (path : List Step) (m : Node) → In n P.nodes → In m P.nodes → all_child path ≡ true → hits (serial_of n) path m ≡ true → depth m ≡ depth n + length path
+  pub all_child_depth : (n : Node) (path : List Step) (m : Node) → In n P.nodes → In m P.nodes → all_child path ≡ true → hits (serial_of n) path m ≡ true → depth m ≡ depth n + length path
   all_child_depth n [] m i j c h = let e = ap depth (Numbered-same 0 P.nodes w.numbered m n j i (eqb-true _ _ h)) in omega arith
   all_child_depth n (s ∷ rest) m i j c h =
       let c' = and_parts (is_child s.axis) (all_child rest) c in

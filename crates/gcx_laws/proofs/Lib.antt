@@ -55,3 +55,5 @@ pub mod CopyMoves
 pub mod TurnsReached
 pub mod Ahead
 pub mod Changes
+pub mod Awaited
+pub mod RowFacts

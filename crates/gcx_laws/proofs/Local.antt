@@ -15,7 +15,7 @@ use Rattle.gcx_laws.proofs.PointForms.{later}
 use Rattle.gcx_laws.proofs.Held.{filter_comm}
 
 -- a node below n is n, or lies in a child of n
-child_way : (n m : Node) → In n (above m) → (n ≡ m) ⊎ ((c : Node) × In c (above m) × (is_child_of (serial_of n) c ≡ true))
+pub child_way : (n m : Node) → In n (above m) → (n ≡ m) ⊎ ((c : Node) × In c (above m) × (is_child_of (serial_of n) c ≡ true))
 child_way n Root (inl e) = inl (sym e)
 child_way n Root (inr h) = absurd h
 child_way n (Under p s k) (inl e) = inl (sym e)

@@ -6,3 +6,5 @@ mod PlanRows
 mod TraceRows
 pub mod HeldRows
 mod TurnRows
+mod HeldRows
+mod PastRows

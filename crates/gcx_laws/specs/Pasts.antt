@@ -1,16 +1,19 @@
 -- Laws on what a buffer has behind it: which pasts there are, what the held nodes tell of statements, statements in advance, and how rows change.
 use Rattle.std.specs.Prelude.{◌≡◌, ℕ, ◌≤◌, true, false, not, cond, ◌&&◌, ◌||◌, List, [], ◌∷◌, ◌++◌, filter, map, length, drop, ◌==◌, ◌↔◌, ◌⊎◌, Some}
-use Rattle.gcx_model.specs.Tree.{Node, serial_of, above, Tree, Token, grow, is_open_at}
-use Rattle.gcx_model.specs.Paths.{matches}
+use Rattle.gcx_base.specs.declared.steps.Step.{Step}
+use Rattle.gcx_base.specs.declared.kind.Kind.TheVariants.{Element, Text}
+use Rattle.gcx_model.specs.Tree.{Node, Under, serial_of, above, Tree, Token, Start, Chars, End, opening, grow, is_open_at}
+use Rattle.gcx_model.specs.Paths.{hits, matches, first}
 use Rattle.gcx_model.specs.Members.{In}
 use Rattle.gcx_model.specs.Core.{BodyTree, OffTree, PlanTree}
 use Rattle.gcx_model.specs.Run.{Action, Wrote, Offed}
+use Rattle.gcx_model.specs.Variables.{all_child}
 use Rattle.gcx_model.specs.Cores.{Good}
 use Rattle.gcx_model.specs.Placed.{offs_in, Placed}
 use Rattle.gcx_model.specs.Held.{path_of, given, signed, reaches, taken, live, roles_live, held, held_tree, is_held}
-use Rattle.gcx_model.specs.Growth.{may_come}
+use Rattle.gcx_model.specs.Growth.{Leads, may_come, level}
 use Rattle.gcx_model.specs.Points.{so_far, CoreState}
-use Rattle.gcx_model.specs.Past.{Past, opening_past, past_fed, past_acted, IsPast, is_ahead, open_nodes, is_signed, roles_signed, parent_serial, row_of, rows_of}
+use Rattle.gcx_model.specs.Past.{Past, opening_past, past_fed, past_acted, IsPast, is_ahead, open_nodes, is_signed, roles_signed, parent_serial, row_of, rows_of, waiting_offs}
 
 -- In a core state there is a past, however many of its actions were taken before the last token.
 abbrev pub CoreStatePast : Type 0
@@ -56,14 +59,25 @@ ReachHeld = (past : Past) → IsPast past → (s : OffTree) → In s (offs_in pa
 abbrev pub Opens : Tree → Token → Node → Type 0
 Opens P t n = In n (grow t P).nodes × (In n P.nodes → ⊥)
 
--- A token opens one node at most: with the next number, as a child of the innermost open node. Each open node stays open then.
+-- A token opens one node at most: with the next number, as a child of the innermost open node. The nodes that were open stay so, and none but the new one becomes open.
 abbrev pub NewNode : Type 0
 NewNode = (P : Tree) (t : Token) (n : Node) → Opens P t n
     → (drop (length P.nodes) (grow t P).nodes ≡ n ∷ [])
     × (serial_of n ≡ length P.nodes)
     × (above n ≡ n ∷ open_nodes P)
     × ((p : Node) × (P.at ≡ Some p) × (parent_serial n ≡ Some (serial_of p)))
-    × ((m : Node) → In m (open_nodes P) → is_open_at (grow t P).at (serial_of m) ≡ true)
+    × ((m : Node) → In m (open_nodes P) → In m (open_nodes (grow t P)))
+    × ((m : Node) → In m (open_nodes (grow t P)) → In m (above n))
+
+-- The new node is a first match exactly where it is a match and there was none; and a first match stays it.
+abbrev pub FirstBehind : Type 0
+FirstBehind = (P : Tree) (t : Token) (n : Node) → Opens P t n → (k : ℕ) (path : List Step)
+    → ((first (grow t P) k path ≡ Some n) ↔ ((hits k path n ≡ true) × (matches P k path ≡ [])))
+    × ((m : Node) → first P k path ≡ Some m → first (grow t P) k path ≡ Some m)
+
+-- The open nodes are those that are open.
+abbrev pub OpenNodes : Type 0
+OpenNodes = (P : Tree) → Leads opening P → (m : Node) → In m P.nodes → (is_open_at P.at (serial_of m) ≡ true) ↔ In m (open_nodes P)
 
 -- No statement is signed at a new node.
 abbrev pub NewUnsigned : Type 0
@@ -127,3 +141,40 @@ abbrev pub SignedByAct : Type 0
 SignedByAct = (past : Past) → IsPast past → (s : OffTree) → In s (offs_in past.plan.body) → (m n : Node)
     → ((r : ℕ) → is_signed past.plan (past.acts ++ Offed s (serial_of m) ∷ []) n r ≡ (is_signed past.plan past.acts n r || ((r == s.role) && (serial_of m == serial_of n))))
     × ((serial_of m ≡ serial_of n → ⊥) → roles_signed past.plan (past.acts ++ Offed s (serial_of m) ∷ []) n ≡ roles_signed past.plan past.acts n)
+
+-- The statements that wait for the next token: none behind a token; and behind an action also its own, where it is in advance, with the level of its node.
+abbrev pub WaitingLaw : Type 0
+WaitingLaw = (past : Past) → IsPast past
+    → ((t : Token) → waiting_offs (past_fed t past) ≡ [])
+    × ((b : List ℕ) → waiting_offs (past_acted (Wrote b) past) ≡ waiting_offs past)
+    × ((s : OffTree) (m : Node) → In m past.tree.nodes
+    → waiting_offs (past_acted (Offed s (serial_of m)) past) ≡ waiting_offs past ++ cond (is_ahead past.tree (Offed s (serial_of m))) (record { level = level m; off = s } ∷ []) [])
+
+-- What a row tells of roles: those live at its node, and those signed at it.
+abbrev pub RowTells : Type 0
+RowTells = (past : Past) → IsPast past → (n : Node) (r : ℕ)
+    → (In r (roles_live past.plan past.tree past.acts n) ↔ (live past.plan past.tree past.acts n r ≡ true))
+    × (In r (roles_signed past.plan past.acts n) ↔ (is_signed past.plan past.acts n r ≡ true))
+
+-- A node is held exactly where it is open, a role is live at it, or a child of it is held;
+abbrev pub HeldLocal : Type 0
+HeldLocal = (past : Past) → IsPast past → (n : Node) → In n past.tree.nodes
+    → In n (held past.plan past.tree past.acts)
+    ↔ ((is_open_at past.tree.at (serial_of n) ≡ true) ⊎ (((r : ℕ) × In r (roles_live past.plan past.tree past.acts n)) ⊎ ((c : Node) × In c (held past.plan past.tree past.acts) × (parent_serial c ≡ Some (serial_of n)))))
+
+-- and what is above a held node is held.
+abbrev pub HeldAbove : Type 0
+HeldAbove = (past : Past) → IsPast past → (n m : Node) → In n (held past.plan past.tree past.acts) → In m (above n) → In m (held past.plan past.tree past.acts)
+
+-- A statement reaches nodes of its base's subtree alone. Of two bases above one node the one is above the other; and where the base's path has no descendant step there is one at most.
+abbrev pub BasesAbove : Type 0
+BasesAbove = (past : Past) → IsPast past → (s : OffTree) (m : Node) → In m (bases past s) → (n : Node) → In n past.tree.nodes
+    → (reaches past.tree s m n ≡ true → In m (above n))
+    × ((b : Node) → In b (bases past s) → In m (above n) → In b (above n) → (In b (above m) ⊎ In m (above b)) × (all_child (path_of past.plan s.base) ≡ true → b ≡ m))
+
+-- The nodes and the open nodes behind each kind of token, where p is the innermost open node.
+abbrev pub OpenBehind : Type 0
+OpenBehind = (P : Tree) (p : Node) → P.at ≡ Some p
+    → ((name : List ℕ) → ((grow (Start name) P).nodes ≡ P.nodes ++ Under p (length P.nodes) (Element name) ∷ []) × (open_nodes (grow (Start name) P) ≡ Under p (length P.nodes) (Element name) ∷ open_nodes P))
+    × ((b : List ℕ) → ((grow (Chars b) P).nodes ≡ P.nodes ++ Under p (length P.nodes) (Text b) ∷ []) × (open_nodes (grow (Chars b) P) ≡ open_nodes P))
+    × ((grow End P).nodes ≡ P.nodes) × (open_nodes P ≡ p ∷ open_nodes (grow End P))

@@ -43,9 +43,10 @@ pub use moves::{
     no_round, off_move, opening_point, points_are_stacks, round_waits, run_is_done, write_move,
 };
 pub use pasts::{
-    ahead_before, ahead_signed, ahead_takes, core_state_past, live_by_act, live_by_bases,
-    live_by_feed, loses_by_act, new_node, new_unsigned, own_tells, past_acts, past_feeds,
-    past_opens, reach_held, roles_by_act, rows_by_act, rows_by_feed, signed_by_act,
+    ahead_before, ahead_signed, ahead_takes, bases_above, core_state_past, first_behind,
+    held_above, held_local, live_by_act, live_by_bases, live_by_feed, loses_by_act, new_node,
+    new_unsigned, open_behind, open_nodes_are, own_tells, past_acts, past_feeds, past_opens,
+    reach_held, roles_by_act, row_tells, rows_by_act, rows_by_feed, signed_by_act, waiting_law,
 };
 pub use trace::{
     departed_are_gone, events_are_reached, one_demand_run, one_telling, peak_is_greatest,

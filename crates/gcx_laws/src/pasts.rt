@@ -1,4 +1,4 @@
-ghost use Rattle.gcx_laws.specs.Pasts.{CoreStatePast, PastOpens, PastFeeds, PastActs, LiveByBases, OwnTells, ReachHeld, NewNode, NewUnsigned, AheadTakes, AheadSigned, AheadBefore, LiveByFeed, RowsByFeed, RowsByAct, LiveByAct, LosesByAct, RolesByAct, SignedByAct};
+ghost use Rattle.gcx_laws.specs.Pasts.{CoreStatePast, PastOpens, PastFeeds, PastActs, LiveByBases, OwnTells, ReachHeld, NewNode, FirstBehind, NewUnsigned, AheadTakes, AheadSigned, AheadBefore, LiveByFeed, RowsByFeed, RowsByAct, LiveByAct, LosesByAct, RolesByAct, SignedByAct, OpenNodes, WaitingLaw, RowTells, HeldLocal, HeldAbove, BasesAbove, OpenBehind};
 
 /// In a core state there is a past, however many of its actions were taken before the last token.
 pub fn core_state_past()
@@ -93,4 +93,44 @@ pub fn roles_by_act()
 /// The roles signed at a row behind a statement.
 pub fn signed_by_act()
     ensures { SignedByAct }
+{}
+
+/// The open nodes are those that are open.
+pub fn open_nodes_are()
+    ensures { OpenNodes }
+{}
+
+/// Which statements wait for the next token, behind a token and behind an action.
+pub fn waiting_law()
+    ensures { WaitingLaw }
+{}
+
+/// A row tells which roles are live at its node, and which are signed.
+pub fn row_tells()
+    ensures { RowTells }
+{}
+
+/// A node is held where it is open, has a live role, or has a child that is held.
+pub fn held_local()
+    ensures { HeldLocal }
+{}
+
+/// What is above a held node is held.
+pub fn held_above()
+    ensures { HeldAbove }
+{}
+
+/// A statement reaches nodes of its base's subtree, and the bases above one node are above one another.
+pub fn bases_above()
+    ensures { BasesAbove }
+{}
+
+/// The nodes and the open nodes behind each kind of token.
+pub fn open_behind()
+    ensures { OpenBehind }
+{}
+
+/// Which node is the first match of a path behind a token.
+pub fn first_behind()
+    ensures { FirstBehind }
 {}
