@@ -6,5 +6,4 @@ mod PlanRows
 mod TraceRows
 pub mod HeldRows
 mod TurnRows
-mod HeldRows
 mod PastRows
