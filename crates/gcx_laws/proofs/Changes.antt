@@ -188,7 +188,7 @@ live_by_act past is s j m b n i = (others_live past is s j m n, (by_other past i
 pub loses_by_act : LosesByAct
 loses_by_act past is s j m b n i = ((λ h. (h.0, is_left past is s j m b n i h)), (λ h. (h.0, leaves past is s j m b n i h.1)))
 
-filter_both : {X : Type 0} (p q r : X → Bool) (xs : List X) → ((x : X) → r x ≡ (q x && p x)) → filter r xs ≡ filter p (filter q xs)
+pub filter_both : {X : Type 0} (p q r : X → Bool) (xs : List X) → ((x : X) → r x ≡ (q x && p x)) → filter r xs ≡ filter p (filter q xs)
 filter_both p q r [] h = refl
 filter_both {X} p q r (x ∷ xs) h = ap (λ c. cond c (x ∷ filter r xs) (filter r xs)) (h x) ∙ go (q x) (p x) refl (filter_both p q r xs h)
   where

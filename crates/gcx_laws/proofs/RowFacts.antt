@@ -1,17 +1,18 @@
 -- What rows tell, which nodes are held by their neighbours, and where bases stand.
-use Rattle.std.proofs.Common.{◌≡◌, ℕ, ◌+◌, true, ◌&&◌, List, ◌∷◌, length, refl, sym, ◌∙◌, ap, subst, inl, inr, ◌⊎◌, arith, Some, None, Option}
-use Rattle.std.proofs.lemmas.Bool.{or_cases, or_left, or_right, and_parts, and_from, false≢true, eqb-true, eq-eqb}
+use Rattle.std.proofs.Common.{◌≡◌, ℕ, ◌+◌, true, false, not, ◌&&◌, List, [], ◌∷◌, ◌++◌, length, refl, sym, ◌∙◌, ap, subst, inl, inr, ◌⊎◌, arith, Some, None, Option}
+use Rattle.std.proofs.lemmas.Bool.{or_cases, or_left, or_right, and_parts, and_from, false≢true, eqb-true, eq-eqb, false_from_ne_true}
 use Rattle.gcx_base.specs.declared.kind.Kind.TheVariants.{Element}
-use Rattle.gcx_model.specs.Tree.{Node, Root, Under, serial_of, above, within, Tree, Start, Chars, End, grow_at, is_open_at}
+use Rattle.gcx_model.specs.Tree.{Node, Root, Under, serial_of, above, within, Tree, Start, Chars, End, grow, grow_at, is_open_at}
+use Rattle.std.specs.List.{filter}
 use Rattle.gcx_model.specs.Paths.{any}
 use Rattle.gcx_model.specs.Members.{In, count}
 use Rattle.gcx_model.specs.Nodes.{Grown}
 use Rattle.gcx_model.specs.Core.{OffTree, RoleRowTree}
-use Rattle.gcx_model.specs.Run.{Action}
+use Rattle.gcx_model.specs.Run.{Action, Offed}
 use Rattle.gcx_model.specs.Placed.{row_at}
-use Rattle.gcx_model.specs.Held.{path_of, statement_of, on_row, given_row, given, signed, on_off, live, roles_live, is_live, is_held, held}
-use Rattle.gcx_model.specs.Past.{Past, IsPast, open_from, open_nodes, is_signed, parent_serial}
-use Rattle.gcx_laws.specs.Pasts.{RowTells, HeldLocal, HeldAbove, BasesAbove, OpenBehind}
+use Rattle.gcx_model.specs.Held.{path_of, statement_of, on_row, given_row, given, signed, reaches, on_off, taken, live, roles_live, is_live, is_held, held, held_tree}
+use Rattle.gcx_model.specs.Past.{Past, IsPast, is_ahead, roles_signed, open_from, open_nodes, is_signed, parent_serial}
+use Rattle.gcx_laws.specs.Pasts.{bases, NewRoles, KeptByRows, RowTells, HeldLocal, HeldAbove, BasesAbove, OpenBehind}
 use Rattle.gcx_laws.proofs.Lists.{In-filter, In-kept, any_in, any_from}
 use Rattle.gcx_laws.proofs.Matches.{Numbered-same, Matches-in}
 use Rattle.gcx_laws.proofs.Freeze.{within_self}
@@ -21,8 +22,9 @@ use Rattle.gcx_laws.proofs.CoreStates.{root_in}
 use Rattle.gcx_laws.proofs.Public.{from_tokens}
 use Rattle.gcx_laws.proofs.More.{one_statement_law}
 use Rattle.gcx_laws.proofs.Told.{row_below}
-use Rattle.gcx_laws.proofs.Bases.{In-count-from, is_grown, held_up, tells}
-use Rattle.gcx_laws.proofs.Ahead.{gives_within, open_above}
+use Rattle.gcx_laws.proofs.Bases.{In-count-from, is_grown, held_up, tells, own_tells, reach_held}
+use Rattle.gcx_laws.proofs.Changes.{filter_both, live_by_act}
+use Rattle.gcx_laws.proofs.Ahead.{gives_within, open_above, ahead_takes}
 use Rattle.gcx_laws.proofs.Reading.{is_child_of}
 
 module _ (past : Past) (is : IsPast past) where
@@ -154,3 +156,46 @@ open_behind P p e = (
     rest : (p : Node) → above p ≡ p ∷ open_nodes (grow_at (Some p) End P)
     rest Root = refl
     rest (Under q s k) = refl
+
+pub new_roles : NewRoles
+new_roles past is t n h =
+    filter_both (λ (r : ℕ). not (taken past.plan (grow t past.tree) (filter (is_ahead (grow t past.tree)) past.acts) n r)) (given past.plan (grow t past.tree) n) (live past.plan (grow t past.tree) past.acts n) (count 0 (length past.plan.roles))
+    (λ r. ap (λ z. given past.plan (grow t past.tree) n r && not z) (ahead_takes past is t n h r))
+
+pub kept_by_rows : KeptByRows
+kept_by_rows past is s j m base n i = (there, back)
+  where
+    inside : In n past.tree.nodes
+    inside = (In-filter (is_held past.plan past.tree past.acts) n past.tree.nodes i).0
+
+    -- the statement is signed where its role is
+    signed_is : (b : Node) → is_signed past.plan past.acts b s.role ≡ signed past.acts s b
+    signed_is b = ap (on_off (λ (o : OffTree). signed past.acts o b)) (tells past is s j).stated
+
+    there : live past.plan past.tree (past.acts ++ Offed s (serial_of m) ∷ []) n s.role ≡ true
+        → (b : Node) × In b (held past.plan past.tree past.acts)
+        × (In s.own (roles_live past.plan past.tree past.acts b) ⊎ In s.own (roles_signed past.plan past.acts b)) × (In s.role (roles_signed past.plan past.acts b) → ⊥)
+        × (serial_of b ≡ serial_of m → ⊥) × (reaches (held_tree past.plan past.tree past.acts) s b n ≡ true)
+    there h =
+        let r = (live_by_act past is s j m base n inside).1.0 h in
+        let up : In r.0 (above n) = (bases_above past is s r.0 r.1 n inside).0 r.4 in
+        let own = row_tells past is r.0 s.own in
+        let itself = (row_tells past is r.0 s.role).1 in (
+          r.0,
+          above_held past is n r.0 i up,
+          elim ((own_tells past is s j r.0 (Matches-in past.tree 0 (path_of past.plan s.base) r.0 r.1).0).0.0 r.1) [ inl x ↦ inl (own.0.1 x) | inr x ↦ inr (own.1.1 x) ],
+          λ k. false≢true (sym r.2 ∙ (sym (signed_is r.0) ∙ itself.0 k)),
+          r.3,
+          (reach_held past is s j r.0 r.1 r.2 n inside).0 i ∙ r.4,
+        )
+
+    back : (b : Node) × In b (held past.plan past.tree past.acts)
+        × (In s.own (roles_live past.plan past.tree past.acts b) ⊎ In s.own (roles_signed past.plan past.acts b)) × (In s.role (roles_signed past.plan past.acts b) → ⊥)
+        × (serial_of b ≡ serial_of m → ⊥) × (reaches (held_tree past.plan past.tree past.acts) s b n ≡ true)
+        → live past.plan past.tree (past.acts ++ Offed s (serial_of m) ∷ []) n s.role ≡ true
+    back h =
+        let ib : In h.0 past.tree.nodes = (In-filter (is_held past.plan past.tree past.acts) h.0 past.tree.nodes h.1).0 in
+        let own = row_tells past is h.0 s.own in
+        let b : In h.0 (bases past s) = (own_tells past is s j h.0 ib).0.1 (elim h.2 [ inl x ↦ inl (own.0.0 x) | inr x ↦ inr (own.1.0 x) ]) in
+        let u : signed past.acts s h.0 ≡ false = false_from_ne_true (signed past.acts s h.0) (λ e. h.3 ((row_tells past is h.0 s.role).1.1 (signed_is h.0 ∙ e))) in
+        (live_by_act past is s j m base n inside).1.1 (h.0, b, u, h.4, sym ((reach_held past is s j h.0 b u n inside).0 i) ∙ h.5)

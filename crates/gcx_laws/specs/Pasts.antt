@@ -10,7 +10,7 @@ use Rattle.gcx_model.specs.Run.{Action, Wrote, Offed}
 use Rattle.gcx_model.specs.Variables.{all_child}
 use Rattle.gcx_model.specs.Cores.{Good}
 use Rattle.gcx_model.specs.Placed.{offs_in, Placed}
-use Rattle.gcx_model.specs.Held.{path_of, given, signed, reaches, taken, live, roles_live, held, held_tree, is_held}
+use Rattle.gcx_model.specs.Held.{path_of, given, roles_given, signed, reaches, taken, live, roles_live, held, held_tree, is_held}
 use Rattle.gcx_model.specs.Growth.{Leads, may_come, level}
 use Rattle.gcx_model.specs.Points.{so_far, CoreState}
 use Rattle.gcx_model.specs.Past.{Past, opening_past, past_fed, past_acted, IsPast, is_ahead, open_nodes, is_signed, roles_signed, parent_serial, row_of, rows_of, waiting_offs}
@@ -89,6 +89,12 @@ abbrev pub AheadTakes : Type 0
 AheadTakes = (past : Past) → IsPast past → (t : Token) (n : Node) → Opens past.tree t n → (r : ℕ)
     → taken past.plan (grow t past.tree) past.acts n r ≡ taken past.plan (grow t past.tree) (filter (is_ahead (grow t past.tree)) past.acts) n r
 
+-- So the roles of its row are those that it is given, without what these take.
+abbrev pub NewRoles : Type 0
+NewRoles = (past : Past) → IsPast past → (t : Token) (n : Node) → Opens past.tree t n
+    → roles_live past.plan (grow t past.tree) past.acts n
+    ≡ filter (λ r. not (taken past.plan (grow t past.tree) (filter (is_ahead (grow t past.tree)) past.acts) n r)) (roles_given past.plan (grow t past.tree) n)
+
 -- A role is taken from a new node exactly where the node is given it and its statement is carried out in advance at each match of its base's path from which it reaches the node; such a match is the node or above it.
 abbrev pub AheadSigned : Type 0
 AheadSigned = (past : Past) → IsPast past → (t : Token) (n : Node) → Opens past.tree t n → (s : OffTree) → In s (offs_in past.plan.body)
@@ -129,6 +135,14 @@ abbrev pub LosesByAct : Type 0
 LosesByAct = (past : Past) → IsPast past → (s : OffTree) → In s (offs_in past.plan.body) → (m : Node) → In m (bases past s) → (n : Node) → In n past.tree.nodes
     → ((live past.plan past.tree past.acts n s.role ≡ true) × (live past.plan past.tree (past.acts ++ Offed s (serial_of m) ∷ []) n s.role ≡ false))
     ↔ ((live past.plan past.tree past.acts n s.role ≡ true) × ((b : Node) → In b (bases past s) → reaches past.tree s b n ≡ true → (serial_of b ≡ serial_of m) ⊎ (signed past.acts s b ≡ true)))
+
+-- The rows tell which held nodes keep it: those that the statement reaches over the held nodes from another row, which has the base's own role live or signed and this role not signed.
+abbrev pub KeptByRows : Type 0
+KeptByRows = (past : Past) → IsPast past → (s : OffTree) → In s (offs_in past.plan.body) → (m : Node) → In m (bases past s) → (n : Node) → In n (held past.plan past.tree past.acts)
+    → (live past.plan past.tree (past.acts ++ Offed s (serial_of m) ∷ []) n s.role ≡ true)
+    ↔ ((b : Node) × In b (held past.plan past.tree past.acts)
+    × (In s.own (roles_live past.plan past.tree past.acts b) ⊎ In s.own (roles_signed past.plan past.acts b)) × (In s.role (roles_signed past.plan past.acts b) → ⊥)
+    × (serial_of b ≡ serial_of m → ⊥) × (reaches (held_tree past.plan past.tree past.acts) s b n ≡ true))
 
 -- The roles of a row then: its old ones, without that role where it isn't live any more.
 abbrev pub RolesByAct : Type 0

@@ -1,4 +1,4 @@
-ghost use Rattle.gcx_laws.specs.Pasts.{CoreStatePast, PastOpens, PastFeeds, PastActs, LiveByBases, OwnTells, ReachHeld, NewNode, FirstBehind, NewUnsigned, AheadTakes, AheadSigned, AheadBefore, LiveByFeed, RowsByFeed, RowsByAct, LiveByAct, LosesByAct, RolesByAct, SignedByAct, OpenNodes, WaitingLaw, RowTells, HeldLocal, HeldAbove, BasesAbove, OpenBehind};
+ghost use Rattle.gcx_laws.specs.Pasts.{CoreStatePast, PastOpens, PastFeeds, PastActs, LiveByBases, OwnTells, ReachHeld, NewNode, FirstBehind, NewUnsigned, AheadTakes, AheadSigned, AheadBefore, LiveByFeed, RowsByFeed, RowsByAct, LiveByAct, LosesByAct, RolesByAct, SignedByAct, OpenNodes, WaitingLaw, RowTells, HeldLocal, HeldAbove, BasesAbove, OpenBehind, NewRoles, KeptByRows};
 
 /// In a core state there is a past, however many of its actions were taken before the last token.
 pub fn core_state_past()
@@ -133,4 +133,14 @@ pub fn open_behind()
 /// Which node is the first match of a path behind a token.
 pub fn first_behind()
     ensures { FirstBehind }
+{}
+
+/// The roles of a new node's row.
+pub fn new_roles()
+    ensures { NewRoles }
+{}
+
+/// The rows tell which held nodes keep the role of a statement that is carried out.
+pub fn kept_by_rows()
+    ensures { KeptByRows }
 {}
