@@ -5,7 +5,7 @@ use Rattle.gcx_model.specs.Tree.{Node, serial_of, Tree, opening}
 use Rattle.gcx_model.specs.Paths.{matches}
 use Rattle.gcx_model.specs.Members.{In}
 use Rattle.gcx_model.specs.Core.{OffTree, PlanTree}
-use Rattle.gcx_model.specs.Run.{Action, Wrote, Offed}
+use Rattle.gcx_model.specs.Run.{Action, Wrote, Offed, env0}
 use Rattle.gcx_model.specs.Placed.{offs_in}
 use Rattle.gcx_model.specs.Held.{path_of}
 use Rattle.gcx_model.specs.Growth.{Leads, stays, more}
@@ -14,7 +14,7 @@ use Rattle.gcx_laws.specs.Pasts.{CoreStatePast, PastOpens, PastFeeds, PastActs}
 use Rattle.gcx_laws.proofs.Lists.{In-left, In-append}
 use Rattle.gcx_laws.proofs.Matches.{Matches-grow}
 use Rattle.gcx_laws.proofs.Growing.{grows}
-use Rattle.gcx_laws.proofs.Public.{prefix_law, offs_at_matches, reached_leads}
+use Rattle.gcx_laws.proofs.Public.{prefix_law, root_from, offs_at_matches, reached_leads}
 
 -- of the actions of a run no more than there are are taken
 taken_within : (plan : PlanTree) (P : Tree) (k : ℕ) → CoreState plan P k → k ≤ length (actions plan P)
@@ -22,7 +22,7 @@ taken_within plan P k here = omega arith
 taken_within plan P k (fed {P = Q} h g) =
     let i = taken_within plan Q k h in
     let l : Leads opening Q = (reached_leads plan opening 0 Q k h).0 in
-    let r = (prefix_law Q P l (more stays g) plan.body).0 in
+    let r = (prefix_law Q P l (more stays g) plan.body env0 (λ x. root_from Q l)).0 in
     let n : length (actions plan P) ≡ length (actions plan Q) + length r.0 = ap length r.1 ∙ length-append (actions plan Q) r.0 in
     omega arith
 taken_within plan P k (acted {k = j} h l) = omega arith

@@ -59,7 +59,7 @@ numbered_rest k (x ∷ xs) ys h = let e : suc k + length xs ≡ k + suc (length 
 
 -- where a token may come some node is open
 open_node : (P Q : Tree) → Grow P Q → (p : Node) × (P.at ≡ Some p)
-open_node P Q (opened p name at h n a) = (p, at)
+open_node P Q (opened p name named at h n a) = (p, at)
 open_node P Q (added p s k b at h g n a) = (Under p s k, at)
 open_node P Q (closed p s k at n a) = (Under p s k, at)
 open_node P Q (ended at h n a) = (Root, at)
