@@ -220,11 +220,11 @@ fn a_dead_cell_is_used_before_a_block(rt: HostRuntime) -> Result<(), Fail> {
 }
 
 /// So wide a payload that blocks show in the memory of the process.
-type Wide = [u64; 32];
+type Wide = [u64; 128];
 
-const WIDE: Wide = [7; 32];
+const WIDE: Wide = [7; 128];
 
-const STORES: u32 = 10_000;
+const STORES: u32 = 3_000;
 
 // How many pages of memory the process has, as Linux tells it.
 fn pages(rt: &HostRuntime) -> Result<u64, Fail> {
