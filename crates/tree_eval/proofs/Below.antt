@@ -9,7 +9,7 @@ use Rattle.gcx_model.specs.Tree.{Node, Root, serial_of, kind_of, above, within}
 use Rattle.gcx_model.specs.Paths.{any, passes}
 use Rattle.tree_eval.specs.declared.row.Row.{Row}
 use Rattle.tree_eval.specs.Rows.{kind_in, node_at, nodes_of, no_row, parent_in, end_at, IsNested}
-use Rattle.tree_eval.specs.Sets.{members, passing, descendant_step, below, stepped}
+use Rattle.tree_eval.specs.Sets.{members, passing, to_descendants, below, stepped}
 use Rattle.tree_eval.proofs.Nodes.{are_nodes, length-nodes_of}
 use Rattle.tree_eval.proofs.Order.{number, row_node, drop_on, inside, outside}
 use Rattle.tree_eval.proofs.Numbers.{rest, map_cond, rest_at, rest_skip, rest_none, Heads, head_of, ends_of}
@@ -94,7 +94,7 @@ module _ (rows : List Row) (nested : IsNested rows) (f : Node → Bool) where
 
 module _ (rows : List Row) (nested : IsNested rows) (t : Test) (f : Node → Bool) where
   abbrev reached : Node → Bool
-  reached = stepped (descendant_step t) f
+  reached = stepped (to_descendants t) f
 
   not_reached : (k : ℕ) → k < length rows → ((n : ℕ) → n ≤ k → f (node_at (nodes_of rows) n) ≡ true → end_at rows n ≤ k) → reached (node_at (nodes_of rows) (suc k)) ≡ false
   not_reached k h all = and_no _ _ (below_out rows nested f k h all)
@@ -152,12 +152,12 @@ passing_all rows t start index end f g h = let z : index - start ≡ end - start
 -- Going over a set: the rows before `done` are done, those below the set's nodes before the number i among them.
 pub record Covers (rows : List Row) (t : Test) (f : Node → Bool) (i done : ℕ) (found : List ℕ) : Type 0 where
   pub ends : (n : ℕ) → n < i → n ≤ length rows → f (node_at (nodes_of rows) n) ≡ true → end_at rows n ≤ done
-  pub all : found ++ rest rows (stepped (descendant_step t) f) (suc done) ≡ members (stepped (descendant_step t) f) rows
+  pub all : found ++ rest rows (stepped (to_descendants t) f) (suc done) ≡ members (stepped (to_descendants t) f) rows
 
 pub covers_none : (rows : List Row) (t : Test) (f : Node → Bool) → IsNested rows → Covers rows t f 0 0 []
 covers_none rows t f nested = record {
   ends = λ n a b c. absurd (omega arith);
-  all = sym (rest_at rows nested (stepped (descendant_step t) f) 0 false (omega arith) (root_not_reached rows nested t f));
+  all = sym (rest_at rows nested (stepped (to_descendants t) f) 0 false (omega arith) (root_not_reached rows nested t f));
 }
 
 pub covers_more : (rows : List Row) (t : Test) (f : Node → Bool) (i done x : ℕ) (xs found : List ℕ) → IsNested rows → Covers rows t f i done found → Heads rows f i x xs
@@ -184,22 +184,22 @@ covers_more rows t f i done x xs found nested w head = record {
     low : end_at rows x ≤ length rows
     low = (nested.ends x to).to
 
-    skipped : rest rows (stepped (descendant_step t) f) (suc done) ≡ rest rows (stepped (descendant_step t) f) (suc (max done x))
-    skipped = rest_skip rows nested (stepped (descendant_step t) f) (suc done) (suc (max done x)) (omega arith) (λ j a b c. not_reached_at rows nested t f j c (λ k n e le h. elim (cases_lt n i) [
+    skipped : rest rows (stepped (to_descendants t) f) (suc done) ≡ rest rows (stepped (to_descendants t) f) (suc (max done x))
+    skipped = rest_skip rows nested (stepped (to_descendants t) f) (suc done) (suc (max done x)) (omega arith) (λ j a b c. not_reached_at rows nested t f j c (λ k n e le h. elim (cases_lt n i) [
       | inl s ↦ (let y = w.ends n s (omega arith) h in omega arith)
       | inr s ↦ absurd (head.between n s (omega arith) h)
     ]))
 
-    ranged : rest rows (stepped (descendant_step t) f) (suc (max done x)) ≡ passing t rows (max done x) (end_at rows x) ++ rest rows (stepped (descendant_step t) f) (suc (max done (end_at rows x)))
+    ranged : rest rows (stepped (to_descendants t) f) (suc (max done x)) ≡ passing t rows (max done x) (end_at rows x) ++ rest rows (stepped (to_descendants t) f) (suc (max done (end_at rows x)))
     ranged = let fr = from in let lo = low in elim (cases_lt (max done x) (end_at rows x)) [
-      | inl l ↦ (let z : max done x + (end_at rows x - max done x) ≡ max done (end_at rows x) = omega arith in run rows nested t f (end_at rows x - max done x) (max done x) (omega arith) (λ k a b. below_in rows nested f x k (omega arith) (omega arith) head.in_set) ∙ ap (λ k. passing t rows (max done x) (end_at rows x) ++ rest rows (stepped (descendant_step t) f) (suc k)) z)
-      | inr l ↦ (let z : end_at rows x - max done x ≡ 0 = omega arith in let y : max done x ≡ max done (end_at rows x) = omega arith in ap (λ k. rest rows (stepped (descendant_step t) f) (suc k)) y ∙ ap (λ d. map serial_of (filter (λ m. passes t (kind_of m)) (take d (drop (suc (max done x)) (nodes_of rows)))) ++ rest rows (stepped (descendant_step t) f) (suc (max done (end_at rows x)))) (sym z))
+      | inl l ↦ (let z : max done x + (end_at rows x - max done x) ≡ max done (end_at rows x) = omega arith in run rows nested t f (end_at rows x - max done x) (max done x) (omega arith) (λ k a b. below_in rows nested f x k (omega arith) (omega arith) head.in_set) ∙ ap (λ k. passing t rows (max done x) (end_at rows x) ++ rest rows (stepped (to_descendants t) f) (suc k)) z)
+      | inr l ↦ (let z : end_at rows x - max done x ≡ 0 = omega arith in let y : max done x ≡ max done (end_at rows x) = omega arith in ap (λ k. rest rows (stepped (to_descendants t) f) (suc k)) y ∙ ap (λ d. map serial_of (filter (λ m. passes t (kind_of m)) (take d (drop (suc (max done x)) (nodes_of rows)))) ++ rest rows (stepped (to_descendants t) f) (suc (max done (end_at rows x)))) (sym z))
     ]
 
-pub covers_all : (rows : List Row) (t : Test) (f : Node → Bool) (i done : ℕ) (found : List ℕ) → IsNested rows → Covers rows t f i done found → rest rows f i ≡ [] → found ≡ members (stepped (descendant_step t) f) rows
+pub covers_all : (rows : List Row) (t : Test) (f : Node → Bool) (i done : ℕ) (found : List ℕ) → IsNested rows → Covers rows t f i done found → rest rows f i ≡ [] → found ≡ members (stepped (to_descendants t) f) rows
 covers_all rows t f i done found nested w e =
     sym (append-nil found)
-    ∙ (ap (λ l. found ++ l) (sym (rest_none rows nested (stepped (descendant_step t) f) (suc done) (λ j a c. not_reached_at rows nested t f j c (λ k n s le h. elim (cases_lt n i) [
+    ∙ (ap (λ l. found ++ l) (sym (rest_none rows nested (stepped (to_descendants t) f) (suc done) (λ j a c. not_reached_at rows nested t f j c (λ k n s le h. elim (cases_lt n i) [
       | inl l ↦ (let y = w.ends n l (omega arith) h in omega arith)
       | inr l ↦ absurd (ends_of rows nested f i n e l (omega arith) h)
     ]))))
@@ -222,5 +222,5 @@ goes_more rows t f set found more k x done start end next nested lt read w e m p
       covers = subst (λ (y : ℕ). Covers rows t f (suc x) y more) (sym (q ∙ ap (max done) e)) (subst (λ (l : List ℕ). Covers rows t f (suc x) (max done (end_at rows x)) l) (sym (p ∙ (ap (λ y. found ++ passing t rows y end) m ∙ ap (λ y. found ++ passing t rows (max done x) y) e))) c);
     }
 
-pub goes_all : (rows : List Row) (t : Test) (f : Node → Bool) (set found : List ℕ) (k done : ℕ) → IsNested rows → length set ≤ k → Goes rows t f (drop k set) done found → found ≡ members (stepped (descendant_step t) f) rows
+pub goes_all : (rows : List Row) (t : Test) (f : Node → Bool) (set found : List ℕ) (k done : ℕ) → IsNested rows → length set ≤ k → Goes rows t f (drop k set) done found → found ≡ members (stepped (to_descendants t) f) rows
 goes_all rows t f set found k done nested le w = covers_all rows t f w.at done found nested w.covers (sym w.left_is ∙ drop_all k set le)

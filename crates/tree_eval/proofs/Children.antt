@@ -9,7 +9,7 @@ use Rattle.gcx_model.specs.Tree.{Node}
 use Rattle.gcx_model.specs.Paths.{passes, reach}
 use Rattle.tree_eval.specs.declared.row.Row.{Row}
 use Rattle.tree_eval.specs.Rows.{kind_in, node_at, nodes_of, no_row, parent_in, end_at, IsNested, IsBehind}
-use Rattle.tree_eval.specs.Sets.{members, child_step}
+use Rattle.tree_eval.specs.Sets.{members, to_children}
 use Rattle.tree_eval.proofs.Steps.{lies_low}
 use Rattle.tree_eval.proofs.Order.{number, rises, row_node}
 use Rattle.tree_eval.proofs.Numbers.{rest, rest_at, rest_skip, rest_none}
@@ -35,7 +35,7 @@ module _ (rows : List Row) (nested : IsNested rows) (t : Test) where
   node i = node_at (nodes_of rows) i
 
   abbrev kids : ℕ → Node → Bool
-  kids n = reach n (child_step t)
+  kids n = reach n (to_children t)
 
   -- whether the node of a row is a child that passes
   pub row_reach : (n k : ℕ) → k < length rows → kids n (node (suc k)) ≡ (passes t (kind_in (get_or rows k no_row).content) && eqb (parent_in rows k) n)
@@ -57,13 +57,13 @@ module _ (rows : List Row) (nested : IsNested rows) (t : Test) where
 pub record Finds (rows : List Row) (t : Test) (n next : ℕ) (before found : List ℕ) : Type 0 where
   pub from : n ≤ next
   pub low : next < length rows → parent_in rows next ≤ n
-  pub all : found ++ rest rows (reach n (child_step t)) (suc next) ≡ before ++ members (reach n (child_step t)) rows
+  pub all : found ++ rest rows (reach n (to_children t)) (suc next) ≡ before ++ members (reach n (to_children t)) rows
 
 pub finds_none : (rows : List Row) (t : Test) (n : ℕ) (before : List ℕ) → IsNested rows → Finds rows t n n before before
 finds_none rows t n before nested = record {
   from = omega arith;
   low = λ h. nested.low n h;
-  all = ap (λ l. before ++ l) (sym (rest_skip rows nested (reach n (child_step t)) 0 (suc n) (omega arith) (λ k a b c. early rows nested t n k (omega arith) c)));
+  all = ap (λ l. before ++ l) (sym (rest_skip rows nested (reach n (to_children t)) 0 (suc n) (omega arith) (λ k a b c. early rows nested t n k (omega arith) c)));
 }
 
 push_all : (b : Bool) (found xs ys : List ℕ) (i j : ℕ) → i ≡ j → xs ≡ cond b (i ∷ ys) ys → cond b (found ++ j ∷ []) found ++ ys ≡ found ++ xs
@@ -80,11 +80,11 @@ finds_more rows t n next end before found row b nested w lt p q =
     let own = nested.ends n (omega arith) in
     let over : IsBehind rows (suc next) end = subst (IsBehind rows (suc next)) (sym (q ∙ ap (end_at rows) at)) (nested.ends (suc next) (omega arith)) in
     let child : parent_in rows next ≡ n = (let x = own.inside next f lt in let y = w.low h in omega arith) in
-    let here : rest rows (reach n (child_step t)) (suc next) ≡ cond b (suc next ∷ rest rows (reach n (child_step t)) (suc (suc next))) (rest rows (reach n (child_step t)) (suc (suc next)))
-    = rest_at rows nested (reach n (child_step t)) (suc next) b (omega arith)
+    let here : rest rows (reach n (to_children t)) (suc next) ≡ cond b (suc next ∷ rest rows (reach n (to_children t)) (suc (suc next))) (rest rows (reach n (to_children t)) (suc (suc next)))
+    = rest_at rows nested (reach n (to_children t)) (suc next) b (omega arith)
     (row_reach rows nested t n next h ∙ (and_yes _ _ (eq-eqb _ _ child) ∙ (ap (λ (r : Row). passes t (kind_in r.content)) (get_or_default rows next no_row row h) ∙ p))) in
-    let on : rest rows (reach n (child_step t)) (suc (suc next)) ≡ rest rows (reach n (child_step t)) (suc end)
-    = rest_skip rows nested (reach n (child_step t)) (suc (suc next)) (suc end) (let x = over.from in omega arith)
+    let on : rest rows (reach n (to_children t)) (suc (suc next)) ≡ rest rows (reach n (to_children t)) (suc end)
+    = rest_skip rows nested (reach n (to_children t)) (suc (suc next)) (suc end) (let x = over.from in omega arith)
     (λ i a z c. no_child_at rows nested t n i (omega arith) c (λ k e g. let x = over.inside k (omega arith) (omega arith) in omega arith)) in
     record {
       from = let x = over.from in omega arith;
@@ -95,10 +95,10 @@ finds_more rows t n next end before found row b nested w lt p q =
       all = ap (λ l. cond b (found ++ (next + 1) ∷ []) found ++ l) (sym on) ∙ (push_all b found _ _ (suc next) (next + 1) (sym at) here ∙ w.all);
     }
 
-pub finds_all : (rows : List Row) (t : Test) (n next : ℕ) (before found : List ℕ) → IsNested rows → Finds rows t n next before found → end_at rows n ≤ next → found ≡ before ++ members (reach n (child_step t)) rows
+pub finds_all : (rows : List Row) (t : Test) (n next : ℕ) (before found : List ℕ) → IsNested rows → Finds rows t n next before found → end_at rows n ≤ next → found ≡ before ++ members (reach n (to_children t)) rows
 finds_all rows t n next before found nested w past =
     sym (append-nil found)
-    ∙ (ap (λ l. found ++ l) (sym (rest_none rows nested (reach n (child_step t)) (suc next) (λ i a c. no_child_at rows nested t n i (let f = w.from in omega arith) c (λ k e g. gone k (omega arith) (omega arith) g))))
+    ∙ (ap (λ l. found ++ l) (sym (rest_none rows nested (reach n (to_children t)) (suc next) (λ i a c. no_child_at rows nested t n i (let f = w.from in omega arith) c (λ k e g. gone k (omega arith) (omega arith) g))))
     ∙ w.all)
   where
     gone : (k : ℕ) → next ≤ k → k < length rows → parent_in rows k ≡ n → ⊥

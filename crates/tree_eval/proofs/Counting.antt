@@ -15,7 +15,7 @@ use Rattle.gcx_model.specs.Tree.{Node, Root, Under, serial_of}
 use Rattle.gcx_model.specs.Paths.{passes, reach}
 use Rattle.tree_eval.specs.declared.row.Row.{Row}
 use Rattle.tree_eval.specs.Rows.{kind_in, node_at, nodes_of, no_row, parent_in, IsNested}
-use Rattle.tree_eval.specs.Sets.{members, child_step, stepped}
+use Rattle.tree_eval.specs.Sets.{members, to_children, stepped}
 use Rattle.tree_eval.proofs.Nodes.{are_nodes}
 use Rattle.tree_eval.proofs.Order.{number, row_node}
 use Rattle.tree_eval.proofs.Numbers.{rest, rest_at, rest_on, rest_past, rest_none, members_same}
@@ -143,22 +143,22 @@ module _ (rows : List Row) (nested : IsNested rows) where
     from i m = f m && is_from i (serial_of m)
 
     abbrev kids : ℕ → List ℕ
-    kids n = members (reach n (child_step t)) rows
+    kids n = members (reach n (to_children t)) rows
 
-    at_row : (i k : ℕ) → k < length rows → stepped (child_step t) (from i) (node (suc k)) ≡ (passes t (kind_in (get_or rows k no_row).content) && (f (node (parent_in rows k)) && is_from i (parent_in rows k)))
+    at_row : (i k : ℕ) → k < length rows → stepped (to_children t) (from i) (node (suc k)) ≡ (passes t (kind_in (get_or rows k no_row).content) && (f (node (parent_in rows k)) && is_from i (parent_in rows k)))
     at_row i k h =
         let l = nested.low k h in
-        ap (stepped (child_step t) (from i)) (row_node rows nested k h)
+        ap (stepped (to_children t) (from i)) (row_node rows nested k h)
         ∙ ap (λ n. passes t (kind_in (get_or rows k no_row).content) && (f (node (parent_in rows k)) && is_from i n)) (number rows nested (parent_in rows k) (omega arith))
 
-    at_root : (i : ℕ) → stepped (child_step t) (from i) (node 0) ≡ false
-    at_root i = ap (stepped (child_step t) (from i)) (are_nodes rows).first
+    at_root : (i : ℕ) → stepped (to_children t) (from i) (node 0) ≡ false
+    at_root i = ap (stepped (to_children t) (from i)) (are_nodes rows).first
 
-    root_no_child : (i : ℕ) → reach i (child_step t) (node 0) ≡ false
-    root_no_child i = ap (reach i (child_step t)) (are_nodes rows).first
+    root_no_child : (i : ℕ) → reach i (to_children t) (node 0) ≡ false
+    root_no_child i = ap (reach i (to_children t)) (are_nodes rows).first
 
     -- a node of the set, and the later ones
-    parted : (i k : ℕ) → f (node i) ≡ true → k ≤ length rows → num (stepped (child_step t) (from i) (node k)) ≡ num (reach i (child_step t) (node k)) + num (stepped (child_step t) (from (suc i)) (node k))
+    parted : (i k : ℕ) → f (node i) ≡ true → k ≤ length rows → num (stepped (to_children t) (from i) (node k)) ≡ num (reach i (to_children t) (node k)) + num (stepped (to_children t) (from (suc i)) (node k))
     parted i zero e h = rw (at_root i, root_no_child i, at_root (suc i)) refl
     parted i (suc k) e h = rw (at_row i k (omega arith), row_reach rows nested t i k (omega arith), at_row (suc i) k (omega arith)) (go (passes t (kind_in (get_or rows k no_row).content)) (cases_order (parent_in rows k) i))
       where
@@ -174,7 +174,7 @@ module _ (rows : List Row) (nested : IsNested rows) where
         go true (inr (inr l)) = rw (from_yes i (parent_in rows k) (omega arith), from_yes (suc i) (parent_in rows k) (omega arith), ne_eqb (parent_in rows k) i (λ e. omega arith)) (omega arith)
 
     -- what isn't in the set has no part in it
-    unparted : (i k : ℕ) → f (node i) ≡ false → k ≤ length rows → num (stepped (child_step t) (from i) (node k)) ≡ num false + num (stepped (child_step t) (from (suc i)) (node k))
+    unparted : (i k : ℕ) → f (node i) ≡ false → k ≤ length rows → num (stepped (to_children t) (from i) (node k)) ≡ num false + num (stepped (to_children t) (from (suc i)) (node k))
     unparted i zero e h = rw (at_root i, at_root (suc i)) refl
     unparted i (suc k) e h =
         let x = ap num (at_row i k (omega arith)) in
@@ -192,12 +192,12 @@ module _ (rows : List Row) (nested : IsNested rows) where
     nowhere c (suc d) i e = ap (count c) (rest_at rows nested (λ m. false) i false (omega arith) refl) ∙ nowhere c d (suc i) (omega arith)
 
     -- each child of the set stands with its parent
-    counts_by : (c d i : ℕ) → i + d ≡ suc (length rows) → count c (flat_map kids (rest rows f i)) ≡ count c (members (stepped (child_step t) (from i)) rows)
+    counts_by : (c d i : ℕ) → i + d ≡ suc (length rows) → count c (flat_map kids (rest rows f i)) ≡ count c (members (stepped (to_children t) (from i)) rows)
     counts_by c zero i e =
         ap (λ l. count c (flat_map kids l)) (rest_past rows nested f i (omega arith))
-        ∙ sym (ap (count c) (rest_none rows nested (stepped (child_step t) (from i)) 0 (λ k a h. out k h)))
+        ∙ sym (ap (count c) (rest_none rows nested (stepped (to_children t) (from i)) 0 (λ k a h. out k h)))
       where
-        out : (k : ℕ) → k ≤ length rows → stepped (child_step t) (from i) (node k) ≡ false
+        out : (k : ℕ) → k ≤ length rows → stepped (to_children t) (from i) (node k) ≡ false
         out zero h = at_root i
         out (suc k) h = let l = nested.low k (omega arith) in at_row i k (omega arith) ∙ (ap (λ b. passes t (kind_in (get_or rows k no_row).content) && (f (node (parent_in rows k)) && b)) (from_no i (parent_in rows k) (omega arith)) ∙ none (passes t (kind_in (get_or rows k no_row).content)) (f (node (parent_in rows k))))
           where
@@ -207,33 +207,33 @@ module _ (rows : List Row) (nested : IsNested rows) where
             none false b = refl
     counts_by c (suc d) i e = go (f (node i)) refl (counts_by c d (suc i) (omega arith))
       where
-        go : (b : Bool) → f (node i) ≡ b → count c (flat_map kids (rest rows f (suc i))) ≡ count c (members (stepped (child_step t) (from (suc i))) rows) → count c (flat_map kids (rest rows f i)) ≡ count c (members (stepped (child_step t) (from i)) rows)
+        go : (b : Bool) → f (node i) ≡ b → count c (flat_map kids (rest rows f (suc i))) ≡ count c (members (stepped (to_children t) (from (suc i))) rows) → count c (flat_map kids (rest rows f i)) ≡ count c (members (stepped (to_children t) (from i)) rows)
         go true h z =
             let x = ap (λ l. count c (flat_map kids l)) (rest_at rows nested f i true (omega arith) h) in
             let y = count_append c (kids i) (flat_map kids (rest rows f (suc i))) in
-            let w = split (stepped (child_step t) (from i)) (reach i (child_step t)) (stepped (child_step t) (from (suc i))) c (suc (length rows)) 0 (omega arith) (λ k l. parted i k h l) in
+            let w = split (stepped (to_children t) (from i)) (reach i (to_children t)) (stepped (to_children t) (from (suc i))) c (suc (length rows)) 0 (omega arith) (λ k l. parted i k h l) in
             omega arith
         go false h z =
             let x = ap (λ l. count c (flat_map kids l)) (rest_at rows nested f i false (omega arith) h) in
-            let w = split (stepped (child_step t) (from i)) (λ m. false) (stepped (child_step t) (from (suc i))) c (suc (length rows)) 0 (omega arith) (λ k l. unparted i k h l) in
+            let w = split (stepped (to_children t) (from i)) (λ m. false) (stepped (to_children t) (from (suc i))) c (suc (length rows)) 0 (omega arith) (λ k l. unparted i k h l) in
             let v = nowhere c (suc (length rows)) 0 (omega arith) in
             omega arith
 
-    all_from_first : members (stepped (child_step t) (from 0)) rows ≡ members (stepped (child_step t) f) rows
+    all_from_first : members (stepped (to_children t) (from 0)) rows ≡ members (stepped (to_children t) f) rows
     all_from_first = members_same rows _ _ (λ i l. same (node i))
       where
         true_and : (b : Bool) → (b && true) ≡ b
         true_and true = refl
         true_and false = refl
 
-        same : (m : Node) → stepped (child_step t) (from 0) m ≡ stepped (child_step t) f m
+        same : (m : Node) → stepped (to_children t) (from 0) m ≡ stepped (to_children t) f m
         same Root = refl
         same (Under p s k) = ap (λ b. passes t k && b) (true_and (f p))
 
     -- the children in order
-    pub in_order : (set found ordered : List ℕ) → set ≡ members f rows → found ≡ flat_map kids set → IsPermutation found ordered → IsNonDecreasing ordered → ordered ≡ members (stepped (child_step t) f) rows
+    pub in_order : (set found ordered : List ℕ) → set ≡ members f rows → found ≡ flat_map kids set → IsPermutation found ordered → IsNonDecreasing ordered → ordered ≡ members (stepped (to_children t) f) rows
     in_order set found ordered e p q r =
-        same_up ordered (members (stepped (child_step t) f) rows) (up_by ordered (λ i j a b. r i j 0 a b)) (rest_up (stepped (child_step t) f) (suc (length rows)) 0 (omega arith)).1
+        same_up ordered (members (stepped (to_children t) f) rows) (up_by ordered (λ i j a b. r i j 0 a b)) (rest_up (stepped (to_children t) f) (suc (length rows)) 0 (omega arith)).1
         (λ c. count_moved c found ordered q ∙ (ap (count c) (p ∙ ap (flat_map kids) e) ∙ (counts_by c (suc (length rows)) 0 (omega arith) ∙ ap (count c) all_from_first)))
 
 picked : (A B : Type 0) (r : Bool) → MatchBool r A B → r ≡ true → A

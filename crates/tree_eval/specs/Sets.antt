@@ -18,11 +18,12 @@ members f rows = map serial_of (filter f (nodes_of rows))
 abbrev pub passing : Test → List Row → (from end : ℕ) → List ℕ
 passing t rows from end = map serial_of (filter (λ m. passes t (kind_of m)) (take (end - from) (drop (suc from) (nodes_of rows))))
 
-abbrev pub child_step : Test → Step
-child_step t = record { axis = Child; test = t }
+-- the step to the children that pass the test, and that to the descendants
+abbrev pub to_children : Test → Step
+to_children t = record { axis = Child; test = t }
 
-abbrev pub descendant_step : Test → Step
-descendant_step t = record { axis = Descendant; test = t }
+abbrev pub to_descendants : Test → Step
+to_descendants t = record { axis = Descendant; test = t }
 
 -- the parent is in the set
 abbrev pub child_of : (Node → Bool) → Node → Bool

@@ -3,7 +3,7 @@ ghost use Rattle.std.specs.Prelude.{◌≡◌, ◌≤◌, ◌++◌, Bool, [], If
 ghost use Rattle.gcx_model.specs.Tree.{Node, serial_of};
 ghost use Rattle.gcx_model.specs.Paths.{passes, reach, hits};
 ghost use Rattle.tree_eval.specs.Rows.{kind_in, node_at, nodes_of, IsNested};
-ghost use Rattle.tree_eval.specs.Sets.{members, passing, child_step, descendant_step, stepped};
+ghost use Rattle.tree_eval.specs.Sets.{members, passing, to_children, to_descendants, stepped};
 
 use crate::row::{Content, Row, end_of};
 use gcx_base::{Axis, Memory, Step, Test};
@@ -30,7 +30,7 @@ fn put_children(
     node: usize,
 ) -> Result<(), Memory>
     requires nested { IsNested rows.now }
-    ensures { OnOk result (found.new.items ≡ found.old.items ++ members (reach node (child_step test.now)) rows.now) }
+    ensures { OnOk result (found.new.items ≡ found.old.items ++ members (reach node (to_children test.now)) rows.now) }
 {
     let end = end_of(rows, node);
     let mut next = node;
@@ -46,7 +46,7 @@ fn put_children(
 /// The children of the set's nodes that pass the test.
 fn children(alloc: Global, rows: &[Row], test: &Test, set: &[usize]) -> Result<Vec<usize>, Memory>
     requires nested { IsNested rows.now }
-    ensures { IfOk result (λ found. (f : Node → Bool) → set.now ≡ members f rows.now → found.items ≡ members (stepped (child_step test.now) f) rows.now) }
+    ensures { IfOk result (λ found. (f : Node → Bool) → set.now ≡ members f rows.now → found.items ≡ members (stepped (to_children test.now) f) rows.now) }
 {
     let mut found = Vec::new(alloc);
     for node in set {
@@ -87,7 +87,7 @@ fn descendants(
     set: &[usize],
 ) -> Result<Vec<usize>, Memory>
     requires nested { IsNested rows.now }
-    ensures { IfOk result (λ found. (f : Node → Bool) → set.now ≡ members f rows.now → found.items ≡ members (stepped (descendant_step test.now) f) rows.now) }
+    ensures { IfOk result (λ found. (f : Node → Bool) → set.now ≡ members f rows.now → found.items ≡ members (stepped (to_descendants test.now) f) rows.now) }
 {
     let mut found = Vec::new(alloc);
     let mut done: usize = 0;
