@@ -7,3 +7,4 @@ pub mod Names
 pub mod Completions
 pub mod Laws
 pub mod ReferenceLaws
+pub mod Agreement

@@ -5,3 +5,4 @@ pub mod Carried
 pub mod Reference
 pub mod References
 pub mod Next
+pub mod Spelled

@@ -9,4 +9,4 @@ mod scan;
 mod tests;
 
 pub use chars::{CharFault, Chars, Split};
-pub use reference::{RefStep, Reference};
+pub use reference::{RefStep, Reference, references_agree};

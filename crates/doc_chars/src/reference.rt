@@ -2,6 +2,7 @@
 ghost use Rattle.std.specs.Prelude.{◌≡◌, ◌<◌, ◌≤◌, ◌+◌, ◌*◌, [], ◌∷◌, ◌++◌, ℕ, List, MatchOption, IsTrue, ◌↔◌, unwrap_or, true, false};
 ghost use Rattle.gcx_base.specs.Characters.{is_char};
 ghost use Rattle.doc_chars.specs.References.{IsSoundValue};
+ghost use Rattle.doc_chars.specs.Spelled.{ReferencesAgree};
 
 use gcx_base::is_xml_char;
 use std::marker::Model;
@@ -263,3 +264,8 @@ impl Reference {
         }
     }
 }
+
+/// The references that are read here are those of the grammar of documents, and stand for the same characters: who calls this knows it.
+pub fn references_agree()
+    ensures { ReferencesAgree }
+{}

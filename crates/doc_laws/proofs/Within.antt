@@ -2,8 +2,8 @@
 use Rattle.std.proofs.Common.{ℕ, ◌≡◌, ◌+◌, ◌<◌, ◌≤◌, inl, inr, Bool, true, false, ◌&&◌, cond, List, [], ◌∷◌, ◌++◌, length, Option, Some, None, Result, Ok, Err, refl, sym, ap, ◌∙◌, subst, append_assoc, append-nil, arith, length-append, ltb-false, leb-false, ◌↔◌}
 use Rattle.std.specs.Prelude.{nat_lt, nat_le}
 use Rattle.std.specs.List.{list_all}
-use Rattle.std.proofs.lemmas.Bool.{false≢true}
-use lib.Utf8.{encode, encodes}
+use Rattle.std.proofs.lemmas.Bool.{true≢false, false≢true}
+use lib.Utf8.{scalars, encode, encodes}
 use Rattle.gcx_base.specs.Characters.{is_start_char, is_part_char, is_white}
 use Rattle.gcx_base.specs.declared.limits.Limits.{Limits}
 use Rattle.gcx_model.specs.Document.{Nodes}
@@ -12,7 +12,7 @@ use Rattle.gcx_model.specs.Markup.{comment_spelling, comment_start, cdata_start,
 use Rattle.gcx_model.specs.References.{reference_spelling, reference_char}
 use Rattle.gcx_model.specs.Grammar.{Content, nothing, mark, space, char, reference, cdata, comment, bare, instruction, doctype, single, tagged, start_tag, single_tag, end_tag, spelling, has_element, may_open, IsContent, run, SpellsDocument}
 use Rattle.gcx_model.specs.Fronts.{Frames, bottom, frame, no_part, spaced, part_name, value, Piece, no_piece, less, started, tag, slashed, ending, ended, frames_spelling, piece_spelling, front_spelling, IsFrames, IsPiece, IsFront, inside, names, depth, piece_run}
-use Rattle.gcx_model.specs.Faults.{Refusal, size, Clean}
+use Rattle.gcx_model.specs.Faults.{Refusal, size, Clean, FaultWithin, by_character, by_sequence, by_cut, by_end, none_yet, none_whole, FaultIs, within_limit, before_limit, past_limit}
 use Rattle.gcx_model.specs.Within.{AreAttributesWithin, IsTagWithin, IsContentWithin, IsWithin}
 use Rattle.doc_laws.specs.Machine.{State, start, step, steps, go_on}
 use Rattle.doc_laws.specs.States.{piece_mode, state_of, Fronts}
@@ -22,9 +22,10 @@ use Rattle.doc_laws.proofs.Moves.{steps_append, tag_piece}
 use Rattle.doc_laws.proofs.Reached.{front_steps}
 use Rattle.doc_laws.proofs.Theorems.{step_more}
 use Rattle.doc_laws.proofs.Faults.{fronts_one, depth_names, Reads, start_reads, refusal_comes, err_ok}
-use Rattle.doc_laws.proofs.Unique.{clean_reads, clean_front}
+use Rattle.doc_laws.proofs.Unique.{front_no_char, clean_reads, clean_front, longest}
 use Rattle.doc_laws.proofs.LastTag.{unsnoc, blank_parts}
 use Rattle.doc_laws.proofs.Documents.{no_run}
+use Rattle.doc_laws.proofs.Words.{no_front}
 use Rattle.doc_laws.proofs.Segments.{weight, IsShort, one_reads, reads_along}
 
 -- the steps from a front to one that is longer
@@ -327,3 +328,22 @@ module _ (lim : Limits) where
     λ h. content_within bottom s.content [] tt s.good (subst (Clean lim) (sym (append-nil (spelling s.content) ∙ s.spelled)) h),
     λ k. subst (Clean lim) s.spelled (document_reads s.content s.good s.root k),
   )
+
+  -- bytes that spell a document have no fault exactly where they are few enough and the document is within limits
+  pub no_fault_within : (cs : List ℕ) (d : Nodes) (s : SpellsDocument cs d) → scalars cs ≡ true → FaultIs lim (encodes cs) true None ↔ ((length (encodes cs) ≤ lim.bytes) × IsWithin lim s.content)
+  no_fault_within cs d s sc = (to, λ k. within_limit k.0 (none_whole cs d (record { chars = sc; parts = sym (append-nil (encodes cs)); part = no_front }) ((within_limits cs d s).1 k.1) s refl refl))
+    where
+      clean : FaultWithin lim (encodes cs) true None → Clean lim cs
+      clean (by_character ds rest f k e c o) = absurd (cc)
+      clean (by_sequence ds i c o) = absurd (cc)
+      clean (by_cut ds tail d c n e o) = absurd (cc)
+      clean (by_end ds d c n e o) = absurd (cc)
+      clean (none_yet ds tail d c e o) = absurd (true≢false e)
+      clean (none_whole ds n d c t e o) =
+          let k = longest (encodes cs) cs [] ds [] (sym (append-nil (encodes cs))) d.parts sc (front_no_char [] d.part) in
+          clean_front lim cs k.0 (subst (Clean lim) k.1 c)
+
+      to : FaultIs lim (encodes cs) true None → (length (encodes cs) ≤ lim.bytes) × IsWithin lim s.content
+      to (within_limit k w) = (k, (within_limits cs d s).0 (clean w))
+      to (before_limit f k w e) = absurd (cc)
+      to (past_limit k w e) = absurd (cc)

@@ -13,7 +13,7 @@ use Rattle.doc_laws.proofs.Tests.{and_true, true_and}
 use Rattle.doc_laws.proofs.Unique.{front_no_char, clean_front, longest}
 use Rattle.doc_laws.proofs.LastTag.{last_tag, longest_is}
 
-no_front : IsCharFront []
+pub no_front : IsCharFront []
 unfolding encode
 no_front = record { c = 97; rest = 97 ∷ []; scalar = refl; bytes = refl; more = omega arith }
 

@@ -1,7 +1,7 @@
 -- The laws of the grammar of documents, of its faults and of the machine that reads it.
-use Rattle.std.specs.Prelude.{ℕ, ◌≡◌, ◌⊎◌, ◌↔◌, Bool, true, false, List, [], ◌∷◌, ◌++◌, Option, Some}
+use Rattle.std.specs.Prelude.{ℕ, ◌≡◌, ◌⊎◌, ◌↔◌, ◌≤◌, Bool, true, false, List, [], ◌∷◌, ◌++◌, length, Option, Some, None}
 use Rattle.std.specs.List.{All}
-use lib.Utf8.{encodes}
+use lib.Utf8.{scalars, encodes}
 use Rattle.gcx_base.specs.Characters.{is_char, is_part_char}
 use Rattle.gcx_base.specs.Name.{IsNameBytes}
 use Rattle.gcx_base.specs.declared.limits.Limits.{Limits}
@@ -108,3 +108,7 @@ SeenGoesOn = (lim : Limits) (b more : List ℕ) (ended : Bool) (ts us : List Tok
 -- No fault comes in a whole document exactly where its names, runs and values are short and its elements aren't too deep.
 abbrev pub LimitsInWords : Type 0
 LimitsInWords = (lim : Limits) (cs : List ℕ) (d : Nodes) (s : SpellsDocument cs d) → Clean lim cs ↔ IsWithin lim s.content
+
+-- So bytes that spell a document have no fault exactly where they are few enough and the document is within limits.
+abbrev pub NoFaultInWords : Type 0
+NoFaultInWords = (lim : Limits) (cs : List ℕ) (d : Nodes) (s : SpellsDocument cs d) → scalars cs ≡ true → FaultIs lim (encodes cs) true None ↔ ((length (encodes cs) ≤ lim.bytes) × IsWithin lim s.content)

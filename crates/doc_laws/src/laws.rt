@@ -1,4 +1,4 @@
-ghost use Rattle.doc_laws.specs.Laws.{OneDocument, SpelledIsDocument, FrontsAreViable, ViableIsFront, StepsAreFronts, JudgedIsFirst, OneFault, SomeFault, FaultStays, OneSeen, SomeSeen, SeenIsClosed, NamesComeOnce, OnlyChars, SeenIsLongest, SeenComes, SeenGrew, SeenIsNamed, SeenGoesOn, LimitsInWords};
+ghost use Rattle.doc_laws.specs.Laws.{OneDocument, SpelledIsDocument, FrontsAreViable, ViableIsFront, StepsAreFronts, JudgedIsFirst, OneFault, SomeFault, FaultStays, OneSeen, SomeSeen, SeenIsClosed, NamesComeOnce, OnlyChars, SeenIsLongest, SeenComes, SeenGrew, SeenIsNamed, SeenGoesOn, LimitsInWords, NoFaultInWords};
 
 /// A text spells at most one document.
 pub fn one_document()
@@ -98,4 +98,9 @@ pub fn seen_goes_on()
 /// A whole document is within limits exactly where its names, runs and values are short and its elements aren't too deep.
 pub fn limits_in_words()
     ensures { LimitsInWords }
+{}
+
+/// Bytes that spell a document have no fault exactly where they are few enough and the document is within limits.
+pub fn no_fault_in_words()
+    ensures { NoFaultInWords }
 {}
