@@ -18,7 +18,7 @@ fn put_tokens(out: &mut String, m: &mut Machine) -> Result<(), Fail> {
         match token {
             Token::Start(name) => {
                 out.push('<')?;
-                out.push_str(std::str::from_utf8(name.as_bytes())?)?;
+                out.push_str(name.as_str())?;
                 out.push('>')?;
             }
             Token::End => out.push_str("</>")?,
