@@ -1,20 +1,11 @@
 use super::*;
-use gcx_base::Name;
-use simdutf8::compat::from_utf8;
 use std::alloc::{AllocError, Global};
 use std::test::Fail;
 
-fn text_of(name: &Name) -> &str {
-    match from_utf8(name.as_bytes()) {
-        Ok(text) => text,
-        Err(_) => "?",
-    }
-}
-
 fn kind_told(alloc: Global, kind: &TokKind) -> Result<String, AllocError> {
     match kind {
-        TokKind::Name(name) => format!(in alloc; "name {}", text_of(name)),
-        TokKind::Var(name) => format!(in alloc; "var {}", text_of(name)),
+        TokKind::Name(name) => format!(in alloc; "name {}", name.as_str()),
+        TokKind::Var(name) => format!(in alloc; "var {}", name.as_str()),
         TokKind::Number(units) => format!(in alloc; "number {units}"),
         TokKind::Str(text) => format!(in alloc; "str {}", text.as_str()),
         TokKind::Sign(sign) => format!(in alloc; "{sign:?}"),
