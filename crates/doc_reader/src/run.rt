@@ -6,7 +6,6 @@ ghost use Rattle.gcx_model.specs.Document.{is_blank};
 use gcx_base::{Memory, Text};
 use std::alloc::Global;
 use std::marker::Model;
-use std::mem;
 
 /// The text since the last tag, or of a value, seen as its bytes.
 #[derive(Drop)]
@@ -82,6 +81,6 @@ impl Run {
         ensures value { result ≡ self.old }
         ensures empty { self.new ≡ [] }
     {
-        Text::from_string(mem::replace(&mut self.text, String::new(self.alloc)))
+        Text::take_from(self.alloc, &mut self.text)
     }
 }

@@ -79,8 +79,5 @@ pub(crate) fn name_of(alloc: Global, chars: &[char]) -> Result<Name, Memory>
     ensures { IfOk result (λ name. name ≡ encode_utf8_all chars.now) }
 {
     let text = text_of(alloc, chars)?;
-    match Name::from_bytes(alloc, text.as_bytes())? {
-        Some(name) => Ok(name),
-        None => unreachable!(),
-    }
+    Name::of_name(alloc, text.as_bytes())
 }

@@ -29,6 +29,7 @@ pub(crate) enum Span {
 
 impl Span {
     /// Whether a byte is a character that stands there, and after which more may stand.
+    #[inline(always)]
     #[tactic(auto, using(crate::proofs::Names::short_part))]
     fn holds(self, b: u8) -> bool
         ensures { result ≡ in_span self b }
@@ -115,10 +116,11 @@ fn text_front(bytes: &[u8]) -> usize
 }
 
 /// Whether an ASCII byte is a NameChar.
+#[inline(always)]
 fn is_short_name_char(b: u8) -> bool
     ensures { result ≡ is_short_part b }
 {
-    matches!(b, b'-' | b'.' | b'0'..=b'9' | b':' | b'A'..=b'Z' | b'_' | b'a'..=b'z')
+    matches!(b, b'a'..=b'z' | b'A'..=b'Z' | b'0'..=b'9' | b'-' | b'.' | b'_' | b':')
 }
 
 /// Where the machine stands in a span, and how many bytes it has room for.

@@ -1,5 +1,5 @@
 //! Start tags.
-ghost use Rattle.std.specs.Prelude.{◌≡◌, ◌+◌, ◌≤◌, ◌++◌, [], map, IfOk};
+ghost use Rattle.std.specs.Prelude.{◌≡◌, ◌+◌, ◌≤◌, ◌++◌, [], map};
 ghost use Rattle.std.specs.VecDeque.{deque_len, deque_capacity};
 ghost use Rattle.gcx_base.specs.Name.{IsNameBytes};
 ghost use Rattle.gcx_model.specs.Fronts.{text_of};
@@ -16,19 +16,7 @@ use crate::mode::Mode;
 use crate::referring::{Letters, Referred, Referring};
 use crate::run::Run;
 use gcx_base::{Memory, Name, is_name_char, is_name_start, is_space};
-use std::alloc::Global;
 use std::collections::VecDeque;
-
-/// A name of bytes that are known to be one.
-fn name_of(alloc: Global, bytes: &[u8]) -> Result<Name, Memory>
-    requires { IsNameBytes bytes.now }
-    ensures { IfOk result (λ name. name ≡ bytes.now) }
-{
-    match Name::from_bytes(alloc, bytes)? {
-        Some(name) => Ok(name),
-        None => unreachable!(),
-    }
-}
 
 /// Empties the run, and puts it as a token behind the others, unless it is blank.
 pub(crate) fn end_run(run: &mut Run, events: &mut VecDeque<Event>)
@@ -75,7 +63,7 @@ fn begin_tag(m: &mut Scan) -> Result<(), Memory>
     requires { IsNameBytes m.old.name.items }
     ensures { Becomes result (scan_state m.old) (begun (scan_state m.old)) (scan_state m.new) }
 {
-    let name = name_of(m.alloc, &m.name)?;
+    let name = Name::of_name(m.alloc, &m.name)?;
     m.pending.clear();
     m.pending.reserve(2)?;
     end_run(&mut m.run, &mut m.pending);
@@ -214,7 +202,7 @@ fn end_value(m: &mut Scan) -> Result<(), Memory>
     requires { IsNameBytes m.old.attr.items }
     ensures { Becomes result (scan_state m.old) (valued (scan_state m.old)) (scan_state m.new) }
 {
-    let name = name_of(m.alloc, &m.attr)?;
+    let name = Name::of_name(m.alloc, &m.attr)?;
     m.attrs.push(&m.attr)?;
     m.attr.clear();
     m.pending.reserve(3)?;
