@@ -20,8 +20,6 @@ mod sure_shelf;
 mod sure_sink;
 mod sure_source;
 mod taken;
-#[cfg(test)]
-mod tests;
 
 pub use fault::{AttachFault, Failed};
 pub use file_shelf::FileShelf;

@@ -7,8 +7,6 @@ mod given;
 mod item;
 mod plan;
 mod query;
-#[cfg(test)]
-mod tests;
 
 pub use cond::{Cond, Conds, Operand};
 pub use fault::{DocFault, QueryFault, What};

@@ -5,6 +5,8 @@
 #[cfg(test)]
 mod answers;
 #[cfg(test)]
+mod copies;
+#[cfg(test)]
 mod cores;
 #[cfg(test)]
 mod documents;
@@ -13,10 +15,16 @@ mod large;
 #[cfg(test)]
 mod literals;
 #[cfg(test)]
+mod outside;
+#[cfg(test)]
 mod plans;
 #[cfg(test)]
 mod queries;
 #[cfg(test)]
 mod runs;
 #[cfg(test)]
+mod stores;
+#[cfg(test)]
 mod tokens;
+#[cfg(test)]
+mod values;

@@ -4,8 +4,6 @@
 mod cursor;
 mod slab_nodes;
 mod store;
-#[cfg(test)]
-mod tests;
 
 pub use cursor::At;
 pub use slab_nodes::SlabNodes;

@@ -8,7 +8,5 @@ mod heap;
 mod node;
 mod raw;
 mod rows;
-#[cfg(test)]
-mod tests;
 
 pub use raw::RawNodes;

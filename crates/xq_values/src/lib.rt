@@ -6,6 +6,3 @@ mod rel;
 
 pub use number::NumText;
 pub use rel::{compare_text, holds};
-
-#[cfg(test)]
-mod tests;

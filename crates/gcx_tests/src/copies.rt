@@ -1,6 +1,10 @@
 //! Each call that allocates, on a query, a core and a plan with every variant.
-use crate::*;
 use gcx_base::{Axis, Name, Rel, Role, Step, Steps, Test, Text, VarId};
+use gcx_model::{
+    Body, Clause, Clauses, Cond, Conds, Core, Expr, Exprs, Flags, Given, Item, Off, Operand,
+    PathExpr, Plan, QCond, QConds, QOperand, Query, RoleKind, RoleRow, RoleRows, VarIds, VarRow,
+    VarRows,
+};
 use std::alloc::Global;
 use std::test::Fail;
 

@@ -1,4 +1,4 @@
-use Rattle.raw_nodes.proofs.tests.+find.Given as goal
+use Rattle.gcx_tests.proofs.stores.+find.Given as goal
 
 abbrev pub decreases-find : goal.decreases-find
 decreases-find g l = l.steps

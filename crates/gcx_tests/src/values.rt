@@ -1,11 +1,12 @@
+//! Comparisons of values.
 ghost use Rattle.std.specs.Prelude.{◌≡◌};
 ghost use Rattle.gcx_model.specs.Values.{compare, Bytes, Units};
 
-use crate::{NumText, compare_text, holds};
 use gcx_base::Rel;
 use std::alloc::{AllocError, Global};
 use std::cmp::Ordering;
 use std::test::Fail;
+use xq_values::{NumText, compare_text, holds};
 
 /// A literal without a fraction, in units.
 const ONE: i128 = 1_000_000_000_000_000_000;

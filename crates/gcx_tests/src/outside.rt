@@ -1,10 +1,11 @@
+//! Sources, sinks and shelves, in memory and real.
 ghost use Rattle.std.specs.Prelude.{IfOk, IsTrue};
 
-use crate::{
+use gcx_base::Text;
+use gcx_io::{
     AttachFault, Failed, FileShelf, MemShelf, MemSink, MemSource, Opened, Shelf, Source, StdErr,
     StdOut, SureShelf, SureSink, SureSource, write_all,
 };
-use gcx_base::Text;
 use std::process::Abort;
 use std::test::Fail;
 use std::{env, fs};

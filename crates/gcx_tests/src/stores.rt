@@ -1,13 +1,17 @@
+//! The stores of rows: one table of calls over both, and what a raw store gives back.
 ghost use Rattle.std.specs.Prelude.{◌≡◌, IfOk, IfSome, IsSome, Some, []};
 ghost use Rattle.std.specs.FinMap as map;
 
-use super::*;
+use node_store::{At, NodeStore, Place, SlabNodes};
+use raw_nodes::RawNodes;
 use std::alloc::Global;
 use std::fmt::Write;
+use std::fs;
 use std::process::Abort;
 use std::test::Fail;
 
 /// A call on a store whose payloads tell the rows apart. An `Append` names the parent first.
+#[derive(Drop)]
 enum Call {
     Plant(u32),
     Append(u32, u32),
@@ -69,7 +73,7 @@ fn locate<N: NodeStore<u32>>(store: &N, payload: u32) -> Result<Place, Fail>
     ensures { IfOk result (λ p. IsSome (map.get (N.rows store.now) p.0)) }
 {
     let root = store.root();
-    Ok(find(store, root, payload, 99).ok_or("no row")?)
+    Ok(find(store, root, payload, 999).ok_or("no row")?)
 }
 
 fn make_call<N: NodeStore<u32>>(store: &mut N, call: &Call) -> Result<(), Fail> {
@@ -148,7 +152,7 @@ fn draw_all<N: NodeStore<u32>>(
 ) -> Result<String, Fail> {
     let mut out = String::new(alloc);
     if let Some(root) = store.root() {
-        draw(rt, &mut out, At::new(store, root), order, None, 99)?;
+        draw(rt, &mut out, At::new(store, root), order, None, 999)?;
     }
     Ok(out)
 }
@@ -168,6 +172,93 @@ fn run<N: NodeStore<u32>>(rt: &impl Abort, alloc: Global, store: &mut N) -> Resu
 #[test]
 fn calls_answer_the_table(rt: HostRuntime) -> Result<(), Fail> {
     let alloc = rt.alloc();
-    run(&rt, alloc, &mut SlabNodes::new(alloc))?;
-    run(&rt, alloc, &mut &mut SlabNodes::new(alloc))
+    run(&rt, alloc, &mut RawNodes::new(alloc))?;
+    run(&rt, alloc, &mut SlabNodes::new(alloc))
+}
+
+#[test]
+fn a_leaf_in_the_middle_leaves(rt: HostRuntime) -> Result<(), Fail> {
+    let mut store = RawNodes::new(rt.alloc());
+    for call in &[
+        Call::Plant(1),
+        Call::Append(1, 2),
+        Call::Append(1, 3),
+        Call::Append(1, 4),
+        Call::Unlink(3),
+    ] {
+        make_call(&mut store, call)?;
+    }
+    let a = locate(&store, 1)?;
+    let b = locate(&store, 2)?;
+    let d = locate(&store, 4)?;
+    assert_eq!(&rt; store.first(a), Some(b));
+    assert_eq!(&rt; store.next(b), Some(d));
+    assert_eq!(&rt; store.next(d), None);
+    assert_eq!(&rt; store.last(a), Some(d));
+    assert_eq!(&rt; store.prev(d), Some(b));
+    assert_eq!(&rt; store.prev(b), None);
+    assert_eq!(&rt; store.cells(), 256);
+    Ok(())
+}
+
+#[test]
+fn a_dead_cell_is_used_before_a_block(rt: HostRuntime) -> Result<(), Fail> {
+    let mut store = RawNodes::new(rt.alloc());
+    make_call(&mut store, &Call::Plant(0))?;
+    for child in 1..256 {
+        make_call(&mut store, &Call::Append(0, child))?;
+    }
+    assert_eq!(&rt; store.cells(), 256);
+    for (call, cells) in &[
+        (Call::Unlink(100), 256),
+        (Call::Append(0, 256), 256),
+        (Call::Append(0, 257), 512),
+    ] {
+        make_call(&mut store, call)?;
+        assert_eq!(&rt; store.cells(), *cells);
+    }
+    Ok(())
+}
+
+/// So wide a payload that blocks show in the memory of the process.
+type Wide = [u64; 128];
+
+const WIDE: Wide = [7; 128];
+
+const STORES: u32 = 3_000;
+
+// How many pages of memory the process has, as Linux tells it.
+fn pages(rt: &HostRuntime) -> Result<u64, Fail> {
+    let text = fs::read_to_string(rt, "/proc/self/statm")?;
+    let mut numbers = text.split_whitespace();
+    numbers.next();
+    Ok(numbers.next().ok_or("no second number")?.parse::<u64>()?)
+}
+
+// Makes a store, gives it two blocks, and lets it go.
+fn fill_two_blocks(rt: &impl Abort, alloc: Global) -> Result<(), Fail> {
+    let mut store = RawNodes::new(alloc);
+    store.plant(WIDE)?;
+    for _ in 1..257 {
+        let root = store.root().ok_or("no root")?;
+        store.append(root, WIDE)?;
+    }
+    assert_eq!(rt; store.cells(), 512);
+    Ok(())
+}
+
+// No clause says that a block is given back. One block of each store would take more than 800 MB, and 400 MB are granted
+// to an allocator that keeps freed memory for a while.
+#[test]
+fn blocks_are_given_back(rt: HostRuntime) -> Result<(), Fail> {
+    let before = pages(&rt)?;
+    for _ in 0..STORES {
+        fill_two_blocks(&rt, rt.alloc())?;
+    }
+    let after = pages(&rt)?;
+    assert!(&rt;
+        after < before.saturating_add(100_000),
+        "{before} pages, then {after}"
+    );
+    Ok(())
 }
