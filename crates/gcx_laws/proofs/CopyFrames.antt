@@ -124,7 +124,7 @@ module _ (P : Tree) (w : Grown P) where
           at r.0 b.0 b.1 (eqb-true _ _ a.1) (high m r.0 r.1 i)
 
   -- with enough levels copies are the same
-  copy_enough : (a b : ℕ) (n : Node) → In n P.nodes → length P.nodes ≤ a + serial_of n → length P.nodes ≤ b + serial_of n → copy a P n ≡ copy b P n
+  pub copy_enough : (a b : ℕ) (n : Node) → In n P.nodes → length P.nodes ≤ a + serial_of n → length P.nodes ≤ b + serial_of n → copy a P n ≡ copy b P n
   copy_enough zero b n i h k = let r = Numbered-high 0 P.nodes w.numbered n i in absurd (omega arith)
   copy_enough (suc a) zero n i h k = let r = Numbered-high 0 P.nodes w.numbered n i in absurd (omega arith)
   copy_enough (suc a) (suc b) n i h k = ap (copy_with (kind_of n)) (loop_same (copy a P) (copy b P) (children P n) (is_closed P n)

@@ -57,3 +57,6 @@ pub mod Ahead
 pub mod Changes
 pub mod Awaited
 pub mod RowFacts
+pub mod Blocked
+pub mod Reopened
+pub mod Unmoved

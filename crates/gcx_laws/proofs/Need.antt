@@ -1,4 +1,4 @@
--- What a point needs, and that it is held.
+-- At what a point needs a role is live, so it is held.
 use Rattle.std.proofs.Common.{◌≡◌, ℕ, suc, Bool, true, false, cond, not, ◌&&◌, ◌||◌, List, [], ◌∷◌, ◌++◌, refl, sym, ◌∙◌, ap, subst, inl, inr, ◌⊎◌, append_assoc, Some, eqb, ltb}
 use Rattle.std.specs.List.{filter}
 use Rattle.std.proofs.lemmas.List.{append-nil}
@@ -113,10 +113,10 @@ module _ (P : Tree) (w : Grown P) (root : In Root P.nodes) (core : BodyTree) (go
   abbrev V : ℕ → Var
   V = var_tree core
 
-  -- where a statement's base's node isn't signed for it, what that node gives its role is held
-  unsigned_held : (r : RoleRowTree) (o : OffTree) → At_row r o (roles_of core) (offs_of core) → (a : Node) → In a P.nodes → hits 0 (V o.base).path a ≡ true → (In (serial_of a) (sig (off_eq o) before) → ⊥)
-      → (m : Node) → In m P.nodes → gives P (serial_of a) o.rel o.tail o.kind m ≡ true → is_held (reading core) P before m ≡ true
-  unsigned_held r o row a ia hit un m i g =
+  -- where a statement's base's node isn't signed for it, to what that node gives its role a role is live
+  unsigned_live : (r : RoleRowTree) (o : OffTree) → At_row r o (roles_of core) (offs_of core) → (a : Node) → In a P.nodes → hits 0 (V o.base).path a ≡ true → (In (serial_of a) (sig (off_eq o) before) → ⊥)
+      → (m : Node) → In m P.nodes → gives P (serial_of a) o.rel o.tail o.kind m ≡ true → is_live (reading core) P before m ≡ true
+  unsigned_live r o row a ia hit un m i g =
       let p : Reading = reading core in
       let q = row_is V (roles_of core) 0 (roles_of core) r o row in
       let e : o ≡ statement V (roles_of core) q.2.0 r = q.2.1 in
@@ -134,8 +134,7 @@ module _ (P : Tree) (w : Grown P) (root : In Root P.nodes) (core : BodyTree) (go
         | inl f ↦ true≢false (sym g ∙ not-true _ f)
         | inr f ↦ un (off_sig o (serial_of a) before f)
       ]) in
-      or_right _ _ (any_from (λ (j : Node). within (serial_of m) j && is_live p P before j) m P.nodes i
-      (and_from _ _ (within_self (serial_of m) m (eq-eqb _ _ refl)) (live_from p P before m r o p.roles p.offs row giv not_taken)))
+      live_from p P before m r o p.roles p.offs row giv not_taken
 
   -- the way to a statement's base
   way : (r : RoleRowTree) (o : OffTree) → At_row r o (roles_of core) (offs_of core) → Way (off_eq o) o.base 0 (reading core).body (V o.base).path × (one_desc (V o.base).path ≡ true)
@@ -146,11 +145,11 @@ module _ (P : Tree) (w : Grown P) (root : In Root P.nodes) (core : BodyTree) (go
       way_of core good (off_eq o) o q.1 (off_refl o) (λ t j n. off_other o t n) (subst (λ (z : ℕ). In z (0 ∷ vars core)) (sym base) b.known) (ap (λ (z : ℕ). (V z).straight) base ∙ b.straight)
 
   -- where it waits
-  waiting_held : (r : RoleRowTree) (o : OffTree) → At_row r o (roles_of core) (offs_of core) → (v : Env) → Waits o v fs → In (v o.base) P.nodes → hits 0 (V o.base).path (v o.base) ≡ true
-      → (m : Node) → In m P.nodes → gives P (serial_of (v o.base)) o.rel o.tail o.kind m ≡ true → is_held (reading core) P before m ≡ true
-  waiting_held r o row v wait ia hit m i g =
+  waiting_live : (r : RoleRowTree) (o : OffTree) → At_row r o (roles_of core) (offs_of core) → (v : Env) → Waits o v fs → In (v o.base) P.nodes → hits 0 (V o.base).path (v o.base) ≡ true
+      → (m : Node) → In m P.nodes → gives P (serial_of (v o.base)) o.rel o.tail o.kind m ≡ true → is_live (reading core) P before m ≡ true
+  waiting_live r o row v wait ia hit m i g =
       let y = way r o row in
-      unsigned_held r o row (v o.base) ia hit (waits_unsigned P w root (reading core).body o (V o.base).path y.0 y.1 before fs st v wait) m i g
+      unsigned_live r o row (v o.base) ia hit (waits_unsigned P w root (reading core).body o (V o.base).path y.0 y.1 before fs st v wait) m i g
 
   -- the statement of a row
   row_statement : (r : RoleRowTree) → In r (roles_of core) → (j : ℕ) × At_row r (statement V (roles_of core) j r) (roles_of core) (offs_of core) × In (statement V (roles_of core) j r) (offs_of core)
@@ -159,13 +158,13 @@ module _ (P : Tree) (w : Grown P) (root : In Root P.nodes) (core : BodyTree) (go
       let q = row_is V (roles_of core) 0 (roles_of core) r h.0 h.1 in
       (q.2.0, subst (λ (z : OffTree). At_row r z (roles_of core) (offs_of core)) q.2.1 h.1, subst (λ (z : OffTree). In z (offs_of core)) q.2.1 q.1)
 
-  -- what the node of a bound variable gives a role of it is held
-  site_held : (r : RoleRowTree) (n m : Node) → In r (roles_of core) → Ready P w core good r.var n fs → In m P.nodes → gives P (serial_of n) [] r.tail r.kind m ≡ true → is_held (reading core) P before m ≡ true
-  site_held r n m i ready im g =
+  -- to what the node of a bound variable gives a role of it, one is live
+  site_live : (r : RoleRowTree) (n m : Node) → In r (roles_of core) → Ready P w core good r.var n fs → In m P.nodes → gives P (serial_of n) [] r.tail r.kind m ≡ true → is_live (reading core) P before m ≡ true
+  site_live r n m i ready im g =
       let q = row_statement r i in
       let o : OffTree = statement V (roles_of core) q.0 r in
       let b : ℕ = (V r.var).base in
-      waiting_held r o q.1 ready.env (ready.waiting o (in_end (offs_of core) b o q.2 refl)) ready.base_in ready.base_hit m im
+      waiting_live r o q.1 ready.env (ready.waiting o (in_end (offs_of core) b o q.2 refl)) ready.base_in ready.base_hit m im
       (subst (λ (z : List Step). gives P (serial_of (ready.env b)) z r.tail r.kind m ≡ true) (append-nil (V r.var).rel)
       (gives_behind P w (serial_of (ready.env b)) (V r.var).rel [] r.tail r.kind n m ready.inside im ready.reached g))
 
@@ -208,15 +207,15 @@ module _ (P : Tree) (w : Grown P) (root : In Root P.nodes) (core : BodyTree) (go
     conds_site env (more_conds c cs) m i (inr h) = site_right env (cond_rows c) (conds_rows cs) m (conds_site env cs m i h)
 
   -- the node of a straight variable, unless its body is over
-  last_held : (x : ℕ) (n : Node) (v : Env) → v x ≡ n → In n P.nodes → hits 0 (V x).path n ≡ true → (V x).base ≡ x → (V x).rel ≡ [] → In (own_row x) (roles_of core)
-      → ((l : OffTree) → Last l (at_end (offs_of core) x) → Waits l v fs) → is_held (reading core) P before n ≡ true
-  last_held x n v vx i hit base rel row wait =
+  last_live : (x : ℕ) (n : Node) (v : Env) → v x ≡ n → In n P.nodes → hits 0 (V x).path n ≡ true → (V x).base ≡ x → (V x).rel ≡ [] → In (own_row x) (roles_of core)
+      → ((l : OffTree) → Last l (at_end (offs_of core) x) → Waits l v fs) → is_live (reading core) P before n ≡ true
+  last_live x n v vx i hit base rel row wait =
       let q = row_statement (own_row x) row in
       let o : OffTree = statement V (roles_of core) q.0 (own_row x) in
       let l = last_own (offs_of core) x o q.2 base (ap is_empty rel) in
       let r = off_row V (roles_of core) 0 (roles_of core) l.0 l.2 in
       let at : v (l.0).base ≡ n = ap v l.3 ∙ vx in
-      waiting_held r.0 l.0 r.1 v (wait l.0 l.1) (subst (λ (z : Node). In z P.nodes) (sym at) i)
+      waiting_live r.0 l.0 r.1 v (wait l.0 l.1) (subst (λ (z : Node). In z P.nodes) (sym at) i)
       (subst (λ (z : ℕ). hits 0 (V z).path (v (l.0).base) ≡ true) (sym l.3) (subst (λ (z : Node). hits 0 (V x).path z ≡ true) (sym at) hit))
       n i (subst (λ (z : Node). gives P (serial_of z) (l.0).rel (l.0).tail (l.0).kind n ≡ true) (sym at) (rw (l.4, l.5) (own_gives n (l.0).tail)))
 
@@ -224,9 +223,9 @@ module _ (P : Tree) (w : Grown P) (root : In Root P.nodes) (core : BodyTree) (go
   over_nil env = refl
 
   -- the present match, unless the body is over, and the later ones
-  turn_held : (top below : List Frame) (x y : ℕ) (s : Step) (e : BodyTree) (env : Env) (n m : Node) → fs ≡ top ++ Round x y s e env n ∷ below → Turn P w core good top x y s e env n below
-      → ((top ≡ Rest Nil (bind_var env x n) ∷ [] → ⊥) × (n ≡ m)) ⊎ In m (later n (matches P (serial_of (env y)) (s ∷ []))) → is_held (reading core) P before m ≡ true
-  turn_held top below x y s e env n m are t h = go t.straight t.var h
+  turn_live : (top below : List Frame) (x y : ℕ) (s : Step) (e : BodyTree) (env : Env) (n m : Node) → fs ≡ top ++ Round x y s e env n ∷ below → Turn P w core good top x y s e env n below
+      → ((top ≡ Rest Nil (bind_var env x n) ∷ [] → ⊥) × (n ≡ m)) ⊎ In m (later n (matches P (serial_of (env y)) (s ∷ []))) → is_live (reading core) P before m ≡ true
+  turn_live top below x y s e env n m are t h = go t.straight t.var h
     where
       far : Ready P w core good y (env y) below → Ready P w core good y (env y) fs
       far r = subst (λ (z : List Frame). Ready P w core good y (env y) z) (sym are) (ready_under P w core good y (env y) top (Round x y s e env n ∷ below) (ready_over P w core good y (env y) (Round x y s e env n) below r))
@@ -234,9 +233,9 @@ module _ (P : Tree) (w : Grown P) (root : In Root P.nodes) (core : BodyTree) (go
       up : (o : OffTree) → Waits o (bind_var env x n) top → Waits o (bind_var env x n) fs
       up o k = subst (λ (z : List Frame). Waits o (bind_var env x n) z) (sym are) (Waits-left o (bind_var env x n) top (Round x y s e env n ∷ below) k)
 
-      present : V x ≡ child_var true x s (V y) → (top ≡ Rest Nil (bind_var env x n) ∷ [] → ⊥) → is_held (reading core) P before n ≡ true
+      present : V x ≡ child_var true x s (V y) → (top ≡ Rest Nil (bind_var env x n) ∷ [] → ⊥) → is_live (reading core) P before n ≡ true
       present c open' =
-          last_held x n (bind_var env x n) (rw (eq-eqb x x refl) refl) (Matches-in P (serial_of (env y)) (s ∷ []) n t.match).0
+          last_live x n (bind_var env x n) (rw (eq-eqb x x refl) refl) (Matches-in P (serial_of (env y)) (s ∷ []) n t.match).0
           (hit_on P w core good x y s true c (env y) n t.parent.inside t.parent.hit t.match)
           (ap (λ (z : Var). z.base) c) (ap (λ (z : Var). z.rel) c) t.row
           (λ l k. elim (t.last l k) [
@@ -244,7 +243,7 @@ module _ (P : Tree) (w : Grown P) (root : In Root P.nodes) (core : BodyTree) (go
             | inr a ↦ absurd (open' a)
           ])
 
-      next : V x ≡ child_var true x s (V y) → In m (later n (matches P (serial_of (env y)) (s ∷ []))) → is_held (reading core) P before m ≡ true
+      next : V x ≡ child_var true x s (V y) → In m (later n (matches P (serial_of (env y)) (s ∷ []))) → is_live (reading core) P before m ≡ true
       next c k =
           let q = row_statement (own_row x) t.row in
           let o : OffTree = statement V (roles_of core) q.0 (own_row x) in
@@ -253,102 +252,106 @@ module _ (P : Tree) (w : Grown P) (root : In Root P.nodes) (core : BodyTree) (go
           let i = (In-filter (λ (j : Node). ltb (serial_of n) (serial_of j)) m (matches P (serial_of (env y)) (s ∷ [])) k).0 in
           let im = (Matches-in P (serial_of (env y)) (s ∷ []) m i).0 in
           let y' = way (own_row x) o q.1 in
-          unsigned_held (own_row x) o q.1 m im
+          unsigned_live (own_row x) o q.1 m im
           (subst (λ (z : ℕ). hits 0 (V z).path m ≡ true) (sym base) (hit_on P w core good x y s true c (env y) m t.parent.inside t.parent.hit i))
           (later_unsigned P w root (reading core).body o (V o.base).path y'.0 y'.1 before fs st top below x y s e env n m are (t.body o (in_end (offs_of core) x o q.2 base)) base k)
           m im (subst (λ (z : List Step). gives P (serial_of m) z [] Own m ≡ true) (sym rel) (own_gives m []))
 
-      go : (c : Bool) → V x ≡ child_var c x s (V y) → ((top ≡ Rest Nil (bind_var env x n) ∷ [] → ⊥) × (n ≡ m)) ⊎ In m (later n (matches P (serial_of (env y)) (s ∷ []))) → is_held (reading core) P before m ≡ true
-      go true c (inl k) = subst (λ (z : Node). is_held (reading core) P before z ≡ true) k.1 (present c k.0)
+      go : (c : Bool) → V x ≡ child_var c x s (V y) → ((top ≡ Rest Nil (bind_var env x n) ∷ [] → ⊥) × (n ≡ m)) ⊎ In m (later n (matches P (serial_of (env y)) (s ∷ []))) → is_live (reading core) P before m ≡ true
+      go true c (inl k) = subst (λ (z : Node). is_live (reading core) P before z ≡ true) k.1 (present c k.0)
       go true c (inr k) = next c k
       go false c (inl k) =
           let r = ready_far P w core good x y s c (env y) n fs (far t.parent) t.match in
-          subst (λ (z : Node). is_held (reading core) P before z ≡ true) k.1 (site_held (own_row x) n n t.row r r.inside (own_gives n []))
+          subst (λ (z : Node). is_live (reading core) P before z ≡ true) k.1 (site_live (own_row x) n n t.row r r.inside (own_gives n []))
       go false c (inr k) =
           let i = (In-filter (λ (j : Node). ltb (serial_of n) (serial_of j)) m (matches P (serial_of (env y)) (s ∷ [])) k).0 in
           let r = ready_far P w core good x y s c (env y) m fs (far t.parent) i in
-          site_held (own_row x) m m t.row r r.inside (own_gives m [])
+          site_live (own_row x) m m t.row r r.inside (own_gives m [])
 
-  root_held : (fs ≡ Rest Nil env0 ∷ [] → ⊥) → is_held (reading core) P before Root ≡ true
-  root_held open' =
+  root_live : (fs ≡ Rest Nil env0 ∷ [] → ⊥) → is_live (reading core) P before Root ≡ true
+  root_live open' =
       let is : V 0 ≡ var0 = good_zero core good in
-      last_held 0 Root env0 refl root (subst (λ (z : Var). hits 0 z.path Root ≡ true) (sym is) refl) (ap (λ (z : Var). z.base) is) (ap (λ (z : Var). z.rel) is) (inl refl)
+      last_live 0 Root env0 refl root (subst (λ (z : Var). hits 0 z.path Root ≡ true) (sym is) refl) (ap (λ (z : Var). z.base) is) (ap (λ (z : Var). z.rel) is) (inl refl)
       (λ l k. elim (last_waits P w core good root before fs l st k) [
         | inl a ↦ a
         | inr a ↦ absurd (open' a)
       ])
 
   -- the node of a variable that is bound below frames that aren't all over
-  bound_held : (x : ℕ) (n : Node) (top gs : List Frame) → fs ≡ top ++ gs → Solid top → Facts P w core good top gs → Bound_in x n gs → is_held (reading core) P before n ≡ true
-  bound_held x n top [] are so f h = subst (λ (z : Node). is_held (reading core) P before z ≡ true) (sym h.1) (root_held (λ e. solid_open env0 top so (sym (are ∙ append-nil top) ∙ e)))
-  bound_held x n top (Rest d env ∷ gs) are so f h = bound_held x n (top ++ Rest d env ∷ []) gs (are ∙ sym (append_assoc top (Rest d env ∷ []) gs)) (solid_more top (Rest d env) so) f.1 h
-  bound_held x n top (Part z env k ∷ gs) are so f h = bound_held x n (top ++ Part z env k ∷ []) gs (are ∙ sym (append_assoc top (Part z env k ∷ []) gs)) (solid_more top (Part z env k) so) f.1 h
-  bound_held x n top (Round z y s e env m ∷ gs) are so f (inl h) = turn_held top gs z y s e env m n are f.0 (inl ((λ e'. solid_open (bind_var env z m) top so e'), h.1))
-  bound_held x n top (Round z y s e env m ∷ gs) are so f (inr h) = bound_held x n (top ++ Round z y s e env m ∷ []) gs (are ∙ sym (append_assoc top (Round z y s e env m ∷ []) gs)) (solid_more top (Round z y s e env m) so) f.1 h
+  bound_live : (x : ℕ) (n : Node) (top gs : List Frame) → fs ≡ top ++ gs → Solid top → Facts P w core good top gs → Bound_in x n gs → is_live (reading core) P before n ≡ true
+  bound_live x n top [] are so f h = subst (λ (z : Node). is_live (reading core) P before z ≡ true) (sym h.1) (root_live (λ e. solid_open env0 top so (sym (are ∙ append-nil top) ∙ e)))
+  bound_live x n top (Rest d env ∷ gs) are so f h = bound_live x n (top ++ Rest d env ∷ []) gs (are ∙ sym (append_assoc top (Rest d env ∷ []) gs)) (solid_more top (Rest d env) so) f.1 h
+  bound_live x n top (Part z env k ∷ gs) are so f h = bound_live x n (top ++ Part z env k ∷ []) gs (are ∙ sym (append_assoc top (Part z env k ∷ []) gs)) (solid_more top (Part z env k) so) f.1 h
+  bound_live x n top (Round z y s e env m ∷ gs) are so f (inl h) = turn_live top gs z y s e env m n are f.0 (inl ((λ e'. solid_open (bind_var env z m) top so e'), h.1))
+  bound_live x n top (Round z y s e env m ∷ gs) are so f (inr h) = bound_live x n (top ++ Round z y s e env m ∷ []) gs (are ∙ sym (append_assoc top (Round z y s e env m ∷ []) gs)) (solid_more top (Round z y s e env m) so) f.1 h
 
-  part_held : (top below : List Frame) (f : Frame) (x : ℕ) (env : Env) (m : Node) → fs ≡ top ++ f ∷ below → In m P.nodes → In (whole_row x) (roles_of core) → Ready P w core good x (env x) (f ∷ below) → within (serial_of (env x)) m ≡ true → is_held (reading core) P before m ≡ true
-  part_held top below f x env m are i row ready h =
+  part_live : (top below : List Frame) (f : Frame) (x : ℕ) (env : Env) (m : Node) → fs ≡ top ++ f ∷ below → In m P.nodes → In (whole_row x) (roles_of core) → Ready P w core good x (env x) (f ∷ below) → within (serial_of (env x)) m ≡ true → is_live (reading core) P before m ≡ true
+  part_live top below f x env m are i row ready h =
       let r : Ready P w core good x (env x) fs = subst (λ (z : List Frame). Ready P w core good x (env x) z) (sym are) (ready_under P w core good x (env x) top (f ∷ below) ready) in
-      site_held (whole_row x) (env x) m row r i (whole_gives (env x) [] (env x) m (Matches-from P (serial_of (env x)) [] (env x) r.inside (eq-eqb _ _ refl)) i h)
+      site_live (whole_row x) (env x) m row r i (whole_gives (env x) [] (env x) m (Matches-from P (serial_of (env x)) [] (env x) r.inside (eq-eqb _ _ refl)) i h)
 
   -- the matches of a loop that comes next
-  loop_held : (top below : List Frame) (x y : ℕ) (s : Step) (e d : BodyTree) (env : Env) (m : Node) → fs ≡ top ++ Rest (Then (For x y s e) d) env ∷ below → Loop P w core good x y s e env (Rest (Then (For x y s e) d) env ∷ below)
-      → In m (matches P (serial_of (env y)) (s ∷ [])) → is_held (reading core) P before m ≡ true
-  loop_held top below x y s e d env m are l i = go l.straight l.var
+  loop_live : (top below : List Frame) (x y : ℕ) (s : Step) (e d : BodyTree) (env : Env) (m : Node) → fs ≡ top ++ Rest (Then (For x y s e) d) env ∷ below → Loop P w core good x y s e env (Rest (Then (For x y s e) d) env ∷ below)
+      → In m (matches P (serial_of (env y)) (s ∷ [])) → is_live (reading core) P before m ≡ true
+  loop_live top below x y s e d env m are l i = go l.straight l.var
     where
       im : In m P.nodes
       im = (Matches-in P (serial_of (env y)) (s ∷ []) m i).0
 
-      go : (c : Bool) → V x ≡ child_var c x s (V y) → is_held (reading core) P before m ≡ true
+      go : (c : Bool) → V x ≡ child_var c x s (V y) → is_live (reading core) P before m ≡ true
       go true c =
           let q = row_statement (own_row x) l.row in
           let o : OffTree = statement V (roles_of core) q.0 (own_row x) in
           let base : (V x).base ≡ x = ap (λ (z : Var). z.base) c in
           let rel : (V x).rel ≡ [] = ap (λ (z : Var). z.rel) c in
           let y' = way (own_row x) o q.1 in
-          unsigned_held (own_row x) o q.1 m im
+          unsigned_live (own_row x) o q.1 m im
           (subst (λ (z : ℕ). hits 0 (V z).path m ≡ true) (sym base) (hit_on P w core good x y s true c (env y) m l.parent.inside l.parent.hit i))
           (loop_unsigned P w root (reading core).body o (V o.base).path y'.0 y'.1 before fs st top below x y s e d env m are (l.body o (in_end (offs_of core) x o q.2 base)) base i)
           m im (subst (λ (z : List Step). gives P (serial_of m) z [] Own m ≡ true) (sym rel) (own_gives m []))
       go false c =
           let far : Ready P w core good y (env y) fs = subst (λ (z : List Frame). Ready P w core good y (env y) z) (sym are) (ready_under P w core good y (env y) top (Rest (Then (For x y s e) d) env ∷ below) l.parent) in
           let r = ready_far P w core good x y s c (env y) m fs far i in
-          site_held (own_row x) m m l.row r im (own_gives m [])
+          site_live (own_row x) m m l.row r im (own_gives m [])
 
-  rest_held : (top below : List Frame) (d : BodyTree) (env : Env) (m : Node) → fs ≡ top ++ Rest d env ∷ below → In m P.nodes → Fact_rest P w core good d env (Rest d env ∷ below) → Facts P w core good (top ++ Rest d env ∷ []) below → Body_needs P env d m → is_held (reading core) P before m ≡ true
-  rest_held top below Nil env m are i f g h = absurd h
-  rest_held top below (Then (Write s) d) env m are i f g h = absurd h
-  rest_held top below (Then (Copy x) d) env m are i f g h = part_held top below (Rest (Then (Copy x) d) env) x env m are i f.0 f.1.0 h
-  rest_held top below (Then (For x y s e) d) env m are i f g (inl h) =
+  rest_live : (top below : List Frame) (d : BodyTree) (env : Env) (m : Node) → fs ≡ top ++ Rest d env ∷ below → In m P.nodes → Fact_rest P w core good d env (Rest d env ∷ below) → Facts P w core good (top ++ Rest d env ∷ []) below → Body_needs P env d m → is_live (reading core) P before m ≡ true
+  rest_live top below Nil env m are i f g h = absurd h
+  rest_live top below (Then (Write s) d) env m are i f g h = absurd h
+  rest_live top below (Then (Copy x) d) env m are i f g h = part_live top below (Rest (Then (Copy x) d) env) x env m are i f.0 f.1.0 h
+  rest_live top below (Then (For x y s e) d) env m are i f g (inl h) =
       let l : Loop P w core good x y s e env (Rest (Then (For x y s e) d) env ∷ below) = f in
-      subst (λ (z : Node). is_held (reading core) P before z ≡ true) h
-      (bound_held y (env y) (top ++ Rest (Then (For x y s e) d) env ∷ []) below (are ∙ sym (append_assoc top (Rest (Then (For x y s e) d) env ∷ []) below)) (solid_last top (Rest (Then (For x y s e) d) env) tt) g l.bound)
-  rest_held top below (Then (For x y s e) d) env m are i f g (inr h) = loop_held top below x y s e d env m are f h
-  rest_held top below (Then (Off o) d) env m are i f g h =
-      subst (λ (z : Node). is_held (reading core) P before z ≡ true) h
-      (bound_held o.base (env o.base) (top ++ Rest (Then (Off o) d) env ∷ []) below (are ∙ sym (append_assoc top (Rest (Then (Off o) d) env ∷ []) below)) (solid_last top (Rest (Then (Off o) d) env) tt) g f)
-  rest_held top below (Then (If c a b) d) env m are i f g (inl h) =
+      subst (λ (z : Node). is_live (reading core) P before z ≡ true) h
+      (bound_live y (env y) (top ++ Rest (Then (For x y s e) d) env ∷ []) below (are ∙ sym (append_assoc top (Rest (Then (For x y s e) d) env ∷ []) below)) (solid_last top (Rest (Then (For x y s e) d) env) tt) g l.bound)
+  rest_live top below (Then (For x y s e) d) env m are i f g (inr h) = loop_live top below x y s e d env m are f h
+  rest_live top below (Then (Off o) d) env m are i f g h =
+      subst (λ (z : Node). is_live (reading core) P before z ≡ true) h
+      (bound_live o.base (env o.base) (top ++ Rest (Then (Off o) d) env ∷ []) below (are ∙ sym (append_assoc top (Rest (Then (Off o) d) env ∷ []) below)) (solid_last top (Rest (Then (Off o) d) env) tt) g f)
+  rest_live top below (Then (If c a b) d) env m are i f g (inl h) =
       let s = cond_site env c m i h in
       let k = f s.0 s.1 in
       let r : Ready P w core good (s.0).var (env (s.0).var) fs = subst (λ (z : List Frame). Ready P w core good (s.0).var (env (s.0).var) z) (sym are) (ready_under P w core good (s.0).var (env (s.0).var) top (Rest (Then (If c a b) d) env ∷ below) k.1.0) in
-      site_held s.0 (env (s.0).var) m k.0 r i (s.2 r.inside)
-  rest_held top below (Then (If c a b) d) env m are i f g (inr h) =
+      site_live s.0 (env (s.0).var) m k.0 r i (s.2 r.inside)
+  rest_live top below (Then (If c a b) d) env m are i f g (inr h) =
       let r : RoleRowTree = h.0 in
-      subst (λ (z : Node). is_held (reading core) P before z ≡ true) h.2
-      (bound_held r.var (env r.var) (top ++ Rest (Then (If c a b) d) env ∷ []) below (are ∙ sym (append_assoc top (Rest (Then (If c a b) d) env ∷ []) below)) (solid_last top (Rest (Then (If c a b) d) env) tt) g (f r h.1).1.1)
+      subst (λ (z : Node). is_live (reading core) P before z ≡ true) h.2
+      (bound_live r.var (env r.var) (top ++ Rest (Then (If c a b) d) env ∷ []) below (are ∙ sym (append_assoc top (Rest (Then (If c a b) d) env ∷ []) below)) (solid_last top (Rest (Then (If c a b) d) env) tt) g (f r h.1).1.1)
 
-  from_facts : (top gs : List Frame) (m : Node) → fs ≡ top ++ gs → In m P.nodes → Facts P w core good top gs → Needs P top gs m → is_held (reading core) P before m ≡ true
-  from_facts top [] m are i f h = subst (λ (z : Node). is_held (reading core) P before z ≡ true) h.1 (root_held (λ e. h.0 (ap (to_come P) (sym (are ∙ append-nil top) ∙ e))))
-  from_facts top (Rest d env ∷ gs) m are i f (inl h) = rest_held top gs d env m are i f.0.0 f.1 h
-  from_facts top (Round x y s e env n ∷ gs) m are i f (inl (inl (inl h))) = turn_held top gs x y s e env n m are f.0 (inl ((λ e'. h.0 (ap (to_come P) e')), h.1))
-  from_facts top (Round x y s e env n ∷ gs) m are i f (inl (inl (inr h))) = turn_held top gs x y s e env n m are f.0 (inr h)
+  from_facts : (top gs : List Frame) (m : Node) → fs ≡ top ++ gs → In m P.nodes → Facts P w core good top gs → Needs P top gs m → is_live (reading core) P before m ≡ true
+  from_facts top [] m are i f h = subst (λ (z : Node). is_live (reading core) P before z ≡ true) h.1 (root_live (λ e. h.0 (ap (to_come P) (sym (are ∙ append-nil top) ∙ e))))
+  from_facts top (Rest d env ∷ gs) m are i f (inl h) = rest_live top gs d env m are i f.0.0 f.1 h
+  from_facts top (Round x y s e env n ∷ gs) m are i f (inl (inl (inl h))) = turn_live top gs x y s e env n m are f.0 (inl ((λ e'. h.0 (ap (to_come P) e')), h.1))
+  from_facts top (Round x y s e env n ∷ gs) m are i f (inl (inl (inr h))) = turn_live top gs x y s e env n m are f.0 (inr h)
   from_facts top (Round x y s e env n ∷ gs) m are i f (inl (inr h)) =
       let t : Turn P w core good top x y s e env n gs = f.0 in
-      subst (λ (z : Node). is_held (reading core) P before z ≡ true) h
-      (bound_held y (env y) (top ++ Round x y s e env n ∷ []) gs (are ∙ sym (append_assoc top (Round x y s e env n ∷ []) gs)) (solid_last top (Round x y s e env n) tt) f.1 t.bound)
-  from_facts top (Part x env k ∷ gs) m are i f (inl h) = part_held top gs (Part x env k) x env m are i f.0.0 (ready_over P w core good x (env x) (Part x env k) gs f.0.1.0) h
+      subst (λ (z : Node). is_live (reading core) P before z ≡ true) h
+      (bound_live y (env y) (top ++ Round x y s e env n ∷ []) gs (are ∙ sym (append_assoc top (Round x y s e env n ∷ []) gs)) (solid_last top (Round x y s e env n) tt) f.1 t.bound)
+  from_facts top (Part x env k ∷ gs) m are i f (inl h) = part_live top gs (Part x env k) x env m are i f.0.0 (ready_over P w core good x (env x) (Part x env k) gs f.0.1.0) h
   from_facts top (g ∷ gs) m are i f (inr h) = from_facts (top ++ g ∷ []) gs m (are ∙ sym (append_assoc top (g ∷ []) gs)) i f.1 h
 
-  -- what the point needs is held
+  -- at what the point needs a role is live
+  pub needs_live : (m : Node) → In m P.nodes → Needs P [] fs m → is_live (reading core) P before m ≡ true
+  needs_live m i h = from_facts [] fs m refl i (facts P w core good root before fs st) h
+
+  -- so it is held
   pub needs_held : (m : Node) → In m P.nodes → Needs P [] fs m → is_held (reading core) P before m ≡ true
-  needs_held m i h = from_facts [] fs m refl i (facts P w core good root before fs st) h
+  needs_held m i h = or_right _ _ (any_from (λ (j : Node). within (serial_of m) j && is_live (reading core) P before j) m P.nodes i (and_from _ _ (within_self (serial_of m) m (eq-eqb _ _ refl)) (needs_live m i h)))

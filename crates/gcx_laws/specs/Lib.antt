@@ -9,4 +9,5 @@ pub mod Copying
 pub mod Kept
 pub mod Moves
 pub mod Pasts
+pub mod Quiet
 pub mod Turning

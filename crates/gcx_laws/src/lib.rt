@@ -11,6 +11,7 @@ mod line_texts;
 mod loop_rules;
 mod moves;
 mod pasts;
+mod quiet;
 mod trace;
 mod turning;
 
@@ -132,6 +133,7 @@ pub use pasts::rows_by_act;
 pub use pasts::rows_by_feed;
 pub use pasts::signed_by_act;
 pub use pasts::waiting_law;
+pub use quiet::quiet_token;
 pub use trace::departed_are_gone;
 pub use trace::events_are_reached;
 pub use trace::one_demand_run;
