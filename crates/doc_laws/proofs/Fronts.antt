@@ -1,4 +1,5 @@
 -- What is read is the front of a document.
+use Rattle.std.specs.Prelude.{bytes_eq}
 use Rattle.std.proofs.Common.{ℕ, ◌≡◌, ◌+◌, ◌<◌, ◌⊎◌, inl, inr, Bool, true, false, not, ◌&&◌, eqb, cond, List, [], ◌∷◌, ◌++◌, length, Option, Some, None, refl, sym, ap, ◌∙◌, subst, append_assoc, append-nil, arith, eqb-true, ◌≤◌, zero, suc, length-append}
 use Rattle.std.specs.List.{list_all}
 use Rattle.std.proofs.lemmas.Bool.{false≢true}
@@ -6,7 +7,7 @@ use Rattle.std.proofs.lemmas.Str.{cons_from_encodes, length-le-encodes}
 use lib.Utf8.{encode, encodes}
 use Rattle.gcx_base.specs.Characters.{is_char, is_white, is_start_char, is_part_char}
 use Rattle.gcx_model.specs.References.{letters}
-use Rattle.gcx_model.specs.Attributes.{is_text_char, is_name, is_blank_text, is_gap, is_quote, is_fresh, same, Value, blank_value, value_char, value_reference, Head, Attributes, no_attribute, attribute, value_spelling, head_spelling, attributes_spelling, attribute_names, is_value_char, IsValue, IsHead, IsAttributes}
+use Rattle.gcx_model.specs.Attributes.{is_text_char, is_name, is_blank_text, is_gap, is_quote, is_fresh, Value, blank_value, value_char, value_reference, Head, Attributes, no_attribute, attribute, value_spelling, head_spelling, attributes_spelling, attribute_names, is_value_char, IsValue, IsHead, IsAttributes}
 use Rattle.gcx_model.specs.Markup.{CommentText, blank_comment, plain, dashed, CDSect, blank_cdsect, further, blank_data, data_char, data_spelling, marks, ends_data, blank_declaration, doc_char, literal, doc_word, doc_start, is_doc_char, is_literal_char, declaration_spelling, comment_spelling, comment_start, cdata_word, cdata_start, cdsect_spelling, IsCommentText, brackets, one_more, ends_cdsect, IsCDSect}
 use Rattle.gcx_model.specs.Grammar.{Content, nothing, mark, space, char, reference, cdata, comment, bare, instruction, doctype, single, tagged, single_tag, end_tag, spelling, has_element, may_open, IsContent, nodes, Viable}
 use Rattle.gcx_model.specs.Fronts.{Frames, bottom, frame, Part, no_part, spaced, part_name, name_spaced, equals, value, value_amp, Piece, no_piece, less, started, tag, slashed, ending, ended, question, target, target_mark, in_instruction, doc_wording, doc_gap, doc, doc_literal, bang, bang_dash, in_comment, comment_dash, comment_end, cdsect_word, in_cdsect, amp, frames_spelling, piece_spelling, names, inside, IsFrames, IsPart, IsPiece, part_spelling, front_spelling, IsFront}
@@ -99,17 +100,17 @@ abbrev total : List (List ℕ) → ℕ
 total [] = 0
 total (n ∷ ns) = length n + total ns
 
-same_length : (m n : List ℕ) → same m n ≡ true → length m ≡ length n
+same_length : (m n : List ℕ) → bytes_eq m n ≡ true → length m ≡ length n
 same_length [] [] h = refl
-same_length (a ∷ m) (b ∷ n) h = omega (arith, same_length m n (and_true (eqb a b) (same m n) h).1)
+same_length (a ∷ m) (b ∷ n) h = omega (arith, same_length m n (and_true (eqb a b) (bytes_eq m n) h).1)
 same_length [] (b ∷ n) h = absurd (false≢true h)
 same_length (a ∷ m) [] h = absurd (false≢true h)
 
 long_fresh : (m : List ℕ) (ns : List (List ℕ)) → total ns < length m → is_fresh m ns ≡ true
 long_fresh m [] h = refl
 long_fresh m (n ∷ ns) h =
-    true_and (not (same m n)) _
-    (not_true (same m n) (λ e. let l = same_length m n e in absurd (omega arith)))
+    true_and (not (bytes_eq m n)) _
+    (not_true (bytes_eq m n) (λ e. let l = same_length m n e in absurd (omega arith)))
     (long_fresh m ns (omega arith))
 
 abbrev many : ℕ → List ℕ

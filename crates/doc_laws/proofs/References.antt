@@ -1,10 +1,9 @@
 -- References: what is read of one begins one, and the machine reads exactly these.
 use Rattle.std.proofs.Common.{ℕ, zero, suc, ◌≡◌, ◌+◌, ◌*◌, ◌<◌, ◌≤◌, ◌⊎◌, inl, inr, Bool, true, false, ◌&&◌, eqb, cond, List, [], ◌∷◌, ◌++◌, Option, Some, None, refl, sym, ap, ◌∙◌, append_assoc, arith, eqb-true, leb-true, leb-false, le-leb}
-use Rattle.std.specs.Prelude.{nat_le}
+use Rattle.std.specs.Prelude.{nat_le, bytes_eq}
 use Rattle.std.proofs.lemmas.Bool.{false≢true}
 use Rattle.gcx_base.specs.Characters.{between, is_char}
 use Rattle.gcx_model.specs.References.{Entity, less_than, greater_than, ampersand, apostrophe, quotation, entity_name, entity_char, Digits, no_digit, digit, digits_spelling, is_decimal, is_hexadecimal, AreDigits, worth, value_in, Reference, named, decimal, hexadecimal, reference_spelling, reference_char, IsReference, BegunReference, letters, number, decimals, hexadecimals, begun_spelling, is_front, begins_entity, greatest, IsBegun}
-use Rattle.gcx_model.specs.Attributes.{same}
 use Rattle.doc_laws.specs.Machine.{Letters, Number, More, Done, Bad, entity_of, done_entity, is_empty, refer}
 use Rattle.doc_laws.specs.States.{referring}
 use Rattle.doc_laws.proofs.Tests.{on_cond, off_cond, and_true, true_and, or_cases, or_left, or_right, same_is}
@@ -98,9 +97,9 @@ none_some : {X : Type 0} (v : ℕ) → None ≡ Some v → X
 none_some v e = let no : ⊥ = cc in absurd no
 
 entity_found : (m : List ℕ) (v : ℕ) → entity_of m ≡ Some v → (e : Entity) × (m ≡ entity_name e) × (entity_char e ≡ v)
-entity_found m v h = by (same m (entity_name less_than)) (same m (entity_name greater_than)) (same m (entity_name ampersand)) (same m (entity_name apostrophe)) (same m (entity_name quotation)) refl refl refl refl refl h
+entity_found m v h = by (bytes_eq m (entity_name less_than)) (bytes_eq m (entity_name greater_than)) (bytes_eq m (entity_name ampersand)) (bytes_eq m (entity_name apostrophe)) (bytes_eq m (entity_name quotation)) refl refl refl refl refl h
   where
-    by : (a b c d e : Bool) → same m (entity_name less_than) ≡ a → same m (entity_name greater_than) ≡ b → same m (entity_name ampersand) ≡ c → same m (entity_name apostrophe) ≡ d → same m (entity_name quotation) ≡ e → cond a (Some 60) (cond b (Some 62) (cond c (Some 38) (cond d (Some 39) (cond e (Some 34) None)))) ≡ Some v → (e : Entity) × (m ≡ entity_name e) × (entity_char e ≡ v)
+    by : (a b c d e : Bool) → bytes_eq m (entity_name less_than) ≡ a → bytes_eq m (entity_name greater_than) ≡ b → bytes_eq m (entity_name ampersand) ≡ c → bytes_eq m (entity_name apostrophe) ≡ d → bytes_eq m (entity_name quotation) ≡ e → cond a (Some 60) (cond b (Some 62) (cond c (Some 38) (cond d (Some 39) (cond e (Some 34) None)))) ≡ Some v → (e : Entity) × (m ≡ entity_name e) × (entity_char e ≡ v)
     by true b c d e p q r s t h = (less_than, same_is m _ p, some_is 60 v h)
     by false true c d e p q r s t h = (greater_than, same_is m _ q, some_is 62 v h)
     by false false true d e p q r s t h = (ampersand, same_is m _ r, some_is 38 v h)

@@ -1,9 +1,10 @@
 -- Tests and lists.
+use Rattle.std.specs.Prelude.{bytes_eq}
 use Rattle.std.proofs.Common.{ℕ, ◌≡◌, ◌⊎◌, inl, inr, Bool, true, false, not, ◌&&◌, ◌||◌, eqb, cond, List, [], ◌∷◌, ◌++◌, refl, sym, ap, ◌∙◌, eq-eqb, eqb-true}
 use Rattle.std.specs.List.{list_all}
 use Rattle.std.proofs.lemmas.Bool.{true≢false, false≢true}
 use Rattle.gcx_base.specs.Characters.{is_char, is_white, is_start_char, is_part_char}
-use Rattle.gcx_model.specs.Attributes.{is_name, is_blank_text, is_gap, is_quote, is_text_char, is_value_char, same}
+use Rattle.gcx_model.specs.Attributes.{is_name, is_blank_text, is_gap, is_quote, is_text_char, is_value_char}
 use Rattle.gcx_model.specs.Markup.{is_doc_char, is_literal_char}
 
 pub on_cond : {X : Type 0} (b : Bool) (x y : X) → b ≡ true → cond b x y ≡ x
@@ -151,14 +152,14 @@ pub gap_more : (g : List ℕ) (c : ℕ) → is_blank_text g ≡ true → is_whit
 gap_more [] c h i = true_and (is_white c) _ i refl
 gap_more (d ∷ g) c h i = all_more is_white (d ∷ g) c h i
 
-pub same_is : (m n : List ℕ) → same m n ≡ true → m ≡ n
+pub same_is : (m n : List ℕ) → bytes_eq m n ≡ true → m ≡ n
 same_is [] [] h = refl
 same_is (a ∷ m) (b ∷ n) h =
-    let both = and_true (eqb a b) (same m n) h in
+    let both = and_true (eqb a b) (bytes_eq m n) h in
     ap (λ c. c ∷ m) (eqb-true a b both.0) ∙ ap (λ l. b ∷ l) (same_is m n both.1)
 same_is [] (b ∷ n) h = absurd (false≢true h)
 same_is (a ∷ m) [] h = absurd (false≢true h)
 
-pub same_self : (m : List ℕ) → same m m ≡ true
+pub same_self : (m : List ℕ) → bytes_eq m m ≡ true
 same_self [] = refl
 same_self (a ∷ m) = true_and (eqb a a) _ (eq-eqb a a refl) (same_self m)

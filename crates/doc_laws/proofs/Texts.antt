@@ -1,13 +1,13 @@
 -- Text is read in one go, and a name that came before isn't read to its end.
 use Rattle.std.proofs.Common.{ℕ, ◌≡◌, ◌+◌, ◌≤◌, inl, inr, Bool, true, false, not, ◌&&◌, List, [], ◌∷◌, ◌++◌, length, Some, Ok, refl, sym, ap, ◌∙◌, append_assoc, append-nil, arith, length-append}
-use Rattle.std.specs.Prelude.{nat_lt}
+use Rattle.std.specs.Prelude.{nat_lt, bytes_eq}
 use Rattle.std.specs.Char.{len_utf8}
 use Rattle.std.specs.List.{list_all}
 use Rattle.std.proofs.lemmas.Bool.{le-ltb, false≢true}
 use lib.Utf8.{encode, encodes}
 use Rattle.gcx_base.specs.Characters.{is_start_char, is_part_char}
 use Rattle.gcx_base.specs.declared.limits.Limits.{Limits}
-use Rattle.gcx_model.specs.Attributes.{is_text_char, same, is_fresh, Attributes, attribute_names}
+use Rattle.gcx_model.specs.Attributes.{is_text_char, is_fresh, Attributes, attribute_names}
 use Rattle.gcx_model.specs.Grammar.{Content, Viable}
 use Rattle.gcx_model.specs.Fronts.{Frames, is_inside, part_name, tag, IsFront, front_spelling}
 use Rattle.doc_laws.specs.Machine.{Between, State, step}
@@ -48,12 +48,12 @@ not_is false h k = false≢true k
 -- a fresh name is none of the others
 pub fresh_apart : (m : List ℕ) (ns : List (List ℕ)) → is_fresh m ns ≡ true → Among m ns → ⊥
 fresh_apart m [] h k = k
-fresh_apart m (n ∷ ns) h (inl e) = not_is (same m n) (and_true (not (same m n)) _ h).0 (ap (same m) (sym e) ∙ same_self m)
-fresh_apart m (n ∷ ns) h (inr k) = fresh_apart m ns (and_true (not (same m n)) _ h).1 k
+fresh_apart m (n ∷ ns) h (inl e) = not_is (bytes_eq m n) (and_true (not (bytes_eq m n)) _ h).0 (ap (bytes_eq m) (sym e) ∙ same_self m)
+fresh_apart m (n ∷ ns) h (inr k) = fresh_apart m ns (and_true (not (bytes_eq m n)) _ h).1 k
 
 pub apart_fresh : (m : List ℕ) (ns : List (List ℕ)) → (Among m ns → ⊥) → is_fresh m ns ≡ true
 apart_fresh m [] h = refl
-apart_fresh m (n ∷ ns) h = true_and (not (same m n)) _ (not_true (same m n) (λ e. h (inl (same_is m n e)))) (apart_fresh m ns (λ k. h (inr k)))
+apart_fresh m (n ∷ ns) h = true_and (not (bytes_eq m n)) _ (not_true (bytes_eq m n) (λ e. h (inl (same_is m n e)))) (apart_fresh m ns (λ k. h (inr k)))
 
 -- Up to the end of a name that came before, the text is viable; a character that ends the name is the fault.
 pub twice_viable : (fs : Frames) (x : Content) (n : List ℕ) (ats : Attributes) (g m : List ℕ) → IsFront fs x (tag n ats (part_name g m)) → Viable (front_spelling fs x (tag n ats (part_name g m)))

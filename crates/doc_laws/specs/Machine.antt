@@ -1,10 +1,10 @@
 -- The reader's machine, without limits: one step for each character (this project's).
-use Rattle.std.specs.Prelude.{ℕ, ◌+◌, ◌*◌, Bool, true, false, not, ◌&&◌, ◌==◌, nat_le, List, [], ◌∷◌, ◌++◌, Option, Some, None, replicate, if◌then◌else◌}
+use Rattle.std.specs.Prelude.{ℕ, ◌+◌, ◌*◌, Bool, true, false, not, ◌&&◌, ◌==◌, nat_le, List, [], ◌∷◌, ◌++◌, Option, Some, None, replicate, if◌then◌else◌, bytes_eq}
 use lib.Utf8.{encode}
 use Rattle.gcx_base.specs.Characters.{is_char, is_white, is_start_char, is_part_char}
 use Rattle.gcx_model.specs.Tree.{Token, Start, End}
 use Rattle.gcx_model.specs.References.{entity_name, less_than, greater_than, ampersand, apostrophe, quotation, is_decimal, is_hexadecimal, worth, begins_entity, greatest}
-use Rattle.gcx_model.specs.Attributes.{is_text_char, is_value_char, is_quote, same, is_fresh}
+use Rattle.gcx_model.specs.Attributes.{is_text_char, is_value_char, is_quote, is_fresh}
 use Rattle.gcx_model.specs.Markup.{one_more, cdata_word, doc_word, is_doc_char, is_literal_char}
 use Rattle.gcx_model.specs.Grammar.{may_open}
 use Rattle.gcx_model.specs.Fronts.{is_inside, text_of}
@@ -25,11 +25,11 @@ pub data Referred : Type 0 where
 -- the character of a whole name
 abbrev pub entity_of : List ℕ → Option ℕ
 entity_of m =
-    if same m (entity_name less_than) then Some 60
-    else if same m (entity_name greater_than) then Some 62
-    else if same m (entity_name ampersand) then Some 38
-    else if same m (entity_name apostrophe) then Some 39
-    else if same m (entity_name quotation) then Some 34
+    if bytes_eq m (entity_name less_than) then Some 60
+    else if bytes_eq m (entity_name greater_than) then Some 62
+    else if bytes_eq m (entity_name ampersand) then Some 38
+    else if bytes_eq m (entity_name apostrophe) then Some 39
+    else if bytes_eq m (entity_name quotation) then Some 34
     else None
 
 abbrev pub done_entity : Option ℕ → Referred

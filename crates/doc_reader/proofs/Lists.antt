@@ -1,12 +1,12 @@
 -- Lists of names and bytes.
 use Rattle.std.proofs.Common.{ℕ, ◌≡◌, ◌+◌, ◌-◌, ◌<◌, ◌≤◌, min, Bool, true, false, cond, not, ◌&&◌, eqb, List, [], ◌∷◌, length, take, drop, get_or, reverse, Some, None, refl, sym, ap, ◌∙◌, inl, inr, arith, length-take}
-use Rattle.std.specs.Prelude.{nat_lt, slice_range}
+use Rattle.std.specs.Prelude.{nat_lt, slice_range, bytes_eq}
 use Rattle.std.specs.Cmp.Lexicographic.{pointwise}
 use Rattle.std.specs.Bool.{Decides}
 use Rattle.std.proofs.lemmas.List.{length-reverse, reverse-append, take-take, drop-take, drop_all, take_all, take_more}
 use Rattle.std.proofs.lemmas.Bool.{true≢false, false≢true, cases_lt}
 use Rattle.std.proofs.lemmas.Slice.Eq.{IsBytesEq, compares_Decides}
-use Rattle.gcx_model.specs.Attributes.{same, is_fresh}
+use Rattle.gcx_model.specs.Attributes.{is_fresh}
 use Rattle.gcx_model.specs.Fronts.{is_inside}
 use lib.Utf8.{encode}
 use Rattle.doc_laws.specs.Machine.{State, behind, on_end, to_end_name}
@@ -65,16 +65,16 @@ same_is : IsBytesEq same
 same_is = record { empty = refl; shorter = λ y ys. refl; longer = λ x xs. refl; heads = λ x y xs ys. refl }
 
 -- whether two names are the same
-pub same_decides : (m n : List ℕ) → Decides (same m n) (m ≡ n)
-same_decides m n = compares_Decides same same_is m n
+pub same_decides : (m n : List ℕ) → Decides (bytes_eq m n) (m ≡ n)
+same_decides m n = compares_Decides bytes_eq same_is m n
 
 pub fresh_not : (m n : List ℕ) (ns : List (List ℕ)) → n ≡ m → is_fresh m (n ∷ ns) ≡ false
 fresh_not m n ns e = ap (λ b. not b && is_fresh m ns) ((same_decides m n).1 (sym e))
 
 pub fresh_on : (m n : List ℕ) (ns : List (List ℕ)) → (n ≡ m → ⊥) → is_fresh m (n ∷ ns) ≡ is_fresh m ns
-fresh_on m n ns e = ap (λ b. not b && is_fresh m ns) (by (same m n) refl)
+fresh_on m n ns e = ap (λ b. not b && is_fresh m ns) (by (bytes_eq m n) refl)
   where
-    by : (b : Bool) → same m n ≡ b → b ≡ false
+    by : (b : Bool) → bytes_eq m n ≡ b → b ≡ false
     by true f = absurd (e (sym ((same_decides m n).0 f)))
     by false f = refl
 

@@ -1,5 +1,5 @@
 -- Names, white space and the attributes of a tag (XML 1.0, sections 2.3 and 3.1).
-use Rattle.std.specs.Prelude.{ℕ, Bool, true, false, not, ◌&&◌, ◌||◌, ◌==◌, ◌≡◌, List, [], ◌∷◌, ◌++◌}
+use Rattle.std.specs.Prelude.{ℕ, Bool, true, false, not, ◌&&◌, ◌||◌, ◌==◌, ◌≡◌, List, [], ◌∷◌, ◌++◌, bytes_eq}
 use Rattle.std.specs.List.{list_all}
 use lib.Utf8.{encode, encodes}
 use Rattle.gcx_base.specs.Characters.{is_char, is_white}
@@ -26,15 +26,10 @@ is_text_char c = is_char c && (not (c == 60) && not (c == 38))
 abbrev pub is_value_char : (quote : ℕ) → ℕ → Bool
 is_value_char q c = is_text_char c && not (c == q)
 
-abbrev pub same : List ℕ → List ℕ → Bool
-same [] [] = true
-same (a ∷ m) (b ∷ n) = (a == b) && same m n
-same m n = false
-
 -- the name is none of these
 abbrev pub is_fresh : List ℕ → List (List ℕ) → Bool
 is_fresh m [] = true
-is_fresh m (n ∷ ns) = not (same m n) && is_fresh m ns
+is_fresh m (n ∷ ns) = not (bytes_eq m n) && is_fresh m ns
 
 -- The text of a value, built at its end.
 pub data Value : Type 0 where

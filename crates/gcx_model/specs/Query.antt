@@ -1,5 +1,5 @@
 -- Queries as plain trees, and how the types of the code are seen as such (XQuery 1.0, section 3; the fragment is this project's).
-use Rattle.std.specs.Prelude.{ℕ, List, [], ◌∷◌, map, Option, Some, None, box_value}
+use Rattle.std.specs.Prelude.{ℕ, List, [], ◌∷◌, map, Option, Some, None, box_value, option_map}
 use Rattle.gcx_base.specs.declared.rel.Rel.{Rel}
 use Rattle.gcx_model.specs.declared.query.PathExpr.{PathExpr}
 use Rattle.gcx_model.specs.declared.query.Clause.{Clause}
@@ -46,10 +46,6 @@ abbrev pub exprs_of : List ExprTree → ExprTrees
 exprs_of [] = no_expr
 exprs_of (e ∷ es) = more_exprs e (exprs_of es)
 
-abbrev pub on_some : {A B : Type 0} → (A → B) → Option A → Option B
-on_some f None = None
-on_some f (Some a) = Some (f a)
-
 abbrev pub cond_layer : QCond-F CondTree CondTrees → CondTree
 cond_layer qcond.True = Always
 cond_layer (qcond.Exists p) = Exists p
@@ -73,7 +69,7 @@ expr_layer expr.Empty = Empty
 expr_layer (expr.Seq es) = Seq es
 expr_layer (expr.Elem n es) = Elem n es
 expr_layer (expr.Path p) = Path p
-expr_layer (expr.For cs f b) = For cs (on_some cond_tree f) (box_value b)
+expr_layer (expr.For cs f b) = For cs (option_map cond_tree f) (box_value b)
 expr_layer (expr.If c a b) = If (cond_tree c) (box_value a) (box_value b)
 
 abbrev pub exprs_layer : Exprs-F ExprTree ExprTrees → ExprTrees

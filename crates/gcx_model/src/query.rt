@@ -1,8 +1,8 @@
 //! Queries as trees (XQuery 1.0, section 3; the fragment is this project's).
 //!
 //! `Exprs` and `QConds` hold members that hold them again, so their clauses speak of plain trees.
-ghost use Rattle.std.specs.Prelude.{◌≡◌, ◌++◌, ◌∷◌, [], map, IfOk, OnOk, OnErr};
-ghost use Rattle.gcx_model.specs.Query.{cond_tree, cond_trees, expr_tree, expr_trees, query_trees, on_some};
+ghost use Rattle.std.specs.Prelude.{◌≡◌, ◌++◌, ◌∷◌, [], map, IfOk, OnOk, OnErr, option_map};
+ghost use Rattle.gcx_model.specs.Query.{cond_tree, cond_trees, expr_tree, expr_trees, query_trees};
 
 use gcx_base::{Memory, Name, Rel, Steps, Text};
 use std::alloc::Global;
@@ -285,7 +285,7 @@ impl Expr {
 }
 
 fn copy_filter(filter: &Option<QCond>, alloc: Global) -> Result<Option<QCond>, Memory>
-    ensures { IfOk result (λ copied. on_some cond_tree copied ≡ on_some cond_tree filter.now) }
+    ensures { IfOk result (λ copied. option_map cond_tree copied ≡ option_map cond_tree filter.now) }
 {
     match filter {
         Some(cond) => Ok(Some(cond.copy(alloc)?)),

@@ -1,7 +1,7 @@
 //! What a query writes over a whole document (XQuery 1.0, sections 3.3.1, 3.7.1, 3.8 and 3.10).
-ghost use Rattle.std.specs.Prelude.{◌≡◌, ◌++◌, OnOk, IfOk, flat_map, map};
+ghost use Rattle.std.specs.Prelude.{◌≡◌, ◌++◌, OnOk, IfOk, flat_map, map, option_map};
 ghost use Rattle.gcx_model.specs.Document.{Nodes, tree_of};
-ghost use Rattle.gcx_model.specs.Query.{expr_tree, expr_trees, exprs_of, query_trees, cond_tree, on_some};
+ghost use Rattle.gcx_model.specs.Query.{expr_tree, expr_trees, exprs_of, query_trees, cond_tree};
 ghost use Rattle.gcx_model.specs.Answer.{answer, answer_expr, answer_exprs, filtered, copy_of};
 ghost use Rattle.tree_eval.specs.Rows.{node_at};
 ghost use Rattle.tree_eval.specs.Scopes.{scope_of};
@@ -32,7 +32,7 @@ fn is_taken(
     scope: &[Binding<'_>],
     filter: &Option<QCond>,
 ) -> Result<bool, Memory>
-    ensures { IfOk result (λ taken. taken ≡ filtered (on_some cond_tree filter.now) (scope_of tree.now scope.now) tree.now) }
+    ensures { IfOk result (λ taken. taken ≡ filtered (option_map cond_tree filter.now) (scope_of tree.now scope.now) tree.now) }
 {
     match filter {
         Some(cond) => holds(alloc, tree, scope, cond),
@@ -110,7 +110,7 @@ fn put_turns<'q>(
     body: &'q Expr,
 ) -> Result<(), Memory>
     ensures scope { OnOk result (scope.new.items ≡ scope.old.items) }
-    ensures written { OnOk result (out.new.items ≡ out.old.items ++ turns_bytes clauses.now (on_some cond_tree filter.now) (expr_tree body.now) (scope_of tree.now scope.old.items) tree.now) }
+    ensures written { OnOk result (out.new.items ≡ out.old.items ++ turns_bytes clauses.now (option_map cond_tree filter.now) (expr_tree body.now) (scope_of tree.now scope.old.items) tree.now) }
 {
     let Some((clause, rest)) = clauses.split_first() else {
         if is_taken(alloc, tree, scope, filter)? {

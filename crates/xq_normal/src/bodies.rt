@@ -1,8 +1,8 @@
 //! Queries as bodies, with each `If` where the query has it.
-ghost use Rattle.std.specs.Prelude.{◌≡◌, ◌+◌, ◌-◌, ◌<◌, ◌^◌, length, IfOk, OnOk};
+ghost use Rattle.std.specs.Prelude.{◌≡◌, ◌+◌, ◌-◌, ◌<◌, ◌^◌, length, IfOk, OnOk, option_map};
 ghost use Rattle.gcx_model.specs.Core.{Copy, Write};
 ghost use Rattle.gcx_model.specs.ItemView.{body_tree, item_tree};
-ghost use Rattle.gcx_model.specs.Query.{cond_tree, expr_tree, expr_trees, exprs_of, on_some};
+ghost use Rattle.gcx_model.specs.Query.{cond_tree, expr_tree, expr_trees, exprs_of};
 ghost use Rattle.gcx_model.specs.Normal.{all_loops, clause_loops, join, loops, nest, normal_clauses, one, start_var};
 ghost use Rattle.gcx_model.specs.Written.{end_tag, start_tag};
 ghost use Rattle.xq_normal.specs.Raw.{innermost, raw_expr, raw_exprs, raw_filtered, raw_turns};
@@ -199,7 +199,7 @@ fn put_filtered<'q>(
     requires { next.now + loops (expr_tree body.now) < 2 ^ 32 }
     ensures scope { OnOk result (scope.new.items ≡ scope.old.items) }
     ensures next { OnOk result (next.new ≡ next.old + loops (expr_tree body.now)) }
-    ensures body { OnOk result (body_tree out.new ≡ join (body_tree out.old) (raw_filtered (on_some cond_tree filter.now) (names_of scope.old.items) (raw_expr (expr_tree body.now) (names_of scope.old.items) next.old))) }
+    ensures body { OnOk result (body_tree out.new ≡ join (body_tree out.old) (raw_filtered (option_map cond_tree filter.now) (names_of scope.old.items) (raw_expr (expr_tree body.now) (names_of scope.old.items) next.old))) }
 {
     match filter {
         Some(cond) => {
@@ -227,7 +227,7 @@ fn put_turns<'q>(
     requires { next.now + (clause_loops clauses.now + loops (expr_tree body.now)) < 2 ^ 32 }
     ensures scope { OnOk result (scope.new.items ≡ scope.old.items) }
     ensures next { OnOk result (next.new ≡ next.old + (clause_loops clauses.now + loops (expr_tree body.now))) }
-    ensures body { OnOk result (body_tree out.new ≡ join (body_tree out.old) (raw_turns clauses.now (on_some cond_tree filter.now) (expr_tree body.now) (names_of scope.old.items) next.old)) }
+    ensures body { OnOk result (body_tree out.new ≡ join (body_tree out.old) (raw_turns clauses.now (option_map cond_tree filter.now) (expr_tree body.now) (names_of scope.old.items) next.old)) }
 {
     let Some((clause, rest)) = clauses.split_first() else {
         return put_filtered(alloc, scope, next, out, filter, body);

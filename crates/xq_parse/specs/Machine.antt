@@ -1,5 +1,5 @@
 -- A machine over tokens: what is expected next, and what is done with what is read. Beside the query it finds the first variable without a clause, and the first descendant step that may not stand where it does.
-use Rattle.std.specs.Prelude.{ℕ, ◌+◌, ◌||◌, nat_lt, List, [], ◌∷◌, ◌++◌, Option, Some, None, Result, Ok, Err, if◌then◌else◌, bytes_eq}
+use Rattle.std.specs.Prelude.{ℕ, ◌+◌, ◌||◌, nat_lt, List, [], ◌∷◌, ◌++◌, Option, Some, None, Result, Ok, Err, if◌then◌else◌, bytes_eq, option_map}
 use Rattle.gcx_base.specs.declared.rel.Rel.{Rel}
 use Rattle.gcx_base.specs.declared.rel.Rel.TheVariants as rels
 use Rattle.gcx_base.specs.declared.steps.Axis.{Axis}
@@ -12,7 +12,7 @@ use Rattle.gcx_model.specs.declared.query.QOperand.{QOperand}
 use Rattle.gcx_model.specs.declared.query.QOperand.TheVariants as sides
 use Rattle.gcx_model.specs.Paths.{any}
 use Rattle.gcx_model.specs.Query as q
-use Rattle.gcx_model.specs.Query.{CondTree, ExprTree, exprs_of, on_some}
+use Rattle.gcx_model.specs.Query.{CondTree, ExprTree, exprs_of}
 use Rattle.xq_lex.specs.declared.sign.Sign.{Sign}
 use Rattle.xq_lex.specs.declared.sign.Sign.TheVariants as signs
 use Rattle.xq_parse.specs.declared.refusal.Why.{Why}
@@ -47,7 +47,7 @@ abbrev pub a_var : ℕ → List ℕ → Var
 a_var at x = record { name = x; at = at }
 
 abbrev pub a_route : Option Var → Trail → Route
-a_route v t = record { path = a_path (on_some (λ v. v.name) v) t.steps; var_at = on_some (λ v. v.at) v; late = t.late }
+a_route v t = record { path = a_path (option_map (λ v. v.name) v) t.steps; var_at = option_map (λ v. v.at) v; late = t.late }
 
 -- ---- what was found of places
 

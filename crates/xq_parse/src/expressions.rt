@@ -1,8 +1,8 @@
 //! Expressions.
-ghost use Rattle.std.specs.Prelude.{◌≡◌, ◌≤◌, ◌<◌, ◌+◌, ◌++◌, ◌∷◌, [], ℕ, true, cond, List, Option, length, IfOk, OnOk};
+ghost use Rattle.std.specs.Prelude.{◌≡◌, ◌≤◌, ◌<◌, ◌+◌, ◌++◌, ◌∷◌, [], ℕ, true, cond, List, Option, length, IfOk, OnOk, option_map};
 ghost use Rattle.gcx_model.specs.declared.query.Clause.{Clause};
 ghost use Rattle.gcx_model.specs.Query as trees;
-ghost use Rattle.gcx_model.specs.Query.{CondTree, ExprTree, cond_tree, expr_tree, expr_trees, on_some};
+ghost use Rattle.gcx_model.specs.Query.{CondTree, ExprTree, cond_tree, expr_tree, expr_trees};
 ghost use Rattle.xq_parse.specs.declared.marks.Marks.{Marks};
 ghost use Rattle.xq_parse.specs.Places.{Scope};
 ghost use Rattle.xq_parse.specs.Grammar.{seq_of};
@@ -196,7 +196,7 @@ impl<'a> Parser<'a> {
     /// Reads the condition of a loop, if it has one.
     fn filter(&mut self, depth: usize) -> Result<Option<QCond>, Refusal>
         requires { depth ≤ 200 }
-        ensures moves { (k : Marks → Option CondTree → State) → Moves (λ c. run 200 (k self.new.marks (on_some cond_tree c)) self.new.cursor.rest.now) result (run 200 (condition depth self.old.scope self.old.marks k) self.old.cursor.rest.now) }
+        ensures moves { (k : Marks → Option CondTree → State) → Moves (λ c. run 200 (k self.new.marks (option_map cond_tree c)) self.new.cursor.rest.now) result (run 200 (condition depth self.old.scope self.old.marks k) self.old.cursor.rest.now) }
         ensures scope { OnOk result (self.new.scope ≡ self.old.scope) }
         ensures shorter { length self.new.cursor.rest.now ≤ length self.old.cursor.rest.now }
     {

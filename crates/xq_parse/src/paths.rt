@@ -1,12 +1,11 @@
 //! Paths and the sides of comparisons.
-ghost use Rattle.std.specs.Prelude.{◌≡◌, ◌≤◌, ◌<◌, ℕ, true, false, cond, List, Option, Some, None, length, bytes_eq, ◌||◌, OnOk};
+ghost use Rattle.std.specs.Prelude.{◌≡◌, ◌≤◌, ◌<◌, ℕ, true, false, cond, List, Option, Some, None, length, bytes_eq, ◌||◌, OnOk, option_map};
 ghost use Rattle.gcx_base.specs.declared.rel.Rel.{Rel};
 ghost use Rattle.gcx_base.specs.declared.steps.Axis.{Axis};
 ghost use Rattle.gcx_base.specs.declared.steps.Axis.TheVariants as axes;
 ghost use Rattle.gcx_base.specs.declared.steps.Step.{Step};
 ghost use Rattle.gcx_base.specs.declared.steps.Test.TheVariants as tests;
 ghost use Rattle.gcx_model.specs.declared.query.QOperand.{QOperand};
-ghost use Rattle.gcx_model.specs.Query.{on_some};
 ghost use Rattle.xq_lex.specs.declared.sign.Sign.TheVariants as signs;
 ghost use Rattle.xq_parse.specs.declared.route.Route.{Route};
 ghost use Rattle.xq_parse.specs.declared.route.Trail.{Trail};
@@ -172,7 +171,7 @@ impl<'a> Cursor<'a> {
 
     /// Takes `child` or `descendant` behind a slash.
     fn takes_axis_name(&mut self) -> Option<&'a Name>
-        ensures moves { (k : Step → State) → run 200 (axis k) self.old.rest.now ≡ run 200 (axis_found (on_some (λ n. n.now) result) k) self.new.rest.now }
+        ensures moves { (k : Step → State) → run 200 (axis k) self.old.rest.now ≡ run 200 (axis_found (option_map (λ n. n.now) result) k) self.new.rest.now }
         ensures shorter { length self.new.rest.now ≤ length self.old.rest.now }
     {
         match self.rest {

@@ -1,6 +1,6 @@
 //! Expressions, and the query.
-ghost use Rattle.std.specs.Prelude.{◌≡◌, ◌++◌, ◌∷◌, [], Bool, map, string_bytes, codes, IfOk, OnOk};
-ghost use Rattle.gcx_model.specs.Query.{cond_tree, expr_tree, expr_trees, exprs_of, on_some, query_trees};
+ghost use Rattle.std.specs.Prelude.{◌≡◌, ◌++◌, ◌∷◌, [], Bool, map, string_bytes, codes, IfOk, OnOk, option_map};
+ghost use Rattle.gcx_model.specs.Query.{cond_tree, expr_tree, expr_trees, exprs_of, query_trees};
 ghost use Rattle.gcx_model.specs.Written.{end_tag, start_tag};
 ghost use Rattle.xq_print.specs.Printed.{clause_text, cond_text, expr_text, expr_texts, filter_text, joined, printed_query};
 ghost use Rattle.xq_print.specs.ReadsBack.{ReadsBack};
@@ -51,7 +51,7 @@ fn put_clauses(out: &mut String, clauses: &Clauses) -> Result<(), Memory>
 }
 
 fn put_filter(out: &mut String, filter: &Option<QCond>) -> Result<(), Memory>
-    ensures { OnOk result (string_bytes out.new ≡ string_bytes out.old ++ filter_text (on_some cond_tree filter.now)) }
+    ensures { OnOk result (string_bytes out.new ≡ string_bytes out.old ++ filter_text (option_map cond_tree filter.now)) }
 {
     match filter {
         Some(cond) => {
@@ -64,7 +64,7 @@ fn put_filter(out: &mut String, filter: &Option<QCond>) -> Result<(), Memory>
 
 /// Appends what stands before the body of a loop.
 fn put_loop(out: &mut String, clauses: &Clauses, filter: &Option<QCond>) -> Result<(), Memory>
-    ensures { OnOk result (string_bytes out.new ≡ string_bytes out.old ++ (codes "for " ++ (joined (codes ", ") (map clause_text clauses.now) ++ (filter_text (on_some cond_tree filter.now) ++ codes " return ")))) }
+    ensures { OnOk result (string_bytes out.new ≡ string_bytes out.old ++ (codes "for " ++ (joined (codes ", ") (map clause_text clauses.now) ++ (filter_text (option_map cond_tree filter.now) ++ codes " return ")))) }
 {
     out.push_str("for ")?;
     put_clauses(out, clauses)?;

@@ -1,7 +1,7 @@
 use Rattle.std.proofs.Common.{rules, ◌≡◌, ◌++◌, map, length, vec_len, sym, ◌∙◌, ap, arith}
-use Rattle.std.specs.Prelude.{flat_map}
+use Rattle.std.specs.Prelude.{flat_map, option_map}
 use Rattle.std.proofs.lemmas.List.{take_all}
-use Rattle.gcx_model.specs.Query.{expr_tree, expr_trees, exprs_of, cond_tree, on_some}
+use Rattle.gcx_model.specs.Query.{expr_tree, expr_trees, exprs_of, cond_tree}
 use Rattle.gcx_model.specs.Answer.{answer_expr, answer_exprs, bind, found}
 use Rattle.gcx_model.proofs.Folds.{fold_Elem}
 use Rattle.tree_eval.specs.Rows.{node_at}
@@ -37,15 +37,15 @@ put_turns-loop-node-preserved t c = record {
       popped _ _ _ _ _ c.pop.ensures.rest (c.in_ok-put_turns.ensures.scope ∙ c.in_ok-push.ensures.items) n ∙ c.loop-node.invariant.scope;
   written =
       turn_written _ c.args.tree.now.nodes c.deref-node-items.result.now c.loop-node.node-index _ _ _ _ c.loop-node-test.true c.loop-node.invariant.written c.in_ok-put_turns.ensures.written
-      (ap (λ u. turns_bytes c.in-Some.rest.now (on_some cond_tree c.args.filter.now) (expr_tree c.args.body.now) u c.args.tree.now) (turn_scope c.args.tree.now c.loop-node.scope.items c.args.scope.now.items c.push.new.self.items _ c.in_ok-push.ensures.items c.loop-node.invariant.scope));
+      (ap (λ u. turns_bytes c.in-Some.rest.now (option_map cond_tree c.args.filter.now) (expr_tree c.args.body.now) u c.args.tree.now) (turn_scope c.args.tree.now c.loop-node.scope.items c.args.scope.now.items c.push.new.self.items _ c.in_ok-push.ensures.items c.loop-node.invariant.scope));
 }
 
 pub put_turns-returns-clause-written : goal.put_turns-returns-clause-written
 put_turns-returns-clause-written t c =
     c.loop-node.invariant.written
-    ∙ ap (λ l. c.args.out.now.items ++ l) (ap (λ is. flat_map (λ n. turns_bytes c.in-Some.rest.now (on_some cond_tree c.args.filter.now) (expr_tree c.args.body.now) (bind (scope_of c.args.tree.now c.args.scope.now.items) c.in-Some.clause.now.var n) c.args.tree.now) (map (node_at c.args.tree.now.nodes) is))
+    ∙ ap (λ l. c.args.out.now.items ++ l) (ap (λ is. flat_map (λ n. turns_bytes c.in-Some.rest.now (option_map cond_tree c.args.filter.now) (expr_tree c.args.body.now) (bind (scope_of c.args.tree.now c.args.scope.now.items) c.in-Some.clause.now.var n) c.args.tree.now) (map (node_at c.args.tree.now.nodes) is))
     (take_all c.loop-node.node-index c.deref-node-items.result.now c.loop-node-test.false ∙ c.deref-node-items.ensures.value)
-    ∙ (ap (flat_map (λ n. turns_bytes c.in-Some.rest.now (on_some cond_tree c.args.filter.now) (expr_tree c.args.body.now) (bind (scope_of c.args.tree.now c.args.scope.now.items) c.in-Some.clause.now.var n) c.args.tree.now))
+    ∙ (ap (flat_map (λ n. turns_bytes c.in-Some.rest.now (option_map cond_tree c.args.filter.now) (expr_tree c.args.body.now) (bind (scope_of c.args.tree.now c.args.scope.now.items) c.in-Some.clause.now.var n) c.args.tree.now))
     (c.in_ok-nodes.ensures ∙ ap (λ bs. found c.in-Some.clause.now.path (scope_of c.args.tree.now bs) c.args.tree.now) c.deref-2.ensures.value)
-    ∙ (sym (turns_more c.in-Some.clause.now c.in-Some.rest.now (on_some cond_tree c.args.filter.now) (expr_tree c.args.body.now) (scope_of c.args.tree.now c.args.scope.now.items) c.args.tree.now)
-    ∙ ap (λ cs. turns_bytes cs (on_some cond_tree c.args.filter.now) (expr_tree c.args.body.now) (scope_of c.args.tree.now c.args.scope.now.items) c.args.tree.now) (sym c.in-Some.ensures.cases.0))))
+    ∙ (sym (turns_more c.in-Some.clause.now c.in-Some.rest.now (option_map cond_tree c.args.filter.now) (expr_tree c.args.body.now) (scope_of c.args.tree.now c.args.scope.now.items) c.args.tree.now)
+    ∙ ap (λ cs. turns_bytes cs (option_map cond_tree c.args.filter.now) (expr_tree c.args.body.now) (scope_of c.args.tree.now c.args.scope.now.items) c.args.tree.now) (sym c.in-Some.ensures.cases.0))))

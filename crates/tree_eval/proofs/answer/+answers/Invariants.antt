@@ -1,6 +1,6 @@
 use Rattle.std.proofs.Common.{◌≡◌, ◌+◌, ◌++◌, suc, map, take, length}
-use Rattle.std.specs.Prelude.{flat_map}
-use Rattle.gcx_model.specs.Query.{expr_tree, expr_trees, exprs_of, cond_tree, on_some}
+use Rattle.std.specs.Prelude.{flat_map, option_map}
+use Rattle.gcx_model.specs.Query.{expr_tree, expr_trees, exprs_of, cond_tree}
 use Rattle.gcx_model.specs.Answer.{answer_exprs, bind}
 use Rattle.tree_eval.specs.Rows.{node_at}
 use Rattle.tree_eval.specs.Scopes.{scope_of}
@@ -26,5 +26,5 @@ invariant-put_exprs-loop-expr l = record {
 abbrev pub invariant-put_turns-loop-node : goal.invariant-put_turns-loop-node
 invariant-put_turns-loop-node l = record {
   scope : l.scope.items ≡ l.fn.scope.items;
-  written : l.out.items ≡ l.fn.out.items ++ flat_map (λ n. turns_bytes l.rest (on_some cond_tree l.filter) (expr_tree l.body) (bind (scope_of l.tree l.fn.scope.items) l.clause.var n) l.tree) (map (node_at l.tree.nodes) (take l.node-index l.node-items));
+  written : l.out.items ≡ l.fn.out.items ++ flat_map (λ n. turns_bytes l.rest (option_map cond_tree l.filter) (expr_tree l.body) (bind (scope_of l.tree l.fn.scope.items) l.clause.var n) l.tree) (map (node_at l.tree.nodes) (take l.node-index l.node-items));
 }

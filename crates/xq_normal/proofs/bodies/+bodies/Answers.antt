@@ -1,7 +1,8 @@
+use Rattle.std.specs.Prelude.{option_map}
 use Rattle.std.proofs.Common.{◌≡◌, ◌+◌, map, length, refl, ap, arith, sym, ◌∙◌}
 use Rattle.std.proofs.lemmas.Result.{on_ok_weaker}
 use Rattle.gcx_model.specs.ItemView.{body_of, body_tree, item_tree}
-use Rattle.gcx_model.specs.Query.{Empty, cond_tree, expr_tree, expr_trees, exprs_of, on_some}
+use Rattle.gcx_model.specs.Query.{Empty, cond_tree, expr_tree, expr_trees, exprs_of}
 use Rattle.gcx_model.specs.Normal.{all_loops, join, loops, one, start_var}
 use Rattle.gcx_model.specs.Written.{end_tag, start_tag}
 use Rattle.gcx_model.proofs.Folds.{fold_Elem}
@@ -72,12 +73,12 @@ pub put_turns-returns-clause-body : goal.put_turns-returns-clause-body
 put_turns-returns-clause-body t c =
     on_ok_weaker c.put_body.result
     (λ (put : body_tree c.put_body.new.out ≡ join (body_tree c.args.out.now) (body_tree c.in_ok-loops.loops)).
-    turns_put c.in-Some.clause.now c.in-Some.rest.now c.args.clauses.now (on_some cond_tree c.args.filter.now) (expr_tree c.args.body.now) (names_of c.args.scope.now.items) (names_of c.push.new.self.items)
+    turns_put c.in-Some.clause.now c.in-Some.rest.now c.args.clauses.now (option_map cond_tree c.args.filter.now) (expr_tree c.args.body.now) (names_of c.args.scope.now.items) (names_of c.push.new.self.items)
     c.args.next.now c.innermost.result.0 (c.args.next.now + length c.items-steps.result.now) c.start_of-from.result.0 c.items-steps.result.now (body_tree c.args.out.now) (body_tree c.put_turns.new.out)
     (body_tree c.in_ok-loops.loops) (body_tree c.put_body.new.out) c.in-Some.ensures.cases.0
     (c.start_of-from.ensures ∙ ap (λ bs. start_var (names_of bs) c.in-Some.clause.now.path.start) c.deref.ensures.value)
     c.items-steps.ensures c.innermost.ensures (names_of-push c.args.scope.now.items c.push.new.self.items _ c.in_ok-push.ensures.items) refl
     (c.in_ok-put_turns.ensures.body
-    ∙ ap (λ ts. join (body_of ts) (raw_turns c.in-Some.rest.now (on_some cond_tree c.args.filter.now) (expr_tree c.args.body.now) (names_of c.push.new.self.items) (c.args.next.now + length c.items-steps.result.now))) c.new-inner.ensures)
+    ∙ ap (λ ts. join (body_of ts) (raw_turns c.in-Some.rest.now (option_map cond_tree c.args.filter.now) (expr_tree c.args.body.now) (names_of c.push.new.self.items) (c.args.next.now + length c.items-steps.result.now))) c.new-inner.ensures)
     c.in_ok-loops.ensures put)
     c.put_body.ensures

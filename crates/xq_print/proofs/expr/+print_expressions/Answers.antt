@@ -1,8 +1,8 @@
 use Rattle.std.proofs.Common.{◌≡◌, ◌++◌, string_bytes, map, arith, sym, ap, ◌∙◌}
-use Rattle.std.specs.Prelude.{codes}
+use Rattle.std.specs.Prelude.{codes, option_map}
 use Rattle.std.proofs.lemmas.Result.{on_ok_weaker}
 use Rattle.gcx_model.specs.declared.query.Expr.{the_lemmas}
-use Rattle.gcx_model.specs.Query.{Elem, For, If, cond_tree, expr_tree, expr_trees, exprs_of, on_some}
+use Rattle.gcx_model.specs.Query.{Elem, For, If, cond_tree, expr_tree, expr_trees, exprs_of}
 use Rattle.gcx_model.specs.Written.{end_tag}
 use Rattle.xq_print.specs.Printed.{clause_text, cond_text, expr_text, expr_texts, filter_text, joined}
 use Rattle.xq_print.proofs.Lists.{elem_put, loop_put, branch_put, parts_done}
@@ -25,10 +25,10 @@ put_expr-returns-in_ok-put_where-in-Elem-2 t c =
 
 pub put_expr-returns-in_ok-put_loop-in-For : goal.put_expr-returns-in_ok-put_loop-in-For
 put_expr-returns-in_ok-put_loop-in-For t c =
-    let tree : expr_tree c.args.expr.now ≡ For c.in-For.clauses (on_some cond_tree c.in-For.filter) (expr_tree c.deref.result.now) = grind (arith, the_lemmas) in
+    let tree : expr_tree c.args.expr.now ≡ For c.in-For.clauses (option_map cond_tree c.in-For.filter) (expr_tree c.deref.result.now) = grind (arith, the_lemmas) in
     on_ok_weaker c.put_expr.result
     (λ (put : string_bytes c.put_expr.new.out ≡ string_bytes c.put_loop.new.out ++ expr_text (expr_tree c.deref.result.now)).
-    loop_put (string_bytes c.args.out.now) (string_bytes c.put_loop.new.out) (string_bytes c.put_expr.new.out) (joined (codes ", ") (map clause_text c.in-For.clauses)) (filter_text (on_some cond_tree c.in-For.filter))
+    loop_put (string_bytes c.args.out.now) (string_bytes c.put_loop.new.out) (string_bytes c.put_expr.new.out) (joined (codes ", ") (map clause_text c.in-For.clauses)) (filter_text (option_map cond_tree c.in-For.filter))
     (expr_text (expr_tree c.deref.result.now)) c.in_ok-put_loop-in-For.ensures put
     ∙ ap (λ e. string_bytes c.args.out.now ++ expr_text e) (sym tree))
     c.put_expr.ensures
