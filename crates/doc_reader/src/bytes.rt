@@ -6,6 +6,7 @@ ghost use Rattle.doc_reader.specs.Steps.{IsBehind};
 use gcx_base::Memory;
 
 /// Adds a character at the end.
+#[inline(always)]
 pub(crate) fn push_char(bytes: &mut Vec<u8>, c: char) -> Result<(), Memory>
     ensures { OnOk result (bytes.new.items ≡ bytes.old.items ++ encode_utf8 c) }
 {

@@ -1,4 +1,3 @@
-pub mod Names
 mod FirstPlaces
 mod ScopeLaws
 mod Folds

@@ -8,7 +8,6 @@ use gcx_base::{Memory, Name};
 use std::alloc::Global;
 use std::collections::BTreeMap;
 use std::marker::Model;
-use std::str::from_utf8;
 
 /// The names that clauses bind, seen as a list with the innermost first.
 #[derive(Drop)]
@@ -32,15 +31,6 @@ impl Model for Scope {
     ghost invariant = { λ s. (name : List ℕ) → get_by_text s.first name ≡ first_of name s.names.items };
 }
 
-fn text_of(name: &Name) -> &str
-    ensures { result.now ≡ name.now }
-{
-    match from_utf8(name.as_bytes()) {
-        Ok(text) => text,
-        Err(_) => unreachable!(),
-    }
-}
-
 /// Notes the place of a name, if it has none yet.
 fn put_first(
     alloc: Global,
@@ -51,7 +41,7 @@ fn put_first(
     ensures ok { OnOk result ((q : List ℕ) → get_by_text first.new q ≡ or_else (get_by_text first.old q) (if bytes_eq q name.now then Some place else None)) }
     ensures err { OnErr result ((q : List ℕ) → get_by_text first.new q ≡ get_by_text first.old q) }
 {
-    let key = String::from_str(alloc, text_of(name))?;
+    let key = String::from_str(alloc, name.as_str())?;
     let _ = first.entry(key)?.or_insert(place);
     Ok(())
 }
@@ -60,7 +50,7 @@ fn put_first(
 fn take_first(first: &mut BTreeMap<String, usize>, name: &Name, place: usize)
     ensures { (q : List ℕ) → get_by_text first.new q ≡ (if bytes_eq q name.now then unless_at place (get_by_text first.old q) else get_by_text first.old q) }
 {
-    let text = text_of(name);
+    let text = name.as_str();
     if first.get(text).copied() == Some(place) {
         let _ = first.remove(text);
     }
@@ -87,7 +77,7 @@ impl Scope {
     pub(crate) fn has(&self, name: &Name) -> bool
         ensures { result ≡ any (bytes_eq name.now) self.now }
     {
-        self.first.contains_key(text_of(name))
+        self.first.contains_key(name.as_str())
     }
 
     pub(crate) fn bind(&mut self, name: Name) -> Result<(), Memory>

@@ -6,6 +6,7 @@ pub mod Folds
 pub mod Pieces
 pub mod Lexical
 pub mod Forms
+mod Names
 pub mod NameForms
 pub mod NumberForms
 pub mod UnitForms

@@ -14,7 +14,7 @@ use Rattle.xq_lex.specs.Form.{name, variable, BeginsWith}
 use Rattle.xq_lex.proofs.NameLaws.{name_at-append}
 use Rattle.xq_lex.proofs.FormLaws.{name_begins, variable_begins, tails}
 use Rattle.xq_print.proofs.Forms.{ends_word, Fits}
-use Rattle.xq_parse.proofs.Names.{name_utf8}
+use Rattle.xq_print.proofs.Names.{name_utf8}
 
 -- no part of a name begins the text, so neither does a colon
 no_colon : (rest : List ℕ) → ends_word rest ≡ true → begins 58 rest ≡ false

@@ -4,19 +4,13 @@ ghost use Rattle.xq_print.specs.Printed.{axis_text, path_text, start_text, step_
 
 use gcx_base::{Axis, Memory, Name, Step, Test};
 use gcx_model::PathExpr;
-use std::str::from_utf8;
 
 /// Appends a name.
 pub fn put_name(out: &mut String, name: &Name) -> Result<(), Memory>
     ensures { OnOk result (string_bytes out.new ≡ string_bytes out.old ++ name.now) }
 {
-    match from_utf8(name.as_bytes()) {
-        Ok(text) => {
-            out.push_str(text)?;
-            Ok(())
-        }
-        Err(_) => unreachable!(),
-    }
+    out.push_str(name.as_str())?;
+    Ok(())
 }
 
 fn axis_text(axis: Axis) -> &'static str

@@ -26,6 +26,7 @@ fn close_element(m: &mut Scan) -> Result<(), Memory>
 }
 
 /// Behind the name of an end tag.
+#[inline(always)]
 pub(crate) fn ended(m: &mut Scan, c: char) -> Result<bool, Memory>
     ensures { Stepped result (scan_state m.old) (on_ended (scan_state m.old) c (scan_state m.old).names) (scan_state m.new) }
 {

@@ -19,6 +19,7 @@ use gcx_base::{Memory, Name, is_name_char, is_name_start, is_space};
 use std::collections::VecDeque;
 
 /// Empties the run, and puts it as a token behind the others, unless it is blank.
+#[inline(always)]
 pub(crate) fn end_run(run: &mut Run, events: &mut VecDeque<Event>)
     requires { deque_len events.old + 1 ≤ deque_capacity events.old }
     ensures run { run.new ≡ [] }
@@ -100,6 +101,7 @@ fn empty_element(m: &mut Scan) -> Result<(), Memory>
 }
 
 /// Behind the name of a start tag, or behind a value.
+#[inline(always)]
 pub(crate) fn tag(m: &mut Scan, c: char) -> Result<bool, Memory>
     ensures { Stepped result (scan_state m.old) (on_tag (scan_state m.old) c) (scan_state m.new) }
 {

@@ -31,6 +31,7 @@ pub(crate) fn turn(m: &mut Scan, mode: Option<Mode>) -> bool
 }
 
 /// Between two tags, or outside the root.
+#[inline(always)]
 pub(crate) fn between(m: &mut Scan, c: char) -> Result<bool, Memory>
     ensures { Stepped result (scan_state m.old) (on_between (scan_state m.old) c) (scan_state m.new) }
 {

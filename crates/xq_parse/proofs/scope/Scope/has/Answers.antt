@@ -9,5 +9,5 @@ use Rattle.xq_parse.proofs.scope.Scope.has.Goals as goal
 pub returns : goal.returns
 returns c =
     let q = c.args.name.now in
-    c.contains_key.ensures ∙ ap (λ (x : List ℕ). is_some (get_by_text c.self.inside.first x)) c.text_of.ensures ∙ ap is_some (c.self.invariant q)
+    c.contains_key.ensures ∙ ap (λ (x : List ℕ). is_some (get_by_text c.self.inside.first x)) c.as_str.ensures ∙ ap is_some (c.self.invariant q)
     ∙ is_bound q c.self.inside.names.items (any_reverse (bytes_eq q) c.self.inside.names.items) ∙ ap (any (bytes_eq q)) c.self.view_is
