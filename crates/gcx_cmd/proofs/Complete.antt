@@ -1,15 +1,18 @@
 -- Completeness, from what each status says and from the causes of faults.
-use Rattle.std.proofs.Common.{◌≡◌, ◌⊎◌, ℕ, true, List, inl, inr, ⊎_elim, refl, sym, ◌∙◌, subst}
+use Rattle.std.proofs.Common.{◌≡◌, ◌⊎◌, ℕ, ◌+◌, ◌≤◌, true, List, inl, inr, ⊎_elim, refl, sym, ◌∙◌, ap, subst}
 use Rattle.std.specs.declared.option.Option.TheVariants as o
+use Rattle.std.specs.declared.result.Result.TheVariants as r
 use Rattle.gcx_base.specs.Limits.{full_limits}
 use Rattle.gcx_model.specs.declared.fault.DocFault.{DocFault}
 use Rattle.gcx_model.specs.declared.fault.QueryFault.{QueryFault}
+use Rattle.gcx_model.specs.Faults.{FaultIs}
 use Rattle.gcx_model.specs.Normal.{normal}
 use Rattle.gcx_model.specs.Query.{ExprTree}
 use Rattle.signoff_place.specs.Refused.{refusal_of}
 use Rattle.doc_laws.proofs.Unique.{fault_one}
 use Rattle.gcx_io.specs.Shelf.{Names, content_of, IsMissing}
-use Rattle.gcx_cmd.specs.Main.{IsRun, IsQuery, IsOneQuery, IsDocument, IsDocumentRefusal, SaysOfQuery, SaysOfDocument, StopsDocument, IsRefusedFor}
+use Rattle.gcx_cmd.specs.Main.{IsRun, IsQuery, IsOneQuery, IsDocument, SaysOfQuery, SaysOfDocument, AttachesQuery, StopsDocument, IsRefusedFor}
+use Rattle.gcx_cmd.proofs.Handles.{at_most_one}
 use Rattle.gcx_cmd.specs.declared.status.Status.{Status}
 use Rattle.gcx_cmd.specs.declared.status.Status.TheVariants.{Ok, Usage, QueryRefused, DocumentRefused, ReadFault, WriteFault, Memory}
 
@@ -24,10 +27,39 @@ no_some : (f : DocFault) → o.None ≡ o.Some f → ⊥
 no_some f e = cc
 
 -- an accepted query isn't refused
-refused_not : (query : List ℕ) (f : QueryFault) → IsRefusedFor query f → IsQuery query → ⊥
+pub refused_not : (query : List ℕ) (f : QueryFault) → IsRefusedFor query f → IsQuery query → ⊥
 refused_not query f (inl h) good = h.1.no_query good.0 good.1.spells good.1.sound
 refused_not query f (inr h) good =
     no_fault_some f (sym (subst (λ (q : List ExprTree). refusal_of (normal q) ≡ o.None) (h.only.once good.0 good.1.spells) good.1.within) ∙ h.limit)
+
+-- bytes are refused for one reason
+some_one : (f g : QueryFault) → o.Some f ≡ o.Some g → f ≡ g
+some_one f g e = cc
+
+one_refusal : (query : List ℕ) (f g : QueryFault) → IsRefusedFor query f → IsRefusedFor query g → f ≡ g
+one_refusal query f g (inl h) (inl k) = k.1.once f h.0
+one_refusal query f g (inl h) (inr k) = absurd (h.1.no_query k.query k.spells k.sound)
+one_refusal query f g (inr h) (inl k) = absurd (k.1.no_query h.query h.spells h.sound)
+one_refusal query f g (inr h) (inr k) = some_one f g (sym h.limit ∙ subst (λ (q : List ExprTree). refusal_of (normal q) ≡ o.Some g) (h.only.once k.query k.spells) k.limit)
+
+refused_from : (status : Status) (query : List ℕ) (f : QueryFault) → SaysOfQuery status query → IsRefusedFor query f → (status ≡ Usage → ⊥) → (status ≡ ReadFault → ⊥) → (status ≡ QueryRefused f) ⊎ (status ≡ Memory)
+refused_from Ok query f says refused not_usage not_read = absurd (refused_not query f refused (says.0, says.1))
+refused_from Usage query f says refused not_usage not_read = absurd (not_usage refl)
+refused_from (QueryRefused g) query f says refused not_usage not_read = inl (ap QueryRefused (one_refusal query g f says refused))
+refused_from (DocumentRefused g) query f says refused not_usage not_read = absurd (refused_not query f refused (says.0, says.1))
+refused_from ReadFault query f says refused not_usage not_read = absurd (not_read refl)
+refused_from WriteFault query f says refused not_usage not_read = absurd (refused_not query f refused (says.0, says.1))
+refused_from Memory query f says refused not_usage not_read = inr refl
+
+-- the query isn't accepted, and no count rose
+pub query_stops : (T : Type 0) (status : Status) (names : Names) (name query : List ℕ) (f : QueryFault) (before after : ℕ) (rose : Type 0) → content_of names name ≡ o.Some query
+    → SaysOfQuery status query → AttachesQuery {T = T} (r.Err status) before after → (status ≡ ReadFault → rose ⊎ IsMissing names name) → IsRefusedFor query f → (rose → ⊥)
+    → ((status ≡ QueryRefused f) ⊎ (status ≡ Memory)) × (after ≤ before + 1)
+query_stops T status names name query f before after rose told says attaches read refused not_rose = (
+  refused_from status query f says refused (λ is. subst (λ (s : Status). AttachesQuery {T = T} (r.Err s) before after) is attaches)
+      (λ is. ⊎_elim not_rose (there names name query told) (read is)),
+  at_most_one T status before after attaches,
+)
 
 complete_from : (status : Status) (query document : List ℕ) → SaysOfQuery status query → SaysOfDocument status document → IsQuery query → IsDocument document
     → (status ≡ ReadFault → ⊥) → (status ≡ WriteFault → ⊥) → (status ≡ Ok) ⊎ (status ≡ Memory)
@@ -38,6 +70,20 @@ complete_from (DocumentRefused f) q d says_q says_d good_q good_d not_read not_w
 complete_from ReadFault q d says_q says_d good_q good_d not_read not_write = absurd (not_read refl)
 complete_from WriteFault q d says_q says_d good_q good_d not_read not_write = absurd (not_write refl)
 complete_from Memory q d says_q says_d good_q good_d not_read not_write = inr refl
+
+-- the document is refused, and the query isn't
+document_refused_from : (status : Status) (query document : List ℕ) (f : DocFault) → SaysOfQuery status query → SaysOfDocument status document → IsQuery query → FaultIs full_limits document true (o.Some f)
+    → (status ≡ ReadFault → ⊥) → (status ≡ DocumentRefused f) ⊎ (status ≡ Memory)
+document_refused_from Ok q d f says_q says_d good_q bad_d not_read = absurd (no_some f (fault_one full_limits d true o.None (o.Some f) says_d bad_d))
+document_refused_from Usage q d f says_q says_d good_q bad_d not_read = absurd says_q
+document_refused_from (QueryRefused g) q d f says_q says_d good_q bad_d not_read = absurd (refused_not q g says_q good_q)
+document_refused_from (DocumentRefused g) q d f says_q says_d good_q bad_d not_read = inl (ap DocumentRefused (same_fault g f (fault_one full_limits d true (o.Some g) (o.Some f) says_d bad_d)))
+  where
+    same_fault : (g f : DocFault) → o.Some g ≡ o.Some f → g ≡ f
+    same_fault g f e = cc
+document_refused_from ReadFault q d f says_q says_d good_q bad_d not_read = absurd (not_read refl)
+document_refused_from WriteFault q d f says_q says_d good_q bad_d not_read = absurd (no_some f (fault_one full_limits d true o.None (o.Some f) says_d bad_d))
+document_refused_from Memory q d f says_q says_d good_q bad_d not_read = inr refl
 
 -- a run that stops at the document has a query
 pub says_of_query : (status : Status) (query : List ℕ) (before after : ℕ) → StopsDocument status before after → IsOneQuery query → SaysOfQuery status query
@@ -64,3 +110,15 @@ complete_run status names words cq cd q d query document rose_read rose_write ru
     complete_from status query document (says_q query at_q) (says_d document at_d) good_q good_d
     (λ is. ⊎_elim not_read (⊎_elim (there names cq query at_q) (there names cd document at_d)) (read is))
     (λ is. not_write (write is))
+
+pub document_refused_run : (status : Status) (names : Names) (words : List (List ℕ)) (cq cd q d query document : List ℕ) (f : DocFault) (rose : Type 0)
+    → IsRun words cq cd → IsRun words q d → content_of names q ≡ o.Some query → content_of names d ≡ o.Some document → IsQuery query → FaultIs full_limits document true (o.Some f)
+    → ((q : List ℕ) → content_of names cq ≡ o.Some q → SaysOfQuery status q) → ((d : List ℕ) → content_of names cd ≡ o.Some d → SaysOfDocument status d)
+    → (status ≡ ReadFault → rose ⊎ (IsMissing names cq ⊎ IsMissing names cd)) → (rose → ⊥)
+    → (status ≡ DocumentRefused f) ⊎ (status ≡ Memory)
+document_refused_run status names words cq cd q d query document f rose run run' told_q told_d good_q bad_d says_q says_d read not_rose =
+    let same = same_run words q d cq cd run' run in
+    let at_q : content_of names cq ≡ o.Some query = subst (λ (n : List ℕ). content_of names n ≡ o.Some query) same.0 told_q in
+    let at_d : content_of names cd ≡ o.Some document = subst (λ (n : List ℕ). content_of names n ≡ o.Some document) same.1 told_d in
+    document_refused_from status query document f (says_q query at_q) (says_d document at_d) good_q bad_d
+    (λ is. ⊎_elim not_rose (⊎_elim (there names cq query at_q) (there names cd document at_d)) (read is))

@@ -3,16 +3,17 @@ use Rattle.std.proofs.Common.{◌≡◌, ◌⊎◌, ℕ, ◌+◌, ◌≤◌, ◌
 use Rattle.std.specs.Prelude.{Result}
 use Rattle.std.specs.declared.result.Result.TheVariants.{Ok, Err}
 use Rattle.std.proofs.lemmas.List.{map-append}
-use Rattle.std.specs.Io.KnownBytes.{Consumes, IsAtEnd}
+use Rattle.std.specs.Io.KnownBytes.{Consumes}
 use Rattle.std.proofs.KnownBytes.{Consumes-trans}
+use lib.Utf8.{encode}
 use Rattle.gcx_base.specs.declared.limits.Limits.{Limits}
 use Rattle.gcx_base.specs.Limits.{full_limits}
+use Rattle.gcx_base.specs.Utf8.{IsCharFront}
 use Rattle.gcx_model.specs.Document.{Nodes, tokens, tree_of}
 use Rattle.gcx_model.specs.Tree.{Tree, Token as Said, Start, Chars, End, opening, grow, grow_all}
-use Rattle.gcx_model.specs.Faults.{FaultIs, within_limit, before_limit, past_limit}
+use Rattle.gcx_model.specs.Faults.{FaultIs, none_yet, within_limit, before_limit, past_limit}
 use Rattle.gcx_model.specs.declared.fault.DocFault.{DocFault}
 use Rattle.gcx_model.specs.declared.fault.DocFault.TheVariants as fault
-use Rattle.doc_laws.proofs.Pieces.{fault_stays}
 use Rattle.doc_reader.specs.Judged.{given_token}
 use Rattle.doc_reader.specs.Standing.{ReaderView, Stands, Keeps, Accepted, Answers, Takes, taken, waiting, reader_tokens}
 use Rattle.doc_reader.specs.declared.token.Token.{Token}
@@ -20,9 +21,7 @@ use Rattle.doc_reader.specs.declared.token.Token.TheVariants.{EndOfDocument}
 use Rattle.tree_eval.specs.Tokens.{token_of}
 use Rattle.gcx_cmd.specs.declared.document.DocumentEnd.{DocumentEnd}
 use Rattle.gcx_cmd.specs.declared.document.DocumentEnd.TheVariants as end
-use Rattle.gcx_cmd.specs.Main.{SaysOfDocument}
-use Rattle.gcx_cmd.specs.ReadEnd.{document_status}
-use Rattle.gcx_cmd.specs.Document.{BytesSpell, IsWhole, HasGrown, HasRead, EndsBy, Finds, SaysWhy, end_of}
+use Rattle.gcx_cmd.specs.Document.{BytesSpell, IsWhole, HasGrown, HasRead, EndsBy, SaysWhy, end_of}
 
 -- ---- tokens taken one after another
 
@@ -105,7 +104,7 @@ ends_by T U (fault.TooLong k) b ended P h = h
 ends_by T U fault.Memory b ended P h = tt
 
 -- bytes without a fault are no more than may be
-none_within : (lim : Limits) (b : List ℕ) (ended : Bool) → FaultIs lim b ended None → length b ≤ lim.bytes
+pub none_within : (lim : Limits) (b : List ℕ) (ended : Bool) → FaultIs lim b ended None → length b ≤ lim.bytes
 none_within lim b ended (within_limit h w) = h
 none_within lim b ended (before_limit f h w e) = absurd (no_some f e)
   where
@@ -118,8 +117,20 @@ none_within lim b ended (past_limit h w e) = absurd (no_some (fault.TooLong lim.
 
 -- ---- a piece, and the end
 
+-- no bytes have no fault
+no_character : IsCharFront []
+unfolding encode
+no_character = record { c = 97; rest = 97 ∷ []; scalar = refl; bytes = refl; more = omega arith }
+
+nowhere : (front rest : List ℕ) (c : ℕ) → [] ≡ front ++ (c ∷ rest) → ⊥
+nowhere [] rest c e = cc
+nowhere (x ∷ front) rest c e = cc
+
+pub none_at_start : (lim : Limits) → FaultIs lim [] false None
+none_at_start lim = within_limit (omega arith) (none_yet [] [] (record { chars = refl; parts = refl; part = no_character }) (λ front c rest f e comes. nowhere front rest c e) refl refl)
+
 pub grown_none : (h : ReaderView) → Stands h full_limits [] false [] → waiting h ≡ [] → HasGrown h opening []
-grown_none h s none = record { given = []; stands = s; nothing_waits = none; tree_is = refl; within = omega arith }
+grown_none h s none = record { given = []; stands = s; nothing_waits = none; tree_is = refl; no_fault = none_at_start full_limits }
 
 pub piece_grown : (r0 r1 r2 : ReaderView) (s t : Tree) (b piece : List ℕ) → HasGrown r0 s b
     → ((lim : Limits) (b : List ℕ) (given : List Token) → Stands r0 lim b false given → Stands r1 lim (b ++ piece) false given)
@@ -131,7 +142,7 @@ piece_grown r0 r1 r2 s t b piece h fed clean took none tree = record {
   stands = took full_limits (b ++ piece) false h.given (fed full_limits b h.given h.stands);
   nothing_waits = none;
   tree_is = grown_on h.given (waiting r1) opening s t h.tree_is tree;
-  within = none_within full_limits (b ++ piece) false (clean full_limits b h.given h.stands);
+  no_fault = clean full_limits b h.given h.stands;
 }
 
 tokens_back : (ts : List Said) → map token_of (map given_token ts) ≡ ts
@@ -167,47 +178,10 @@ read_on r0 r1 s t a b c count more n piece h moved grown some counted = record {
   counted = let e = length-append h.bytes piece in let g = h.counted in omega arith;
 }
 
--- all bytes that the source had
-all_read : (bytes read : List ℕ) (a c : Option (List ℕ)) → a ≡ Some bytes → Consumes a c read → IsAtEnd c → bytes ≡ read
-all_read bytes read a c told moved at_end = go c (subst (λ (l : Option (List ℕ)). Consumes l c read) told moved) at_end
-  where
-    go : (c : Option (List ℕ)) → Consumes (Some bytes) c read → IsAtEnd c → bytes ≡ read
-    go None m e = absurd m
-    go (Some rest) m e = m ∙ ap (λ (l : List ℕ). read ++ l) e ∙ append-nil read
-
-pub end_found : (T : Type 0) (r : ReaderView) (s t : Tree) (e : DocumentEnd) (bytes : List ℕ) (a b c : Option (List ℕ)) (count : ℕ) → (h : HasRead r s a b count) → a ≡ Some bytes → Consumes b c [] → IsAtEnd c
-    → EndsBy {T = T} true h.bytes (Err e) (IsWhole h.bytes t) → Finds (Err e) bytes
-end_found T r s t (end.Refused f) bytes a b c count h told moved at_end k =
-    subst (λ (l : List ℕ). FaultIs full_limits l true (Some f)) (sym (all_read bytes (h.bytes ++ []) a c told (Consumes-trans a b c h.bytes [] h.moved moved) at_end ∙ append-nil h.bytes)) k
-end_found T r s t end.Fault bytes a b c count h told moved at_end k = tt
-end_found T r s t end.Memory bytes a b c count h told moved at_end k = tt
-
-pub whole_found : (r : ReaderView) (s t : Tree) (bytes : List ℕ) (a b c : Option (List ℕ)) (count : ℕ) → (h : HasRead r s a b count) → a ≡ Some bytes → Consumes b c [] → IsAtEnd c
-    → IsWhole h.bytes t → IsWhole bytes t
-whole_found r s t bytes a b c count h told moved at_end k =
-    subst (λ (l : List ℕ). IsWhole l t) (sym (all_read bytes (h.bytes ++ []) a c told (Consumes-trans a b c h.bytes [] h.moved moved) at_end ∙ append-nil h.bytes)) k
-
--- a refusal stays with the bytes that weren't read
-pub piece_found : (T : Type 0) (r : ReaderView) (s : Tree) (P : Type 0) (e : DocumentEnd) (bytes piece : List ℕ) (a b c : Option (List ℕ)) (count : ℕ) → (h : HasRead r s a b count) → a ≡ Some bytes → Consumes b c piece
-    → EndsBy {T = T} false (h.bytes ++ piece) (Err e) P → Finds (Err e) bytes
-piece_found T r s P (end.Refused f) bytes piece a b c count h told moved k = stays c (subst (λ (l : Option (List ℕ)). Consumes l c (h.bytes ++ piece)) told (Consumes-trans a b c h.bytes piece h.moved moved))
-  where
-    stays : (c : Option (List ℕ)) → Consumes (Some bytes) c (h.bytes ++ piece) → FaultIs full_limits bytes true (Some f)
-    stays None m = absurd m
-    stays (Some rest) m = subst (λ (l : List ℕ). FaultIs full_limits l true (Some f)) (sym m) (fault_stays full_limits (h.bytes ++ piece) rest true f k)
-piece_found T r s P end.Fault bytes piece a b c count h told moved k = tt
-piece_found T r s P end.Memory bytes piece a b c count h told moved k = tt
-
 pub consumes_none : (a : Option (List ℕ)) → Consumes a a []
 consumes_none None = tt
 consumes_none (Some xs) = refl
 
--- what the end of a document's reading says of its bytes
-pub says_of_found : (e : DocumentEnd) (bytes : List ℕ) → Finds (Err e) bytes → SaysOfDocument (document_status e) bytes
-says_of_found (end.Refused f) bytes h = h
-says_of_found end.Fault bytes h = tt
-says_of_found end.Memory bytes h = tt
-
 -- not so many bytes are read
 pub never_past : (r : ReaderView) (t : Tree) (a b : Option (List ℕ)) (count : ℕ) → HasRead r t a b count → full_limits.bytes < count → ⊥
-never_past r t a b count h past = let c = h.counted in let w = h.grown.within in omega arith
+never_past r t a b count h past = let c = h.counted in let w = none_within full_limits h.bytes false h.grown.no_fault in omega arith

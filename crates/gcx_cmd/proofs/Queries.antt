@@ -15,7 +15,7 @@ use Rattle.xq_parse.specs.Spelling.{QuerySpells}
 use Rattle.xq_lex.specs.Answer.{UnlessMemory}
 use Rattle.gcx_cmd.specs.declared.status.Status.{Status}
 use Rattle.gcx_cmd.specs.declared.status.Status.TheVariants as status
-use Rattle.gcx_cmd.specs.Main.{Accepts, SaysOfQuery, IsOneQuery, PassesLimit}
+use Rattle.gcx_cmd.specs.Main.{Accepts, SaysOfQuery, IsQuery, IsOneQuery, PassesLimit}
 use Rattle.gcx_cmd.specs.ReadEnd.{query_status}
 use Rattle.gcx_cmd.specs.Reading.{IsReadUpTo}
 use Rattle.gcx_cmd.specs.Document.{BytesSpell, IsWhole}
@@ -93,6 +93,9 @@ query_refused bytes read f h short a o = subst (λ (l : List ℕ). SaysOfQuery (
 -- what is said of the query where the document decides
 pub one_query : (bytes : List ℕ) (q : List ExprTree) → Accepts bytes q × HasOnlyQuery bytes q → IsOneQuery bytes
 one_query bytes q h = (q, h.0, h.1)
+
+pub is_query : (bytes : List ℕ) (q : List ExprTree) → Accepts bytes q × HasOnlyQuery bytes q → IsQuery bytes
+is_query bytes q h = (q, h.0)
 
 -- what is written is the answer
 pub answer_is : (items query_bytes document_bytes : List ℕ) (q r : List ExprTree) (tree : Tree) (d : Nodes) → Accepts query_bytes r × HasOnlyQuery query_bytes r → IsWhole document_bytes tree

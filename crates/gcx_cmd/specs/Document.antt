@@ -38,7 +38,7 @@ pub record HasGrown (reader : ReaderView) (tree : Tree) (bytes : List ℕ) : Typ
   pub stands : Stands reader full_limits bytes false given
   pub nothing_waits : waiting reader ≡ []
   pub tree_is : tree ≡ grow_all (map token_of given) opening
-  pub within : length bytes ≤ full_limits.bytes
+  pub no_fault : FaultIs full_limits bytes false None
 
 -- some bytes were read, and grew the tree
 pub record HasRead (reader : ReaderView) (tree : Tree) (before after : Option (List ℕ)) (count : ℕ) : Type 0 where
@@ -54,12 +54,12 @@ EndsBy ended bytes (Err (end.Refused f)) P = FaultIs full_limits bytes ended (So
 EndsBy ended bytes (Err end.Fault) P = ⊤
 EndsBy ended bytes (Err end.Memory) P = ⊤
 
--- what is read of a document's bytes
-abbrev pub Finds : Result Tree DocumentEnd → List ℕ → Type 0
-Finds (Ok tree) bytes = IsWhole bytes tree
-Finds (Err (end.Refused f)) bytes = FaultIs full_limits bytes true (Some f)
-Finds (Err end.Fault) bytes = ⊤
-Finds (Err end.Memory) bytes = ⊤
+-- what is found in the bytes that a document's source gave
+abbrev pub Finds : Result Tree DocumentEnd → List ℕ → Bool → Type 0
+Finds (Ok tree) bytes ended = (ended ≡ true) × IsWhole bytes tree
+Finds (Err (end.Refused f)) bytes ended = FaultIs full_limits bytes ended (Some f)
+Finds (Err end.Fault) bytes ended = (ended ≡ false) × FaultIs full_limits bytes false None
+Finds (Err end.Memory) bytes ended = ⊤
 
 -- want of memory is an end of its own, not a refusal
 abbrev pub IsRefusal : DocFault → Type 0

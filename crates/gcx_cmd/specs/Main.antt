@@ -1,5 +1,5 @@
 -- The words of the command line, and how a run ends (this project's).
-use Rattle.std.specs.Prelude.{◌≡◌, ◌≢◌, ◌⊎◌, ℕ, ◌+◌, List, [], ◌∷◌, codes, true, ⊤}
+use Rattle.std.specs.Prelude.{◌≡◌, ◌≢◌, ◌⊎◌, ◌≤◌, ◌<◌, ℕ, ◌+◌, List, [], ◌∷◌, codes, true, ⊤}
 use Rattle.std.specs.declared.option.Option.{Option}
 use Rattle.std.specs.declared.option.Option.TheVariants as option
 use Rattle.std.specs.declared.result.Result.{Result}
@@ -86,35 +86,42 @@ Writes WriteFault before after answer = GrowsWithin before after answer
 Writes status before after answer = after ≡ before
 
 -- want of memory stands in no refusal
-abbrev pub IsQueryRefusal : QueryFault → Type 0
-IsQueryRefusal f = f ≢ query_fault.Memory
+abbrev pub HasNoMemory : Status → Type 0
+HasNoMemory (QueryRefused f) = f ≢ query_fault.Memory
+HasNoMemory (DocumentRefused f) = f ≢ doc_fault.Memory
+HasNoMemory status = ⊤
 
-abbrev pub IsDocumentRefusal : DocFault → Type 0
-IsDocumentRefusal f = f ≢ doc_fault.Memory
+-- handles are given more, at most so many
+abbrev pub GivesAtMost : ℕ → ℕ → ℕ → Type 0
+GivesAtMost most before after = (before ≤ after) × (after ≤ before + most)
 
--- how many handles are given more: DOC is attached behind QUERY, and only where the query is accepted
+-- no handle that was given before has less left, or other bytes
+abbrev pub KeepsGiven : ℕ → (before after : ℕ → Option (List ℕ)) → Type 0
+KeepsGiven count before after = (k : ℕ) → k < count → after k ≡ before k
+
+-- how many handles are given more: DOC is attached behind QUERY
 abbrev pub Attaches : Status → ℕ → ℕ → Type 0
 Attaches Ok before after = after ≡ before + 2
 Attaches Usage before after = after ≡ before
-Attaches (QueryRefused f) before after = IsQueryRefusal f × (after ≡ before + 1)
-Attaches (DocumentRefused f) before after = IsDocumentRefusal f × (after ≡ before + 2)
-Attaches ReadFault before after = ⊤
+Attaches (QueryRefused f) before after = after ≡ before + 1
+Attaches (DocumentRefused f) before after = after ≡ before + 2
+Attaches ReadFault before after = GivesAtMost 2 before after
 Attaches WriteFault before after = after ≡ before + 2
-Attaches Memory before after = ⊤
+Attaches Memory before after = GivesAtMost 2 before after
 
 -- QUERY is attached, where it was read
 abbrev pub AttachesQuery : {T : Type 0} → Result T Status → ℕ → ℕ → Type 0
 AttachesQuery (result.Ok x) before after = after ≡ before + 1
-AttachesQuery (result.Err (QueryRefused f)) before after = IsQueryRefusal f × (after ≡ before + 1)
-AttachesQuery (result.Err ReadFault) before after = ⊤
-AttachesQuery (result.Err Memory) before after = ⊤
+AttachesQuery (result.Err (QueryRefused f)) before after = after ≡ before + 1
+AttachesQuery (result.Err ReadFault) before after = GivesAtMost 1 before after
+AttachesQuery (result.Err Memory) before after = GivesAtMost 1 before after
 AttachesQuery (result.Err status) before after = ⊥
 
 -- how the reading of DOC may end without a document: it is attached, where it was read
 abbrev pub StopsDocument : Status → ℕ → ℕ → Type 0
-StopsDocument (DocumentRefused f) before after = IsDocumentRefusal f × (after ≡ before + 1)
-StopsDocument ReadFault before after = ⊤
-StopsDocument Memory before after = ⊤
+StopsDocument (DocumentRefused f) before after = after ≡ before + 1
+StopsDocument ReadFault before after = GivesAtMost 1 before after
+StopsDocument Memory before after = GivesAtMost 1 before after
 StopsDocument status before after = ⊥
 
 abbrev pub AttachesDocument : {T : Type 0} → Result T Status → ℕ → ℕ → Type 0

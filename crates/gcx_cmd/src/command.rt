@@ -1,13 +1,18 @@
 //! The commands.
-ghost use Rattle.std.specs.Prelude.{◌≡◌, ◌≢◌, ◌⊎◌, ◌≤◌, ◌↔◌, ℕ, List, Some};
+ghost use Rattle.std.specs.Prelude.{◌≡◌, ◌≢◌, ◌⊎◌, ◌≤◌, ◌+◌, ◌↔◌, ℕ, List, Some, true};
+ghost use Rattle.gcx_base.specs.Limits.{full_limits};
 ghost use Rattle.gcx_io.specs.Causes.{Rose};
 ghost use Rattle.gcx_io.specs.Shelf.{content_of, IsMissing};
 ghost use Rattle.gcx_model.specs.Answer.{answer};
 ghost use Rattle.gcx_model.specs.Document.{Nodes};
+ghost use Rattle.gcx_model.specs.Faults.{FaultIs};
+ghost use Rattle.gcx_model.specs.declared.fault.DocFault.{DocFault};
+ghost use Rattle.gcx_model.specs.declared.fault.QueryFault.{QueryFault};
 ghost use Rattle.gcx_model.specs.Query.{ExprTree};
 ghost use Rattle.gcx_cmd.specs.Document.{BytesSpell};
 ghost use Rattle.gcx_cmd.specs.Diagnosis.{line_of, TakesLine};
-ghost use Rattle.gcx_cmd.specs.Main.{IsRun, Accepts, IsQuery, IsDocument, SaysOfQuery, SaysOfDocument, Writes, Attaches, LacksFile};
+ghost use Rattle.gcx_cmd.specs.Main.{IsRun, Accepts, IsQuery, IsOneQuery, IsDocument, IsRefusedFor, SaysOfQuery, SaysOfDocument, Writes, HasNoMemory, KeepsGiven, Attaches, LacksFile};
+ghost use Rattle.gcx_cmd.specs.Stopping.{DocumentGave, SaysOfGiven};
 
 use crate::Status;
 use crate::diagnosis::diagnose;
@@ -32,7 +37,16 @@ fn run<F: Shelf, O: Sink>(
         content_of (F.names files.old) query.now ≡ Some query_bytes → content_of (F.names files.old) document.now ≡ Some document_bytes →
         Accepts query_bytes q → BytesSpell document_bytes d → Writes result (O.taken out.old) (O.taken out.new) (answer q d) }
     ensures quiet { result ≢ Status.Ok → result ≢ Status.WriteFault → out.new ≡ out.old }
+    ensures refused { (bytes : List ℕ) (f : QueryFault) → content_of (F.names files.old) query.now ≡ Some bytes → IsRefusedFor bytes f →
+        (Rose (F.faults files.old) (F.faults files.new) → ⊥) →
+        (result ≡ Status.QueryRefused f ⊎ result ≡ Status.Memory) × (F.handles files.new ≤ F.handles files.old + 1) }
+    ensures accepted { (bytes : List ℕ) → content_of (F.names files.old) query.now ≡ Some bytes →
+        F.handles files.new ≡ F.handles files.old + 2 → IsOneQuery bytes }
+    ensures stopped { F.handles files.new ≡ F.handles files.old + 2 →
+        DocumentGave (content_of (F.names files.old) document.now) (F.left files.new (F.handles files.old + 1)) (SaysOfGiven result) }
     ensures attaches { Attaches result (F.handles files.old) (F.handles files.new) }
+    ensures others { KeepsGiven (F.handles files.old) (F.left files.old) (F.left files.new) }
+    ensures memory { HasNoMemory result }
     ensures usage { result ≡ Status.Usage → ⊥ }
     ensures read { result ≡ Status.ReadFault → Rose (F.faults files.old) (F.faults files.new)
         ⊎ (IsMissing (F.names files.old) query.now ⊎ IsMissing (F.names files.old) document.now) }
@@ -43,11 +57,11 @@ fn run<F: Shelf, O: Sink>(
 {
     let query = match read_query(alloc, files, query) {
         Ok(query) => query,
-        Err(status) => return status,
+        Err(refused) => return refused,
     };
     let tree = match read_document(alloc, files, document) {
         Ok(tree) => tree,
-        Err(status) => return status,
+        Err(stopped) => return stopped,
     };
     let Ok(answer) = answer_whole(alloc, &query, &tree) else {
         return Status::Memory;
@@ -74,7 +88,16 @@ pub fn gcx_main<F: Shelf, O: Sink, E: Sink>(
         content_of (F.names files.old) query ≡ Some query_bytes → content_of (F.names files.old) document ≡ Some document_bytes →
         Accepts query_bytes q → BytesSpell document_bytes d → Writes result (O.taken out.old) (O.taken out.new) (answer q d) }
     ensures quiet { result ≢ Status.Ok → result ≢ Status.WriteFault → out.new ≡ out.old }
+    ensures refused { (q d bytes : List ℕ) (f : QueryFault) → IsRun words.now q d → content_of (F.names files.old) q ≡ Some bytes →
+        IsRefusedFor bytes f → (Rose (F.faults files.old) (F.faults files.new) → ⊥) →
+        (result ≡ Status.QueryRefused f ⊎ result ≡ Status.Memory) × (F.handles files.new ≤ F.handles files.old + 1) }
+    ensures accepted { (q d bytes : List ℕ) → IsRun words.now q d → content_of (F.names files.old) q ≡ Some bytes →
+        F.handles files.new ≡ F.handles files.old + 2 → IsOneQuery bytes }
+    ensures stopped { (q d : List ℕ) → IsRun words.now q d → F.handles files.new ≡ F.handles files.old + 2 →
+        DocumentGave (content_of (F.names files.old) d) (F.left files.new (F.handles files.old + 1)) (SaysOfGiven result) }
     ensures attaches { Attaches result (F.handles files.old) (F.handles files.new) }
+    ensures others { KeepsGiven (F.handles files.old) (F.left files.old) (F.left files.new) }
+    ensures memory { HasNoMemory result }
     ensures read { result ≡ Status.ReadFault → Rose (F.faults files.old) (F.faults files.new) ⊎ LacksFile words.now (F.names files.old) }
     ensures write { result ≡ Status.WriteFault → Rose (O.faults out.old) (O.faults out.new) }
     ensures complete { (query document query_bytes document_bytes : List ℕ) → IsRun words.now query document →
@@ -82,6 +105,10 @@ pub fn gcx_main<F: Shelf, O: Sink, E: Sink>(
         IsQuery query_bytes → IsDocument document_bytes →
         (Rose (F.faults files.old) (F.faults files.new) → ⊥) → (Rose (O.faults out.old) (O.faults out.new) → ⊥) →
         result ≡ Status.Ok ⊎ result ≡ Status.Memory }
+    ensures refused_document { (query document query_bytes document_bytes : List ℕ) (f : DocFault) → IsRun words.now query document →
+        content_of (F.names files.old) query ≡ Some query_bytes → content_of (F.names files.old) document ≡ Some document_bytes →
+        IsQuery query_bytes → FaultIs full_limits document_bytes true (Some f) → (Rose (F.faults files.old) (F.faults files.new) → ⊥) →
+        result ≡ Status.DocumentRefused f ⊎ result ≡ Status.Memory }
     ensures names { F.names files.new ≡ F.names files.old }
     ensures read_count { F.faults files.old ≤ F.faults files.new }
     ensures write_count { O.faults out.old ≤ O.faults out.new }

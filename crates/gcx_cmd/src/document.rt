@@ -7,6 +7,7 @@ ghost use Rattle.doc_reader.specs.Standing.{IsOpen, Stands, Keeps, waiting};
 ghost use Rattle.doc_reader.specs.declared.token.Token.{Token as Given};
 ghost use Rattle.tree_eval.specs.Tokens.{token_of};
 ghost use Rattle.gcx_cmd.specs.Document.{HasGrown, IsWhole, EndsBy, Finds, SaysWhy};
+ghost use Rattle.gcx_cmd.specs.Stopping.{DocumentGave};
 
 use doc_reader::Reader;
 use gcx_base::{Limits, Memory};
@@ -106,7 +107,7 @@ fn take_end(reader: &mut Reader, tree: &mut Tree) -> Result<(), DocumentEnd>
 
 /// The tree of the document that the source gives to its end.
 pub(crate) fn read_tree<S: Source>(alloc: Global, source: &mut S) -> Result<Tree, DocumentEnd>
-    ensures found { (bytes : List ℕ) → S.left source.old ≡ Some bytes → Finds result bytes }
+    ensures gave { DocumentGave (S.left source.old) (S.left source.new) (Finds result) }
     ensures why { IfErr result SaysWhy }
     ensures kept { S.keeps source.old source.new }
     ensures later { S.faults source.old ≤ S.faults source.new }

@@ -10,7 +10,8 @@ ghost use Rattle.xq_lex.specs.Answer.{UnlessMemory};
 ghost use Rattle.xq_parse.specs.Faults.{HasOnlyQuery};
 ghost use Rattle.gcx_cmd.specs.Document.{IsWhole};
 ghost use Rattle.gcx_cmd.specs.Reading.{IsReadUpTo};
-ghost use Rattle.gcx_cmd.specs.Main.{Accepts, SaysOfQuery, SaysOfDocument, AttachesQuery, AttachesDocument};
+ghost use Rattle.gcx_cmd.specs.Main.{Accepts, SaysOfQuery, SaysOfDocument, HasNoMemory, GivesAtMost, KeepsGiven, AttachesQuery, AttachesDocument};
+ghost use Rattle.gcx_cmd.specs.Stopping.{DocumentGave, SaysOfRead};
 
 use crate::Status;
 use crate::document::{DocumentEnd, read_tree};
@@ -64,7 +65,9 @@ fn read_file<F: Shelf>(
 ) -> Result<Vec<u8>, ReadEnd>
     ensures bytes { (bytes : List ℕ) → content_of (F.names files.old) name.now ≡ Some bytes → IfOk result (λ read. IsReadUpTo limit bytes read.items) }
     ensures names { F.names files.new ≡ F.names files.old }
-    ensures handles { OnOk result (F.handles files.new ≡ F.handles files.old + 1) }
+    ensures handle { OnOk result (F.handles files.new ≡ F.handles files.old + 1) }
+    ensures handles { GivesAtMost 1 (F.handles files.old) (F.handles files.new) }
+    ensures others { KeepsGiven (F.handles files.old) (F.left files.old) (F.left files.new) }
     ensures later { F.faults files.old ≤ F.faults files.new }
     ensures cause { IsErrOf result ReadEnd.Fault → Rose (F.faults files.old) (F.faults files.new) ⊎ IsMissing (F.names files.old) name.now }
 {
@@ -95,6 +98,8 @@ pub(crate) fn read_query<F: Shelf>(
     ensures cause { IsErrOf result Status.ReadFault → Rose (F.faults files.old) (F.faults files.new) ⊎ IsMissing (F.names files.old) name.now }
     ensures names { F.names files.new ≡ F.names files.old }
     ensures handles { AttachesQuery result (F.handles files.old) (F.handles files.new) }
+    ensures others { KeepsGiven (F.handles files.old) (F.left files.old) (F.left files.new) }
+    ensures memory { IfErr result HasNoMemory }
     ensures later { F.faults files.old ≤ F.faults files.new }
 {
     let bytes = read_file(alloc, files, name, LIMIT)?;
@@ -116,7 +121,11 @@ pub(crate) fn read_document<F: Shelf>(
         MatchResult result (λ tree. IsWhole bytes tree) (λ status. SaysOfDocument status bytes) }
     ensures cause { IsErrOf result Status.ReadFault → Rose (F.faults files.old) (F.faults files.new) ⊎ IsMissing (F.names files.old) name.now }
     ensures names { F.names files.new ≡ F.names files.old }
+    ensures stopped { F.handles files.new ≡ F.handles files.old + 1 →
+        DocumentGave (content_of (F.names files.old) name.now) (F.left files.new (F.handles files.old)) (SaysOfRead result) }
     ensures handles { AttachesDocument result (F.handles files.old) (F.handles files.new) }
+    ensures others { KeepsGiven (F.handles files.old) (F.left files.old) (F.left files.new) }
+    ensures memory { IfErr result HasNoMemory }
     ensures later { F.faults files.old ≤ F.faults files.new }
 {
     let handle = attach(files, name)?;

@@ -1,8 +1,8 @@
 //! Reading of whole files.
 ghost use Rattle.std.specs.Prelude.{◌≡◌, ◌⊎◌, ◌≤◌, ℕ, List, Some, IfOk, OnOk, OnErr, IsErrOf};
 ghost use Rattle.gcx_io.specs.Causes.{Rose};
-ghost use Rattle.gcx_io.specs.Shelf.{content_of, IsMissing};
-ghost use Rattle.gcx_cmd.specs.Reading.{IsReadUpTo, Attached};
+ghost use Rattle.gcx_io.specs.Shelf.{content_of, IsMissing, Adds};
+ghost use Rattle.gcx_cmd.specs.Reading.{IsReadUpTo};
 
 use crate::Status;
 use gcx_base::Text;
@@ -77,12 +77,13 @@ pub(crate) fn read_up_to<S: Source>(
 
 /// Opens a file.
 pub(crate) fn attach<F: Shelf>(files: &mut F, name: &Text) -> Result<Handle, ReadEnd>
-    ensures given { IfOk result (λ handle. Attached (F.handles files.old) (F.handles files.new) (content_of (F.names files.old) name.now) (F.left files.new) handle.0) }
+    ensures given { IfOk result (λ handle.
+        Adds (F.handles files.old) (F.handles files.new) (F.left files.old) (F.left files.new) (content_of (F.names files.old) name.now) handle.0) }
     ensures there { OnOk result (IsMissing (F.names files.old) name.now → ⊥) }
     ensures names { F.names files.new ≡ F.names files.old }
     ensures later { F.faults files.old ≤ F.faults files.new }
     ensures cause { IsErrOf result ReadEnd.Fault → Rose (F.faults files.old) (F.faults files.new) ⊎ IsMissing (F.names files.old) name.now }
-    ensures refused { OnErr result (F.handles files.new ≡ F.handles files.old) }
+    ensures refused { OnErr result ((F.handles files.new ≡ F.handles files.old) × (F.left files.new ≡ F.left files.old)) }
 {
     match files.attach(name) {
         Ok(handle) => Ok(handle),

@@ -1,6 +1,6 @@
 use Rattle.std.proofs.Common.{refl, ◌≡◌, ℕ, List, Some, subst}
 use Rattle.gcx_io.specs.Shelf.{content_of}
-use Rattle.gcx_cmd.proofs.Complete.{complete_run, same_run}
+use Rattle.gcx_cmd.proofs.Complete.{complete_run, document_refused_run, same_run}
 use Rattle.gcx_cmd.proofs.command.gcx_main.Goals as goal
 use Rattle.gcx_cmd.proofs.command.gcx_main.Goals.{in-Some, in-None}
 
@@ -24,4 +24,33 @@ returns-clause-complete g c = elim c.match-command_of.branch [
       w.in-Some.ensures.some run told_q told_d good_q good_d w.run-status.ensures.query w.run-status.ensures.document w.run-status.ensures.read w.run-status.ensures.write
       (rw w.files-is at not_read) (rw w.out-is at not_write))
   | in-None w ↦ λ q d query document run told_q told_d good_q good_d not_read not_write. absurd (w.in-None.ensures.none refl q d run)
+]
+
+pub returns-clause-refused : goal.returns-clause-refused
+returns-clause-refused g c = elim c.match-command_of.branch [
+  | in-Some w ↦ λ q d bytes f run told refused not_rose.
+      let names = g.F.Shelf.names c.args.files.now in
+      let same = same_run c.args.words.now q d _ _ run w.in-Some.ensures.some in
+      rw (w.status-is, w.files-is)
+      (w.run-status.ensures.refused bytes f (subst (λ (n : List ℕ). content_of names n ≡ Some bytes) same.0 told) refused (rw w.files-is at not_rose))
+  | in-None w ↦ λ q d bytes f run told refused not_rose. absurd (w.in-None.ensures.none refl q d run)
+]
+
+pub returns-clause-accepted : goal.returns-clause-accepted
+returns-clause-accepted g c = elim c.match-command_of.branch [
+  | in-Some w ↦ λ q d bytes run told two.
+      let names = g.F.Shelf.names c.args.files.now in
+      let same = same_run c.args.words.now q d _ _ run w.in-Some.ensures.some in
+      w.run-status.ensures.accepted bytes (subst (λ (n : List ℕ). content_of names n ≡ Some bytes) same.0 told) (rw w.files-is at two)
+  | in-None w ↦ λ q d bytes run told two. absurd (w.in-None.ensures.none refl q d run)
+]
+
+pub returns-clause-refused_document : goal.returns-clause-refused_document
+returns-clause-refused_document g c = elim c.match-command_of.branch [
+  | in-Some w ↦ λ q d query document f run told_q told_d good_q bad_d not_rose.
+      rw w.status-is
+      (document_refused_run w.run-status.result (g.F.Shelf.names c.args.files.now) c.args.words.now _ _ q d query document f _
+      w.in-Some.ensures.some run told_q told_d good_q bad_d w.run-status.ensures.query w.run-status.ensures.document w.run-status.ensures.read
+      (rw w.files-is at not_rose))
+  | in-None w ↦ λ q d query document f run told_q told_d good_q bad_d not_rose. absurd (w.in-None.ensures.none refl q d run)
 ]

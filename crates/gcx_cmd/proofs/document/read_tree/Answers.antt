@@ -1,12 +1,16 @@
-use Rattle.std.proofs.Common.{rules, ◌+◌, ℕ, false, [], take, sym, subst, arith}
-use Rattle.std.specs.declared.result.Result.TheVariants.{Err}
-use Rattle.std.specs.Io.KnownBytes.{Consumes, IsAtEnd}
+use Rattle.std.proofs.Common.{rules, ◌+◌, ◌++◌, ◌≤◌, ℕ, List, false, true, [], length, take, refl, sym, ap, subst, arith}
+use Rattle.std.proofs.lemmas.Result.{err_from_is_err_and}
+use Rattle.std.specs.declared.result.Result.TheVariants.{Ok, Err}
+use Rattle.std.specs.Io.KnownBytes.{Consumes, Keeps, IsAtEnd}
 use Rattle.gcx_base.specs.declared.limits.Limits.{Limits}
 use Rattle.gcx_base.specs.Limits.{full_limits}
 use Rattle.gcx_model.specs.Tree.{Tree}
 use Rattle.doc_reader.specs.Standing.{Stands}
+use Rattle.gcx_cmd.specs.declared.document.DocumentEnd.TheVariants as end
 use Rattle.gcx_cmd.specs.Document.{HasGrown, Finds}
-use Rattle.gcx_cmd.proofs.Documents.{grown_none, read_none, read_on, end_found, whole_found, piece_found, consumes_none}
+use Rattle.gcx_cmd.specs.Stopping.{DocumentGave}
+use Rattle.gcx_cmd.proofs.Documents.{grown_none, read_none, read_on, consumes_none}
+use Rattle.gcx_cmd.proofs.Stopping.{gave_nothing, gave_failed, gave_piece, gave_end, finds_by}
 use Rattle.gcx_cmd.proofs.document.read_tree.Goals as goal
 
 pub reading-init : goal.reading-init
@@ -21,30 +25,55 @@ reading-init g c =
       later = omega arith;
     }
 
-pub returns-in_err-take_end-clause-found : goal.returns-in_err-take_end-clause-found
-returns-in_err-take_end-clause-found g c = λ bytes told.
+pub returns-in_err-tree-clause-gave : goal.returns-in_err-tree-clause-gave
+returns-in_err-tree-clause-gave g c =
+    let left = g.S.Source.left c.args.source.now in
+    let gave : DocumentGave left left (Finds (Err end.Memory)) = gave_nothing left (Finds (Err end.Memory)) tt in
+    let p = err_from_is_err_and c.from_residual.result c.from_residual.ensures.1 in
+    rw (p.1, p.2) gave
+
+pub returns-in_err-n-clause-gave : goal.returns-in_err-n-clause-gave
+returns-in_err-n-clause-gave g c =
+    let h = c.reading.invariant.so_far in
+    let before = g.S.Source.left c.reading.source in
+    let after = g.S.Source.left c.read.new.self in
+    let kept : Keeps before after = search rules in
+    let gave : DocumentGave (g.S.Source.left c.args.source.now) after (Finds (Err end.Fault)) = gave_failed c.reading.reader c.reading.tree _ before after c.reading.count (Finds (Err end.Fault)) h kept (refl, h.grown.no_fault) in
+    let p = err_from_is_err_and c.from_residual-in_err-n.result c.from_residual-in_err-n.ensures.1 in
+    rw (p.1, p.2) gave
+
+pub returns-in_err-take_end-clause-gave : goal.returns-in_err-take_end-clause-gave
+returns-in_err-take_end-clause-gave g c =
+    let h = c.reading.invariant.so_far in
+    let e = c.in_err-take_end.field-0.0 in
+    let before = g.S.Source.left c.reading.source in
+    let after = g.S.Source.left c.read.new.self in
+    let moved : Consumes before after [] = subst (λ (k : ℕ). Consumes before after (take k c.read.new.buf)) c.if-n-eq0.true c.in_ok-n.ensures.bytes.0 in
+    let at_end : IsAtEnd after = c.in_ok-n.ensures.bytes.1 c.if-n-eq0.true (search rules) in
+    let found : Finds (Err e) h.bytes true = finds_by (Unit {0}) _ e h.bytes true (c.in_err-take_end.ensures.whole h.bytes h.grown) (λ is. c.in_err-take_end.ensures.read (ap Err is)) in
+    let gave : DocumentGave (g.S.Source.left c.args.source.now) after (Finds (Err e)) = gave_end c.reading.reader c.reading.tree _ before after c.reading.count (Finds (Err e)) h moved at_end found in
+    let p = err_from_is_err_and c.from_residual-in_err-take_end.result c.from_residual-in_err-take_end.ensures.1 in
+    rw (p.1, p.2) gave
+
+pub returns-then-n-eq0-clause-gave : goal.returns-then-n-eq0-clause-gave
+returns-then-n-eq0-clause-gave g c =
     let h = c.reading.invariant.so_far in
     let before = g.S.Source.left c.reading.source in
     let after = g.S.Source.left c.read.new.self in
     let moved : Consumes before after [] = subst (λ (k : ℕ). Consumes before after (take k c.read.new.buf)) c.if-n-eq0.true c.in_ok-n.ensures.bytes.0 in
     let at_end : IsAtEnd after = c.in_ok-n.ensures.bytes.1 c.if-n-eq0.true (search rules) in
-    let found : Finds (Err c.in_err-take_end.field-0.0) bytes = end_found (Unit {0}) c.reading.reader c.reading.tree _ c.in_err-take_end.field-0.0 bytes _ before after c.reading.count h told moved at_end (c.in_err-take_end.ensures.whole h.bytes h.grown) in
-    search (rules, found)
+    gave_end c.reading.reader c.reading.tree _ before after c.reading.count (Finds (Ok c.take_end.new.tree)) h moved at_end (refl, c.in_ok-take_end.ensures.whole h.bytes h.grown)
 
-pub returns-then-n-eq0-clause-found : goal.returns-then-n-eq0-clause-found
-returns-then-n-eq0-clause-found g c = λ bytes told.
+pub returns-in_err-take_piece-clause-gave : goal.returns-in_err-take_piece-clause-gave
+returns-in_err-take_piece-clause-gave g c =
     let h = c.reading.invariant.so_far in
-    let before = g.S.Source.left c.reading.source in
-    let after = g.S.Source.left c.read.new.self in
-    let moved : Consumes before after [] = subst (λ (k : ℕ). Consumes before after (take k c.read.new.buf)) c.if-n-eq0.true c.in_ok-n.ensures.bytes.0 in
-    let at_end : IsAtEnd after = c.in_ok-n.ensures.bytes.1 c.if-n-eq0.true (search rules) in
-    whole_found c.reading.reader c.reading.tree c.take_end.new.tree bytes _ before after c.reading.count h told moved at_end (c.in_ok-take_end.ensures.whole h.bytes h.grown)
-
-pub returns-in_err-take_piece-clause-found : goal.returns-in_err-take_piece-clause-found
-returns-in_err-take_piece-clause-found g c = λ bytes told.
-    let h = c.reading.invariant.so_far in
-    let found : Finds (Err c.in_err-take_piece.field-0.0) bytes = piece_found (Unit {0}) c.reading.reader c.reading.tree _ c.in_err-take_piece.field-0.0 bytes _ _ _ _ c.reading.count h told c.in_ok-n.ensures.bytes.0 (c.in_err-take_piece.ensures.grown h.bytes h.grown) in
-    search (rules, found)
+    let e = c.in_err-take_piece.field-0.0 in
+    let piece = take c.in_ok-n.n c.read.new.buf in
+    let short : length piece ≤ 65536 = search rules in
+    let found : Finds (Err e) (h.bytes ++ piece) false = finds_by (Unit {0}) _ e (h.bytes ++ piece) false (c.in_err-take_piece.ensures.grown h.bytes h.grown) (λ is. c.in_err-take_piece.ensures.read (ap Err is)) in
+    let gave : DocumentGave (g.S.Source.left c.args.source.now) (g.S.Source.left c.read.new.self) (Finds (Err e)) = gave_piece c.reading.reader c.reading.tree _ _ _ c.reading.count piece (Finds (Err e)) h c.in_ok-n.ensures.bytes.0 short found in
+    let p = err_from_is_err_and c.from_residual-in_err-take_piece.result c.from_residual-in_err-take_piece.ensures.1 in
+    rw (p.1, p.2) gave
 
 pub reading-preserved : goal.reading-preserved
 reading-preserved g c =
