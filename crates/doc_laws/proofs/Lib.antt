@@ -19,3 +19,6 @@ pub mod Found
 pub mod Growing
 pub mod Segments
 pub mod Within
+pub mod Levels
+pub mod Counted
+pub mod TreeBounds

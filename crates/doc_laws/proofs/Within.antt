@@ -291,13 +291,13 @@ module _ (lim : Limits) where
         let one = attribute_within ats k v (k.quote ∷ rest) g all in
         (attributes_within ats (head_spelling k ++ (value_spelling v ++ (k.quote ∷ rest))) g.0 all, one.0, one.1, one.2)
 
-    tag_within : (ats : Attributes) (rest : List ℕ) → IsAttributes ats → Clean lim ((frames_spelling fs ++ spelling x) ++ (60 ∷ (n ++ (attributes_spelling ats ++ rest)))) → IsTagWithin lim (depth fs + 1) x n ats
+    pub tag_within : (ats : Attributes) (rest : List ℕ) → IsAttributes ats → Clean lim ((frames_spelling fs ++ spelling x) ++ (60 ∷ (n ++ (attributes_spelling ats ++ rest)))) → IsTagWithin lim (depth fs + 1) x n ats
     tag_within ats rest g h = let e = element_within (attributes_spelling ats ++ rest) h in (e.0, e.1, e.2, attributes_within ats rest g h)
 
   before : (fs : Frames) (y : Content) (m rest : List ℕ) → Clean lim ((frames_spelling fs ++ (spelling y ++ m)) ++ rest) → Clean lim ((frames_spelling fs ++ spelling y) ++ (m ++ rest))
   before fs y m rest h = subst (Clean lim) (simp append_assoc) h
 
-  content_within : (fs : Frames) (x : Content) (rest : List ℕ) → IsFrames fs → IsContent (inside fs) x → Clean lim ((frames_spelling fs ++ spelling x) ++ rest) → IsContentWithin lim (depth fs + 1) x
+  pub content_within : (fs : Frames) (x : Content) (rest : List ℕ) → IsFrames fs → IsContent (inside fs) x → Clean lim ((frames_spelling fs ++ spelling x) ++ rest) → IsContentWithin lim (depth fs + 1) x
   content_within fs nothing rest f g h = tt
   content_within fs mark rest f g h = tt
   content_within fs (space y c) rest f g h = content_within fs y ((c ∷ []) ++ rest) f g.0 (before fs y (c ∷ []) rest h)
