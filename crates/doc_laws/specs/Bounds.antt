@@ -1,5 +1,5 @@
 -- What limits say of the tree of what is seen.
-use Rattle.std.specs.Prelude.{◌≡◌, ℕ, ◌+◌, ◌≤◌, List, ◌++◌, length, Some}
+use Rattle.std.specs.Prelude.{◌≡◌, ℕ, ◌+◌, ◌≤◌, Bool, List, ◌++◌, length, Some}
 use Rattle.gcx_base.specs.declared.kind.Kind.TheVariants.{Element}
 use Rattle.gcx_base.specs.declared.limits.Limits.{Limits}
 use Rattle.gcx_model.specs.Tree.{Node, kind_of, Tree, Token}
