@@ -11,7 +11,7 @@ use Rattle.gcx_model.specs.Query.{ExprTree}
 use Rattle.signoff_place.specs.Refused.{refusal_of}
 use Rattle.doc_laws.proofs.Unique.{fault_one}
 use Rattle.gcx_io.specs.Shelf.{Names, content_of, IsMissing}
-use Rattle.gcx_cmd.specs.Main.{IsRun, IsQuery, IsOneQuery, IsDocument, SaysOfQuery, SaysOfDocument, AttachesQuery, StopsDocument, IsRefusedFor}
+use Rattle.gcx_cmd.specs.Main.{IsRun, IsQuery, IsOneQuery, IsDocument, SaysOfQuery, SaysOfDocument, AttachesQuery, StopsDocument, QueryFaultOf}
 use Rattle.gcx_cmd.proofs.Handles.{at_most_one}
 use Rattle.gcx_cmd.specs.declared.status.Status.{Status}
 use Rattle.gcx_cmd.specs.declared.status.Status.TheVariants.{Ok, Usage, QueryRefused, DocumentRefused, ReadFault, WriteFault, Memory}
@@ -27,7 +27,7 @@ no_some : (f : DocFault) → o.None ≡ o.Some f → ⊥
 no_some f e = cc
 
 -- an accepted query isn't refused
-pub refused_not : (query : List ℕ) (f : QueryFault) → IsRefusedFor query f → IsQuery query → ⊥
+pub refused_not : (query : List ℕ) (f : QueryFault) → QueryFaultOf query f → IsQuery query → ⊥
 refused_not query f (inl h) good = h.1.no_query good.0 good.1.spells good.1.sound
 refused_not query f (inr h) good =
     no_fault_some f (sym (subst (λ (q : List ExprTree). refusal_of (normal q) ≡ o.None) (h.only.once good.0 good.1.spells) good.1.within) ∙ h.limit)
@@ -36,13 +36,13 @@ refused_not query f (inr h) good =
 some_one : (f g : QueryFault) → o.Some f ≡ o.Some g → f ≡ g
 some_one f g e = cc
 
-one_refusal : (query : List ℕ) (f g : QueryFault) → IsRefusedFor query f → IsRefusedFor query g → f ≡ g
+one_refusal : (query : List ℕ) (f g : QueryFault) → QueryFaultOf query f → QueryFaultOf query g → f ≡ g
 one_refusal query f g (inl h) (inl k) = k.1.once f h.0
 one_refusal query f g (inl h) (inr k) = absurd (h.1.no_query k.query k.spells k.sound)
 one_refusal query f g (inr h) (inl k) = absurd (k.1.no_query h.query h.spells h.sound)
 one_refusal query f g (inr h) (inr k) = some_one f g (sym h.limit ∙ subst (λ (q : List ExprTree). refusal_of (normal q) ≡ o.Some g) (h.only.once k.query k.spells) k.limit)
 
-refused_from : (status : Status) (query : List ℕ) (f : QueryFault) → SaysOfQuery status query → IsRefusedFor query f → (status ≡ Usage → ⊥) → (status ≡ ReadFault → ⊥) → (status ≡ QueryRefused f) ⊎ (status ≡ Memory)
+refused_from : (status : Status) (query : List ℕ) (f : QueryFault) → SaysOfQuery status query → QueryFaultOf query f → (status ≡ Usage → ⊥) → (status ≡ ReadFault → ⊥) → (status ≡ QueryRefused f) ⊎ (status ≡ Memory)
 refused_from Ok query f says refused not_usage not_read = absurd (refused_not query f refused (says.0, says.1))
 refused_from Usage query f says refused not_usage not_read = absurd (not_usage refl)
 refused_from (QueryRefused g) query f says refused not_usage not_read = inl (ap QueryRefused (one_refusal query g f says refused))
@@ -53,7 +53,7 @@ refused_from Memory query f says refused not_usage not_read = inr refl
 
 -- the query isn't accepted, and no count rose
 pub query_stops : (T : Type 0) (status : Status) (names : Names) (name query : List ℕ) (f : QueryFault) (before after : ℕ) (rose : Type 0) → content_of names name ≡ o.Some query
-    → SaysOfQuery status query → AttachesQuery {T = T} (r.Err status) before after → (status ≡ ReadFault → rose ⊎ IsMissing names name) → IsRefusedFor query f → (rose → ⊥)
+    → SaysOfQuery status query → AttachesQuery {T = T} (r.Err status) before after → (status ≡ ReadFault → rose ⊎ IsMissing names name) → QueryFaultOf query f → (rose → ⊥)
     → ((status ≡ QueryRefused f) ⊎ (status ≡ Memory)) × (after ≤ before + 1)
 query_stops T status names name query f before after rose told says attaches read refused not_rose = (
   refused_from status query f says refused (λ is. subst (λ (s : Status). AttachesQuery {T = T} (r.Err s) before after) is attaches)

@@ -4,13 +4,12 @@ use Rattle.std.specs.declared.option.Option.TheVariants.{None, Some}
 use Rattle.gcx_model.specs.Normal.{normal}
 use Rattle.gcx_model.specs.Query.{ExprTree}
 use Rattle.gcx_model.specs.Sound.{is_sound}
-use Rattle.signoff_place.specs.Refused as limits
 use Rattle.signoff_place.specs.Refused.{refusal_of}
 use Rattle.gcx_model.specs.declared.fault.QueryFault.{QueryFault}
 use Rattle.gcx_model.specs.declared.fault.QueryFault.TheVariants.{Utf8, Lex, Syntax, UnknownVar, TagMismatch, DescendantNotLast, IntegerWide, TooLarge, Memory}
 use Rattle.gcx_model.specs.declared.fault.What.{What}
 use Rattle.gcx_model.specs.declared.fault.What.TheVariants.{Text, Nesting, Loops, Steps, Conditions, Roles, Descendants}
-use Rattle.xq_parse.specs.Faults.{QueryFaultOf, HasOnlyQuery, HasOnlyRefusal}
+use Rattle.xq_parse.specs.Faults.{TextFaultOf, HasOnlyQuery, HasOnlyRefusal}
 use Rattle.xq_parse.specs.Spelling.{QuerySpells}
 use Rattle.xq_lex.specs.Answer.{UnlessMemory}
 use Rattle.gcx_cmd.specs.declared.status.Status.{Status}
@@ -23,11 +22,11 @@ use Rattle.gcx_model.specs.Answer.{answer}
 use Rattle.gcx_model.specs.Document.{Nodes, tree_of}
 use Rattle.gcx_model.specs.Tree.{Tree}
 
-too_large : (bytes : List ℕ) → 1048576 < length bytes → QueryFaultOf bytes (TooLarge Text 1048576)
+too_large : (bytes : List ℕ) → 1048576 < length bytes → TextFaultOf bytes (TooLarge Text 1048576)
 too_large bytes long = inl (refl, refl, long)
 
 -- the one fault of bytes that are too many
-same_fault : (bytes : List ℕ) (f : QueryFault) → 1048576 < length bytes → QueryFaultOf bytes f → f ≡ TooLarge Text 1048576
+same_fault : (bytes : List ℕ) (f : QueryFault) → 1048576 < length bytes → TextFaultOf bytes f → f ≡ TooLarge Text 1048576
 same_fault bytes f long (inr h) = absurd (let s = h.lexed.short in omega arith)
 same_fault bytes (Utf8 at) long (inl h) = absurd (let s = h.0 in omega arith)
 same_fault bytes (Lex at) long (inl h) = absurd (let s = h.short in omega arith)
@@ -65,7 +64,7 @@ passes : (bytes : List ℕ) (q : List ExprTree) (f : QueryFault) → SpellsOne b
 passes bytes q f one limit = record { query = q; spells = one.spells; sound = one.sound; only = one.only; limit = limit }
 
 -- the first limit that the core of the one query passes
-pub limit_passed : (bytes : List ℕ) (q : List ExprTree) (f : QueryFault) → SpellsOne bytes q → UnlessMemory (limits.IsRefusedFor (normal q)) f → SaysOfQuery (query_status f) bytes
+pub limit_passed : (bytes : List ℕ) (q : List ExprTree) (f : QueryFault) → SpellsOne bytes q → UnlessMemory (λ (fault : QueryFault). refusal_of (normal q) ≡ Some fault) f → SaysOfQuery (query_status f) bytes
 limit_passed bytes q (Utf8 at) one h = inr (passes bytes q (Utf8 at) one h)
 limit_passed bytes q (Lex at) one h = inr (passes bytes q (Lex at) one h)
 limit_passed bytes q (IntegerWide at) one h = inr (passes bytes q (IntegerWide at) one h)
@@ -76,7 +75,7 @@ limit_passed bytes q (DescendantNotLast at) one h = inr (passes bytes q (Descend
 limit_passed bytes q (TooLarge what limit) one h = inr (passes bytes q (TooLarge what limit) one h)
 limit_passed bytes q Memory one h = tt
 
-refused_by : (bytes : List ℕ) (f : QueryFault) → UnlessMemory (QueryFaultOf bytes) f → UnlessMemory (HasOnlyRefusal bytes) f → SaysOfQuery (query_status f) bytes
+refused_by : (bytes : List ℕ) (f : QueryFault) → UnlessMemory (TextFaultOf bytes) f → UnlessMemory (HasOnlyRefusal bytes) f → SaysOfQuery (query_status f) bytes
 refused_by bytes (Utf8 at) h k = inl (h, k)
 refused_by bytes (Lex at) h k = inl (h, k)
 refused_by bytes (IntegerWide at) h k = inl (h, k)
@@ -87,7 +86,7 @@ refused_by bytes (DescendantNotLast at) h k = inl (h, k)
 refused_by bytes (TooLarge what limit) h k = inl (h, k)
 refused_by bytes Memory h k = tt
 
-pub query_refused : (bytes read : List ℕ) (f : QueryFault) → IsReadUpTo 1048576 bytes read → length read ≤ 1048576 → UnlessMemory (QueryFaultOf read) f → UnlessMemory (HasOnlyRefusal read) f → SaysOfQuery (query_status f) bytes
+pub query_refused : (bytes read : List ℕ) (f : QueryFault) → IsReadUpTo 1048576 bytes read → length read ≤ 1048576 → UnlessMemory (TextFaultOf read) f → UnlessMemory (HasOnlyRefusal read) f → SaysOfQuery (query_status f) bytes
 query_refused bytes read f h short a o = subst (λ (l : List ℕ). SaysOfQuery (query_status f) l) (whole_query bytes read h short) (refused_by read f a o)
 
 -- what is said of the query where the document decides

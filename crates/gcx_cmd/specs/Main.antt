@@ -16,7 +16,7 @@ use Rattle.gcx_model.specs.declared.fault.DocFault.TheVariants as doc_fault
 use Rattle.gcx_model.specs.declared.fault.QueryFault.{QueryFault}
 use Rattle.gcx_model.specs.declared.fault.QueryFault.TheVariants as query_fault
 use Rattle.xq_parse.specs.Spelling.{QuerySpells}
-use Rattle.xq_parse.specs.Faults.{QueryFaultOf, HasOnlyQuery, HasOnlyRefusal}
+use Rattle.xq_parse.specs.Faults.{TextFaultOf, HasOnlyQuery, HasOnlyRefusal}
 use Rattle.signoff_place.specs.Refused.{refusal_of}
 use Rattle.gcx_cmd.specs.declared.status.Status.{Status}
 use Rattle.gcx_cmd.specs.declared.status.Status.TheVariants.{Ok, Usage, QueryRefused, DocumentRefused, ReadFault, WriteFault, Memory}
@@ -41,7 +41,7 @@ IsOneQuery bytes = (q : List ExprTree) × Accepts bytes q × HasOnlyQuery bytes 
 
 -- Something is wrong with the text: this, and nothing else.
 abbrev pub HasTextFault : List ℕ → QueryFault → Type 0
-HasTextFault bytes f = QueryFaultOf bytes f × HasOnlyRefusal bytes f
+HasTextFault bytes f = TextFaultOf bytes f × HasOnlyRefusal bytes f
 
 -- The bytes spell one sound query, and this is the first limit that its core passes.
 pub record PassesLimit (bytes : List ℕ) (f : QueryFault) : Type 0 where
@@ -51,9 +51,9 @@ pub record PassesLimit (bytes : List ℕ) (f : QueryFault) : Type 0 where
   pub only : HasOnlyQuery bytes query
   pub limit : refusal_of (normal query) ≡ option.Some f
 
--- why the bytes are no accepted query
-abbrev pub IsRefusedFor : List ℕ → QueryFault → Type 0
-IsRefusedFor bytes f = HasTextFault bytes f ⊎ PassesLimit bytes f
+-- QueryFaultOf: why the bytes are no accepted query
+abbrev pub QueryFaultOf : List ℕ → QueryFault → Type 0
+QueryFaultOf bytes f = HasTextFault bytes f ⊎ PassesLimit bytes f
 
 -- the whole bytes have no fault: they spell a document within the limits
 abbrev pub IsDocument : List ℕ → Type 0
@@ -63,7 +63,7 @@ IsDocument bytes = FaultIs full_limits bytes true option.None
 abbrev pub SaysOfQuery : Status → List ℕ → Type 0
 SaysOfQuery Ok query = IsOneQuery query
 SaysOfQuery Usage query = ⊥
-SaysOfQuery (QueryRefused f) query = IsRefusedFor query f
+SaysOfQuery (QueryRefused f) query = QueryFaultOf query f
 SaysOfQuery (DocumentRefused f) query = IsOneQuery query
 SaysOfQuery ReadFault query = ⊤
 SaysOfQuery WriteFault query = IsOneQuery query

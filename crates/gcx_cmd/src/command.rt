@@ -11,7 +11,7 @@ ghost use Rattle.gcx_model.specs.declared.fault.QueryFault.{QueryFault};
 ghost use Rattle.gcx_model.specs.Query.{ExprTree};
 ghost use Rattle.gcx_cmd.specs.Document.{BytesSpell};
 ghost use Rattle.gcx_cmd.specs.Diagnosis.{line_of, TakesLine};
-ghost use Rattle.gcx_cmd.specs.Main.{IsRun, Accepts, IsQuery, IsOneQuery, IsDocument, IsRefusedFor, SaysOfQuery, SaysOfDocument, Writes, HasNoMemory, KeepsGiven, Attaches, LacksFile};
+ghost use Rattle.gcx_cmd.specs.Main.{IsRun, Accepts, IsQuery, IsOneQuery, IsDocument, QueryFaultOf, SaysOfQuery, SaysOfDocument, Writes, HasNoMemory, KeepsGiven, Attaches, LacksFile};
 ghost use Rattle.gcx_cmd.specs.Stopping.{DocumentGave, SaysOfGiven};
 
 use crate::Status;
@@ -37,7 +37,7 @@ fn run<F: Shelf, O: Sink>(
         content_of (F.names files.old) query.now ≡ Some query_bytes → content_of (F.names files.old) document.now ≡ Some document_bytes →
         Accepts query_bytes q → BytesSpell document_bytes d → Writes result (O.taken out.old) (O.taken out.new) (answer q d) }
     ensures quiet { result ≢ Status.Ok → result ≢ Status.WriteFault → out.new ≡ out.old }
-    ensures refused { (bytes : List ℕ) (f : QueryFault) → content_of (F.names files.old) query.now ≡ Some bytes → IsRefusedFor bytes f →
+    ensures refused { (bytes : List ℕ) (f : QueryFault) → content_of (F.names files.old) query.now ≡ Some bytes → QueryFaultOf bytes f →
         (Rose (F.faults files.old) (F.faults files.new) → ⊥) →
         (result ≡ Status.QueryRefused f ⊎ result ≡ Status.Memory) × (F.handles files.new ≤ F.handles files.old + 1) }
     ensures accepted { (bytes : List ℕ) → content_of (F.names files.old) query.now ≡ Some bytes →
@@ -89,7 +89,7 @@ pub fn gcx_main<F: Shelf, O: Sink, E: Sink>(
         Accepts query_bytes q → BytesSpell document_bytes d → Writes result (O.taken out.old) (O.taken out.new) (answer q d) }
     ensures quiet { result ≢ Status.Ok → result ≢ Status.WriteFault → out.new ≡ out.old }
     ensures refused { (q d bytes : List ℕ) (f : QueryFault) → IsRun words.now q d → content_of (F.names files.old) q ≡ Some bytes →
-        IsRefusedFor bytes f → (Rose (F.faults files.old) (F.faults files.new) → ⊥) →
+        QueryFaultOf bytes f → (Rose (F.faults files.old) (F.faults files.new) → ⊥) →
         (result ≡ Status.QueryRefused f ⊎ result ≡ Status.Memory) × (F.handles files.new ≤ F.handles files.old + 1) }
     ensures accepted { (q d bytes : List ℕ) → IsRun words.now q d → content_of (F.names files.old) q ≡ Some bytes →
         F.handles files.new ≡ F.handles files.old + 2 → IsOneQuery bytes }

@@ -5,7 +5,7 @@ ghost use Rattle.gcx_io.specs.Shelf.{content_of, IsMissing};
 ghost use Rattle.gcx_model.specs.Normal.{normal};
 ghost use Rattle.gcx_model.specs.Query.{query_trees};
 ghost use Rattle.gcx_model.specs.Sound.{is_sound};
-ghost use Rattle.signoff_place.specs.Refused.{IsRefusedFor, refusal_of};
+ghost use Rattle.signoff_place.specs.Refused.{refusal_of};
 ghost use Rattle.xq_lex.specs.Answer.{UnlessMemory};
 ghost use Rattle.xq_parse.specs.Faults.{HasOnlyQuery};
 ghost use Rattle.gcx_cmd.specs.Document.{IsWhole};
@@ -81,7 +81,7 @@ fn within_limits(alloc: Global, query: Query) -> Result<Query, QueryFault>
     requires sound { is_sound (query_trees query) ≡ true }
     ensures same { IfOk result (λ kept. query_trees kept ≡ query_trees query) }
     ensures within { IfOk result (λ kept. refusal_of (normal (query_trees query)) ≡ None) }
-    ensures refused { IfErr result (UnlessMemory (IsRefusedFor (normal (query_trees query)))) }
+    ensures refused { IfErr result (UnlessMemory (λ fault. refusal_of (normal (query_trees query)) ≡ Some fault)) }
 {
     let _ = compile(alloc, &query)?;
     Ok(query)

@@ -1,5 +1,5 @@
 -- Which core is refused, and for which limit (this project's).
-use Rattle.std.specs.Prelude.{◌≡◌, nat_lt, length, Option, Some, None, if◌then◌else◌}
+use Rattle.std.specs.Prelude.{nat_lt, length, Option, Some, None, if◌then◌else◌}
 use Rattle.gcx_model.specs.declared.fault.QueryFault.{QueryFault}
 use Rattle.gcx_model.specs.declared.fault.QueryFault.TheVariants.{TooLarge}
 use Rattle.gcx_model.specs.declared.fault.What.TheVariants.{Roles, Descendants}
@@ -23,7 +23,3 @@ first_of_two (Some fault) later = Some fault
 -- the first limit that the core passes: those of the normal form come before those of the roles
 abbrev pub refusal_of : BodyTree → Option QueryFault
 refusal_of core = first_of_two (refusal core) (roles_refusal core)
-
--- the core is refused for this reason
-abbrev pub IsRefusedFor : BodyTree → QueryFault → Type 0
-IsRefusedFor core fault = refusal_of core ≡ Some fault

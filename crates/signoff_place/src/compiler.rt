@@ -1,11 +1,11 @@
 //! The plan of a query.
-ghost use Rattle.std.specs.Prelude.{◌≡◌, true, IfOk, IfErr, None};
+ghost use Rattle.std.specs.Prelude.{◌≡◌, true, IfOk, IfErr, None, Some};
 ghost use Rattle.gcx_model.specs.Normal.{normal};
 ghost use Rattle.gcx_model.specs.Placed.{Placed, plan_of};
 ghost use Rattle.gcx_model.specs.PlanView.{plan_tree};
 ghost use Rattle.gcx_model.specs.Query.{query_trees};
 ghost use Rattle.gcx_model.specs.Sound.{is_sound};
-ghost use Rattle.signoff_place.specs.Refused.{IsRefusedFor, refusal_of};
+ghost use Rattle.signoff_place.specs.Refused.{refusal_of};
 ghost use Rattle.signoff_place.specs.Sized.{IsSized};
 ghost use Rattle.xq_lex.specs.Answer.{UnlessMemory};
 
@@ -25,7 +25,7 @@ pub fn compile(alloc: Global, query: &Query) -> Result<Plan, QueryFault>
     ensures placed { IfOk result (λ plan. Placed (normal (query_trees query.now)) (plan_tree plan)) }
     ensures sized { IfOk result (λ plan. IsSized plan) }
     ensures accepted { IfOk result (λ plan. refusal_of (normal (query_trees query.now)) ≡ None) }
-    ensures refused { IfErr result (UnlessMemory (IsRefusedFor (normal (query_trees query.now)))) }
+    ensures refused { IfErr result (UnlessMemory (λ fault. refusal_of (normal (query_trees query.now)) ≡ Some fault)) }
 {
     normal_is_good();
     placed_once();

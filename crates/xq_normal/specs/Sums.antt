@@ -1,5 +1,5 @@
 -- What the limits of a core count, and which core is refused (this project's).
-use Rattle.std.specs.Prelude.{◌≡◌, ℕ, ◌+◌, nat_lt, List, length, Option, Some, None, if◌then◌else◌}
+use Rattle.std.specs.Prelude.{ℕ, ◌+◌, nat_lt, List, length, Option, Some, None, if◌then◌else◌}
 use Rattle.gcx_model.specs.declared.fault.QueryFault.{QueryFault}
 use Rattle.gcx_model.specs.declared.fault.QueryFault.TheVariants.{TooLarge}
 use Rattle.gcx_model.specs.declared.fault.What.TheVariants.{Loops, Steps, Conditions}
@@ -75,7 +75,3 @@ conditions_refusal d =
 -- the first limit that the core passes
 abbrev pub refusal : BodyTree → Option QueryFault
 refusal d = if nat_lt 500 (loops_of d) then Some (TooLarge Loops 500) else conditions_refusal d
-
--- the core is refused for this reason
-abbrev pub IsRefusedFor : BodyTree → QueryFault → Type 0
-IsRefusedFor d fault = refusal d ≡ Some fault

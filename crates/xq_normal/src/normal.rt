@@ -10,7 +10,7 @@ ghost use Rattle.gcx_model.specs.Run.{bytes_written};
 ghost use Rattle.gcx_model.specs.Sound.{is_sound};
 ghost use Rattle.xq_lex.specs.Answer.{UnlessMemory};
 ghost use Rattle.xq_normal.specs.Raw.{moved, raw_exprs};
-ghost use Rattle.xq_normal.specs.Sums.{IsRefusedFor, conditions_refusal, core_of, refusal, with_rows};
+ghost use Rattle.xq_normal.specs.Sums.{conditions_refusal, core_of, refusal, with_rows};
 
 use crate::bodies::put_exprs;
 use crate::loops::all_loops;
@@ -73,7 +73,7 @@ fn moved_core(alloc: Global, body: Body) -> Result<Core, Memory>
 pub(crate) fn core_within(alloc: Global, query: &Query) -> Result<Core, QueryFault>
     ensures core { IfOk result (λ core. core_tree core ≡ core_of (query_trees query.now)) }
     ensures within { IfOk result (λ core. refusal (normal (query_trees query.now)) ≡ None) }
-    ensures refused { IfErr result (UnlessMemory (IsRefusedFor (normal (query_trees query.now)))) }
+    ensures refused { IfErr result (UnlessMemory (λ fault. refusal (normal (query_trees query.now)) ≡ Some fault)) }
 {
     if all_loops(&query.parts) > LOOPS {
         return Err(QueryFault::TooLarge(What::Loops, LOOPS));
@@ -91,7 +91,7 @@ pub fn normalise(alloc: Global, query: &Query) -> Result<Core, QueryFault>
     ensures core { IfOk result (λ core. core_tree core ≡ core_of (query_trees query.now)) }
     ensures meaning { IfOk result (λ core. (d : Nodes) → bytes_written (core_tree core).body (tree_of d) ≡ answer (query_trees query.now) d) }
     ensures within { IfOk result (λ core. refusal (normal (query_trees query.now)) ≡ None) }
-    ensures refused { IfErr result (UnlessMemory (IsRefusedFor (normal (query_trees query.now)))) }
+    ensures refused { IfErr result (UnlessMemory (λ fault. refusal (normal (query_trees query.now)) ≡ Some fault)) }
 {
     normal_law();
     core_within(alloc, query)

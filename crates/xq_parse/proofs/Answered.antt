@@ -10,7 +10,7 @@ use Rattle.xq_lex.specs.declared.token.Tok.{Tok}
 use Rattle.xq_lex.specs.Lex.{Lexes, LexFault, HasOnlyTokens, HasOnlyFault}
 use Rattle.xq_lex.specs.Answer.{UnlessMemory}
 use Rattle.xq_parse.specs.Spelling.{Spells, QuerySpells}
-use Rattle.xq_parse.specs.Faults.{GrammarFault, QueryFaultOf, HasOnlyQuery, HasOnlyRefusal}
+use Rattle.xq_parse.specs.Faults.{GrammarFault, TextFaultOf, HasOnlyQuery, HasOnlyRefusal}
 use Rattle.xq_parse.specs.Answering.{Answers, judged}
 use Rattle.xq_parse.proofs.Verdict as laws
 
@@ -31,7 +31,7 @@ mapped P Q h (TooLarge what limit) p = h _ p
 spells_same : (bytes : List ℕ) (ts : List Tok) (q : List ExprTree) → HasOnlyTokens bytes ts → QuerySpells bytes q → Spells ts q
 spells_same bytes ts q only s = subst (λ (l : List Tok). Spells l q) (only.once s.tokens s.lexed) s.holds
 
-fault_same : (bytes : List ℕ) (ts : List Tok) (f : QueryFault) → HasOnlyTokens bytes ts → QueryFaultOf bytes f → GrammarFault ts (length bytes) f
+fault_same : (bytes : List ℕ) (ts : List Tok) (f : QueryFault) → HasOnlyTokens bytes ts → TextFaultOf bytes f → GrammarFault ts (length bytes) f
 fault_same bytes ts f only (inl l) = absurd (only.no_fault f l)
 fault_same bytes ts f only (inr h) = subst (λ (l : List Tok). GrammarFault l (length bytes) f) (only.once h.tokens h.lexed) h.holds
 
@@ -48,19 +48,19 @@ accepted bytes ts q lexed only e =
       sound = laws.query_sound ts q i;
       only_query = record {
         once = λ (other : List ExprTree) (s : QuerySpells bytes other). let o = spells_same bytes ts other only s in sym o.tree ∙ laws.one_tree ts o.derivation i.derivation o.derives i.derives ∙ i.tree;
-        no_fault = λ (f : QueryFault) (h : QueryFaultOf bytes f). laws.no_fault ts (length bytes) q f e (fault_same bytes ts f only h);
+        no_fault = λ (f : QueryFault) (h : TextFaultOf bytes f). laws.no_fault ts (length bytes) q f e (fault_same bytes ts f only h);
       };
     }
 
 pub record Refuses (bytes : List ℕ) (f : QueryFault) : Type 0 where
-  pub fault : QueryFaultOf bytes f
+  pub fault : TextFaultOf bytes f
   pub only_refusal : HasOnlyRefusal bytes f
 
 refused : (bytes : List ℕ) (ts : List Tok) (f : QueryFault) → Lexes bytes ts → HasOnlyTokens bytes ts → judged ts (length bytes) ≡ Err f → Refuses bytes f
 refused bytes ts f lexed only e = record {
   fault = inr (record { tokens = ts; lexed = lexed; holds = laws.refused ts (length bytes) f e });
   only_refusal = record {
-    once = λ (g : QueryFault) (h : QueryFaultOf bytes g). laws.one_fault ts (length bytes) f g e (fault_same bytes ts g only h);
+    once = λ (g : QueryFault) (h : TextFaultOf bytes g). laws.one_fault ts (length bytes) f g e (fault_same bytes ts g only h);
     no_query = λ (q : List ExprTree) (s : QuerySpells bytes q) (t : is_sound q ≡ true). ok_not_err q f (sym (laws.sound_accepted ts (length bytes) q (spells_same bytes ts q only s) t) ∙ e);
   };
 }
@@ -80,7 +80,7 @@ lex_refused bytes f l only = record {
   only_refusal = record { once = once; no_query = λ (q : List ExprTree) (s : QuerySpells bytes q) (t : is_sound q ≡ true). only.no_tokens s.tokens s.lexed };
 }
   where
-    once : (g : QueryFault) → QueryFaultOf bytes g → g ≡ f
+    once : (g : QueryFault) → TextFaultOf bytes g → g ≡ f
     once g (inl h) = only.once g h
     once g (inr h) = absurd (only.no_tokens h.tokens h.lexed)
 
@@ -107,13 +107,13 @@ pub only_query : (bytes : List ℕ) (r : Result Query QueryFault) → IfOk r (λ
 only_query bytes (Ok q) a = a.only_query
 only_query bytes (Err f) a = tt
 
-pub fault_of : (bytes : List ℕ) (f : QueryFault) → UnlessMemory (Refuses bytes) f → UnlessMemory (QueryFaultOf bytes) f
-fault_of bytes f r = mapped (Refuses bytes) (QueryFaultOf bytes) (λ (f : QueryFault) (r : Refuses bytes f). r.fault) f r
+pub fault_of : (bytes : List ℕ) (f : QueryFault) → UnlessMemory (Refuses bytes) f → UnlessMemory (TextFaultOf bytes) f
+fault_of bytes f r = mapped (Refuses bytes) (TextFaultOf bytes) (λ (f : QueryFault) (r : Refuses bytes f). r.fault) f r
 
 pub only_refusal_of : (bytes : List ℕ) (f : QueryFault) → UnlessMemory (Refuses bytes) f → UnlessMemory (HasOnlyRefusal bytes) f
 only_refusal_of bytes f r = mapped (Refuses bytes) (HasOnlyRefusal bytes) (λ (f : QueryFault) (r : Refuses bytes f). r.only_refusal) f r
 
-pub fault : (bytes : List ℕ) (r : Result Query QueryFault) → IfErr r (UnlessMemory (Refuses bytes)) → IfErr r (UnlessMemory (QueryFaultOf bytes))
+pub fault : (bytes : List ℕ) (r : Result Query QueryFault) → IfErr r (UnlessMemory (Refuses bytes)) → IfErr r (UnlessMemory (TextFaultOf bytes))
 fault bytes (Ok q) a = tt
 fault bytes (Err f) a = fault_of bytes f a
 

@@ -75,18 +75,18 @@ GrammarFault ts end (Lex at) = ⊥
 GrammarFault ts end (IntegerWide at) = ⊥
 GrammarFault ts end Memory = ⊥
 
--- QueryFaultOf: for this reason the bytes have no tokens, or this is wrong with their tokens.
-abbrev pub QueryFaultOf : (bytes : List ℕ) → QueryFault → Type 0
-QueryFaultOf bytes fault = LexFault bytes fault ⊎ HasTokens bytes (λ ts. GrammarFault ts (length bytes) fault)
+-- TextFaultOf: for this reason the bytes have no tokens, or this is wrong with their tokens.
+abbrev pub TextFaultOf : (bytes : List ℕ) → QueryFault → Type 0
+TextFaultOf bytes fault = LexFault bytes fault ⊎ HasTokens bytes (λ ts. GrammarFault ts (length bytes) fault)
 
 -- ---- one answer
 
 -- The bytes spell no other query, and nothing is wrong with them.
 pub record HasOnlyQuery (bytes : List ℕ) (q : List ExprTree) : Type 0 where
   pub once : (other : List ExprTree) → QuerySpells bytes other → other ≡ q
-  pub no_fault : (fault : QueryFault) → ¬ (QueryFaultOf bytes fault)
+  pub no_fault : (fault : QueryFault) → ¬ (TextFaultOf bytes fault)
 
 -- The bytes have no other fault, and spell no sound query.
 pub record HasOnlyRefusal (bytes : List ℕ) (fault : QueryFault) : Type 0 where
-  pub once : (other : QueryFault) → QueryFaultOf bytes other → other ≡ fault
+  pub once : (other : QueryFault) → TextFaultOf bytes other → other ≡ fault
   pub no_query : (q : List ExprTree) → QuerySpells bytes q → ¬ (is_sound q ≡ true)

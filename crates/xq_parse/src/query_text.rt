@@ -4,7 +4,7 @@ ghost use Rattle.gcx_model.specs.Query.{query_trees};
 ghost use Rattle.gcx_model.specs.Sound.{is_sound};
 ghost use Rattle.xq_lex.specs.Answer.{UnlessMemory};
 ghost use Rattle.xq_parse.specs.Spelling.{QuerySpells};
-ghost use Rattle.xq_parse.specs.Faults.{HasOnlyQuery, HasOnlyRefusal, QueryFaultOf};
+ghost use Rattle.xq_parse.specs.Faults.{HasOnlyQuery, HasOnlyRefusal, TextFaultOf};
 ghost use Rattle.xq_parse.specs.Machine.{start};
 ghost use Rattle.xq_parse.specs.Reading.{Moves, Stop, a_found, run};
 ghost use Rattle.xq_parse.specs.Answering.{Answers, fault_from, judge_marks, judged, place_at};
@@ -102,7 +102,7 @@ pub fn parse(alloc: Global, text: &[u8]) -> Result<Query, QueryFault>
     ensures spells { IfOk result (λ query. QuerySpells text.now (query_trees query)) }
     ensures sound { IfOk result (λ query. is_sound (query_trees query) ≡ true) }
     ensures only_query { IfOk result (λ query. HasOnlyQuery text.now (query_trees query)) }
-    ensures fault { IfErr result (UnlessMemory (QueryFaultOf text.now)) }
+    ensures fault { IfErr result (UnlessMemory (TextFaultOf text.now)) }
     ensures only_refusal { IfErr result (UnlessMemory (HasOnlyRefusal text.now)) }
 {
     let tokens = lex(alloc, text)?;

@@ -1,7 +1,7 @@
 use Rattle.std.proofs.Common.{rules, arith, List, ℕ, subst}
 use Rattle.gcx_model.specs.Query.{query_trees}
 use Rattle.xq_lex.specs.Answer.{UnlessMemory}
-use Rattle.xq_parse.specs.Faults.{QueryFaultOf, HasOnlyRefusal}
+use Rattle.xq_parse.specs.Faults.{TextFaultOf, HasOnlyRefusal}
 use Rattle.gcx_cmd.specs.Main.{SaysOfQuery}
 use Rattle.gcx_cmd.specs.ReadEnd.{query_status}
 use Rattle.gcx_cmd.proofs.Queries.{long_query, SpellsOne, query_read, query_found, query_refused, limit_passed}
@@ -14,7 +14,7 @@ pub returns-in_err-parsed-clause-told : goal.returns-in_err-parsed-clause-told
 returns-in_err-parsed-clause-told g c = λ bytes told.
     let f = c.in_err-parsed.field-0.0 in
     let read = c.in_ok-bytes.bytes.items in
-    let fault : UnlessMemory (QueryFaultOf read) f = subst (λ (l : List ℕ). UnlessMemory (QueryFaultOf l) f) c.deref.ensures.value c.in_err-parsed.ensures.fault in
+    let fault : UnlessMemory (TextFaultOf read) f = subst (λ (l : List ℕ). UnlessMemory (TextFaultOf l) f) c.deref.ensures.value c.in_err-parsed.ensures.fault in
     let only : UnlessMemory (HasOnlyRefusal read) f = subst (λ (l : List ℕ). UnlessMemory (HasOnlyRefusal l) f) c.deref.ensures.value c.in_err-parsed.ensures.only_refusal in
     let says : SaysOfQuery (query_status f) bytes = query_refused bytes read f (c.in_ok-bytes.ensures.bytes bytes told) (omega arith) fault only in
     search (rules, says)

@@ -7,7 +7,7 @@ use Rattle.gcx_model.specs.PlanView.{CoreTree}
 use Rattle.gcx_model.specs.Query.{exprs_of, query_trees}
 use Rattle.gcx_model.specs.Run.{bytes_written}
 use Rattle.xq_normal.specs.Raw.{moved}
-use Rattle.xq_normal.specs.Sums.{IsRefusedFor, conditions_refusal, with_rows}
+use Rattle.xq_normal.specs.Sums.{conditions_refusal, refusal, with_rows}
 use Rattle.xq_normal.proofs.Limits.{loops_refused, refused_by_conditions, unless_weaker}
 use Rattle.xq_normal.proofs.Moved.{moved-exprs}
 use Rattle.xq_normal.proofs.normal.core_within.Goals as goal
@@ -20,7 +20,7 @@ returns-in_err-check_conditions-clause-refused c =
     let core : moved (body_tree c.in_ok-body.body) ≡ normal (query_trees c.args.query.now) = ap moved c.in_ok-body.ensures ∙ moved-exprs (exprs_of (query_trees c.args.query.now)) no_names 1 in
     let p = err_from_is_err_and c.from_residual-in_err-check_conditions.result c.from_residual-in_err-check_conditions.ensures.1 in
     rw (p.1, p.2)
-    (unless_weaker (λ fault. conditions_refusal (moved (body_tree c.in_ok-body.body)) ≡ Some fault) (IsRefusedFor (normal (query_trees c.args.query.now)))
+    (unless_weaker (λ fault. conditions_refusal (moved (body_tree c.in_ok-body.body)) ≡ Some fault) (λ fault. refusal (normal (query_trees c.args.query.now)) ≡ Some fault)
     (λ fault e. refused_by_conditions (query_trees c.args.query.now) c.all_loops.result c.all_loops.ensures c.if-all_loops-gt-LOOPS.false ∙ (ap conditions_refusal (sym core) ∙ e))
     c.in_err-check_conditions.field-0.0 c.in_err-check_conditions.ensures.err)
 
