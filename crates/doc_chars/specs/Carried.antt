@@ -1,3 +1,4 @@
+-- These definitions follow the code; no public clause speaks of them.
 -- What the fields of `Chars` mean.
 use Rattle.std.specs.Prelude.{◌≤◌, ℕ, take}
 use Rattle.doc_chars.specs.declared.chars.Chars.TheInside.{Inside}

@@ -1,3 +1,4 @@
+-- These definitions follow the code; no public clause speaks of them.
 -- A piece behind the bytes of a character that the piece before it cut.
 use Rattle.std.specs.Prelude.{◌≡◌, ◌<◌, ◌≤◌, ℕ, true, List, ◌++◌, length, take, drop, MatchOption, slice_range}
 use Rattle.std.specs.Char.{encode_utf8}

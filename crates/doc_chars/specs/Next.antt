@@ -1,3 +1,4 @@
+-- These definitions follow the code; no public clause speaks of them.
 -- What a character does to the state of a reference.
 use Rattle.std.specs.Prelude.{ℕ, List}
 use Rattle.doc_chars.specs.declared.reference.Next.{Next}

@@ -1,3 +1,4 @@
+-- These definitions follow the code; no public clause speaks of them.
 -- What the front of bytes is.
 use Rattle.std.specs.Prelude.{◌≡◌, ◌≤◌, ℕ, true, List, ◌++◌, length, take, drop, Option, Some, None}
 use Rattle.std.specs.Char.{IsScalar, encode_utf8}

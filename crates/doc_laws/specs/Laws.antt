@@ -90,10 +90,11 @@ OnlyChars = (lim : Limits) (cs : List ℕ) (c : ℕ) → is_char c ≡ false →
 abbrev pub SeenIsLongest : Type 0
 SeenIsLongest = (lim : Limits) (b : List ℕ) (ended : Bool) (ts : List Token) → (h : SeenIs lim b ended ts) → SeenInWords lim b h.tags
 
--- The tokens that are seen may come one by one: their tree grew from the opening one.
+-- The tokens that are seen may come one by one.
 abbrev pub SeenComes : Type 0
 SeenComes = (lim : Limits) (b : List ℕ) (ended : Bool) (ts : List Token) → SeenIs lim b ended ts → may_all ts opening ≡ true
 
+-- So their tree grew from the opening one.
 abbrev pub SeenGrew : Type 0
 SeenGrew = (lim : Limits) (b : List ℕ) (ended : Bool) (ts : List Token) → SeenIs lim b ended ts → Leads opening (seen_tree ts)
 

@@ -17,8 +17,7 @@ use Rattle.doc_laws.proofs.LastTag.{longest_so_far, seen_whole, seen_one}
 use Rattle.doc_laws.proofs.Pieces.{Stands as Kept}
 use Rattle.doc_laws.proofs.Theorems.{whole_spells, not_whole, spells_one}
 use Rattle.doc_laws.proofs.Unique.{clean_reads}
-use Rattle.doc_reader.specs.Judged.{given_token}
-use Rattle.doc_reader.specs.Standing.{ReaderView, waiting, given_end, said_of, Gives, GivesBy, IsFault, Stands, answer_by, answer_of, Accepted, reader_tokens}
+use Rattle.doc_reader.specs.Standing.{ReaderView, waiting, given_end, said_of, Gives, GivesBy, IsFault, Stands, answer_by, answer_of, Accepted, reader_tokens, given_token}
 use Rattle.doc_reader.proofs.Givings.{said-map, said-append}
 use Rattle.doc_reader.specs.declared.token.Token.{Token}
 use Rattle.doc_reader.specs.declared.token.Token.TheVariants.{EndOfDocument}

@@ -8,8 +8,7 @@ use Rattle.doc_laws.specs.States.{Fronts, state_of}
 use Rattle.doc_laws.proofs.Seen.{fronts_after}
 use Rattle.doc_laws.proofs.Found.{found_seen}
 use Rattle.doc_laws.proofs.LastTag.{longest_is, state_seen}
-use Rattle.doc_reader.specs.Judged.{given_token}
-use Rattle.doc_reader.specs.Standing.{given_end, said_of, Gives, GivesMore, HasRead}
+use Rattle.doc_reader.specs.Standing.{given_end, said_of, Gives, GivesMore, HasRead, given_token}
 use Rattle.doc_reader.specs.declared.token.Token.{Token}
 use Rattle.doc_reader.specs.declared.token.Token.TheVariants.{EndOfDocument}
 

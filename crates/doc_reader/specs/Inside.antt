@@ -1,3 +1,4 @@
+-- These definitions follow the code; no public clause speaks of them.
 -- What contracts see of a reader, and what its fields keep.
 use Rattle.std.specs.Prelude.{◌+◌, ◌≤◌, length}
 use Rattle.doc_reader.specs.Standing.{ReaderView}

@@ -1,3 +1,4 @@
+-- These definitions follow the code; no public clause speaks of them.
 -- What reading a text answers, and what taking a token does (this project's).
 use Rattle.std.specs.Prelude.{ℕ, ◌≡◌, ◌+◌, List, [], ◌∷◌, ◌++◌, Option, Some, None, Result, Ok, Err}
 use Rattle.gcx_base.specs.declared.limits.Limits.{Limits}
@@ -10,7 +11,7 @@ use Rattle.doc_reader.specs.declared.stop.Refusal.TheVariants.{Syntax, Depth, Na
 use Rattle.doc_reader.specs.declared.stop.Stop.{Stop}
 use Rattle.doc_reader.specs.declared.stop.Stop.TheVariants.{Refused, Memory}
 use Rattle.doc_reader.specs.declared.token.Token.{Token}
-use Rattle.doc_reader.specs.declared.token.Token.TheVariants.{Start, End, Text}
+use Rattle.doc_reader.specs.Standing.{given_token}
 
 abbrev pub fault : Refusal → Fault
 fault (Syntax k) = AtSyntax k
@@ -43,12 +44,6 @@ abbrev pub Judged : {T : Type 0} → Result T Stop → Limits → ℕ → State 
 Judged (Ok x) lim place old cs new = judged_steps lim place old cs ≡ Ok new
 Judged (Err (Refused r)) lim place old cs new = Refuses lim place old cs (fault r) new.tokens
 Judged (Err Memory) lim place old cs new = ReadsFront lim place old cs new.tokens
-
--- a token as the reader gives it
-abbrev pub given_token : tree.Token → Token
-given_token (tree.Start name) = Start name
-given_token (tree.Chars bytes) = Text bytes
-given_token tree.End = End
 
 -- the first token is taken, if there is one
 abbrev pub TakesFirst : Option Token → List tree.Token → List tree.Token → Type 0

@@ -1,3 +1,4 @@
+-- These definitions follow the code; no public clause speaks of them.
 -- The limits of a step (this project's).
 use Rattle.std.specs.Prelude.{ℕ, ◌≡◌, length, nat_lt, Option, Some, None, Result, Ok, Err, if◌then◌else◌}
 use Rattle.gcx_base.specs.declared.limits.Limits.{Limits}

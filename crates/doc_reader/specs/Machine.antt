@@ -1,3 +1,4 @@
+-- These definitions follow the code; no public clause speaks of them.
 -- What the fields of the code stand for in the machine's definition (this project's).
 use Rattle.std.specs.Prelude.{ℕ, List, [], ◌∷◌, map, drop}
 use Rattle.gcx_model.specs.Markup.{cdata_word, doc_word}

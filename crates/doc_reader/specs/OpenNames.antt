@@ -1,3 +1,4 @@
+-- These definitions follow the code; no public clause speaks of them.
 -- The names of open elements in one list of bytes.
 use Rattle.std.specs.Prelude.{ℕ, ◌≡◌, List, [], ◌∷◌, take, drop}
 

@@ -1,3 +1,4 @@
+-- These definitions follow the code; no public clause speaks of them.
 -- What the parts of a reader answer.
 use Rattle.std.specs.Prelude.{ℕ, ◌≡◌, ◌+◌, ◌-◌, ◌<◌, ◌⊎◌, true, false, List, [], length, Some, None, Result, Ok, Err}
 use Rattle.gcx_base.specs.declared.limits.Limits.{Limits}

@@ -1,3 +1,4 @@
+-- These definitions follow the code; no public clause speaks of them.
 -- Text read as a whole (this project's).
 use Rattle.std.specs.Prelude.{ℕ, ◌≡◌, ◌+◌, List, ◌∷◌, ◌++◌, length, drop, Ok}
 use Rattle.std.specs.Char.{len_utf8}

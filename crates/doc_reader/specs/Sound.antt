@@ -1,3 +1,4 @@
+-- These definitions follow the code; no public clause speaks of them.
 -- What holds of each state that the machine is in (this project's).
 use Rattle.std.specs.Prelude.{◌≡◌, []}
 use Rattle.gcx_base.specs.Name.{IsNameBytes}

@@ -1,3 +1,4 @@
+-- These definitions follow the code; no public clause speaks of them.
 -- Characters that are read as a whole (this project's).
 use Rattle.std.specs.Prelude.{ℕ, ◌≡◌, ◌≤◌, ◌-◌, ◌==◌, Bool, true, not, ◌&&◌, ◌||◌, nat_lt, List, ◌++◌, length, take}
 use Rattle.std.specs.List.{list_all}

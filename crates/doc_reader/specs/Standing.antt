@@ -12,9 +12,14 @@ use Rattle.gcx_model.specs.declared.fault.DocFault.TheVariants.{Memory}
 use Rattle.doc_chars.specs.Stream.{Carry, StandsFor}
 use Rattle.doc_laws.specs.Machine.{State}
 use Rattle.doc_laws.specs.States.{Fronts}
-use Rattle.doc_reader.specs.Judged.{given_token}
 use Rattle.doc_reader.specs.declared.token.Token.{Token}
 use Rattle.doc_reader.specs.declared.token.Token.TheVariants.{Start, End, Text, EndOfDocument}
+
+-- a token as a reader gives it
+abbrev pub given_token : Said → Token
+given_token (said_start name) = Start name
+given_token (said_text bytes) = Text bytes
+given_token said_end = End
 
 -- a token that a reader gave, as the model's
 abbrev pub said_of : Token → Said

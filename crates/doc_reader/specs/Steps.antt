@@ -1,3 +1,4 @@
+-- These definitions follow the code; no public clause speaks of them.
 -- What the parts of a step answer (this project's).
 use Rattle.std.specs.Prelude.{ℕ, ◌≡◌, ◌≤◌, Bool, true, false, List, Option, Some, None, Result, Ok, Err, drop, length, [], ◌∷◌, ◌++◌, ◌==◌, if◌then◌else◌}
 use Rattle.gcx_model.specs.Markup.{one_more}

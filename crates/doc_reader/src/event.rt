@@ -1,6 +1,6 @@
 //! The tokens of tags.
 ghost use Rattle.std.specs.Prelude.{◌≡◌};
-ghost use Rattle.doc_reader.specs.Judged.{given_token};
+ghost use Rattle.doc_reader.specs.Standing.{given_token};
 ghost use Rattle.doc_reader.specs.Machine.{event_token};
 
 use crate::token::Token;

@@ -14,8 +14,7 @@ use Rattle.gcx_model.specs.Tree.{Tree, Token as Said, Start, Chars, End, opening
 use Rattle.gcx_model.specs.Faults.{FaultIs, none_yet, within_limit, before_limit, past_limit}
 use Rattle.gcx_model.specs.declared.fault.DocFault.{DocFault}
 use Rattle.gcx_model.specs.declared.fault.DocFault.TheVariants as fault
-use Rattle.doc_reader.specs.Judged.{given_token}
-use Rattle.doc_reader.specs.Standing.{ReaderView, Stands, Keeps, Accepted, Answers, Takes, taken, waiting, reader_tokens}
+use Rattle.doc_reader.specs.Standing.{ReaderView, Stands, Keeps, Accepted, Answers, Takes, taken, waiting, reader_tokens, given_token}
 use Rattle.doc_reader.specs.declared.token.Token.{Token}
 use Rattle.doc_reader.specs.declared.token.Token.TheVariants.{EndOfDocument}
 use Rattle.tree_eval.specs.Tokens.{token_of}
