@@ -5,7 +5,7 @@ use Rattle.std.specs.Cmp.Lexicographic.{pointwise}
 use Rattle.std.specs.Bool.{Decides}
 use Rattle.std.proofs.lemmas.List.{length-reverse, reverse-append, take-take, drop-take, drop_all, take_all, take_more}
 use Rattle.std.proofs.lemmas.Bool.{true≢false, false≢true, cases_lt}
-use Rattle.std.proofs.lemmas.Slice.Eq.{IsBytesEq, compares_Decides}
+use Rattle.std.proofs.lemmas.Slice.Eq.{bytes_eq-Decides}
 use Rattle.gcx_model.specs.Attributes.{is_fresh}
 use Rattle.gcx_model.specs.Fronts.{is_inside}
 use lib.Utf8.{encode}
@@ -61,12 +61,9 @@ last_name starts bytes k e d l h =
     ∙ ap (λ n. n ∷ names_of (reverse (take k starts)) (take s (take e bytes))) (name_at bytes s e h)
     ∙ ap (λ b. slice_range bytes (min s e) e ∷ names_of (reverse (take k starts)) b) (before_name bytes s e h)
 
-same_is : IsBytesEq same
-same_is = record { empty = refl; shorter = λ y ys. refl; longer = λ x xs. refl; heads = λ x y xs ys. refl }
-
 -- whether two names are the same
 pub same_decides : (m n : List ℕ) → Decides (bytes_eq m n) (m ≡ n)
-same_decides m n = compares_Decides bytes_eq same_is m n
+same_decides m n = bytes_eq-Decides m n
 
 pub fresh_not : (m n : List ℕ) (ns : List (List ℕ)) → n ≡ m → is_fresh m (n ∷ ns) ≡ false
 fresh_not m n ns e = ap (λ b. not b && is_fresh m ns) ((same_decides m n).1 (sym e))

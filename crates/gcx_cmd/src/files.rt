@@ -6,7 +6,7 @@ ghost use Rattle.gcx_model.specs.Normal.{normal};
 ghost use Rattle.gcx_model.specs.Query.{query_trees};
 ghost use Rattle.gcx_model.specs.Sound.{is_sound};
 ghost use Rattle.signoff_place.specs.Refused.{refusal_of};
-ghost use Rattle.xq_lex.specs.Answer.{UnlessMemory};
+ghost use Rattle.gcx_model.specs.Refusals.{UnlessMemory};
 ghost use Rattle.xq_parse.specs.Faults.{HasOnlyQuery};
 ghost use Rattle.gcx_cmd.specs.Document.{IsWhole};
 ghost use Rattle.gcx_cmd.specs.Reading.{IsReadUpTo};

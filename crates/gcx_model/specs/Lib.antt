@@ -36,4 +36,5 @@ pub mod Within
 pub mod CondView
 pub mod ItemView
 pub mod Given
+pub mod Refusals
 pub mod PlanView

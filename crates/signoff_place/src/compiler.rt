@@ -7,7 +7,7 @@ ghost use Rattle.gcx_model.specs.Query.{query_trees};
 ghost use Rattle.gcx_model.specs.Sound.{is_sound};
 ghost use Rattle.signoff_place.specs.Refused.{refusal_of};
 ghost use Rattle.signoff_place.specs.Sized.{IsSized};
-ghost use Rattle.xq_lex.specs.Answer.{UnlessMemory};
+ghost use Rattle.gcx_model.specs.Refusals.{UnlessMemory};
 
 use crate::place::place;
 use gcx_laws::{normal_is_good, placed_once};

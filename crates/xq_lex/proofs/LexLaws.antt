@@ -11,7 +11,8 @@ use Rattle.xq_lex.specs.declared.lexer.Step.{Step}
 use Rattle.xq_lex.specs.Gap.{HasGap}
 use Rattle.xq_lex.specs.Form.{BeginsWith}
 use Rattle.xq_lex.specs.Lex.{Reads, ReadsAll, LexesAs, StopsAt, IsNoToken, HasWideNumber, LexFault}
-use Rattle.xq_lex.specs.Answer.{UnlessMemory, IsLexeme, IsRefusal}
+use Rattle.gcx_model.specs.Refusals.{UnlessMemory}
+use Rattle.xq_lex.specs.Answer.{IsLexeme, IsRefusal}
 use Rattle.xq_lex.specs.Steps.{IsNext, IsStopAt, IsStop, IsStopped}
 use Rattle.xq_lex.proofs.Encoding.{split_size}
 

@@ -10,7 +10,7 @@ use Rattle.xq_lex.specs.declared.token.Tok.{Tok}
 use Rattle.xq_lex.specs.Form.{form_chars}
 use Rattle.xq_lex.specs.Gap.{Inside, nothing, char, nested, closed_chars, Gap, empty, white, comment, gap_chars}
 use Rattle.xq_lex.specs.Lex.{Reads, ReadsAll, LexesAs, Lexes, LexFault, HasOnlyTokens, HasOnlyFault, HasSpan, AreInOrder}
-use Rattle.xq_lex.specs.Answer.{UnlessMemory}
+use Rattle.gcx_model.specs.Refusals.{UnlessMemory}
 use Rattle.xq_lex.proofs.LexemeLaws.{form_front, form_some}
 use Rattle.xq_lex.specs.Steps.{IsStopped}
 use Rattle.xq_lex.proofs.LexLaws.{fault_of}

@@ -6,18 +6,6 @@ use Rattle.xq_lex.specs.declared.token.TokKind.{TokKind}
 use Rattle.xq_lex.specs.Form.{Form, BeginsWith, kind_of, is_too_wide}
 use Rattle.xq_lex.specs.Lex.{IsNoToken, HasWideNumber}
 
--- P holds of the fault, unless it is want of memory
-abbrev pub UnlessMemory : (QueryFault → Type 0) → QueryFault → Type 0
-UnlessMemory P Memory = Unit {0}
-UnlessMemory P (Utf8 at) = P (Utf8 at)
-UnlessMemory P (Lex at) = P (Lex at)
-UnlessMemory P (Syntax at) = P (Syntax at)
-UnlessMemory P (UnknownVar at) = P (UnknownVar at)
-UnlessMemory P (TagMismatch at) = P (TagMismatch at)
-UnlessMemory P (DescendantNotLast at) = P (DescendantNotLast at)
-UnlessMemory P (IntegerWide at) = P (IntegerWide at)
-UnlessMemory P (TooLarge what limit) = P (TooLarge what limit)
-
 -- the text begins with this token, of so many characters
 pub record IsLexeme (text : List ℕ) (kind : TokKind) (count : ℕ) : Type 0 where
   pub form : Form

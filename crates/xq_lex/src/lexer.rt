@@ -3,7 +3,7 @@ ghost use Rattle.std.specs.Prelude.{◌≡◌, ◌+◌, ◌<◌, ◌^◌, [], If
 ghost use Rattle.std.specs.Str.{chars, encode_utf8_all};
 ghost use Rattle.xq_lex.specs.Gap.{HasGap};
 ghost use Rattle.xq_lex.specs.Lex.{AreInOrder, HasOnlyFault, HasOnlyTokens, Lexes, LexesAs, LexFault};
-ghost use Rattle.xq_lex.specs.Answer.{UnlessMemory};
+ghost use Rattle.gcx_model.specs.Refusals.{UnlessMemory};
 ghost use Rattle.xq_lex.specs.Steps.{IsNext, IsStop, IsStopped};
 
 use crate::gap::gap_len;

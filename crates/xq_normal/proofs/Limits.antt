@@ -10,7 +10,7 @@ use Rattle.gcx_model.specs.Normal.{all_loops, no_names, normal}
 use Rattle.gcx_laws.proofs.Bridge.{length-count}
 use Rattle.gcx_laws.proofs.Moved.{vars-exprs}
 use Rattle.xq_normal.specs.Shapes.{capped}
-use Rattle.xq_lex.specs.Answer.{UnlessMemory}
+use Rattle.gcx_model.specs.Refusals.{UnlessMemory}
 use Rattle.xq_normal.specs.Sums.{condition_bytes, condition_steps, conditions_refusal, loops_of, refusal}
 
 abbrev by_bytes : Bool → Option QueryFault

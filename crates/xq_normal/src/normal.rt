@@ -8,7 +8,7 @@ ghost use Rattle.gcx_model.specs.PlanView.{core_tree};
 ghost use Rattle.gcx_model.specs.Query.{exprs_of, query_trees};
 ghost use Rattle.gcx_model.specs.Run.{bytes_written};
 ghost use Rattle.gcx_model.specs.Sound.{is_sound};
-ghost use Rattle.xq_lex.specs.Answer.{UnlessMemory};
+ghost use Rattle.gcx_model.specs.Refusals.{UnlessMemory};
 ghost use Rattle.xq_normal.specs.Raw.{moved, raw_exprs};
 ghost use Rattle.xq_normal.specs.Sums.{conditions_refusal, core_of, refusal, with_rows};
 

@@ -8,7 +8,7 @@ use Rattle.gcx_model.specs.Query.{ExprTree, query_trees}
 use Rattle.gcx_model.specs.Sound.{is_sound}
 use Rattle.xq_lex.specs.declared.token.Tok.{Tok}
 use Rattle.xq_lex.specs.Lex.{Lexes, LexFault, HasOnlyTokens, HasOnlyFault}
-use Rattle.xq_lex.specs.Answer.{UnlessMemory}
+use Rattle.gcx_model.specs.Refusals.{UnlessMemory}
 use Rattle.xq_parse.specs.Spelling.{Spells, QuerySpells}
 use Rattle.xq_parse.specs.Faults.{GrammarFault, TextFaultOf, HasOnlyQuery, HasOnlyRefusal}
 use Rattle.xq_parse.specs.Answering.{Answers, judged}

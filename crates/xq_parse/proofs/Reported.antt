@@ -5,7 +5,7 @@ use Rattle.gcx_model.specs.declared.fault.QueryFault.TheVariants.{Utf8, Lex, Syn
 use Rattle.gcx_model.specs.declared.query.Query.{Query}
 use Rattle.gcx_model.specs.Query.{ExprTree}
 use Rattle.xq_lex.specs.declared.token.Tok.{Tok}
-use Rattle.xq_lex.specs.Answer.{UnlessMemory}
+use Rattle.gcx_model.specs.Refusals.{UnlessMemory}
 use Rattle.xq_parse.specs.declared.marks.Marks.{Marks}
 use Rattle.xq_parse.specs.declared.refusal.Refusal.{Refusal}
 use Rattle.xq_parse.specs.declared.refusal.Refusal.TheVariants as refusals

@@ -6,7 +6,7 @@ use Rattle.gcx_model.specs.declared.fault.What.TheVariants as whats
 use Rattle.gcx_model.specs.declared.query.Query.{Query}
 use Rattle.gcx_model.specs.Query.{ExprTree, query_trees}
 use Rattle.xq_lex.specs.declared.token.Tok.{Tok}
-use Rattle.xq_lex.specs.Answer.{UnlessMemory}
+use Rattle.gcx_model.specs.Refusals.{UnlessMemory}
 use Rattle.xq_parse.specs.declared.refusal.Why.{Why}
 use Rattle.xq_parse.specs.declared.refusal.Why.TheVariants.{Syntax, TagMismatch, Nesting}
 use Rattle.xq_parse.specs.declared.refusal.Refusal.{Refusal}

@@ -2,7 +2,7 @@
 ghost use Rattle.std.specs.Prelude.{◌≡◌, true, Ok, IfOk, IfErr};
 ghost use Rattle.gcx_model.specs.Query.{query_trees};
 ghost use Rattle.gcx_model.specs.Sound.{is_sound};
-ghost use Rattle.xq_lex.specs.Answer.{UnlessMemory};
+ghost use Rattle.gcx_model.specs.Refusals.{UnlessMemory};
 ghost use Rattle.xq_parse.specs.Spelling.{QuerySpells};
 ghost use Rattle.xq_parse.specs.Faults.{HasOnlyQuery, HasOnlyRefusal, TextFaultOf};
 ghost use Rattle.xq_parse.specs.Machine.{start};

@@ -1,6 +1,6 @@
 use Rattle.std.proofs.Common.{rules, arith, List, ℕ, subst}
 use Rattle.gcx_model.specs.Query.{query_trees}
-use Rattle.xq_lex.specs.Answer.{UnlessMemory}
+use Rattle.gcx_model.specs.Refusals.{UnlessMemory}
 use Rattle.xq_parse.specs.Faults.{TextFaultOf, HasOnlyRefusal}
 use Rattle.gcx_cmd.specs.Main.{SaysOfQuery}
 use Rattle.gcx_cmd.specs.ReadEnd.{query_status}

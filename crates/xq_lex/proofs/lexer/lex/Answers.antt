@@ -4,7 +4,7 @@ use Rattle.std.proofs.lemmas.Result.{IfOk-weaker, IfErr-weaker}
 use Rattle.std.proofs.lemmas.Str.{encodes-chars}
 use Rattle.gcx_model.specs.declared.fault.QueryFault.TheVariants.{Utf8}
 use Rattle.xq_lex.specs.Lex.{AreInOrder, HasOnlyFault, HasOnlyTokens, LexesAs, LexFault}
-use Rattle.xq_lex.specs.Answer.{UnlessMemory}
+use Rattle.gcx_model.specs.Refusals.{UnlessMemory}
 use Rattle.xq_lex.specs.Steps.{IsStopped}
 use Rattle.xq_lex.proofs.SpanLaws.{tokens_in_order, only_tokens, only_fault, only_stopped, lexes_bytes}
 use Rattle.xq_lex.proofs.lexer.lex.Goals as goal
