@@ -1,6 +1,6 @@
 -- The counts of descendant steps are those of the variables' paths.
 use Rattle.std.proofs.Common.{ℕ, zero, suc, ◌≡◌, ◌+◌, ◌<◌, ◌≤◌, min, Bool, true, false, ◌||◌, List, [], ◌∷◌, ◌++◌, map, length, take, get_or, refl, sym, ap, ◌∙◌, arith, add-one}
-use Rattle.std.specs.Prelude.{nat_lt}
+use Rattle.std.specs.Prelude.{nat_lt, Some, None, if◌then◌else◌}
 use Rattle.std.proofs.lemmas.List.{map-append, map_more, length-map}
 use Rattle.std.proofs.lemmas.Bool.{ltb-true, ltb-false, lt-ltb, le-ltb}
 use Rattle.gcx_base.specs.declared.steps.Step.{Step}
@@ -15,7 +15,9 @@ use Rattle.gcx_model.specs.PlanView.{role_row_tree, var_row_tree}
 use Rattle.var_tree.specs.Loops.{Loop, loops, item_loops}
 use Rattle.var_tree.proofs.Tables.{look, look_map}
 use Rattle.var_tree.proofs.Growing.{grown, loop_var, table, tree_is}
-use Rattle.proj_tree.specs.Depths.{fall, descendants, is_deep, capped, with_rows}
+use Rattle.proj_tree.specs.Depths.{fall, descendants, is_deep, roles_refusal, capped, with_rows}
+use Rattle.gcx_model.specs.declared.fault.QueryFault.TheVariants.{TooLarge}
+use Rattle.gcx_model.specs.declared.fault.What.TheVariants.{Roles, Descendants}
 
 -- ---- Sums that stand still
 
@@ -165,3 +167,20 @@ few_roles core xs ys e f h = omega (arith, ap length e, ap length f, length-map 
 
 pub deep_roles : (core : BodyTree) (xs ys : List RoleRow) (deep answer : Bool) → ys ≡ xs → map role_row_tree xs ≡ roles_of core → deep ≡ any (is_deep core) (map role_row_tree ys) → deep ≡ answer → any (is_deep core) (roles_of core) ≡ answer
 deep_roles core xs ys deep answer e f g h = ap (any (is_deep core)) (sym f ∙ ap (map role_row_tree) (sym e)) ∙ (sym g ∙ h)
+
+pub none_passed : (core : BodyTree) → length (roles_of core) ≤ 2000 → any (is_deep core) (roles_of core) ≡ false → roles_refusal core ≡ None
+none_passed core few shallow =
+    let e : nat_lt 2000 (length (roles_of core)) ≡ false = le-ltb 2000 (length (roles_of core)) few in
+    ap (λ b. if b then Some (TooLarge Roles 2000) else (if any (is_deep core) (roles_of core) then Some (TooLarge Descendants 6) else None)) e
+    ∙ ap (λ b. if b then Some (TooLarge Descendants 6) else None) shallow
+
+pub many_passed : (core : BodyTree) → 2000 < length (roles_of core) → roles_refusal core ≡ Some (TooLarge Roles 2000)
+many_passed core many =
+    let e : nat_lt 2000 (length (roles_of core)) ≡ true = lt-ltb 2000 (length (roles_of core)) many in
+    ap (λ b. if b then Some (TooLarge Roles 2000) else (if any (is_deep core) (roles_of core) then Some (TooLarge Descendants 6) else None)) e
+
+pub deep_passed : (core : BodyTree) → length (roles_of core) ≤ 2000 → any (is_deep core) (roles_of core) ≡ true → roles_refusal core ≡ Some (TooLarge Descendants 6)
+deep_passed core few deep =
+    let e : nat_lt 2000 (length (roles_of core)) ≡ false = le-ltb 2000 (length (roles_of core)) few in
+    ap (λ b. if b then Some (TooLarge Roles 2000) else (if any (is_deep core) (roles_of core) then Some (TooLarge Descendants 6) else None)) e
+    ∙ ap (λ b. if b then Some (TooLarge Descendants 6) else None) deep

@@ -1,5 +1,5 @@
 //! The roles of a core.
-ghost use Rattle.std.specs.Prelude.{◌≡◌, ◌≤◌, ◌<◌, ◌+◌, ◌++◌, ◌∷◌, [], false, map, length, IfOk, IfErr, OnOk, nat_lt, slice_index_or};
+ghost use Rattle.std.specs.Prelude.{◌≡◌, ◌≤◌, ◌<◌, ◌+◌, ◌++◌, ◌∷◌, [], false, map, length, IfOk, IfErr, OnOk, Some, None, nat_lt, slice_index_or};
 ghost use Rattle.gcx_model.specs.Core.{First};
 ghost use Rattle.gcx_model.specs.Cores.{Good};
 ghost use Rattle.gcx_model.specs.CondView.{core_cond_tree, core_cond_trees, core_conds_of, operand_tree};
@@ -8,7 +8,8 @@ ghost use Rattle.gcx_model.specs.Paths.{any};
 ghost use Rattle.gcx_model.specs.PlanView.{role_row_tree, var_row_tree};
 ghost use Rattle.gcx_model.specs.Roles.{cond_rows, conds_rows, item_rows, operand_rows, own_row, roles_of, rows, whole_row};
 ghost use Rattle.gcx_model.specs.Variables.{var_rows};
-ghost use Rattle.proj_tree.specs.Depths.{descendants, is_deep, IsRefusal};
+ghost use Rattle.gcx_model.specs.Refusals.{UnlessMemory};
+ghost use Rattle.proj_tree.specs.Depths.{descendants, is_deep, roles_refusal};
 
 use crate::depth::{depths, is_deeper};
 use gcx_base::{Memory, Steps, VarId};
@@ -182,8 +183,8 @@ pub fn roles(alloc: Global, core: &Core) -> Result<RoleRows, QueryFault>
     requires rows { map var_row_tree core.now.vars ≡ var_rows (body_tree core.now.body) }
     ensures rows { IfOk result (λ rows. map role_row_tree rows ≡ roles_of (body_tree core.now.body)) }
     ensures few { OnOk result (length (roles_of (body_tree core.now.body)) ≤ 2000) }
-    ensures shallow { OnOk result (any (is_deep (body_tree core.now.body)) (roles_of (body_tree core.now.body)) ≡ false) }
-    ensures refusals { IfErr result (λ fault. IsRefusal (body_tree core.now.body) fault) }
+    ensures within { OnOk result (roles_refusal (body_tree core.now.body) ≡ None) }
+    ensures refused { IfErr result (UnlessMemory (λ fault. roles_refusal (body_tree core.now.body) ≡ Some fault)) }
 {
     let rows = all_roles(alloc, core)?;
     if rows.items().len() > MOST_ROLES {
