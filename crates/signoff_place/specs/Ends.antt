@@ -1,3 +1,4 @@
+-- This follows the code, for its proofs: no public clause speaks of it.
 -- A body with statements at its end, as lists of items (this project's).
 use Rattle.std.specs.Prelude.{ℕ, List, [], map, slice_index_or}
 use Rattle.gcx_model.specs.declared.item.Off.{Off}

@@ -1,3 +1,4 @@
+-- This follows the code, for its proofs: no public clause speaks of it.
 -- The statements of a core by the bodies at whose ends they stand (this project's).
 use Rattle.std.specs.Prelude.{ℕ, zero, suc, ◌<◌, Bool, true, false, cond, ◌&&◌, not, ◌==◌, List, [], ◌∷◌, ◌++◌, map, filter, slice_index_or}
 use Rattle.gcx_base.specs.declared.ids.Role.{Role}

@@ -1,3 +1,4 @@
+-- This follows the code, for its proofs: no public clause speaks of it.
 -- What is answered of the token at the front of a text.
 use Rattle.std.specs.Prelude.{◌≡◌, ◌<◌, ◌≤◌, ℕ, false, List, length, drop}
 use Rattle.gcx_model.specs.declared.fault.QueryFault.{QueryFault}

@@ -1,4 +1,5 @@
--- This follows the code of the normaliser, and no public clause speaks of it. A query as loops of single steps, with each If where the query has it; and the If moved inside the loops of its branches.
+-- This follows the code, for its proofs: no public clause speaks of it.
+-- A query as loops of single steps, with each If where the query has it; and the If moved inside the loops of its branches.
 use Rattle.std.specs.Prelude.{ℕ, zero, suc, ◌+◌, Bool, cond, List, Option, Some, None}
 use Rattle.gcx_model.specs.declared.query.Clause.{Clause}
 use Rattle.gcx_model.specs.Written.{start_tag, end_tag}

@@ -1,3 +1,4 @@
+-- This follows the code, for its proofs: no public clause speaks of it.
 -- Bindings of names to variables as the names of a scope.
 use Rattle.std.specs.Prelude.{ℕ, cond, List, [], ◌∷◌, bytes_eq}
 use Rattle.gcx_model.specs.Normal.{Names}

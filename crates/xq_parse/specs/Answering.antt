@@ -1,3 +1,4 @@
+-- This follows the code, for its proofs: no public clause speaks of it.
 -- What is answered, by what the machine gives.
 use Rattle.std.specs.Prelude.{ℕ, ◌≡◌, ◌-◌, List, length, Option, Some, None, Result, Ok, Err, slice_get}
 use Rattle.gcx_model.specs.declared.fault.QueryFault.{QueryFault}

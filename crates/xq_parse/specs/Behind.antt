@@ -1,3 +1,4 @@
+-- This follows the code, for its proofs: no public clause speaks of it.
 -- What the machine expects behind a token that was looked at.
 use Rattle.std.specs.Prelude.{ℕ, ◌≡◌, ◌+◌, ◌-◌, ◌<◌, ◌≤◌, length, drop, List, Option, Some, None}
 use Rattle.gcx_base.specs.declared.steps.Axis.TheVariants as axes

@@ -1,3 +1,4 @@
+-- This follows the code, for its proofs: no public clause speaks of it.
 -- Where a name stands first among those that clauses bind.
 use Rattle.std.specs.Prelude.{ℕ, suc, ◌==◌, List, [], ◌∷◌, Option, Some, None, bytes_eq, if◌then◌else◌}
 

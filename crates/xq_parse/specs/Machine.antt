@@ -1,3 +1,4 @@
+-- This follows the code, for its proofs: no public clause speaks of it.
 -- A machine over tokens: what is expected next, and what is done with what is read. Beside the query it finds the first variable without a clause, and the first descendant step that may not stand where it does.
 use Rattle.std.specs.Prelude.{ℕ, ◌+◌, ◌||◌, nat_lt, List, [], ◌∷◌, ◌++◌, Option, Some, None, Result, Ok, Err, if◌then◌else◌, bytes_eq, option_map}
 use Rattle.gcx_base.specs.declared.rel.Rel.{Rel}

@@ -1,3 +1,4 @@
+-- This follows the code, for its proofs: no public clause speaks of it.
 -- What a part of the parser does, by the machine.
 use Rattle.std.specs.Prelude.{ℕ, ◌≡◌, List, [], ◌∷◌, length, Option, Some, None, Result, Ok, Err}
 use Rattle.xq_lex.specs.declared.token.Tok.{Tok}

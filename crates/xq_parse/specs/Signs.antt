@@ -1,3 +1,4 @@
+-- This follows the code, for its proofs: no public clause speaks of it.
 -- Signs compared.
 use Rattle.std.specs.Prelude.{ℕ, Bool, ◌||◌, eqb}
 use Rattle.xq_lex.specs.declared.sign.Sign.{Sign}
