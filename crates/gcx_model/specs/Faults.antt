@@ -1,7 +1,7 @@
 -- Which fault comes first, with limits (this project's).
 use Rattle.std.specs.Prelude.{ℕ, ◌≡◌, ◌+◌, ◌<◌, ◌≤◌, ◌⊎◌, Bool, true, false, List, [], ◌∷◌, ◌++◌, length, take, Option, Some, None}
 use Rattle.std.specs.Char.{len_utf8}
-use lib.Utf8.{scalar, scalars, encode, encodes}
+use lib.Utf8.{scalars, encodes}
 use Rattle.gcx_base.specs.Characters.{is_start_char}
 pub use Rattle.gcx_base.specs.Utf8.{IsCharFront, IsNotUtf8}
 use Rattle.gcx_base.specs.declared.limits.Limits.{Limits}
