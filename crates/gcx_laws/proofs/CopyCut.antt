@@ -10,7 +10,7 @@ use Rattle.gcx_model.specs.Core.{Copy}
 use Rattle.gcx_model.specs.Answer.{child_step, children}
 use Rattle.gcx_model.specs.Written.{start_tag, end_tag, escaped}
 use Rattle.gcx_model.specs.Run.{Action, Wrote, Out, wrote, seq, loop, copy_with}
-use Rattle.gcx_model.specs.Copying.{CopyFrame, Inside, has_inside, begun, ended, copy_all, copies, last_of, ComesTo, Itself, Below, IsWithin, InNode}
+use Rattle.gcx_model.specs.Copying.{CopyFrame, Inside, has_inside, begun, ended, copy_all, copies, last_of, ComesTo, Itself, Below, IsCopyPoint, InNode}
 use Rattle.gcx_laws.specs.Copying.{Cut, AtStart, AtEnd, Amid, CopyIsCut}
 use Rattle.gcx_laws.proofs.Lists.{In, In-left}
 use Rattle.gcx_laws.proofs.Matches.{Grown, Grown-grow, Numbered-high, Matches-grow, Matches-in, added}
@@ -18,7 +18,7 @@ use Rattle.gcx_laws.proofs.Prefix.{Before, loop_mono, item_grows}
 use Rattle.gcx_laws.proofs.Balance.{seq_both}
 use Rattle.gcx_laws.proofs.PointForms.{same_when_done}
 use Rattle.gcx_laws.proofs.Points as points
-use Rattle.gcx_laws.proofs.CopyFrames.{at_once, step_over, IsWithin-trans, child_above, child_in, mid_in, copy_is, copy_parts, closes}
+use Rattle.gcx_laws.proofs.CopyFrames.{at_once, step_over, IsCopyPoint-trans, child_above, child_in, mid_in, copy_is, copy_parts, closes}
 
 -- a loop that is done is over
 over_is : (f : Node → Out) (ns : List Node) (over : Bool) → (loop f ns over).done ≡ true → over ≡ true
@@ -38,7 +38,7 @@ module _ (P : Tree) (w : Grown P) where
 
   -- the frames behind the copies of the first children
   here : (n : Node) (pre post : List Node) (before : List Action) → has_inside (kind_of n) ≡ true → children P n ≡ pre ++ post → (copies P pre).done ≡ true → before ≡ begun (kind_of n) ++ (copies P pre).acts → Cut P n before
-  here n pre post before h e dn is = Amid (Inside n (last_of pre) ∷ []) (subst (λ (z : List Action). IsWithin P n z (Inside n (last_of pre) ∷ [])) (sym is) (InNode pre post Itself h e dn))
+  here n pre post before h e dn is = Amid (Inside n (last_of pre) ∷ []) (subst (λ (z : List Action). IsCopyPoint P n z (Inside n (last_of pre) ∷ [])) (sym is) (InNode pre post Itself h e dn))
 
   module _ (n : Node) (i : In n P.nodes) (ih : (m : Node) → In m (children P n) → (before rest : List Action) → (copy_all P m).acts ≡ before ++ rest → Cut P m before) (before : List Action) where
     abbrev inner : Out
@@ -54,11 +54,11 @@ module _ (P : Tree) (w : Grown P) where
     in_child : has_inside (kind_of n) ≡ true → (pre : List Node) (m : Node) (post : List Node) (c : List Action) → children P n ≡ pre ++ m ∷ post → (copies P pre).done ≡ true → before ≡ begun (kind_of n) ++ ((copies P pre).acts ++ c) → Cut P m c → Cut P n before
     in_child h pre m post c ch dn is (AtStart e) = here n pre (m ∷ post) before h ch dn (is ∙ (ap (λ z. begun (kind_of n) ++ ((copies P pre).acts ++ z)) e ∙ ap (λ z. begun (kind_of n) ++ z) (append-nil (copies P pre).acts)))
     in_child h pre m post c ch dn is (AtEnd e) =
-        Amid (Inside n (Some m) ∷ []) (subst (λ (z : List Action). IsWithin P n z (Inside n (Some m) ∷ [])) (append_assoc (begun (kind_of n)) (copies P pre).acts c ∙ sym is)
+        Amid (Inside n (Some m) ∷ []) (subst (λ (z : List Action). IsCopyPoint P n z (Inside n (Some m) ∷ [])) (append_assoc (begun (kind_of n)) (copies P pre).acts c ∙ sym is)
         (step_over P n n [] [] pre m post c Itself h ch dn e))
     in_child h pre m post c ch dn is (Amid fs q) =
-        Amid (fs ++ Inside n (Some m) ∷ []) (subst (λ (z : List Action). IsWithin P n z (fs ++ Inside n (Some m) ∷ [])) (append_assoc (begun (kind_of n)) (copies P pre).acts c ∙ sym is)
-        (IsWithin-trans P n m (begun (kind_of n) ++ (copies P pre).acts) c (Inside n (Some m) ∷ []) fs (Below pre m post Itself h ch dn) q))
+        Amid (fs ++ Inside n (Some m) ∷ []) (subst (λ (z : List Action). IsCopyPoint P n z (fs ++ Inside n (Some m) ∷ [])) (append_assoc (begun (kind_of n)) (copies P pre).acts c ∙ sym is)
+        (IsCopyPoint-trans P n m (begun (kind_of n) ++ (copies P pre).acts) c (Inside n (Some m) ∷ []) fs (Below pre m post Itself h ch dn) q))
 
     in_loop : has_inside (kind_of n) ≡ true → (c : List Action) → before ≡ begun (kind_of n) ++ c → points.Cut_loop P (copy_all P) (children P n) c → Cut P n before
     in_loop h c is (points.Outside e) = started h (is ∙ (ap (λ z. begun (kind_of n) ++ z) e ∙ append-nil (begun (kind_of n))))
@@ -140,12 +140,12 @@ module _ (t : Token) (P : Tree) (w : Grown P) where
       subst (λ (z : List Action). ComesTo (grow t P) n c (b ++ (begun (kind_of o) ++ z)) (Inside o (Some c) ∷ below)) (sym (ap (λ (z : Out). z.acts) same))
       (Below pre c _ (comes_stays n o b below h) has (children_more o pre (c ∷ post) e) (ap (λ (z : Out). z.done) (sym same) ∙ dn))
 
-  within_stays : (n : Node) (before : List Action) (fs : List CopyFrame) → IsWithin P n before fs → IsWithin (grow t P) n before fs
+  within_stays : (n : Node) (before : List Action) (fs : List CopyFrame) → IsCopyPoint P n before fs → IsCopyPoint (grow t P) n before fs
   within_stays n before fs (InNode {m = o} {before = b} {below = below} pre post h has e dn) =
       let same = copies_stay pre (first_in o pre post e) dn in
-      subst (λ (z : List Action). IsWithin (grow t P) n (b ++ (begun (kind_of o) ++ z)) (Inside o (last_of pre) ∷ below)) (sym (ap (λ (z : Out). z.acts) same))
+      subst (λ (z : List Action). IsCopyPoint (grow t P) n (b ++ (begun (kind_of o) ++ z)) (Inside o (last_of pre) ∷ below)) (sym (ap (λ (z : Out). z.acts) same))
       (InNode pre _ (comes_stays n o b below h) has (children_more o pre post e) (ap (λ (z : Out). z.done) (sym same) ∙ dn))
 
-pub within_all : (ts : List Token) (P : Tree) → Grown P → (n : Node) (before : List Action) (fs : List CopyFrame) → IsWithin P n before fs → IsWithin (grow_all ts P) n before fs
+pub within_all : (ts : List Token) (P : Tree) → Grown P → (n : Node) (before : List Action) (fs : List CopyFrame) → IsCopyPoint P n before fs → IsCopyPoint (grow_all ts P) n before fs
 within_all [] P w n before fs h = h
 within_all (t ∷ ts) P w n before fs h = within_all ts (grow t P) (Grown-grow t P w) n before fs (within_stays t P w n before fs h)

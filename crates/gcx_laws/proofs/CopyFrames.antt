@@ -9,7 +9,7 @@ use Rattle.gcx_model.specs.Paths.{reach, lies, passes, hits}
 use Rattle.gcx_model.specs.Answer.{child_step, children}
 use Rattle.gcx_model.specs.Run.{Action, Out, seq, loop, copy_with, copy}
 use Rattle.gcx_model.specs.Points.{later}
-use Rattle.gcx_model.specs.Copying.{CopyFrame, Inside, has_inside, begun, ended, copy_all, copies, last_of, ComesTo, Itself, Below, IsWithin, InNode, next_children, copy_left}
+use Rattle.gcx_model.specs.Copying.{CopyFrame, Inside, has_inside, begun, ended, copy_all, copies, last_of, ComesTo, Itself, Below, IsCopyPoint, InNode, next_children, copy_left}
 use Rattle.gcx_laws.specs.Copying.{CopyGoesOn}
 use Rattle.gcx_laws.proofs.Lists.{In, any_in, In-right}
 use Rattle.gcx_laws.proofs.Matches.{Grown, Rising, Rising-filter, Numbered-high, Matches-in}
@@ -67,25 +67,25 @@ pub record Top (P : Tree) (n : Node) (before : List Action) (m : Node) (present 
   pub before_is : before ≡ start ++ (begun (kind_of m) ++ (copies P pre).acts)
   pub present_is : present ≡ last_of pre
 
-pub top : (P : Tree) (n : Node) (before : List Action) (m : Node) (present : Option Node) (below : List CopyFrame) → IsWithin P n before (Inside m present ∷ below) → Top P n before m present below
+pub top : (P : Tree) (n : Node) (before : List Action) (m : Node) (present : Option Node) (below : List CopyFrame) → IsCopyPoint P n before (Inside m present ∷ below) → Top P n before m present below
 top P n before m present below (InNode {before = start} pre post comes has e dn) = record { start = start; pre = pre; post = post; comes = comes; has = has; children_are = e; done = dn; before_is = refl; present_is = refl }
 
 -- where the copies of the first children are done, and so is that of the next one
 pub step_over : (P : Tree) (n m : Node) (start : List Action) (below : List CopyFrame) (pre : List Node) (c : Node) (post : List Node) (acts : List Action) → ComesTo P n m start below → has_inside (kind_of m) ≡ true → children P m ≡ pre ++ c ∷ post → (copies P pre).done ≡ true
-    → copy_all P c ≡ at_once acts → IsWithin P n ((start ++ (begun (kind_of m) ++ (copies P pre).acts)) ++ acts) (Inside m (Some c) ∷ below)
+    → copy_all P c ≡ at_once acts → IsCopyPoint P n ((start ++ (begun (kind_of m) ++ (copies P pre).acts)) ++ acts) (Inside m (Some c) ∷ below)
 step_over P n m start below pre c post acts comes has e dn is =
     let l = loop_to (copy_all P) pre c dn (ap (λ (z : Out). z.done) is) in
     let acts_are : (copies P (pre ++ c ∷ [])).acts ≡ (copies P pre).acts ++ acts = l.1 ∙ ap (λ (z : Out). (copies P pre).acts ++ z.acts) is in
     let before_is : start ++ (begun (kind_of m) ++ (copies P (pre ++ c ∷ [])).acts) ≡ (start ++ (begun (kind_of m) ++ (copies P pre).acts)) ++ acts =
     ap (λ z. start ++ (begun (kind_of m) ++ z)) acts_are ∙ (ap (λ z. start ++ z) (sym (append_assoc (begun (kind_of m)) (copies P pre).acts acts)) ∙ sym (append_assoc start (begun (kind_of m) ++ (copies P pre).acts) acts)) in
-    subst (λ (z : List Action). IsWithin P n z (Inside m (Some c) ∷ below)) before_is
-    (subst (λ (z : Option Node). IsWithin P n (start ++ (begun (kind_of m) ++ (copies P (pre ++ c ∷ [])).acts)) (Inside m z ∷ below)) (last-push pre c)
+    subst (λ (z : List Action). IsCopyPoint P n z (Inside m (Some c) ∷ below)) before_is
+    (subst (λ (z : Option Node). IsCopyPoint P n (start ++ (begun (kind_of m) ++ (copies P (pre ++ c ∷ [])).acts)) (Inside m z ∷ below)) (last-push pre c)
     (InNode (pre ++ c ∷ []) post comes has (e ∙ sym (append_assoc pre (c ∷ []) post)) l.0))
 
 -- where the copy of a node is done
 abbrev pub Up : Tree → Node → List Action → List CopyFrame → Type 0
 Up P n acts [] = copy_all P n ≡ at_once acts
-Up P n acts (f ∷ fs) = IsWithin P n acts (f ∷ fs)
+Up P n acts (f ∷ fs) = IsCopyPoint P n acts (f ∷ fs)
 
 pub up : (P : Tree) (n m : Node) (start : List Action) (below : List CopyFrame) (acts : List Action) → ComesTo P n m start below → copy_all P m ≡ at_once acts → Up P n (start ++ acts) below
 up P n m start below acts Itself is = is
@@ -98,9 +98,9 @@ ComesTo-trans P n m o a b fs gs h (Below {m = q} {before = b'} {below = gs'} pre
     subst (λ (z : List Action). ComesTo P n c z (Inside q (Some c) ∷ (gs' ++ fs))) (append_assoc a b' (begun (kind_of q) ++ (copies P pre).acts))
     (Below pre c post (ComesTo-trans P n m q a b' fs gs' h comes) has e dn)
 
-pub IsWithin-trans : (P : Tree) (n m : Node) (a b : List Action) (fs gs : List CopyFrame) → ComesTo P n m a fs → IsWithin P m b gs → IsWithin P n (a ++ b) (gs ++ fs)
-IsWithin-trans P n m a b fs gs h (InNode {m = q} {before = b'} {below = gs'} pre post comes has e dn) =
-    subst (λ (z : List Action). IsWithin P n z (Inside q (last_of pre) ∷ (gs' ++ fs))) (append_assoc a b' (begun (kind_of q) ++ (copies P pre).acts))
+pub IsCopyPoint-trans : (P : Tree) (n m : Node) (a b : List Action) (fs gs : List CopyFrame) → ComesTo P n m a fs → IsCopyPoint P m b gs → IsCopyPoint P n (a ++ b) (gs ++ fs)
+IsCopyPoint-trans P n m a b fs gs h (InNode {m = q} {before = b'} {below = gs'} pre post comes has e dn) =
+    subst (λ (z : List Action). IsCopyPoint P n z (Inside q (last_of pre) ∷ (gs' ++ fs))) (append_assoc a b' (begun (kind_of q) ++ (copies P pre).acts))
     (InNode pre post (ComesTo-trans P n m q a b' fs gs' h comes) has e dn)
 
 module _ (P : Tree) (w : Grown P) where
@@ -183,7 +183,7 @@ module _ (P : Tree) (w : Grown P) where
       )
 
   -- and as far as these frames
-  pub goes_on : (n : Node) (before : List Action) (fs : List CopyFrame) → In n P.nodes → IsWithin P n before fs → copy_all P n ≡ after before (copy_left P fs)
+  pub goes_on : (n : Node) (before : List Action) (fs : List CopyFrame) → In n P.nodes → IsCopyPoint P n before fs → copy_all P n ≡ after before (copy_left P fs)
   goes_on n before fs i (InNode {m = o} {before = b} {below = below} pre post h has e dn) =
       let ih = comes n o b below i h in
       let a : Out = copies P pre in

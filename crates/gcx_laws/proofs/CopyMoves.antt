@@ -15,7 +15,7 @@ use Rattle.gcx_model.specs.Held.{held, held_tree, is_held}
 use Rattle.gcx_model.specs.Growth.{Leads}
 use Rattle.gcx_model.specs.Points.{actions, so_far, CoreState, Frame, Rest, Round, Part, behind, to_come, IsPoint, Begins, Past, InLoop, InYes, InNo, PointAt}
 use Rattle.gcx_model.specs.Points as points
-use Rattle.gcx_model.specs.Copying.{CopyFrame, Inside, has_inside, begun, ended, copy_all, copies, last_of, ComesTo, Itself, Below, IsWithin, InNode, next_children, copy_left, CopyingAt, FinePoint}
+use Rattle.gcx_model.specs.Copying.{CopyFrame, Inside, has_inside, begun, ended, copy_all, copies, last_of, ComesTo, Itself, Below, IsCopyPoint, InNode, next_children, copy_left, CopyingAt, FinePoint}
 use Rattle.gcx_laws.specs.Moves.{IsNext, NoneLeft, AtPoint, IsStack, Bottom, InBranch, InRound, InCopy}
 use Rattle.gcx_laws.specs.Copying.{AtStart, AtEnd, Amid, AtFinePoint, FineResume, FinePoints, FinePointStays, CopyBegins, CopySteps, CopyEnds, CopyWaits, CopyFramesStand, InsideHeld}
 use Rattle.gcx_laws.proofs.Lists.{In, In-left, In-right, In-filter}
@@ -132,7 +132,7 @@ fine_point_stays plan P Q k l m b (f ∷ inner) fs st =
       env = c.env;
       made = c.made;
       point = point_stays plan P Q k l m b (Part c.var c.env (length c.made) ∷ fs) c.point;
-      inside = subst (λ (z : Tree). IsWithin z (c.env c.var) c.made (f ∷ inner)) (sym h.2) (within_all h.0 P (grown_from P l) (c.env c.var) c.made (f ∷ inner) c.inside);
+      inside = subst (λ (z : Tree). IsCopyPoint z (c.env c.var) c.made (f ∷ inner)) (sym h.2) (within_all h.0 P (grown_from P l) (c.env c.var) c.made (f ∷ inner) c.inside);
     }
 
 -- from a stack to a point of both kinds
@@ -140,10 +140,10 @@ fine_point_stays plan P Q k l m b (f ∷ inner) fs st =
 abbrev AnyFine : PlanTree → Tree → ℕ → Type 0
 AnyFine plan P k = (inner : List CopyFrame) × (d : BodyTree) × (env : Env) × (below : List Frame) × FinePoint plan P k inner (Rest d env ∷ below)
 
-fine_at : (plan : PlanTree) (P : Tree) (k : ℕ) (x : ℕ) (d : BodyTree) (env : Env) (made : List Action) (below : List Frame) → PointAt plan P k (Part x env (length made) ∷ Rest d env ∷ below) → (inner : List CopyFrame) → IsWithin P (env x) made inner → AnyFine plan P k
+fine_at : (plan : PlanTree) (P : Tree) (k : ℕ) (x : ℕ) (d : BodyTree) (env : Env) (made : List Action) (below : List Frame) → PointAt plan P k (Part x env (length made) ∷ Rest d env ∷ below) → (inner : List CopyFrame) → IsCopyPoint P (env x) made inner → AnyFine plan P k
 fine_at plan P k x d env made below st [] h = absurd (no_frames P (env x) made [] h refl)
   where
-    no_frames : (P : Tree) (n : Node) (before : List Action) (fs : List CopyFrame) → IsWithin P n before fs → fs ≡ [] → ⊥
+    no_frames : (P : Tree) (n : Node) (before : List Action) (fs : List CopyFrame) → IsCopyPoint P n before fs → fs ≡ [] → ⊥
     no_frames P n before fs (InNode pre post c has e dn) f = cc
 fine_at plan P k x d env made below st (f ∷ inner) h = (f ∷ inner, d, env, below, record { var = x; env = env; made = made; point = st; inside = h })
 
@@ -188,13 +188,13 @@ module _ (plan : PlanTree) (P : Tree) (k : ℕ) (x : ℕ) (d : BodyTree) (env : 
   begin_text : (b : List ℕ) → kind_of (env x) ≡ Text b → IsNext plan P k (Wrote (escaped b)) × PointAt plan P (suc k) (Rest d env ∷ fs)
   begin_text b e = one_action plan P k (Copy x) d env fs (Wrote (escaped b)) (copy_is P v (env x) node_in ∙ ap (λ z. copy_with z inner_copies) e) st
 
-  within_first : has_inside (kind_of (env x)) ≡ true → (made : List Action) → begun (kind_of (env x)) ≡ made → IsWithin P (env x) made (Inside (env x) None ∷ [])
-  within_first h made e = subst (λ (z : List Action). IsWithin P (env x) z (Inside (env x) None ∷ [])) (append-nil (begun (kind_of (env x))) ∙ e) (InNode [] (children P (env x)) Itself h refl refl)
+  within_first : has_inside (kind_of (env x)) ≡ true → (made : List Action) → begun (kind_of (env x)) ≡ made → IsCopyPoint P (env x) made (Inside (env x) None ∷ [])
+  within_first h made e = subst (λ (z : List Action). IsCopyPoint P (env x) z (Inside (env x) None ∷ [])) (append-nil (begun (kind_of (env x))) ∙ e) (InNode [] (children P (env x)) Itself h refl refl)
 
   begin_element : (name : List ℕ) → kind_of (env x) ≡ Element name → IsNext plan P k (Wrote (start_tag name)) × FinePoint plan P (suc k) (Inside (env x) None ∷ []) (Rest d env ∷ fs)
   begin_element name e =
       let a : Action = Wrote (start_tag name) in
-      let inside : IsWithin P (env x) (a ∷ []) (Inside (env x) None ∷ []) = within_first (ap has_inside e) (a ∷ []) (ap begun e) in
+      let inside : IsCopyPoint P (env x) (a ∷ []) (Inside (env x) None ∷ []) = within_first (ap has_inside e) (a ∷ []) (ap begun e) in
       let o : Out = copy_left P (Inside (env x) None ∷ []) in
       let is : copy_all P (env x) ≡ after (a ∷ []) o = goes_on P v (env x) (a ∷ []) (Inside (env x) None ∷ []) node_in inside in
       let st0 : PointAt plan P k (Part x env 0 ∷ Rest d env ∷ fs) = subst (λ (z : List Action). IsPoint P plan.body env0 z (Part x env 0 ∷ Rest d env ∷ fs)) (append-nil (so_far plan P k))
@@ -226,7 +226,7 @@ module _ (plan : PlanTree) (P : Tree) (k : ℕ) (l : Leads opening P) (inner : L
   copied_in = part_binds plan P k l c.var c.env (length c.made) fs c.point c.var
 
   -- with these frames behind the next action
-  advance : (a : Action) (f : CopyFrame) (gs : List CopyFrame) → IsWithin P copied (c.made ++ a ∷ []) (f ∷ gs) → IsNext plan P k a × FinePoint plan P (suc k) (f ∷ gs) fs
+  advance : (a : Action) (f : CopyFrame) (gs : List CopyFrame) → IsCopyPoint P copied (c.made ++ a ∷ []) (f ∷ gs) → IsNext plan P k a × FinePoint plan P (suc k) (f ∷ gs) fs
   advance a f gs h =
       let is : copy_all P copied ≡ after (c.made ++ a ∷ []) (copy_left P (f ∷ gs)) = goes_on P (grown_from P l) copied (c.made ++ a ∷ []) (f ∷ gs) copied_in h in (
         copy_next plan P k l c.var c.env c.made fs c.point a (copy_left P (f ∷ gs)) is,
@@ -283,17 +283,17 @@ module _ (plan : PlanTree) (P : Tree) (k : ℕ) (m : Node) (present : Option Nod
         let a : Action = Wrote (escaped b) in
         let is : copy_all P c ≡ at_once (a ∷ []) = copy_is P u c child_is ∙ ap (λ z. copy_with z (loop (copy_all P) (children P c) (is_closed P c))) t in
         advance plan P k st.grown (Inside m present ∷ inner) fs at_copy a (Inside m (Some c)) inner
-        (subst (λ (z : List Action). IsWithin P whole (z ++ a ∷ []) (Inside m (Some c) ∷ inner)) (sym seen.before_is)
+        (subst (λ (z : List Action). IsCopyPoint P whole (z ++ a ∷ []) (Inside m (Some c) ∷ inner)) (sym seen.before_is)
         (step_over P whole m seen.start inner seen.pre c post (a ∷ []) seen.comes seen.has children_are seen.done is))
 
     step_element : (name : List ℕ) → kind_of c ≡ Element name → IsNext plan P k (Wrote (start_tag name)) × FinePoint plan P (suc k) (Inside c None ∷ Inside m (Some c) ∷ inner) fs
     step_element name t =
         let a : Action = Wrote (start_tag name) in
-        let h : IsWithin P whole ((seen.start ++ (begun (kind_of m) ++ (copies P seen.pre).acts)) ++ (begun (kind_of c) ++ [])) (Inside c None ∷ Inside m (Some c) ∷ inner) =
+        let h : IsCopyPoint P whole ((seen.start ++ (begun (kind_of m) ++ (copies P seen.pre).acts)) ++ (begun (kind_of c) ++ [])) (Inside c None ∷ Inside m (Some c) ∷ inner) =
         InNode [] (children P c) (Below seen.pre c post seen.comes seen.has children_are seen.done) (ap has_inside t) refl refl in
         advance plan P k st.grown (Inside m present ∷ inner) fs at_copy a (Inside c None) (Inside m (Some c) ∷ inner)
-        (subst (λ (z : List Action). IsWithin P whole (z ++ a ∷ []) (Inside c None ∷ Inside m (Some c) ∷ inner)) (sym seen.before_is)
-        (subst (λ (z : List Action). IsWithin P whole ((seen.start ++ (begun (kind_of m) ++ (copies P seen.pre).acts)) ++ z) (Inside c None ∷ Inside m (Some c) ∷ inner)) (append-nil (begun (kind_of c)) ∙ ap begun t) h))
+        (subst (λ (z : List Action). IsCopyPoint P whole (z ++ a ∷ []) (Inside c None ∷ Inside m (Some c) ∷ inner)) (sym seen.before_is)
+        (subst (λ (z : List Action). IsCopyPoint P whole ((seen.start ++ (begun (kind_of m) ++ (copies P seen.pre).acts)) ++ z) (Inside c None ∷ Inside m (Some c) ∷ inner)) (append-nil (begun (kind_of c)) ∙ ap begun t) h))
 
   module _ (e : next_children P m present ≡ []) where
     all_copied : children P m ≡ seen.pre
@@ -350,7 +350,7 @@ module _ (P : Tree) (w : Grown P) (n : Node) (i : In n P.nodes) where
   comes_all m before fs (Below {m = q} {before = b} {below = below} pre c post h has e dn) o present (inl f) = let g : q ≡ o = cc in subst (λ (z : Node). Lies z) g (comes_lies q b below h)
   comes_all m before fs (Below {m = q} {before = b} {below = below} pre c post h has e dn) o present (inr j) = comes_all q b below h o present j
 
-  within_all_lie : (before : List Action) (fs : List CopyFrame) → IsWithin P n before fs → (o : Node) (present : Option Node) → In (Inside o present) fs → Lies o
+  within_all_lie : (before : List Action) (fs : List CopyFrame) → IsCopyPoint P n before fs → (o : Node) (present : Option Node) → In (Inside o present) fs → Lies o
   within_all_lie before fs (InNode {m = q} {before = b} {below = below} pre post h has e dn) o present (inl f) = let g : q ≡ o = cc in subst (λ (z : Node). Lies z) g (comes_lies q b below h)
   within_all_lie before fs (InNode {m = q} {before = b} {below = below} pre post h has e dn) o present (inr j) = comes_all q b below h o present j
 
@@ -413,7 +413,7 @@ module _ (P : Tree) (n : Node) where
       let tails : fs' ≡ up ++ Inside m present ∷ below = cc in
       comes_stand o b fs' h up m present below tails
 
-  within_stand : (before : List Action) (fs : List CopyFrame) → IsWithin P n before fs → (up : List CopyFrame) (m : Node) (present : Option Node) (below : List CopyFrame) → fs ≡ up ++ Inside m present ∷ below → Stand m present below
+  within_stand : (before : List Action) (fs : List CopyFrame) → IsCopyPoint P n before fs → (up : List CopyFrame) (m : Node) (present : Option Node) (below : List CopyFrame) → fs ≡ up ++ Inside m present ∷ below → Stand m present below
   within_stand before fs (InNode {m = o} {before = b} {below = fs'} pre post h has ch dn) [] m present below e =
       stand_to o m (last_of pre) present fs' below e (has, (λ d f. subst (λ (z : List Node). In d z) (sym ch) (In-left d pre post (last_in pre d f))), comes_lower o b fs' h)
   within_stand before fs (InNode {m = o} {before = b} {below = fs'} pre post h has ch dn) (f ∷ up) m present below e =

@@ -27,7 +27,7 @@ use Rattle.gcx_model.specs.Nodes.{Grown, Ordered, chain_at}
 use Rattle.gcx_model.specs.Variables.{vars}
 use Rattle.gcx_model.specs.Cores.{operand_in, cond_in, conds_in}
 use Rattle.gcx_model.specs.Sound.{only_last, is_path, is_ordered_path, are_clauses, scope_of, has_step, has_clause, is_filter, is_cond, is_expr, are_exprs, two_exprs, has_expr}
-use Rattle.gcx_model.specs.Normal.{join, one, Names, named, start_var, normal_exists, normal_operand, normal_cond, normal_conds, has_loop, half, Piece, Run, Loop, begin, pieces, halved, turned_in, spread, branch, nest, normal_clauses, guarded, clause_loops, loops, normal_expr, normal_exprs, no_names}
+use Rattle.gcx_model.specs.Normal.{join, one, Names, named, start_var, normal_exists, normal_operand, normal_cond, normal_conds, has_loop, half, BranchPart, Run, Loop, begin, pieces, halved, turned_in, spread, branch, nest, normal_clauses, guarded, clause_loops, loops, normal_expr, normal_exprs, no_names}
 use Rattle.gcx_laws.specs.Laws.{NormalLaw}
 use Rattle.gcx_laws.proofs.Lists.{In-left, In-right}
 use Rattle.gcx_laws.proofs.Matches.{Matches-in, Matches-from, Numbered-high, Grown-opening}
@@ -297,7 +297,7 @@ module _ (P : Tree) (w : Grown P) (o : Ordered P) (over : P.at ≡ None) where
   two false A B = refl
 
   -- an item in front of what stands for the rest
-  said_begin : (c : CondTree) (first h : Bool) (i : ItemTree) (ps : List Piece) (env : Env) → In_P env → truth c env P ≡ Known_as h
+  said_begin : (c : CondTree) (first h : Bool) (i : ItemTree) (ps : List BranchPart) (env : Env) → In_P env → truth c env P ≡ Known_as h
       → said (halved c first (begin i ps)) env ≡ cond (agree first h) (said_item i env) [] ++ said (halved c first ps) env
   said_begin c first h i [] env p t = said-one (half c first (one i)) env p ∙ (said_half c first h (one i) env t ∙ (ap (λ z. cond (agree first h) z []) (said-one i env p) ∙ sym (append-nil _)))
   said_begin c first h i (Run r ∷ ps) env p t =
@@ -311,7 +311,7 @@ module _ (P : Tree) (w : Grown P) (o : Ordered P) (over : P.at ≡ None) where
       ∙ ap (λ z. z ++ said (halved c first (Loop l ∷ ps)) env) (said_half c first h (one i) env t ∙ ap (λ z. cond (agree first h) z []) (said-one i env p))
 
   -- and so for an item more of the branch
-  said_more : (c : CondTree) (first h : Bool) (i : ItemTree) (ps : List Piece) (d : BodyTree) (env : Env) → In_P env → truth c env P ≡ Known_as h → said (halved c first ps) env ≡ cond (agree first h) (said d env) []
+  said_more : (c : CondTree) (first h : Bool) (i : ItemTree) (ps : List BranchPart) (d : BodyTree) (env : Env) → In_P env → truth c env P ≡ Known_as h → said (halved c first ps) env ≡ cond (agree first h) (said d env) []
       → said (halved c first (begin i ps)) env ≡ cond (agree first h) (said (Then i d) env) []
   said_more c first h i ps d env p t e =
       said_begin c first h i ps env p t

@@ -13,7 +13,7 @@ use Rattle.gcx_model.specs.Core.{OperandTree, Path, Str, Num, CondTree, CondTree
 use Rattle.gcx_model.specs.Members.{In, count}
 use Rattle.gcx_model.specs.Variables.{vars, item_vars}
 use Rattle.gcx_model.specs.Cores.{operand_in, cond_in, conds_in, ItemIn, BodyIn}
-use Rattle.gcx_model.specs.Normal.{join, one, Names, named, start_var, normal_exists, normal_operand, normal_cond, normal_conds, has_loop, half, Piece, Run, Loop, begin, pieces, halved, turned_in, spread, branch, nest, normal_clauses, guarded, clause_loops, loops, all_loops, normal_expr, normal_exprs, no_names, normal}
+use Rattle.gcx_model.specs.Normal.{join, one, Names, named, start_var, normal_exists, normal_operand, normal_cond, normal_conds, has_loop, half, BranchPart, Run, Loop, begin, pieces, halved, turned_in, spread, branch, nest, normal_clauses, guarded, clause_loops, loops, all_loops, normal_expr, normal_exprs, no_names, normal}
 use Rattle.gcx_laws.specs.Laws.{NormalIsGood}
 use Rattle.gcx_laws.proofs.Bridge.{count-append, length-count}
 
@@ -27,7 +27,7 @@ vars-half : (c : CondTree) (first : Bool) (d : BodyTree) → item_vars (half c f
 vars-half c true d = append-nil (vars d)
 vars-half c false d = refl
 
-vars-begin : (c : CondTree) (first : Bool) (i : ItemTree) (ps : List Piece) → vars (halved c first (begin i ps)) ≡ item_vars i ++ vars (halved c first ps)
+vars-begin : (c : CondTree) (first : Bool) (i : ItemTree) (ps : List BranchPart) → vars (halved c first (begin i ps)) ≡ item_vars i ++ vars (halved c first ps)
 vars-begin c first i [] = ap (λ z. z ++ []) (vars-half c first (one i)) ∙ append_assoc (item_vars i) [] []
 vars-begin c first i (Run r ∷ ps) =
     ap (λ z. z ++ vars (halved c first ps)) (vars-half c first (Then i r))
@@ -129,7 +129,7 @@ half_in : (L : List ℕ) (c : CondTree) (first : Bool) (d : BodyTree) → cond_i
 half_in L c true d i q = (i, q, tt)
 half_in L c false d i q = (i, tt, q)
 
-begin_in : (L : List ℕ) (c : CondTree) (first : Bool) (i : ItemTree) (ps : List Piece) → cond_in L c → ItemIn false L i → BodyIn true L (halved c first ps) → BodyIn true L (halved c first (begin i ps))
+begin_in : (L : List ℕ) (c : CondTree) (first : Bool) (i : ItemTree) (ps : List BranchPart) → cond_in L c → ItemIn false L i → BodyIn true L (halved c first ps) → BodyIn true L (halved c first (begin i ps))
 begin_in L c first i [] u q k = (half_in L c first (one i) u (q, tt), tt)
 begin_in L c true i (Run r ∷ ps) u q k = ((u, (q, k.0.1), tt), k.1)
 begin_in L c false i (Run r ∷ ps) u q k = ((u, tt, (q, k.0.2)), k.1)

@@ -14,19 +14,19 @@ use Rattle.gcx_model.specs.Placed.{Placed}
 use Rattle.gcx_model.specs.Held.{held, held_tree}
 use Rattle.gcx_model.specs.Growth.{Leads}
 use Rattle.gcx_model.specs.Points.{actions, so_far, CoreState, Frame, Rest, to_come, PointAt}
-use Rattle.gcx_model.specs.Copying.{CopyFrame, Inside, has_inside, copy_all, IsWithin, next_children, copy_left, FinePoint}
+use Rattle.gcx_model.specs.Copying.{CopyFrame, Inside, has_inside, copy_all, IsCopyPoint, next_children, copy_left, FinePoint}
 use Rattle.gcx_laws.specs.Moves.{IsNext, NoneLeft, AtPoint}
 
 -- Behind the actions `before` of a copy come those that are left in its frames, and it is done where these are.
 abbrev pub CopyGoesOn : Type 0
-CopyGoesOn = (P : Tree) → Grown P → (n : Node) → In n P.nodes → (before : List Action) (inner : List CopyFrame) → IsWithin P n before inner
+CopyGoesOn = (P : Tree) → Grown P → (n : Node) → In n P.nodes → (before : List Action) (inner : List CopyFrame) → IsCopyPoint P n before inner
     → ((copy_all P n).acts ≡ before ++ (copy_left P inner).acts) × ((copy_all P n).done ≡ (copy_left P inner).done)
 
 -- the first actions of a copy: none, or all of one that is done, or those behind which its frames are such a point
 pub data Cut (P : Tree) (n : Node) (before : List Action) : Type 0 where
   AtStart : before ≡ [] → Cut P n before
   AtEnd : copy_all P n ≡ record { acts = before; done = true } → Cut P n before
-  Amid : (inner : List CopyFrame) → IsWithin P n before inner → Cut P n before
+  Amid : (inner : List CopyFrame) → IsCopyPoint P n before inner → Cut P n before
 
 -- Wherever the actions of a copy are cut in two, it is one of these.
 abbrev pub CopyIsCut : Type 0

@@ -52,9 +52,9 @@ pub data ComesTo (P : Tree) (n : Node) : (m : Node) → (before : List Action) �
       → has_inside (kind_of m) ≡ true → children P m ≡ pre ++ c ∷ post → (copies P pre).done ≡ true → ComesTo P n c (before ++ (begun (kind_of m) ++ (copies P pre).acts)) (Inside m (Some c) ∷ below)
 
 -- These frames are the point behind the actions `before` of the copy of n: the one at the top is within the copy of its node, and those of the first children are done.
-pub data IsWithin (P : Tree) (n : Node) : (before : List Action) → List CopyFrame → Type 0 where
+pub data IsCopyPoint (P : Tree) (n : Node) : (before : List Action) → List CopyFrame → Type 0 where
   InNode : {m : Node} {before : List Action} {below : List CopyFrame} → (pre post : List Node) → ComesTo P n m before below
-      → has_inside (kind_of m) ≡ true → children P m ≡ pre ++ post → (copies P pre).done ≡ true → IsWithin P n (before ++ (begun (kind_of m) ++ (copies P pre).acts)) (Inside m (last_of pre) ∷ below)
+      → has_inside (kind_of m) ≡ true → children P m ≡ pre ++ post → (copies P pre).done ≡ true → IsCopyPoint P n (before ++ (begun (kind_of m) ++ (copies P pre).acts)) (Inside m (last_of pre) ∷ below)
 
 -- the children whose copies are still to come
 abbrev pub next_children : Tree → Node → (present : Option Node) → List Node
@@ -72,7 +72,7 @@ pub record CopyingAt (plan : PlanTree) (P : Tree) (k : ℕ) (inner : List CopyFr
   pub env : Env
   pub made : List Action
   pub point : PointAt plan P k (Part var env (length made) ∷ fs)
-  pub inside : IsWithin P (env var) made inner
+  pub inside : IsCopyPoint P (env var) made inner
 
 -- the same for a point of both kinds: with no frames of a copy it isn't within one
 abbrev pub FinePoint : PlanTree → Tree → ℕ → List CopyFrame → List Frame → Type 0

@@ -73,17 +73,17 @@ half c true d = If c d Nil
 half c false d = If c Nil d
 
 -- A branch in pieces: a longest run of items that aren't loops, or a loop.
-pub data Piece : Type 0 where
-  Run : (items : BodyTree) → Piece
-  Loop : (item : ItemTree) → Piece
+pub data BranchPart : Type 0 where
+  Run : (items : BodyTree) → BranchPart
+  Loop : (item : ItemTree) → BranchPart
 
 -- an item that is no loop, in front of pieces
-abbrev pub begin : ItemTree → List Piece → List Piece
+abbrev pub begin : ItemTree → List BranchPart → List BranchPart
 begin i [] = Run (one i) ∷ []
 begin i (Run r ∷ ps) = Run (Then i r) ∷ ps
 begin i (Loop l ∷ ps) = Run (one i) ∷ (Loop l ∷ ps)
 
-abbrev pub pieces : BodyTree → List Piece
+abbrev pub pieces : BodyTree → List BranchPart
 pieces Nil = []
 pieces (Then (Write s) d) = begin (Write s) (pieces d)
 pieces (Then (Copy x) d) = begin (Copy x) (pieces d)
@@ -92,7 +92,7 @@ pieces (Then (If k a b) d) = begin (If k a b) (pieces d)
 pieces (Then (Off o) d) = begin (Off o) (pieces d)
 
 -- each run becomes an If with c, each loop stays
-abbrev pub halved : CondTree → (first : Bool) → List Piece → BodyTree
+abbrev pub halved : CondTree → (first : Bool) → List BranchPart → BodyTree
 halved c first [] = Nil
 halved c first (Run r ∷ ps) = Then (half c first r) (halved c first ps)
 halved c first (Loop l ∷ ps) = Then l (halved c first ps)

@@ -18,13 +18,13 @@ abbrev pub tree_fed : List Token → Turned → Tree
 tree_fed ts s = grow_all (take s.fed ts) opening
 
 -- one more, where there are more
-abbrev pub one_more : (taken there : ℕ) → ℕ
-one_more taken there = cond (nat_lt taken there) (suc taken) taken
+abbrev pub one_up_to : (taken there : ℕ) → ℕ
+one_up_to taken there = cond (nat_lt taken there) (suc taken) taken
 
 -- a Feed takes the next token and an Act the next action of the plan's run; where none is left the turn does nothing
 abbrev pub turn : PlanTree → List Token → Turn → Turned → Turned
-turn plan ts Feed s = record { fed = one_more s.fed (length ts); acted = s.acted }
-turn plan ts Act s = record { fed = s.fed; acted = one_more s.acted (length (actions plan (tree_fed ts s))) }
+turn plan ts Feed s = record { fed = one_up_to s.fed (length ts); acted = s.acted }
+turn plan ts Act s = record { fed = s.fed; acted = one_up_to s.acted (length (actions plan (tree_fed ts s))) }
 
 abbrev pub turned_from : PlanTree → List Token → Turned → List Turn → Turned
 turned_from plan ts s [] = s

@@ -1,11 +1,11 @@
 -- An If moved into a body item by item, with the run so far, is the body cut in runs and loops.
 use Rattle.std.proofs.Common.{◌≡◌, Bool, true, false, cond, List, [], ◌∷◌, refl, sym, ◌∙◌, ap}
 use Rattle.gcx_model.specs.Core.{CondTree, ItemTree, Write, Copy, For, If, Off, BodyTree, Nil, Then}
-use Rattle.gcx_model.specs.Normal.{join, one, has_loop, half, Piece, Run, Loop, begin, pieces, halved, turned_in, spread}
+use Rattle.gcx_model.specs.Normal.{join, one, has_loop, half, BranchPart, Run, Loop, begin, pieces, halved, turned_in, spread}
 use Rattle.xq_normal.specs.Raw.{flush, spread_on}
 
 -- a run in front of pieces
-abbrev runs : BodyTree → List Piece → List Piece
+abbrev runs : BodyTree → List BranchPart → List BranchPart
 runs Nil ps = ps
 runs (Then i r) ps = begin i (runs r ps)
 
@@ -13,11 +13,11 @@ runs_alone : (i : ItemTree) (r : BodyTree) → runs (Then i r) [] ≡ Run (Then 
 runs_alone i Nil = refl
 runs_alone i (Then j r) = ap (begin i) (runs_alone j r)
 
-runs_loop : (i : ItemTree) (r : BodyTree) (l : ItemTree) (ps : List Piece) → runs (Then i r) (Loop l ∷ ps) ≡ Run (Then i r) ∷ (Loop l ∷ ps)
+runs_loop : (i : ItemTree) (r : BodyTree) (l : ItemTree) (ps : List BranchPart) → runs (Then i r) (Loop l ∷ ps) ≡ Run (Then i r) ∷ (Loop l ∷ ps)
 runs_loop i Nil l ps = refl
 runs_loop i (Then j r) l ps = ap (begin i) (runs_loop j r l ps)
 
-runs_more : (run : BodyTree) (i : ItemTree) (ps : List Piece) → runs (join run (one i)) ps ≡ runs run (begin i ps)
+runs_more : (run : BodyTree) (i : ItemTree) (ps : List BranchPart) → runs (join run (one i)) ps ≡ runs run (begin i ps)
 runs_more Nil i ps = refl
 runs_more (Then j r) i ps = ap (begin j) (runs_more r i ps)
 
@@ -25,7 +25,7 @@ flush_end : (c : CondTree) (first : Bool) (run : BodyTree) → flush c first run
 flush_end c first Nil = refl
 flush_end c first (Then i r) = ap (halved c first) (sym (runs_alone i r))
 
-flush_loop : (c : CondTree) (first : Bool) (run : BodyTree) (l : ItemTree) (ps : List Piece) → flush c first run (Then l (halved c first ps)) ≡ halved c first (runs run (Loop l ∷ ps))
+flush_loop : (c : CondTree) (first : Bool) (run : BodyTree) (l : ItemTree) (ps : List BranchPart) → flush c first run (Then l (halved c first ps)) ≡ halved c first (runs run (Loop l ∷ ps))
 flush_loop c first Nil l ps = refl
 flush_loop c first (Then i r) l ps = ap (halved c first) (sym (runs_loop i r l ps))
 
