@@ -5,13 +5,13 @@ use Rattle.std.proofs.lemmas.List.{append-nil}
 use Rattle.std.proofs.lemmas.Bool.{or_cases, or_left, false≢true, eqb-true, eq-eqb, ne_eqb, cases_eq, false_from_ne_true}
 use Rattle.gcx_base.specs.declared.kind.Kind.{Kind}
 use Rattle.gcx_model.specs.Tree.{Tree, Token, Start, Chars, End, Node, Root, Under, serial_of, within, is_open_at, grow, grow_at}
-use Rattle.gcx_model.specs.Growth.{may_come}
+use Rattle.gcx_model.specs.Growth.{may_come, level}
 use Rattle.gcx_model.specs.Held.{is_held, held}
 use Rattle.gcx_model.specs.Past.{Past, IsPast, row_of, rows_of, past_fed}
 use Rattle.gcx_laws.proofs.Lists.{In, In-left, In-right, In-append, In-filter, In-kept}
 use Rattle.gcx_laws.proofs.Matches.{Grown, Grown-grow, added, added_at, grow_nodes}
 use Rattle.gcx_laws.proofs.Freeze.{within_self}
-use Rattle.gcx_laws.proofs.Changes.{live_by_feed, rows_by_feed}
+use Rattle.gcx_laws.proofs.Changes.{live_by_feed}
 use Rattle.gcx_laws.proofs.Awaited.{waiting_law}
 use Rattle.gcx_laws.proofs.PastForms.{past_feeds}
 use Rattle.gcx_laws.proofs.Bases.{is_grown}
@@ -21,7 +21,7 @@ use Rattle.buf_tree.specs.Shape.{Cell, num, Rising, with_at}
 use Rattle.buf_tree.specs.Purge.{Purged}
 use Rattle.buf_tree.specs.View.{View, Innermost}
 use Rattle.buf_tree.specs.Calls.{Closed}
-use Rattle.buf_tree.specs.Stands.{Seen, seen, told, StandsFor, awaited_by}
+use Rattle.buf_tree.specs.Stands.{Seen, seen, told, StandsFor, awaited_by, told_row}
 use Rattle.buf_tree.proofs.Shaping.{rising_same}
 use Rattle.buf_tree.proofs.Changes.{map-map}
 use Rattle.buf_tree.proofs.Standing.{pair_left, rows_held, held_up}
@@ -47,10 +47,6 @@ within_low P w k (Under q s kd) i h = elim (or_cases (eqb s k) (within k q) h) [
   | inr e ↦ (let l = within_low P w k q (w.upward q s kd i) e in let b = w.below q s kd i in omega arith)
 ]
 
--- the rows of a past as a list of its held nodes
-pub rows_told : (v : View) (past : Past) → StandsFor v past → map seen v.rows ≡ map (λ n. told (row_of past n)) (held past.plan past.tree past.acts)
-rows_told v past h = h.rows ∙ map-map (row_of past) told (held past.plan past.tree past.acts)
-
 pub at_held : (past : Past) → IsPast past → (a : Node) → past.tree.at ≡ Some a → In a (held past.plan past.tree past.acts)
 at_held past is a e =
     In-kept (is_held past.plan past.tree past.acts) a past.tree.nodes ((is_grown past is).at_in a e)
@@ -67,9 +63,9 @@ module _ (t : Token) (past : Past) (is : IsPast past) where
   behind : drop (length past.tree.nodes) (grow t past.tree).nodes ≡ added t past.tree
   behind = ap (drop (length past.tree.nodes)) (grow_nodes t past.tree) ∙ drop_same past.tree.nodes (added t past.tree)
 
-  -- the rows behind the token
-  pub rows_fed : rows_of (past_fed t past) ≡ map (row_of (past_fed t past)) (filter (is_held past.plan (grow t past.tree) past.acts) later)
-  rows_fed = rows_by_feed past is t ∙ ap (λ z. map (row_of (past_fed t past)) (filter (is_held past.plan (grow t past.tree) past.acts) (held past.plan past.tree past.acts ++ z))) behind
+  -- the nodes held behind the token
+  pub held_fed : held past.plan (grow t past.tree) past.acts ≡ filter (is_held past.plan (grow t past.tree) past.acts) later
+  held_fed = held_by_feed is.core is.good past.plan is.placed past.tree is.grown t past.acts ∙ ap (λ z. filter (is_held past.plan (grow t past.tree) past.acts) (held past.plan past.tree past.acts ++ z)) behind
 
   later_inside : (n : Node) → In n later → In n (grow t past.tree).nodes
   later_inside n i = subst (λ (zs : List Node). In n zs) (sym (grow_nodes t past.tree)) (elim (In-append n (held past.plan past.tree past.acts) (added t past.tree) i) [
@@ -95,14 +91,14 @@ module _ (t : Token) (past : Past) (is : IsPast past) where
 -- the innermost open node of the rows is the tree's
 pub top_is : (v : View) (past : Past) (q : ℕ) → StandsFor v past → (i : Innermost v.rows q) → (a : Node) × (past.tree.at ≡ Some a) × (serial_of a ≡ num i.cell)
 top_is v past q h i =
-    let r = pair_left seen (λ n. told (row_of past n)) v.rows (held past.plan past.tree past.acts) (rows_told v past h) i.cell i.among in
+    let r = pair_left seen (told past) v.rows (held past.plan past.tree past.acts) h.rows i.cell i.among in
     go past.tree.at refl r.0 (In-filter (is_held past.plan past.tree past.acts) r.0 past.tree.nodes r.1).0 (sym (ap (λ (s : Seen). s.is_open) r.2) ∙ i.is_open) (ap (λ (s : Seen). s.serial) r.2)
   where
     go : (o : Option Node) → past.tree.at ≡ o → (n : Node) → In n past.tree.nodes → is_open_at past.tree.at (serial_of n) ≡ true → num i.cell ≡ serial_of n → (a : Node) × (o ≡ Some a) × (serial_of a ≡ num i.cell)
     go None e n j o s = absurd (false≢true (subst (λ z. is_open_at z (serial_of n) ≡ true) e o))
     go (Some a) e n j o s =
         let low = within_low past.tree (is_grown past h.is_past) (serial_of n) a ((is_grown past h.is_past).at_in a e) (subst (λ z. is_open_at z (serial_of n) ≡ true) e o) in
-        let c = pair_left (λ n. told (row_of past n)) seen (held past.plan past.tree past.acts) v.rows (sym (rows_told v past h)) a (at_held past h.is_past a e) in
+        let c = pair_left (told past) seen (held past.plan past.tree past.acts) v.rows (sym h.rows) a (at_held past h.is_past a e) in
         let opened : is_open_at past.tree.at (serial_of a) ≡ true = subst (λ z. is_open_at z (serial_of a) ≡ true) (sym e) (within_self (serial_of a) a (eq-eqb _ _ refl)) in
         let high = i.last c.0 c.1 (sym (ap (λ (s : Seen). s.is_open) c.2) ∙ opened) in
         let same = ap (λ (s : Seen). s.serial) c.2 in
@@ -112,18 +108,18 @@ module _ (t : Token) (past : Past) (is : IsPast past) where
   later_all : (n : Node) → In n (grow t past.tree).nodes → is_held past.plan (grow t past.tree) past.acts n ≡ true → In n (later t past is)
   later_all n i h =
       let j : In n (held past.plan (grow t past.tree) past.acts) = In-kept (is_held past.plan (grow t past.tree) past.acts) n (grow t past.tree).nodes i h in
-      let k = subst (λ (zs : List Node). In n zs) (held_by_feed is.core is.good past.plan is.placed past.tree is.grown t past.acts ∙ ap (λ z. filter (is_held past.plan (grow t past.tree) past.acts) (held past.plan past.tree past.acts ++ z)) (behind t past is)) j in
+      let k = subst (λ (zs : List Node). In n zs) (held_fed t past is) j in
       (In-filter (is_held past.plan (grow t past.tree) past.acts) n (later t past is) k).0
 
   -- the rows are right before the purge, so they are right behind it
-  pub fed_rows : (xs ys : List Cell) (gone : List ℕ) → Rising xs → Purged xs ys gone → map seen xs ≡ map (λ n. told (row_of (past_fed t past) n)) (later t past is) → map seen ys ≡ map told (rows_of (past_fed t past))
+  pub fed_rows : (xs ys : List Cell) (gone : List ℕ) → Rising xs → Purged xs ys gone → map seen xs ≡ map (told (past_fed t past)) (later t past is) → map seen ys ≡ map (told (past_fed t past)) (held past.plan (grow t past.tree) past.acts)
   fed_rows xs ys gone r u e =
       rows_held (past_fed t past) (Grown-grow t past.tree (is_grown past is)) xs ys gone r u (later t past is) e (later_inside t past is) (later_upward t past is) later_all
-      ∙ sym (ap (map told) (rows_fed t past is) ∙ map-map (row_of (past_fed t past)) told (filter (is_held past.plan (grow t past.tree) past.acts) (later t past is)))
+      ∙ ap (map (told (past_fed t past))) (sym (held_fed t past is))
 
   -- of the row of a node that was there, whether it is open
-  pub row_same : (n : Node) (b : Bool) → In n past.tree.nodes → is_open_at (grow t past.tree).at (serial_of n) ≡ b → told (row_of (past_fed t past) n) ≡ record (told (row_of past n)) { is_open = b }
-  row_same n b i e = ap told (live_by_feed past is t n i).1 ∙ ap (λ z. record (told (row_of past n)) { is_open = z }) e
+  pub row_same : (n : Node) (b : Bool) → In n past.tree.nodes → is_open_at (grow t past.tree).at (serial_of n) ≡ b → told (past_fed t past) n ≡ record (told past n) { is_open = b }
+  row_same n b i e = ap (told_row (level n)) (live_by_feed past is t n i).1 ∙ ap (λ z. record (told past n) { is_open = z }) e
 
 abbrev is_top : Option Node → ℕ → Bool
 is_top None k = false
@@ -171,7 +167,7 @@ stands_closed v u q rise rise' apart i idle c past h m = record {
     one_row : (c : Cell) → In c v.rows → num c ≡ num i.cell → c ≡ i.cell
     one_row c j g = rising_same v.rows rise c i.cell j i.among g
 
-    each : (c : Cell) (n : Node) → In c v.rows → In n (held past.plan past.tree past.acts) → seen c ≡ told (row_of past n) → seen (with_at shut_row q c) ≡ told (row_of (past_fed End past) n)
+    each : (c : Cell) (n : Node) → In c v.rows → In n (held past.plan past.tree past.acts) → seen c ≡ told past n → seen (with_at shut_row q c) ≡ told (past_fed End past) n
     each c n j k e = elim (cases_eq c.place q) [
       | inl f ↦ (
           let is : c ≡ i.cell = apart c i.cell j i.among (f ∙ sym i.place) in
@@ -186,8 +182,8 @@ stands_closed v u q rise rise' apart i idle c past h m = record {
           ∙ sym (row_same End past h.is_past n (is_open_at past.tree.at (serial_of n)) (In-filter (is_held past.plan past.tree past.acts) n past.tree.nodes k).0 (end_open past.tree w (serial_of n) ∙ ap (λ b. cond b false (is_open_at past.tree.at (serial_of n))) t)))
     ]
 
-    rows_now : map seen (map (with_at shut_row q) v.rows) ≡ map (λ n. told (row_of (past_fed End past) n)) (later End past h.is_past)
+    rows_now : map seen (map (with_at shut_row q) v.rows) ≡ map (told (past_fed End past)) (later End past h.is_past)
     rows_now =
         map-map (with_at shut_row q) seen v.rows
-        ∙ map_both seen (λ n. told (row_of past n)) (λ c. seen (with_at shut_row q c)) (λ n. told (row_of (past_fed End past) n)) v.rows (held past.plan past.tree past.acts) (rows_told v past h) each
-        ∙ ap (map (λ n. told (row_of (past_fed End past) n))) (sym (ap (λ z. held past.plan past.tree past.acts ++ z) (added_end past.tree) ∙ append-nil (held past.plan past.tree past.acts)))
+        ∙ map_both seen (told past) (λ c. seen (with_at shut_row q c)) (told (past_fed End past)) v.rows (held past.plan past.tree past.acts) h.rows each
+        ∙ ap (map (told (past_fed End past))) (sym (ap (λ z. held past.plan past.tree past.acts ++ z) (added_end past.tree) ∙ append-nil (held past.plan past.tree past.acts)))

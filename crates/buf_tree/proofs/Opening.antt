@@ -1,5 +1,5 @@
 -- A new node in the rows that a buffer stands for.
-use Rattle.std.proofs.Common.{◌≡◌, ◌==◌, ℕ, zero, suc, ◌+◌, ◌<◌, Bool, true, false, cond, not, ◌&&◌, ◌||◌, List, [], ◌∷◌, ◌++◌, length, map, drop, refl, sym, ◌∙◌, ap, subst, inl, inr, arith, Some, None, Option}
+use Rattle.std.proofs.Common.{◌≡◌, ◌==◌, ℕ, zero, suc, add-one, ◌+◌, ◌<◌, Bool, true, false, cond, not, ◌&&◌, ◌||◌, List, [], ◌∷◌, ◌++◌, length, map, drop, refl, sym, ◌∙◌, ap, subst, inl, inr, arith, Some, None, Option}
 use Rattle.std.specs.Prelude.{is_some, flat_map}
 use Rattle.std.specs.List.{filter, list_any}
 use Rattle.std.specs.Ordering.{nat_cmp}
@@ -21,7 +21,7 @@ use Rattle.gcx_model.specs.Placed.{is_own}
 use Rattle.gcx_model.specs.Held.{given, taken, live, roles_live, is_live, is_held, held}
 use Rattle.gcx_model.specs.Past.{Past, row_of, past_fed, open_nodes, awaited, waiting_offs, roles_signed}
 use Rattle.gcx_laws.proofs.Lists.{In, In-filter, In-kept, any_in, any_from}
-use Rattle.gcx_laws.proofs.Matches.{Grown, added, added_at, grow_nodes, Numbered-high}
+use Rattle.gcx_laws.proofs.Matches.{Grown, added, added_at, grow_nodes, Numbered-high, Numbered-same}
 use Rattle.gcx_laws.proofs.Bases.{is_grown}
 use Rattle.gcx_laws.proofs.Changes.{filter_both, live_by_feed}
 use Rattle.gcx_laws.proofs.Ahead.{new_unsigned}
@@ -29,12 +29,12 @@ use Rattle.gcx_laws.proofs.PastForms.{past_feeds}
 use Rattle.gcx_laws.proofs.RowFacts.{open_behind}
 use Rattle.buf_tree.specs.Rows.{IsNode, is_text}
 use Rattle.buf_tree.specs.Shape.{Cell, num, at_place}
-use Rattle.buf_tree.specs.View.{View, Innermost, num_in}
+use Rattle.buf_tree.specs.View.{View, Innermost, num_in, level_in}
 use Rattle.buf_tree.specs.Calls.{Opened, numbers, less, new_roles, new_row, stays, with_new}
-use Rattle.buf_tree.specs.Stands.{seen, told, StandsFor, past_grown, token_for, GivenTo, awaited_by}
+use Rattle.buf_tree.specs.Stands.{Seen, seen, told, StandsFor, past_grown, token_for, GivenTo, awaited_by}
 use Rattle.buf_tree.proofs.Changes.{map-map}
-use Rattle.buf_tree.proofs.Standing.{none_kept, none_passes, empty_list}
-use Rattle.buf_tree.proofs.Feeding.{bools, map_both, within_low, rows_told, rows_fed, row_same, top_is}
+use Rattle.buf_tree.proofs.Standing.{pair_left, none_kept, none_passes, empty_list}
+use Rattle.buf_tree.proofs.Feeding.{bools, map_both, within_low, held_fed, row_same, top_is}
 
 -- ---- lists
 
@@ -179,9 +179,16 @@ module _ (v u : View) (q : ℕ) (at : Option ℕ) (kind : Kind) (gs as_ : List R
       ap (λ b. cond b None (Some (num_in (at_place q v.rows)))) (ne_eqb v.nodes 0 (λ e. let l = Numbered-high 0 P.nodes w.numbered top.0 (w.at_in top.0 top.1) in let z = h.nodes in absurd (omega arith)))
       ∙ ap (λ z. Some z) place_for_row
 
-  same : (p : ℕ) → seen (record { place = p; row = new_row v q kind gs as_ }) ≡ told (row_of (past_fed t past) node)
+  level_now : level_in (at_place q v.rows) + 1 ≡ suc (level top.0)
+  level_now =
+      let r = pair_left seen (told past) v.rows ns h.rows i.cell i.among in
+      let is : r.0 ≡ top.0 = Numbered-same 0 P.nodes w.numbered r.0 top.0 (In-filter (is_held past.plan P past.acts) r.0 P.nodes r.1).0 (w.at_in top.0 top.1) (sym (ap (λ (s : Seen). s.serial) r.2) ∙ sym top.2) in
+      add-one (level_in (at_place q v.rows)) ∙ ap suc (ap level_in here ∙ ap (λ (s : Seen). s.level) r.2 ∙ ap level is)
+
+  same : (p : ℕ) → seen (record { place = p; row = new_row v q kind gs as_ }) ≡ told (past_fed t past) node
   same p = λ z. record {
     serial = h.nodes z;
+    level = level_now z;
     parent = parent_now z;
     kind = kind;
     is_open = sym (new_open P w top.0 top.1 kind k) z;
@@ -189,11 +196,11 @@ module _ (v u : View) (q : ℕ) (at : Option ℕ) (kind : Kind) (gs as_ : List R
     signed = from_list {R = nat_cmp} (sym unsigned_now z);
   }
 
-  each : (c : Cell) (n : Node) → In c v.rows → In n ns → seen c ≡ told (row_of past n) → seen c ≡ told (row_of (past_fed t past) n)
+  each : (c : Cell) (n : Node) → In c v.rows → In n ns → seen c ≡ told past n → seen c ≡ told (past_fed t past) n
   each c n j z e = let f = (In-filter (is_held past.plan P past.acts) n P.nodes z).0 in e ∙ sym (row_same t past h.is_past n (is_open_at P.at (serial_of n)) f (old_open P w top.0 top.1 kind k n f))
 
-  old_rows : map seen v.rows ≡ map (λ n. told (row_of (past_fed t past) n)) ns
-  old_rows = map_both seen (λ n. told (row_of past n)) seen (λ n. told (row_of (past_fed t past) n)) v.rows ns (rows_told v past h) each
+  old_rows : map seen v.rows ≡ map (told (past_fed t past)) ns
+  old_rows = map_both seen (told past) seen (told (past_fed t past)) v.rows ns h.rows each
 
   any_live : (n : Node) → In n P.nodes → is_live past.plan P past.acts n ≡ true → is_live past.plan Q past.acts n ≡ true
   any_live n j l =
@@ -269,12 +276,12 @@ module _ (v u : View) (q : ℕ) (at : Option ℕ) (kind : Kind) (gs as_ : List R
       ∙ filter-append kept ns (node ∷ [])
       ∙ (λ z. filter_every kept ns still z ++ cond ((kept_stays ∙ sym c.held) z) (node ∷ []) [])
 
-  rows_now : (o : Option ℕ) → map seen (with_new o (new_row v q kind gs as_) v.rows) ≡ map (λ n. told (row_of (past_fed t past) n)) (ns ++ cond (is_some o) (node ∷ []) [])
-  rows_now None = old_rows ∙ ap (map (λ n. told (row_of (past_fed t past) n))) (sym (append-nil ns))
+  rows_now : (o : Option ℕ) → map seen (with_new o (new_row v q kind gs as_) v.rows) ≡ map (told (past_fed t past)) (ns ++ cond (is_some o) (node ∷ []) [])
+  rows_now None = old_rows ∙ ap (map (told (past_fed t past))) (sym (append-nil ns))
   rows_now (Some p) =
       map-append seen v.rows (record { place = p; row = new_row v q kind gs as_ } ∷ [])
       ∙ (λ z. old_rows z ++ same p z ∷ [])
-      ∙ sym (map-append (λ n. told (row_of (past_fed t past) n)) ns (node ∷ []))
+      ∙ sym (map-append (told (past_fed t past)) ns (node ∷ []))
 
   still_waits : waiting_offs (past_grown t past) ≡ waiting_offs past
   still_waits = flat_map_same (awaited Q) (awaited P) (drop past.fed past.acts) (λ x j. wait x (in_drop past.fed x past.acts j))
@@ -298,7 +305,7 @@ module _ (v u : View) (q : ℕ) (at : Option ℕ) (kind : Kind) (gs as_ : List R
       let fed = past_feeds past h.is_past t m in
       record {
         is_past = record { core = fed.core; good = fed.good; placed = fed.placed; grown = fed.grown; stated = fed.stated; within = h.is_past.within };
-        rows = ap (map seen) c.rows ∙ rows_now at ∙ sym (ap (map told) (rows_fed t past h.is_past) ∙ map-map (row_of (past_fed t past)) told (filter kept (ns ++ added t P)) ∙ ap (map (λ n. told (row_of (past_fed t past) n))) held_now);
+        rows = ap (map seen) c.rows ∙ rows_now at ∙ ap (map (told (past_fed t past))) (sym (held_fed t past h.is_past ∙ held_now));
         waiting = ap (map awaited_by) c.waiting ∙ h.waiting ∙ sym still_waits;
         nodes = c.nodes ∙ ap (λ z. z + 1) h.nodes ∙ sym (ap length nodes_now ∙ length-append P.nodes (node ∷ []));
       }

@@ -78,7 +78,7 @@ none_passes f (x ∷ xs) h = go (f x) (none_passes f xs) h
 
 -- what a row tells of the node n
 abbrev pub Tells : Past → Cell → Node → Type 0
-Tells past c n = seen c ≡ told (row_of past n)
+Tells past c n = seen c ≡ told past n
 
 module _ (past : Past) (n : Node) where
   pub dead_seen : (c : Cell) → Tells past c n → IsDead c.row → (is_open_at past.tree.at (serial_of n) ≡ false) × (is_live past.plan past.tree past.acts n ≡ false)
@@ -120,30 +120,30 @@ module _ (past : Past) (w : Grown past.tree) where
             or_right _ _ (any_from (λ (m : Node). within (serial_of n) m && is_live past.plan P past.acts m) r.0 P.nodes r.1 (and_from _ _ (within_trans P w (serial_of n) (Under n s k) r.0 i r.1 in_n a.0) a.1)))
       ]
 
-  module _ (xs ys : List Cell) (gone : List ℕ) (rising : Rising xs) (u : Purged xs ys gone) (ns : List Node) (same : map seen xs ≡ map (λ n. told (row_of past n)) ns)
+  module _ (xs ys : List Cell) (gone : List ℕ) (rising : Rising xs) (u : Purged xs ys gone) (ns : List Node) (same : map seen xs ≡ map (told past) ns)
       (inside : (n : Node) → In n ns → In n P.nodes)
       (upward : (n : Node) (s : ℕ) (k : Kind) → In (Under n s k) ns → In n ns)
       (all : (n : Node) → In n P.nodes → is_held past.plan P past.acts n ≡ true → In n ns) where
-    node_of : (c : Cell) → In c xs → (n : Node) × In n ns × (seen c ≡ told (row_of past n))
-    node_of = pair_left seen (λ n. told (row_of past n)) xs ns same
+    node_of : (c : Cell) → In c xs → (n : Node) × In n ns × (seen c ≡ told past n)
+    node_of = pair_left seen (told past) xs ns same
 
-    cell_of : (n : Node) → In n ns → (c : Cell) × In c xs × (seen c ≡ told (row_of past n))
-    cell_of n i = let r = pair_left (λ n. told (row_of past n)) seen ns xs (sym same) n i in (r.0, r.1, sym r.2)
+    cell_of : (n : Node) → In n ns → (c : Cell) × In c xs × (seen c ≡ told past n)
+    cell_of n i = let r = pair_left (told past) seen ns xs (sym same) n i in (r.0, r.1, sym r.2)
 
-    one_cell : (c d : Cell) → In c xs → In d xs → (n m : Node) → seen c ≡ told (row_of past n) → seen d ≡ told (row_of past m) → serial_of n ≡ serial_of m → c ≡ d
+    one_cell : (c d : Cell) → In c xs → In d xs → (n m : Node) → seen c ≡ told past n → seen d ≡ told past m → serial_of n ≡ serial_of m → c ≡ d
     one_cell c d i j n m e f q = rising_same xs rising c d i j (ap (λ (s : Seen). s.serial) e ∙ q ∙ sym (ap (λ (s : Seen). s.serial) f))
 
     one_node : (n m : Node) → In n ns → In m ns → serial_of n ≡ serial_of m → n ≡ m
     one_node n m i j q = Numbered-same 0 P.nodes w.numbered n m (inside n i) (inside m j) q
 
-    under_cell : (c d : Cell) (n : Node) (s : ℕ) (k : Kind) → In (Under n s k) ns → seen c ≡ told (row_of past n) → seen d ≡ told (row_of past (Under n s k)) → is_under (num c) d ≡ true
+    under_cell : (c d : Cell) (n : Node) (s : ℕ) (k : Kind) → In (Under n s k) ns → seen c ≡ told past n → seen d ≡ told past (Under n s k) → is_under (num c) d ≡ true
     under_cell c d n s k i e f =
         let below = w.below n s k (inside (Under n s k) i) in
         let is = ap (λ (t : Seen). t.serial) f in
         and_from _ _ (ap not (ne_eqb (num d) 0 (λ z. absurd (omega arith)))) (eq-eqb d.row.parent (num c) (parent_told d.row n s k (λ z. absurd (omega arith)) is (ap (λ (t : Seen). t.parent) f) ∙ sym (ap (λ (t : Seen). t.serial) e)))
 
     -- below a node that is gone all are gone
-    gone_down : (c : Cell) (n : Node) → In c xs → In n ns → seen c ≡ told (row_of past n) → is_gone gone c ≡ true → (m : Node) → In m ns → within (serial_of n) m ≡ true → (d : Cell) → In d xs → seen d ≡ told (row_of past m) → is_gone gone d ≡ true
+    gone_down : (c : Cell) (n : Node) → In c xs → In n ns → seen c ≡ told past n → is_gone gone c ≡ true → (m : Node) → In m ns → within (serial_of n) m ≡ true → (d : Cell) → In d xs → seen d ≡ told past m → is_gone gone d ≡ true
     gone_down c n i j e g Root k h d l f = subst (λ (x : Cell). is_gone gone x ≡ true) (one_cell c d i l n Root e f (sym (eqb-true 0 (serial_of n) h))) g
     gone_down c n i j e g (Under q s kd) k h d l f = elim (or_cases (eqb s (serial_of n)) (within (serial_of n) q) h) [
       | inl a ↦ subst (λ (x : Cell). is_gone gone x ≡ true) (one_cell c d i l n (Under q s kd) e f (sym (eqb-true s (serial_of n) a))) g
@@ -153,7 +153,7 @@ module _ (past : Past) (w : Grown past.tree) where
           u.leaves.down b.0 d b.1 l (gone_down c n i j e g q up a b.0 b.1 b.2) (under_cell b.0 d q s kd k b.2 f))
     ]
 
-    gone_not_held : (c : Cell) (n : Node) → In c xs → In n ns → seen c ≡ told (row_of past n) → is_gone gone c ≡ true → is_held past.plan P past.acts n ≡ false
+    gone_not_held : (c : Cell) (n : Node) → In c xs → In n ns → seen c ≡ told past n → is_gone gone c ≡ true → is_held past.plan P past.acts n ≡ false
     gone_not_held c n i j e g = or_from _ _
         (dead_seen past n c e (u.leaves.dead c i g)).0
         (false_from_ne_true _ (λ l.
@@ -167,7 +167,7 @@ module _ (past : Past) (w : Grown past.tree) where
     in_ys : (c : Cell) → In c ys → In c xs × (not (is_gone gone c) ≡ true)
     in_ys c i = In-filter (λ (d : Cell). not (is_gone gone d)) c xs (subst (λ (zs : List Cell). In c zs) u.leaves.rows i)
 
-    stays_held : (more : ℕ) (c : Cell) (n : Node) → In c ys → In n ns → seen c ≡ told (row_of past n) → length P.nodes ≤ serial_of n + more → is_held past.plan P past.acts n ≡ true
+    stays_held : (more : ℕ) (c : Cell) (n : Node) → In c ys → In n ns → seen c ≡ told past n → length P.nodes ≤ serial_of n + more → is_held past.plan P past.acts n ≡ true
     stays_held zero c n i j e l = let r = Numbered-high 0 P.nodes w.numbered n (inside n j) in absurd (omega arith)
     stays_held (suc more) c n i j e l = elim (cases_Bool (is_held past.plan P past.acts n)) [
       | inl h ↦ h
@@ -182,7 +182,7 @@ module _ (past : Past) (w : Grown past.tree) where
             let q = or_parts (is_open_at P.at (serial_of n)) (any (λ m. within (serial_of n) m && is_live past.plan P past.acts m) P.nodes) h in
             seen_dead past n c e q.0 (false_from_ne_true _ (λ a. true≢false (sym (any_from (λ (m : Node). within (serial_of n) m && is_live past.plan P past.acts m) n P.nodes (inside n j) (and_from _ _ (within_self (serial_of n) n (eq-eqb _ _ refl)) a)) ∙ q.1)))
 
-        by_child : (d : Cell) → In d xs → is_under (num c) d ≡ true → ((m : Node) × In m ns × (seen d ≡ told (row_of past m))) → ((m : Node) → In m ns → seen d ≡ told (row_of past m) → length P.nodes ≤ serial_of m + more → is_held past.plan P past.acts m ≡ true) → is_held past.plan P past.acts n ≡ true
+        by_child : (d : Cell) → In d xs → is_under (num c) d ≡ true → ((m : Node) × In m ns × (seen d ≡ told past m)) → ((m : Node) → In m ns → seen d ≡ told past m → length P.nodes ≤ serial_of m + more → is_held past.plan P past.acts m ≡ true) → is_held past.plan P past.acts n ≡ true
         by_child d k under (Root, a, b) ih = absurd (false≢true (ap not (sym (eq-eqb (num d) 0 (ap (λ (t : Seen). t.serial) b))) ∙ (and_parts (not (num d == 0)) (d.row.parent == num c) under).0))
         by_child d k under (Under q s kd, a, b) ih =
             let below = w.below q s kd (inside (Under q s kd) a) in
@@ -190,9 +190,9 @@ module _ (past : Past) (w : Grown past.tree) where
             let is : q ≡ n = one_node q n (upward q s kd a) j par in
             subst (λ (x : Node). is_held past.plan P past.acts x ≡ true) is (held_up q s kd (inside (Under q s kd) a) (ih (Under q s kd) a b (omega arith)))
 
-    pub rows_held : map seen ys ≡ map (λ n. told (row_of past n)) (filter (is_held past.plan P past.acts) ns)
-    rows_held = ap (map seen) u.leaves.rows ∙ filter_both seen (λ n. told (row_of past n)) (λ c. not (is_gone gone c)) (is_held past.plan P past.acts) xs ns same (λ c n i j e. go c n i j e (cases_Bool (is_gone gone c)))
+    pub rows_held : map seen ys ≡ map (told past) (filter (is_held past.plan P past.acts) ns)
+    rows_held = ap (map seen) u.leaves.rows ∙ filter_both seen (told past) (λ c. not (is_gone gone c)) (is_held past.plan P past.acts) xs ns same (λ c n i j e. go c n i j e (cases_Bool (is_gone gone c)))
       where
-        go : (c : Cell) (n : Node) → In c xs → In n ns → seen c ≡ told (row_of past n) → (is_gone gone c ≡ true) ⊎ (is_gone gone c ≡ false) → not (is_gone gone c) ≡ is_held past.plan P past.acts n
+        go : (c : Cell) (n : Node) → In c xs → In n ns → seen c ≡ told past n → (is_gone gone c ≡ true) ⊎ (is_gone gone c ≡ false) → not (is_gone gone c) ≡ is_held past.plan P past.acts n
         go c n i j e (inl g) = ap not g ∙ sym (gone_not_held c n i j e g)
         go c n i j e (inr g) = ap not g ∙ sym (stays_held (length P.nodes) c n (subst (λ (zs : List Cell). In c zs) (sym u.leaves.rows) (In-kept (λ (d : Cell). not (is_gone gone d)) c xs i (ap not g))) j e (omega arith))

@@ -88,9 +88,10 @@ module _ (core : BodyTree) (good : Good core) (plan : PlanTree) (pl : Placed cor
     nodes = c.nodes;
   }
     where
-      same : seen (record { place = c.row.0; row = root_row gs }) ≡ told (row_of (opening_past plan) Root)
+      same : seen (record { place = c.row.0; row = root_row gs }) ≡ told (opening_past plan) Root
       same = λ t. record {
         serial = 0;
+        level = 0;
         parent = None;
         kind = Document;
         is_open = true;

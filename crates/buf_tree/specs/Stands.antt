@@ -7,17 +7,19 @@ use Rattle.gcx_base.specs.declared.kind.Kind.{Kind}
 use Rattle.gcx_base.specs.declared.kind.Kind.TheVariants.{Document, Element, Text}
 use Rattle.gcx_model.specs.ItemView.{off_tree}
 use Rattle.gcx_model.specs.Tree.{Node, Token, Start, Chars, End, grow}
-use Rattle.gcx_model.specs.Held.{roles_given, roles_taken}
-use Rattle.gcx_model.specs.Past.{Past, IsPast, HeldRow, rows_of, Awaited, waiting_offs}
+use Rattle.gcx_model.specs.Growth.{level}
+use Rattle.gcx_model.specs.Held.{held, roles_given, roles_taken}
+use Rattle.gcx_model.specs.Past.{Past, IsPast, HeldRow, row_of, Awaited, waiting_offs}
 use Rattle.buf_tree.specs.declared.row.Row.{Row}
 use Rattle.buf_tree.specs.declared.ahead.Ahead.{Ahead}
 use Rattle.buf_tree.specs.Shape.{Cell}
 use Rattle.buf_tree.specs.View.{View}
 use Rattle.buf_tree.specs.Calls.{numbers}
 
--- what a row tells of its node, with its roles and the roles signed at it as sets
+-- what a row tells of its node, with its roles and the roles signed at it as sets, and how deep it lies
 pub record Seen : Type 0 where
   pub serial : ℕ
+  pub level : ℕ
   pub parent : Option ℕ
   pub kind : Kind
   pub is_open : Bool
@@ -28,18 +30,22 @@ abbrev pub parent_seen : Row → Option ℕ
 parent_seen r = cond (r.serial == 0) None (Some r.parent)
 
 abbrev pub seen : Cell → Seen
-seen c = record { serial = c.row.serial; parent = parent_seen c.row; kind = c.row.kind; is_open = c.row.is_open; roles = c.row.roles; signed = c.row.signed }
+seen c = record { serial = c.row.serial; level = c.row.level; parent = parent_seen c.row; kind = c.row.kind; is_open = c.row.is_open; roles = c.row.roles; signed = c.row.signed }
 
-abbrev pub told : HeldRow → Seen
-told r = record { serial = r.serial; parent = r.parent; kind = r.kind; is_open = r.is_open; roles = set.from_list r.roles; signed = set.from_list r.signed }
+abbrev pub told_row : (level : ℕ) → HeldRow → Seen
+told_row l r = record { serial = r.serial; level = l; parent = r.parent; kind = r.kind; is_open = r.is_open; roles = set.from_list r.roles; signed = set.from_list r.signed }
+
+-- what the row of a held node tells
+abbrev pub told : Past → Node → Seen
+told past n = told_row (level n) (row_of past n)
 
 abbrev pub awaited_by : Ahead → Awaited
 awaited_by a = record { level = a.level; off = off_tree a.off }
 
--- Stands for
+-- Stands for: the rows are those of the held nodes, as `rows_of` has them, each with its level
 pub record StandsFor (v : View) (past : Past) : Type 0 where
   pub is_past : IsPast past
-  pub rows : map seen v.rows ≡ map told (rows_of past)
+  pub rows : map seen v.rows ≡ map (told past) (held past.plan past.tree past.acts)
   pub waiting : map awaited_by v.waiting ≡ waiting_offs past
   pub nodes : v.nodes ≡ length past.tree.nodes
 
