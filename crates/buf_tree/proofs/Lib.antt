@@ -1,0 +1,14 @@
+pub mod Shaping
+pub mod Changes
+pub mod Grown
+pub mod Purging
+pub mod Keeping
+pub mod Reading
+pub mod Standing
+pub mod Feeding
+pub mod Opening
+pub mod Starting
+pub mod Kin
+pub mod Lines
+pub mod Seeking
+pub mod Going

@@ -1,0 +1,18 @@
+use Rattle.std.proofs.Common.{◌≡◌, ◌+◌, ◌≤◌, length, vec_len, vec_capacity}
+use Rattle.std.specs.Prelude.{option_map}
+use Rattle.buf_tree.specs.Shape.{cells}
+use Rattle.buf_tree.specs.Rows.{serials}
+use Rattle.buf_tree.specs.Purge.{Climb}
+use Rattle.buf_tree.proofs.edits.purge.Given as goal
+
+abbrev pub invariant-up : goal.invariant-up
+invariant-up g l = record {
+  climb : Climb (g.N.NodeStore.rows l.fn.nodes) (g.N.NodeStore.rows l.nodes) (option_map (λ p. p.0) l.at) (serials l.fn.gone.items) (serials l.gone.items);
+  count : vec_len l.gone + length (cells (g.N.NodeStore.rows l.nodes)) ≡ vec_len l.fn.gone + length (cells (g.N.NodeStore.rows l.fn.nodes));
+  capacity : vec_capacity l.fn.gone ≤ vec_capacity l.gone;
+  most : g.N.NodeStore.most_held l.nodes ≡ g.N.NodeStore.most_held l.fn.nodes;
+  loans : g.N.NodeStore.loans l.nodes ≡ g.N.NodeStore.loans l.fn.nodes;
+}
+
+abbrev pub decreases-up : goal.decreases-up
+decreases-up g l = length (cells (g.N.NodeStore.rows l.nodes))

@@ -1,0 +1,54 @@
+use Rattle.std.proofs.Common.{arith, sym, ◌∙◌, ap, subst, cond, Some, ◌≤◌, ◌<◌}
+use Rattle.std.specs.Prelude.{option_map}
+use Rattle.gcx_model.specs.Paths.{passes}
+use Rattle.node_store.specs.declared.store.Place.{Place}
+use Rattle.buf_tree.specs.declared.row.Row.{Row}
+use Rattle.buf_tree.specs.Shape.{num, cells}
+use Rattle.buf_tree.specs.Walk.{Back}
+use Rattle.buf_tree.specs.Match.{IsChild}
+use Rattle.buf_tree.proofs.Shaping.{rising_same}
+use Rattle.buf_tree.proofs.Kin.{row_of_place}
+use Rattle.buf_tree.proofs.Seeking.{last_child, prev_child, back_start, back_on, back_end, back_stop, answered, lies_child, child_lies, low_less, cell_row, used_there}
+use Rattle.buf_tree.proofs.search.first_child.Goals as goal
+
+pub back-init : goal.back-init
+back-init g c d i e =
+    let r = last_child _ c.requires.shape d i _ e _ c.last-at.ensures.value in
+    back_start _ (IsChild d) c.args.step.now.test c.args.bound (rising_same _ c.requires.shape.rising) r.0 _ r.1 r.2
+
+pub payload-row-requires : goal.payload-row-requires
+payload-row-requires g c =
+    let d = row_of_place _ _ c.requires.shape _ c.requires.there in
+    let v = rw c.in-Some.is at (c.back.invariant d.0 d.1 d.2) in
+    used_there _ c.requires.shape v.1.0 v.1.1 _ v.1.2
+
+pub back-smaller : goal.back-smaller
+back-smaller g c =
+    let d = row_of_place _ _ c.requires.shape _ c.requires.there in
+    let v = rw c.in-Some.is at (c.back.invariant d.0 d.1 d.2) in
+    rw c.in-Some.is (low_less _ c.requires.shape (IsChild d.0) v.1.0 v.1.1 _ v.1.2 _ (prev_child _ c.requires.shape d.0 v.1.0 d.1 v.1.1 v.1.3 _ v.1.2 _ c.prev-at.ensures.value))
+
+pub back-preserved : goal.back-preserved
+back-preserved g c d i e =
+    let v = rw c.in-Some.is at (c.back.invariant d i e) in
+    let r = cell_row _ c.requires.shape v.1.0 v.1.1 _ v.1.2 _ c.payload-row.ensures in
+    let low = ap (λ (x : Row). x.serial) r in
+    let high : c.args.bound < num v.1.0 = omega (arith, low, c.if-row-bound.false) in
+    let next = prev_child _ c.requires.shape d v.1.0 i v.1.1 v.1.3 _ v.1.2 _ c.prev-at.ensures.value in
+    subst (λ f. Back (cells (g.N.NodeStore.rows c.args.nodes.now)) (IsChild d) c.args.step.now.test c.args.bound (option_map (λ (p : Place). p.0) c.prev-at.result) f)
+    (ap (λ (x : Row). cond (passes c.args.step.now.test x.kind) (Some c.in-Some.here.0) (option_map (λ (p : Place). p.0) c.back.found)) r ∙ sym c.pick-found.ensures)
+    (back_on _ (IsChild d) c.args.step.now.test c.args.bound (rising_same _ c.requires.shape.rising) _ _ v high _ next)
+
+pub returns-then-row-bound : goal.returns-then-row-bound
+returns-then-row-bound g c d i e =
+    let v = rw c.in-Some.is at (c.back.invariant d i e) in
+    let r = cell_row _ c.requires.shape v.1.0 v.1.1 _ v.1.2 _ c.payload-row.ensures in
+    let low = ap (λ (x : Row). x.serial) r in
+    let under : num v.1.0 ≤ c.args.bound = omega (arith, low, c.if-row-bound.true) in
+    answered _ d c.args.step.now c.args.bound (IsChild d) (λ x j k. lies_child _ _ d x c.requires.axis k) (λ x j k. child_lies _ _ d x c.requires.axis k) _
+    (back_stop _ (IsChild d) c.args.step.now.test c.args.bound _ _ v under)
+
+pub returns-in_default : goal.returns-in_default
+returns-in_default g c d i e =
+    answered _ d c.args.step.now c.args.bound (IsChild d) (λ x j k. lies_child _ _ d x c.requires.axis k) (λ x j k. child_lies _ _ d x c.requires.axis k) _
+    (back_end _ (IsChild d) c.args.step.now.test c.args.bound _ (rw c.in_default.is at (c.back.invariant d i e)))

@@ -1,0 +1,55 @@
+use Rattle.std.proofs.Common.{sym, ◌∙◌, ap, Some, None}
+use Rattle.gcx_model.specs.Paths.{passes}
+use Rattle.buf_tree.specs.declared.row.Row.{Row}
+use Rattle.buf_tree.specs.Shape.{num, cells}
+use Rattle.buf_tree.specs.Walk.{Inside}
+use Rattle.buf_tree.proofs.Shaping.{rising_same}
+use Rattle.buf_tree.proofs.Kin.{row_of_place}
+use Rattle.buf_tree.proofs.Seeking.{answered, lies_below, below_lies, cell_row, used_there}
+use Rattle.buf_tree.proofs.Going.{high_less, on_start, on_next, on_found, on_end, from_within, within_at}
+use Rattle.buf_tree.proofs.search.next_below.Goals as goal
+
+pub on-init : goal.on-init
+on-init g c d h i j e f = on_start _ (Inside (cells (g.N.NodeStore.rows c.args.nodes.now)) d) c.args.step.now.test (num h) (rising_same _ c.requires.shape.rising) _ (c.after-at.ensures d h i j e f)
+
+pub payload-requires : goal.payload-requires
+payload-requires g c =
+    let d = row_of_place _ _ c.requires.shape _ c.requires.top in
+    let h = row_of_place _ _ c.requires.shape _ c.requires.used in
+    let v = rw c.in-Some.is at (c.on.invariant d.0 h.0 d.1 h.1 d.2 h.2) in
+    used_there _ c.requires.shape v.2.0 v.2.1 _ v.2.2
+
+pub on-smaller : goal.on-smaller
+on-smaller g c =
+    let d = row_of_place _ _ c.requires.shape _ c.requires.top in
+    let h = row_of_place _ _ c.requires.shape _ c.requires.used in
+    let v = rw c.in-Some.is at (c.on.invariant d.0 h.0 d.1 h.1 d.2 h.2) in
+    rw c.in-Some.is (high_less _ c.requires.shape (Inside (cells (g.N.NodeStore.rows c.args.nodes.now)) d.0) v.2.0 v.2.1 _ v.2.2 _ (c.after-at-in-Some.ensures d.0 v.2.0 d.1 v.2.1 d.2 v.2.2))
+
+pub on-preserved : goal.on-preserved
+on-preserved g c d h i j e f =
+    let v = rw c.in-Some.is at (c.on.invariant d h i j e f) in
+    let r = cell_row _ c.requires.shape v.2.0 v.2.1 _ v.2.2 _ c.payload.ensures in
+    let next = c.after-at-in-Some.ensures d v.2.0 i v.2.1 e v.2.2 in
+    on_next _ (Inside (cells (g.N.NodeStore.rows c.args.nodes.now)) d) c.args.step.now.test (num h) (rising_same _ c.requires.shape.rising) _ v (ap (λ (x : Row). passes c.args.step.now.test x.kind) r ∙ sym c.passes.ensures ∙ c.if-passes.false) _ next
+
+pub returns-then-passes : goal.returns-then-passes
+returns-then-passes g c d h i j e f =
+    let v = rw c.in-Some.is at (c.on.invariant d h i j e f) in
+    let r = cell_row _ c.requires.shape v.2.0 v.2.1 _ v.2.2 _ c.payload.ensures in
+    answered (cells (g.N.NodeStore.rows c.args.nodes.now)) d c.args.step.now (num h) (Inside (cells (g.N.NodeStore.rows c.args.nodes.now)) d) (λ x q k. lies_below _ c.requires.shape c.requires.nested _ d x c.requires.axis i q k) (λ x q k. below_lies _ c.requires.shape c.requires.nested _ d x c.requires.axis i q k) (Some c.in-Some.here)
+    (on_found _ (Inside (cells (g.N.NodeStore.rows c.args.nodes.now)) d) c.args.step.now.test (num h) (rising_same _ c.requires.shape.rising) _ v (ap (λ (x : Row). passes c.args.step.now.test x.kind) r ∙ sym c.passes.ensures ∙ c.if-passes.true))
+
+pub returns : goal.returns
+returns g c d h i j e f =
+    answered (cells (g.N.NodeStore.rows c.args.nodes.now)) d c.args.step.now (num h) (Inside (cells (g.N.NodeStore.rows c.args.nodes.now)) d) (λ x q k. lies_below _ c.requires.shape c.requires.nested _ d x c.requires.axis i q k) (λ x q k. below_lies _ c.requires.shape c.requires.nested _ d x c.requires.axis i q k) None
+    (on_end _ (Inside (cells (g.N.NodeStore.rows c.args.nodes.now)) d) c.args.step.now.test (num h) (rising_same _ c.requires.shape.rising) (rw c.in_default.is at (c.on.invariant d h i j e f)))
+
+pub after-at-requires-clause-within : goal.after-at-requires-clause-within
+after-at-requires-clause-within g c d h i j e f = from_within _ c.requires.shape c.requires.nested _ d h c.requires.axis i j (c.requires.from d h i j e f)
+
+pub after-at-requires-in-Some-clause-within : goal.after-at-requires-in-Some-clause-within
+after-at-requires-in-Some-clause-within g c d h i j e f =
+    let o = row_of_place _ _ c.requires.shape _ c.requires.used in
+    let v = rw c.in-Some.is at (c.on.invariant d o.0 i o.1 e o.2) in
+    within_at _ c.requires.shape d v.2.0 h _ v.2.1 j v.2.2 f v.2.3

@@ -1,0 +1,43 @@
+-- Which rows a step reaches from a row.
+use Rattle.std.specs.Prelude.{◌≡◌, ◌<◌, ◌≤◌, ◌⊎◌, ℕ, zero, suc, true, List}
+use Rattle.gcx_base.specs.declared.steps.Axis.{Axis}
+use Rattle.gcx_base.specs.declared.steps.Axis.TheVariants.{Child, Descendant}
+use Rattle.gcx_base.specs.declared.steps.Step.{Step}
+use Rattle.gcx_model.specs.Members.{In}
+use Rattle.gcx_model.specs.Paths.{passes}
+use Rattle.buf_tree.specs.Shape.{Cell, num}
+
+-- the row d is a child of the row c
+abbrev pub IsChild : Cell → Cell → Type 0
+IsChild c d = (d.row.parent ≡ num c) × (num c < num d)
+
+-- n + 1 steps from d to its parent lead to c
+abbrev pub Rises : List Cell → ℕ → Cell → Cell → Type 0
+Rises xs zero c d = IsChild c d
+Rises xs (suc n) c d = (e : Cell) × In e xs × IsChild e d × Rises xs n c e
+
+abbrev pub Lies : List Cell → Axis → Cell → Cell → Type 0
+Lies xs Child c d = IsChild c d
+Lies xs Descendant c d = (n : ℕ) × Rises xs n c d
+
+-- the step reaches the row d from the row c, and its serial is above `after`
+pub record Reached (xs : List Cell) (c : Cell) (s : Step) (after : ℕ) (d : Cell) : Type 0 where
+  pub among : In d xs
+  pub axis : Lies xs s.axis c d
+  pub passed : passes s.test d.row.kind ≡ true
+  pub behind : after < num d
+
+-- none is reached
+pub record Unreached (xs : List Cell) (c : Cell) (s : Step) (after : ℕ) : Type 0 where
+  pub none : (d : Cell) → Reached xs c s after d → ⊥
+
+-- the row at the place p is the first of those that are
+pub record FirstReached (xs : List Cell) (c : Cell) (s : Step) (after p : ℕ) : Type 0 where
+  pub cell : Cell
+  pub reached : Reached xs c s after cell
+  pub place : cell.place ≡ p
+  pub least : (d : Cell) → Reached xs c s after d → num cell ≤ num d
+
+-- from where a search may go on: the row itself, a child of it, or for a descendant step any row below it
+abbrev pub IsFrom : List Cell → Axis → Cell → Cell → Type 0
+IsFrom xs axis c d = (c ≡ d) ⊎ Lies xs axis c d

@@ -1,0 +1,47 @@
+-- What single edits make of a row.
+use Rattle.std.specs.Prelude.{◌≡◌, ◌+◌, ◌==◌, ◌&&◌, ℕ, Bool, true, false, not, List, [], map}
+use Rattle.std.specs.Ordering.{nat_cmp}
+use Rattle.std.specs.FinSet as set
+use Rattle.gcx_base.specs.declared.ids.Serial.{Serial}
+use Rattle.gcx_base.specs.declared.kind.Kind.{Kind}
+use Rattle.gcx_base.specs.declared.kind.Kind.TheVariants.{Document, Element, Text}
+use Rattle.node_store.specs.Rows.{Entry}
+use Rattle.buf_tree.specs.declared.row.Row.{Row}
+
+abbrev pub is_text : Kind → Bool
+is_text Document = false
+is_text (Element name) = false
+is_text (Text b) = true
+
+-- a text without a role
+abbrev pub is_bare : Kind → set.FinSet nat_cmp → Bool
+is_bare kind roles = is_text kind && (set.len roles == 0)
+
+-- an element or a text
+abbrev pub IsNode : Kind → Type 0
+IsNode Document = ⊥
+IsNode (Element name) = Unit {0}
+IsNode (Text b) = Unit {0}
+
+abbrev pub serials : List Serial → List ℕ
+serials ss = map (λ (s : Serial). s.0) ss
+
+-- the row of a new child of the node with this serial and level
+abbrev pub below_row : (parent level serial : ℕ) → Kind → set.FinSet nat_cmp → Row
+below_row parent level serial kind roles = record { serial = serial; parent = parent; level = level + 1; is_open = not (is_text kind); kind = kind; roles = roles; signed = set.empty }
+
+-- the row closed
+abbrev pub shut_row : Row → Row
+shut_row r = record r { is_open = false }
+
+-- without the role k
+abbrev pub untaken : ℕ → Row → Row
+untaken k r = record r { roles = set.remove r.roles k }
+
+-- closed and without a role
+abbrev pub IsDead : Row → Type 0
+IsDead r = (r.is_open ≡ false) × (r.roles ≡ set.empty)
+
+-- and without a child
+abbrev pub IsSpare : Entry Row → Type 0
+IsSpare e = (e.payload.is_open ≡ false) × (e.payload.roles ≡ set.empty) × (e.children ≡ [])

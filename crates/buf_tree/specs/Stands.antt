@@ -1,0 +1,69 @@
+-- Which pasts a buffer stands for.
+use Rattle.std.specs.Prelude.{◌≡◌, ◌==◌, ℕ, Bool, cond, List, [], ◌∷◌, length, map, drop, Option, Some, None}
+use Rattle.std.specs.Ordering.{nat_cmp}
+use Rattle.std.specs.FinSet as set
+use Rattle.gcx_base.specs.declared.ids.Role.{Role}
+use Rattle.gcx_base.specs.declared.kind.Kind.{Kind}
+use Rattle.gcx_base.specs.declared.kind.Kind.TheVariants.{Document, Element, Text}
+use Rattle.gcx_model.specs.ItemView.{off_tree}
+use Rattle.gcx_model.specs.Tree.{Node, Token, Start, Chars, End, grow}
+use Rattle.gcx_model.specs.Growth.{level}
+use Rattle.gcx_model.specs.Held.{held, roles_given, roles_taken}
+use Rattle.gcx_model.specs.Past.{Past, IsPast, HeldRow, row_of, Awaited, waiting_offs}
+use Rattle.buf_tree.specs.declared.row.Row.{Row}
+use Rattle.buf_tree.specs.declared.ahead.Ahead.{Ahead}
+use Rattle.buf_tree.specs.Shape.{Cell}
+use Rattle.buf_tree.specs.View.{View}
+use Rattle.buf_tree.specs.Calls.{numbers}
+
+-- what a row tells of its node, with its roles and the roles signed at it as sets, and how deep it lies
+pub record Seen : Type 0 where
+  pub serial : ℕ
+  pub level : ℕ
+  pub parent : Option ℕ
+  pub kind : Kind
+  pub is_open : Bool
+  pub roles : set.FinSet nat_cmp
+  pub signed : set.FinSet nat_cmp
+
+abbrev pub parent_seen : Row → Option ℕ
+parent_seen r = cond (r.serial == 0) None (Some r.parent)
+
+abbrev pub seen : Cell → Seen
+seen c = record { serial = c.row.serial; level = c.row.level; parent = parent_seen c.row; kind = c.row.kind; is_open = c.row.is_open; roles = c.row.roles; signed = c.row.signed }
+
+abbrev pub told_row : (level : ℕ) → HeldRow → Seen
+told_row l r = record { serial = r.serial; level = l; parent = r.parent; kind = r.kind; is_open = r.is_open; roles = set.from_list r.roles; signed = set.from_list r.signed }
+
+-- what the row of a held node tells
+abbrev pub told : Past → Node → Seen
+told past n = told_row (level n) (row_of past n)
+
+abbrev pub awaited_by : Ahead → Awaited
+awaited_by a = record { level = a.level; off = off_tree a.off }
+
+-- Stands for: the rows are those of the held nodes, as `rows_of` has them, each with its level
+pub record StandsFor (v : View) (past : Past) : Type 0 where
+  pub is_past : IsPast past
+  pub rows : map seen v.rows ≡ map (told past) (held past.plan past.tree past.acts)
+  pub waiting : map awaited_by v.waiting ≡ waiting_offs past
+  pub nodes : v.nodes ≡ length past.tree.nodes
+
+-- one token more, of which no statement has been told yet
+abbrev pub past_grown : Token → Past → Past
+past_grown t past = record past { tree = grow t past.tree }
+
+-- all actions so far count as taken before the last token
+abbrev pub past_told : Past → Past
+past_told past = record past { fed = length past.acts }
+
+-- the token that opens a node of this kind
+abbrev pub token_for : Kind → Token
+token_for Document = End
+token_for (Element name) = Start name
+token_for (Text b) = Chars b
+
+-- the node that the token opens is given the one list of roles, of which the other is taken in advance
+abbrev pub GivenTo : Past → Token → List Role → List Role → Type 0
+GivenTo past t gs as_ = (n : Node) → drop (length past.tree.nodes) (grow t past.tree).nodes ≡ n ∷ []
+    → (numbers gs ≡ roles_given past.plan (grow t past.tree) n) × (numbers as_ ≡ roles_taken past.plan (grow t past.tree) past.acts n)

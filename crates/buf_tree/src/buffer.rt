@@ -1,0 +1,297 @@
+//! The buffer.
+ghost use Rattle.std.specs.List.{list_any};
+ghost use Rattle.std.specs.Prelude.{◌≡◌, ◌==◌, ◌↔◌, ◌+◌, ◌≤◌, ◌<◌, ◌^◌, ℕ, List, Option, Some, None, IfOk, IfErr, OnOk, OnErr, IfSome, IsSome, IsTrue, MatchOption, max, not, option_map, true, [], ◌∷◌, ◌++◌, length, map as list_map};
+ghost use Rattle.std.specs.FinMap as map;
+ghost use Rattle.std.specs.FinSet as set;
+ghost use Rattle.gcx_model.specs.Members.{In};
+ghost use Rattle.gcx_model.specs.Paths.{head};
+ghost use Rattle.gcx_model.specs.Tree.{Token, Root, End, opening};
+ghost use Rattle.gcx_model.specs.Growth.{may_come};
+ghost use Rattle.gcx_model.specs.Core.{BodyTree, PlanTree};
+ghost use Rattle.gcx_model.specs.Cores.{Good};
+ghost use Rattle.gcx_model.specs.Placed.{Placed};
+ghost use Rattle.gcx_model.specs.Held.{roles_given};
+ghost use Rattle.gcx_model.specs.Past.{Past, opening_past, past_fed};
+ghost use Rattle.buf_tree.specs.Rows.{IsNode, serials};
+ghost use Rattle.buf_tree.specs.Shape.{Cell, num, cells, Shape};
+ghost use Rattle.buf_tree.specs.View.{View, InUse, Innermost, serial_at, level_in};
+ghost use Rattle.buf_tree.specs.Shape.{at_place};
+ghost use Rattle.buf_tree.specs.Calls.{Started, Opened, Closed, HasRole, Untaken, numbers, less};
+ghost use Rattle.buf_tree.specs.Stands.{StandsFor, past_grown, past_told, token_for, GivenTo};
+
+use crate::ahead::Ahead;
+use crate::edits::{add_row, plant_row, settle, shut, untake};
+use crate::row::{Row, is_bare, row_below};
+use gcx_base::{Kind, Memory, Role, Serial};
+use gcx_model::Given;
+use node_store::{At, NodeStore, Place};
+use role_set::RoleSet;
+use std::alloc::Global;
+use std::marker::Model;
+
+/// The nodes of a document that are open or have a role in their subtree.
+///
+/// A contract sees the rows in document order with their places. Freeing takes no memory: there is room for the
+/// departure of each row.
+#[derive(Drop)]
+pub struct Buffer<N: NodeStore<Row>> {
+    pub(crate) nodes: N,
+    pub(crate) gone: Vec<Serial>,
+    pub(crate) waiting: Vec<Ahead>,
+    pub(crate) held: usize,
+    pub(crate) count: u64,
+    pub(crate) taken: u128,
+}
+
+impl<N: NodeStore<Row>> Model for Buffer<N> {
+    ghost use Rattle.std.specs.Prelude.{vec_capacity};
+    ghost use Rattle.buf_tree.specs.View.{View, Kept, view_code};
+    ghost use Rattle.buf_tree.specs.Rows.{serials};
+    ghost use Rattle.buf_tree.specs.Shape.{cells};
+    ghost use Rattle.buf_tree.specs.contracts.row.Row as row;
+    ghost use Rattle.buf_tree.specs.contracts.ahead.Ahead as ahead;
+
+    ghost Value = { View };
+
+    ghost coded = { view_code row.the_row.coded ahead.the_row.coded };
+
+    ghost view = { λ b. record {
+      rows = cells (N.rows b.nodes);
+      gone = serials b.gone.items;
+      waiting = b.waiting.items;
+      nodes = b.count;
+      taken = b.taken;
+      most = N.most_held b.nodes;
+      loans = N.loans b.nodes;
+    } };
+
+    ghost invariant = { λ b. Kept (N.rows b.nodes) (serials b.gone.items) (vec_capacity b.gone) b.held b.count };
+}
+
+impl<N: NodeStore<Row> + Drop> Buffer<N> {
+    /// The open document node with these roles, in a store that is empty.
+    pub fn new(alloc: Global, nodes: N, given: Given) -> Result<Buffer<N>, Memory>
+        requires empty { N.rows nodes ≡ map.empty }
+        ensures started { IfOk result (λ b. Started b given) }
+        ensures most { IfOk result (λ b. b.most ≡ max (N.most_held nodes) 1) }
+        ensures loans { IfOk result (λ b. b.loans ≡ N.loans nodes) }
+        ensures stands { IfOk result (λ b. (core : BodyTree) (plan : PlanTree) → Good core → Placed core plan → numbers given ≡ roles_given plan opening Root → StandsFor b (opening_past plan)) }
+    {
+        let mut gone = Vec::new(alloc);
+        gone.reserve(1)?;
+        let row = Row {
+            serial: 0,
+            parent: 0,
+            level: 0,
+            is_open: true,
+            kind: Kind::Document,
+            roles: roles_left(alloc, given.items(), &[])?,
+            signed: RoleSet::new(alloc),
+        };
+        let mut nodes = nodes;
+        plant_row(&mut nodes, row)?;
+        Ok(Buffer {
+            nodes,
+            gone,
+            waiting: Vec::new(alloc),
+            held: 1,
+            count: 1,
+            taken: 0,
+        })
+    }
+}
+
+impl<N: NodeStore<Row>> Buffer<N> {
+    /// The store, with the rows as they are.
+    pub fn into_nodes(self) -> N
+        ensures rows { cells (N.rows result) ≡ self.rows }
+        ensures shape { Shape (N.rows result) self.rows }
+        ensures most { N.most_held result ≡ self.most }
+        ensures loans { N.loans result ≡ self.loans }
+    {
+        let Buffer {
+            nodes,
+            gone: _,
+            waiting: _,
+            held: _,
+            count: _,
+            taken: _,
+        } = self;
+        nodes
+    }
+
+    /// The place of the document node, or None where the buffer is empty. Takes no memory.
+    pub fn root(&self) -> Option<Place>
+        ensures { option_map (λ p. p.0) result ≡ option_map (λ c. c.place) (head self.now.rows) }
+    {
+        self.nodes.root()
+    }
+
+    /// A new element or text as last child of the innermost open node, with the roles that are given but not ahead. A
+    /// text is closed at once, and one without a role is gone at once. Answers the node's place, or None where it is
+    /// gone.
+    ///
+    /// There is room for one more departure afterwards. After `Memory` the buffer is unchanged.
+    pub fn open_node(
+        &mut self,
+        alloc: Global,
+        parent: Place,
+        kind: Kind,
+        given: Given,
+        ahead: Given,
+    ) -> Result<Option<Place>, Memory>
+        requires parent { Innermost self.old.rows parent.0 }
+        requires kind { IsNode kind }
+        requires nodes { self.old.nodes ≤ 2 ^ 40 }
+        requires depth { level_in (at_place parent.0 self.old.rows) ≤ 1000 }
+        requires given { (r : Role) → In r ahead → In r given }
+        requires taken { self.old.taken + length ahead < 2 ^ 128 }
+        ensures opened { IfOk result (λ p. Opened self.old self.new parent.0 (option_map (λ q. q.0) p) kind given ahead) }
+        ensures stands { OnOk result ((past : Past) → StandsFor self.old past → may_come (token_for kind) past.tree ≡ true → GivenTo past (token_for kind) given ahead → StandsFor self.new (past_grown (token_for kind) past)) }
+        ensures err { OnErr result (self.new ≡ self.old) }
+        ensures loans { self.new.loans ≡ self.old.loans }
+    {
+        let roles = roles_left(alloc, given.items(), ahead.items())?;
+        self.gone.reserve(self.held + 1)?;
+        let taken = ahead.items().len() as u128;
+        if is_bare(&kind, &roles) {
+            self.gone.push_reserved(Serial(self.count));
+            self.count += 1;
+            self.taken += taken;
+            return Ok(None);
+        }
+        let above = self.nodes.payload(parent);
+        let row = row_below(alloc, above, self.count, kind, roles);
+        let place = add_row(&mut self.nodes, parent, row)?;
+        self.held += 1;
+        self.count += 1;
+        self.taken += taken;
+        Ok(Some(place))
+    }
+
+    /// Closes the innermost open node, while nothing waits. Then what nothing keeps leaves. Takes no memory.
+    pub fn close_node(&mut self, place: Place)
+        requires innermost { Innermost self.old.rows place.0 }
+        requires waiting { self.old.waiting ≡ [] }
+        ensures closed { Closed self.old self.new place.0 }
+        ensures stands { (past : Past) → StandsFor self.old past → may_come End past.tree ≡ true → StandsFor self.new (past_fed End past) }
+        ensures loans { self.new.loans ≡ self.old.loans }
+    {
+        shut(&mut self.nodes, place);
+        let held = settle(&mut self.nodes, &mut self.gone, place, self.held);
+        self.held = held;
+    }
+
+    /// Takes a role, which the node has, back from it. Then what nothing keeps leaves. Takes no memory.
+    pub fn take_role(&mut self, place: Place, role: Role)
+        requires role { HasRole self.old.rows place.0 role.0 }
+        requires taken { self.old.taken + 1 < 2 ^ 128 }
+        ensures untaken { Untaken self.old self.new place.0 role.0 }
+        ensures loans { self.new.loans ≡ self.old.loans }
+    {
+        untake(&mut self.nodes, place, role);
+        self.taken += 1;
+        let held = settle(&mut self.nodes, &mut self.gone, place, self.held);
+        self.held = held;
+    }
+
+    /// The statements that wait for the next token, in order. Takes no memory.
+    pub fn waiting(&self) -> &[Ahead]
+        ensures { result.now ≡ self.now.waiting }
+    {
+        &self.waiting
+    }
+
+    /// No statement waits any more. Takes no memory.
+    pub fn clear_waiting(&mut self)
+        ensures cleared { self.new ≡ record self.old { waiting = [] } }
+        ensures stands { (past : Past) → StandsFor self.old past → StandsFor self.new (past_told past) }
+    {
+        self.waiting.clear();
+    }
+
+    /// The serial of the row at the place. Takes no memory.
+    pub fn serial(&self, place: Place) -> Serial
+        requires { InUse self.now.rows place.0 }
+        ensures { result.0 ≡ serial_at place.0 self.now.rows }
+    {
+        self.nodes.payload(place).serial()
+    }
+
+    /// Whether the node of the row at the place is closed. Takes no memory.
+    pub fn is_closed(&self, place: Place) -> bool
+        requires { InUse self.now.rows place.0 }
+        ensures { (c : Cell) → In c self.now.rows → c.place ≡ place.0 → result ≡ not c.row.is_open }
+    {
+        self.nodes.payload(place).is_closed()
+    }
+
+    /// A cursor at the row at the place. Takes no memory.
+    pub fn at(&self, place: Place) -> At<'_, N, Row>
+        requires { InUse self.now.rows place.0 }
+        ensures place { result.place ≡ place }
+        ensures store { Shape (N.rows result.store.now) self.now.rows }
+    {
+        At::new(&self.nodes, place)
+    }
+
+    /// The number of rows. Takes no memory.
+    pub fn held(&self) -> u64
+        ensures { result ≡ length self.now.rows }
+    {
+        self.held as u64
+    }
+
+    /// The number of nodes so far. Takes no memory.
+    pub fn nodes(&self) -> u64
+        ensures { result ≡ self.now.nodes }
+    {
+        self.count
+    }
+
+    /// The serials of the nodes that left since `clear_gone`, in the order of the calls that made them leave, and those
+    /// of one call falling. Takes no memory.
+    pub fn gone(&self) -> &[Serial]
+        ensures { serials result.now ≡ self.now.gone }
+    {
+        &self.gone
+    }
+
+    /// Forgets the departures. Takes no memory.
+    pub fn clear_gone(&mut self)
+        ensures { self.new ≡ record self.old { gone = [] } }
+    {
+        self.gone.clear();
+    }
+
+    /// The number of roles that were taken back from nodes so far. Takes no memory.
+    pub fn taken(&self) -> u128
+        ensures { result ≡ self.now.taken }
+    {
+        self.taken
+    }
+}
+
+fn holds(roles: &[Role], role: Role) -> bool
+    ensures { result ≡ list_any (λ k. k == role.0) (numbers roles.now) }
+{
+    for other in roles {
+        if other.0 == role.0 {
+            return true;
+        }
+    }
+    false
+}
+
+/// The roles that are given and not ahead.
+fn roles_left(alloc: Global, given: &[Role], ahead: &[Role]) -> Result<RoleSet, Memory>
+    ensures { IfOk result (λ s. s ≡ set.from_list (less (numbers given.now) (numbers ahead.now))) }
+{
+    let mut roles = RoleSet::new(alloc);
+    for role in given {
+        if !holds(ahead, *role) {
+            roles.give(*role)?;
+        }
+    }
+    Ok(roles)
+}

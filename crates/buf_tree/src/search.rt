@@ -1,0 +1,262 @@
+//! Walks over the rows in document order, and the searches for matches.
+ghost use Rattle.std.specs.Prelude.{◌≡◌, ◌==◌, ◌≤◌, ◌⊎◌, cond, Option, Some, None, IsSome, MatchOption, option_map};
+ghost use Rattle.std.specs.FinMap as map;
+ghost use Rattle.gcx_base.specs.declared.steps.Axis.TheVariants.{Child, Descendant};
+ghost use Rattle.gcx_base.specs.declared.steps.Test.TheVariants.{Named};
+ghost use Rattle.gcx_base.specs.declared.kind.Kind.TheVariants.{Element};
+ghost use Rattle.gcx_model.specs.Members.{In};
+ghost use Rattle.gcx_model.specs.Paths.{passes};
+ghost use Rattle.node_store.specs.Rows.{head_of, children_in};
+ghost use Rattle.buf_tree.specs.Shape.{Cell, num, cells, Shaped};
+ghost use Rattle.buf_tree.specs.Walk.{Nested, Inside, Within, IsLast, JustBefore, BeforeIn, BehindIn};
+ghost use Rattle.buf_tree.specs.Match.{IsChild, Unreached, FirstReached, IsFrom};
+
+use crate::row::Row;
+use gcx_base::{Kind, Name, Step, Test};
+use node_store::{NodeStore, Place};
+
+fn is_named(name: &Name, other: &Name) -> bool
+    ensures { result ≡ passes (Named name.now) (Element other.now) }
+{
+    name.as_bytes() == other.as_bytes()
+}
+
+/// Whether a node of this kind passes the test.
+fn passes(test: &Test, kind: &Kind) -> bool
+    ensures { result ≡ passes test.now kind.now }
+{
+    match kind {
+        Kind::Document => false,
+        Kind::Element(other) => match test {
+            Test::Named(name) => is_named(name, other),
+            Test::AnyElement | Test::AnyNode => true,
+            Test::AnyText => false,
+        },
+        Kind::Text(_) => match test {
+            Test::AnyText | Test::AnyNode => true,
+            Test::Named(_) | Test::AnyElement => false,
+        },
+    }
+}
+
+fn is_same(place: Place, other: Place) -> bool
+    ensures { result ≡ (place.0 == other.0) }
+{
+    place.0 == other.0
+}
+
+/// The last row of the subtree.
+fn tail<N: NodeStore<Row>>(nodes: &N, top: Place) -> Place
+    requires shape { Shaped (N.rows nodes.now) }
+    requires nested { Nested (cells (N.rows nodes.now)) }
+    requires there { IsSome (map.get (N.rows nodes.now) top.0) }
+    ensures { (c : Cell) → In c (cells (N.rows nodes.now)) → c.place ≡ top.0 → (t : Cell) × In t (cells (N.rows nodes.now)) × (t.place ≡ result.0) × IsLast (cells (N.rows nodes.now)) c t }
+{
+    let mut at = top;
+    'down: while let Some(child) = nodes.last(at) {
+        at = child;
+    }
+    at
+}
+
+/// The row before this one in document order, or None at the first.
+fn before<N: NodeStore<Row>>(nodes: &N, place: Place) -> Option<Place>
+    requires shape { Shaped (N.rows nodes.now) }
+    requires nested { Nested (cells (N.rows nodes.now)) }
+    requires there { IsSome (map.get (N.rows nodes.now) place.0) }
+    ensures { (h : Cell) → In h (cells (N.rows nodes.now)) → h.place ≡ place.0 → MatchOption result (num h ≡ 0) (λ p. (t : Cell) × In t (cells (N.rows nodes.now)) × (t.place ≡ p.0) × JustBefore (cells (N.rows nodes.now)) t h) }
+{
+    match nodes.prev(place) {
+        Some(sibling) => Some(tail(nodes, sibling)),
+        None => nodes.parent(place),
+    }
+}
+
+/// The last row below this one, or None where there is none.
+fn last_below<N: NodeStore<Row>>(nodes: &N, top: Place) -> Option<Place>
+    requires shape { Shaped (N.rows nodes.now) }
+    requires nested { Nested (cells (N.rows nodes.now)) }
+    requires there { IsSome (map.get (N.rows nodes.now) top.0) }
+    ensures { (c : Cell) → In c (cells (N.rows nodes.now)) → c.place ≡ top.0 → MatchOption result ((x : Cell) → In x (cells (N.rows nodes.now)) → Inside (cells (N.rows nodes.now)) c x → ⊥) (λ p. (t : Cell) × In t (cells (N.rows nodes.now)) × (t.place ≡ p.0) × Inside (cells (N.rows nodes.now)) c t × ((x : Cell) → In x (cells (N.rows nodes.now)) → Inside (cells (N.rows nodes.now)) c x → num x ≤ num t)) }
+{
+    let last = tail(nodes, top);
+    if is_same(last, top) { None } else { Some(last) }
+}
+
+/// The row before this one that lies below `top`, as this one does, or None where it is the first of these.
+fn before_below<N: NodeStore<Row>>(nodes: &N, top: Place, place: Place) -> Option<Place>
+    requires shape { Shaped (N.rows nodes.now) }
+    requires nested { Nested (cells (N.rows nodes.now)) }
+    requires there { IsSome (map.get (N.rows nodes.now) place.0) }
+    ensures { (c h : Cell) → In c (cells (N.rows nodes.now)) → In h (cells (N.rows nodes.now)) → c.place ≡ top.0 → h.place ≡ place.0 → Inside (cells (N.rows nodes.now)) c h → BeforeIn (cells (N.rows nodes.now)) (Inside (cells (N.rows nodes.now)) c) (num h) (option_map (λ p. p.0) result) }
+{
+    match before(nodes, place) {
+        Some(row) => { if is_same(row, top) { None } else { Some(row) } }
+        None => None,
+    }
+}
+
+/// The first of the children above `bound` that passes the test. The children are looked at from the last one back.
+pub(crate) fn first_child<N: NodeStore<Row>>(
+    nodes: &N,
+    top: Place,
+    step: &Step,
+    bound: u64,
+) -> Option<Place>
+    requires shape { Shaped (N.rows nodes.now) }
+    requires there { IsSome (map.get (N.rows nodes.now) top.0) }
+    requires axis { step.now.axis ≡ Child }
+    ensures { (c : Cell) → In c (cells (N.rows nodes.now)) → c.place ≡ top.0 → MatchOption result (Unreached (cells (N.rows nodes.now)) c step.now bound) (λ p. FirstReached (cells (N.rows nodes.now)) c step.now bound p.0) }
+{
+    let mut found = None;
+    let mut at = nodes.last(top);
+    'back: while let Some(here) = at {
+        let row = nodes.payload(here);
+        if row.serial <= bound {
+            break;
+        }
+        found = pick(&step.test, row, here, found);
+        at = nodes.prev(here);
+    }
+    found
+}
+
+/// This place where its row passes the test, else the one found before.
+fn pick(test: &Test, row: &Row, here: Place, found: Option<Place>) -> Option<Place>
+    ensures { option_map (λ p. p.0) result ≡ cond (passes test.now row.now.kind) (Some here.0) (option_map (λ p. p.0) found) }
+{
+    if passes(test, &row.kind) {
+        Some(here)
+    } else {
+        found
+    }
+}
+
+/// The first of the rows below the row at `top` and above `bound` that passes the test. The rows are looked at from
+/// the last one back.
+pub(crate) fn first_below<N: NodeStore<Row>>(
+    nodes: &N,
+    top: Place,
+    step: &Step,
+    bound: u64,
+) -> Option<Place>
+    requires shape { Shaped (N.rows nodes.now) }
+    requires nested { Nested (cells (N.rows nodes.now)) }
+    requires there { IsSome (map.get (N.rows nodes.now) top.0) }
+    requires axis { step.now.axis ≡ Descendant }
+    ensures { (c : Cell) → In c (cells (N.rows nodes.now)) → c.place ≡ top.0 → MatchOption result (Unreached (cells (N.rows nodes.now)) c step.now bound) (λ p. FirstReached (cells (N.rows nodes.now)) c step.now bound p.0) }
+{
+    let mut found = None;
+    let mut at = last_below(nodes, top);
+    'back: while let Some(here) = at {
+        let row = nodes.payload(here);
+        if row.serial <= bound {
+            break;
+        }
+        found = pick(&step.test, row, here, found);
+        at = before_below(nodes, top, here);
+    }
+    found
+}
+
+/// The row behind the subtree of this one, which has no child, as far as it lies below `top`.
+fn behind<N: NodeStore<Row>>(nodes: &N, top: Place, place: Place) -> Option<Place>
+    requires shape { Shaped (N.rows nodes.now) }
+    requires nested { Nested (cells (N.rows nodes.now)) }
+    requires top { IsSome (map.get (N.rows nodes.now) top.0) }
+    requires there { IsSome (map.get (N.rows nodes.now) place.0) }
+    requires within { (c h : Cell) → In c (cells (N.rows nodes.now)) → In h (cells (N.rows nodes.now)) → c.place ≡ top.0 → h.place ≡ place.0 → Within (cells (N.rows nodes.now)) c h }
+    requires leaf { head_of (children_in (map.get (N.rows nodes.now) place.0)) ≡ None }
+    ensures { (c h : Cell) → In c (cells (N.rows nodes.now)) → In h (cells (N.rows nodes.now)) → c.place ≡ top.0 → h.place ≡ place.0 → BehindIn (cells (N.rows nodes.now)) (Inside (cells (N.rows nodes.now)) c) (num h) (option_map (λ p. p.0) result) }
+{
+    let mut at = place;
+    'up: while !is_same(at, top) {
+        if let Some(sibling) = nodes.next(at) {
+            return Some(sibling);
+        }
+        match nodes.parent(at) {
+            Some(above) => at = above,
+            None => return None,
+        }
+    }
+    None
+}
+
+/// The row behind this one that lies below `top`, where this one is `top` or lies below it, or None where it is the
+/// last of these.
+fn after<N: NodeStore<Row>>(nodes: &N, top: Place, place: Place) -> Option<Place>
+    requires shape { Shaped (N.rows nodes.now) }
+    requires nested { Nested (cells (N.rows nodes.now)) }
+    requires top { IsSome (map.get (N.rows nodes.now) top.0) }
+    requires there { IsSome (map.get (N.rows nodes.now) place.0) }
+    requires within { (c h : Cell) → In c (cells (N.rows nodes.now)) → In h (cells (N.rows nodes.now)) → c.place ≡ top.0 → h.place ≡ place.0 → Within (cells (N.rows nodes.now)) c h }
+    ensures { (c h : Cell) → In c (cells (N.rows nodes.now)) → In h (cells (N.rows nodes.now)) → c.place ≡ top.0 → h.place ≡ place.0 → BehindIn (cells (N.rows nodes.now)) (Inside (cells (N.rows nodes.now)) c) (num h) (option_map (λ p. p.0) result) }
+{
+    match nodes.first(place) {
+        Some(child) => Some(child),
+        None => behind(nodes, top, place),
+    }
+}
+
+/// The first child, or the next one behind `from`, a child.
+fn child_after<N: NodeStore<Row>>(nodes: &N, top: Place, from: Place) -> Option<Place>
+    requires shape { Shaped (N.rows nodes.now) }
+    requires top { IsSome (map.get (N.rows nodes.now) top.0) }
+    requires from { IsSome (map.get (N.rows nodes.now) from.0) }
+    ensures { (c h : Cell) → In c (cells (N.rows nodes.now)) → In h (cells (N.rows nodes.now)) → c.place ≡ top.0 → h.place ≡ from.0 → (c ≡ h) ⊎ IsChild c h → BehindIn (cells (N.rows nodes.now)) (IsChild c) (num h) (option_map (λ p. p.0) result) }
+{
+    if is_same(from, top) {
+        nodes.first(top)
+    } else {
+        nodes.next(from)
+    }
+}
+
+/// The next child behind `from`, a child or `top` itself, that passes the test.
+pub(crate) fn next_child<N: NodeStore<Row>>(
+    nodes: &N,
+    top: Place,
+    step: &Step,
+    from: Place,
+) -> Option<Place>
+    requires shape { Shaped (N.rows nodes.now) }
+    requires top { IsSome (map.get (N.rows nodes.now) top.0) }
+    requires used { IsSome (map.get (N.rows nodes.now) from.0) }
+    requires axis { step.now.axis ≡ Child }
+    requires from { (c h : Cell) → In c (cells (N.rows nodes.now)) → In h (cells (N.rows nodes.now)) → c.place ≡ top.0 → h.place ≡ from.0 → IsFrom (cells (N.rows nodes.now)) step.now.axis c h }
+    ensures { (c h : Cell) → In c (cells (N.rows nodes.now)) → In h (cells (N.rows nodes.now)) → c.place ≡ top.0 → h.place ≡ from.0 → MatchOption result (Unreached (cells (N.rows nodes.now)) c step.now (num h)) (λ p. FirstReached (cells (N.rows nodes.now)) c step.now (num h) p.0) }
+{
+    let mut at = child_after(nodes, top, from);
+    'on: while let Some(here) = at {
+        if passes(&step.test, &nodes.payload(here).kind) {
+            return Some(here);
+        }
+        at = nodes.next(here);
+    }
+    None
+}
+
+/// The next row behind `from`, a row below `top` or `top` itself, that lies below `top` and passes the test.
+pub(crate) fn next_below<N: NodeStore<Row>>(
+    nodes: &N,
+    top: Place,
+    step: &Step,
+    from: Place,
+) -> Option<Place>
+    requires shape { Shaped (N.rows nodes.now) }
+    requires nested { Nested (cells (N.rows nodes.now)) }
+    requires top { IsSome (map.get (N.rows nodes.now) top.0) }
+    requires used { IsSome (map.get (N.rows nodes.now) from.0) }
+    requires axis { step.now.axis ≡ Descendant }
+    requires from { (c h : Cell) → In c (cells (N.rows nodes.now)) → In h (cells (N.rows nodes.now)) → c.place ≡ top.0 → h.place ≡ from.0 → IsFrom (cells (N.rows nodes.now)) step.now.axis c h }
+    ensures { (c h : Cell) → In c (cells (N.rows nodes.now)) → In h (cells (N.rows nodes.now)) → c.place ≡ top.0 → h.place ≡ from.0 → MatchOption result (Unreached (cells (N.rows nodes.now)) c step.now (num h)) (λ p. FirstReached (cells (N.rows nodes.now)) c step.now (num h) p.0) }
+{
+    let mut at = after(nodes, top, from);
+    'on: while let Some(here) = at {
+        if passes(&step.test, &nodes.payload(here).kind) {
+            return Some(here);
+        }
+        at = after(nodes, top, here);
+    }
+    None
+}
