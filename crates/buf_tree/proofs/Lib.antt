@@ -12,3 +12,4 @@ pub mod Kin
 pub mod Lines
 pub mod Seeking
 pub mod Going
+pub mod Signing

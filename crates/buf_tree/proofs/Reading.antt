@@ -16,8 +16,8 @@ use Rattle.gcx_model.specs.Paths.{head}
 use Rattle.node_store.specs.Rows.{Entry, parent_of, Rises, IsTree}
 use Rattle.buf_tree.specs.declared.row.Row.{Row}
 use Rattle.buf_tree.specs.Shape.{Store, Cell, num, cells, at_place, at_serial, entry_in, Shape, Shaped}
-use Rattle.buf_tree.specs.View.{InUse, Innermost, num_in, level_in, serial_at}
-use Rattle.buf_tree.specs.Calls.{numbers, less}
+use Rattle.buf_tree.specs.View.{View, InUse, Innermost, num_in, level_in, serial_at}
+use Rattle.buf_tree.specs.Calls.{Started, root_row, numbers, less}
 use Rattle.buf_tree.proofs.Shaping.{get_of, at_place_is}
 
 module _ (m : Store) (xs : List Cell) (p : ℕ) (s : Shaped m) (is : cells m ≡ xs) where
@@ -147,3 +147,16 @@ less_none (x ∷ xs) = ap (λ z. x ∷ z) (less_none xs)
 
 pub all_left : (s : set.FinSet nat_cmp) (gs given : List Role) → s ≡ from_list (less (numbers gs) (numbers [])) → gs ≡ given → s ≡ from_list (numbers given)
 all_left s gs given e f = e ∙ ap (λ zs. from_list {R = nat_cmp} zs) (less_none (numbers gs)) ∙ (λ t. from_list {R = nat_cmp} (numbers (f t)))
+
+-- the document node of a new buffer is the innermost open one
+pub root_innermost : (v : View) (gs : List Role) (p : ℕ) → Started v gs → Some p ≡ option_map (λ (c : Cell). c.place) (head v.rows) → Innermost v.rows p
+root_innermost v gs p c h =
+    let same : Some p ≡ Some c.row.0 = h ∙ ap (λ (xs : List Cell). option_map (λ (x : Cell). x.place) (head xs)) c.row.1 in
+    let is : c.row.0 ≡ p = cc in
+    subst (λ (xs : List Cell). Innermost xs p) (sym c.row.1) (record {
+      cell = record { place = c.row.0; row = root_row gs };
+      among = inl refl;
+      place = is;
+      is_open = refl;
+      last = λ d i o. elim i [ inl f ↦ (let z = ap num f in omega arith) | inr k ↦ absurd k ];
+    })

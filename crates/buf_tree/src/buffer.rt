@@ -144,7 +144,6 @@ impl<N: NodeStore<Row>> Buffer<N> {
         requires kind { IsNode kind }
         requires nodes { self.old.nodes ≤ 2 ^ 40 }
         requires depth { level_in (at_place parent.0 self.old.rows) ≤ 1000 }
-        requires given { (r : Role) → In r ahead → In r given }
         requires taken { self.old.taken + length ahead < 2 ^ 128 }
         ensures opened { IfOk result (λ p. Opened self.old self.new parent.0 (option_map (λ q. q.0) p) kind given ahead) }
         ensures stands { OnOk result ((past : Past) → StandsFor self.old past → may_come (token_for kind) past.tree ≡ true → GivenTo past (token_for kind) given ahead → StandsFor self.new (past_grown (token_for kind) past)) }

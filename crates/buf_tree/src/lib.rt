@@ -11,3 +11,6 @@ mod search;
 pub use ahead::Ahead;
 pub use buffer::Buffer;
 pub use row::Row;
+
+#[cfg(test)]
+mod tests;
