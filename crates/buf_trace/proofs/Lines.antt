@@ -1,9 +1,10 @@
 -- What a line's text begins with, and that no other line has it.
-use Rattle.std.proofs.Common.{◌≡◌, ℕ, ◌<◌, ◌^◌, List, [], ◌∷◌, ◌++◌, map, Option, Some, None, Result, Ok, Err, IfOk, refl, sym, ◌∙◌, ap, subst, inl, inr, arith}
+use Rattle.std.proofs.Common.{◌≡◌, ℕ, ◌<◌, ◌^◌, List, [], ◌∷◌, ◌++◌, map, Option, Some, None, Result, Ok, Err, IfOk, OnOk, refl, sym, ◌∙◌, ap, subst, inl, inr, arith}
 use Rattle.std.specs.Fmt.{decimal}
 use Rattle.std.specs.Borrow.{Bor}
 use Rattle.gcx_base.specs.declared.ids.Role.{Role}
 use Rattle.gcx_base.specs.declared.ids.Serial.{Serial}
+use Rattle.gcx_model.specs.Given.{IsRising}
 use Rattle.gcx_model.specs.Members.{In}
 use Rattle.gcx_model.specs.Demand.{kind_text, line_text}
 use Rattle.gcx_laws.specs.LineTexts as laws
@@ -15,7 +16,7 @@ use Rattle.buf_trace.specs.declared.line.Line.TheVariants as line
 use Rattle.buf_trace.specs.Lines.{IsKind, IsGiven, IsLine, kind_tree, line_tree}
 use Rattle.buf_trace.specs.Reading.{behind, IsWord, Reads, roles_text}
 use Rattle.buf_trace.proofs.Words.{behind_stops, cut_same, decimal_word, kind_word}
-use Rattle.buf_trace.proofs.Roles.{role_same, roles_stop}
+use Rattle.buf_trace.proofs.Roles.{Small, role_same, roles_stop}
 
 -- ---- a line is the only one of its text
 
@@ -165,3 +166,11 @@ module _ (text word : List ℕ) (o : Option (Bor (List ℕ))) (w : IsWord word) 
 
     pub opened_no_roles : ((x : List Role) → IsGiven x → roles_text x ≡ behind roles → ⊥) → NotOpened text
     opened_no_roles never l h f = let t = opened_text text l h f in never t.given t.fits (kind_cut t).1
+
+-- ---- what an opened node's line holds
+
+module _ {T E : Type 0} where
+  pub opened_held : (r : Result T E) (l : Line) (serial : Serial) (kind : LineKind) (given items : List Role) → l ≡ line.Opened serial kind given → serial.0 < 2 ^ 64 → IsKind kind → IsRising given → items ≡ given
+      → OnOk r (Small items) → OnOk r (IsLine l)
+  opened_held (Ok x) l serial kind given items is low named rising same small = subst IsLine (sym is) (low, named, (rising, subst Small same small))
+  opened_held (Err e) l serial kind given items is low named rising same small = tt

@@ -1,5 +1,5 @@
 -- A text of roles is read from the front, and each role that is read is the next one of the only list with this text.
-use Rattle.std.proofs.Common.{◌≡◌, ℕ, ◌<◌, ◌^◌, List, [], ◌∷◌, ◌++◌, refl, sym, ◌∙◌, ap, subst, inl, inr, arith, append_assoc}
+use Rattle.std.proofs.Common.{◌≡◌, ℕ, zero, suc, length, get_or, take, ◌<◌, ◌^◌, List, [], ◌∷◌, ◌++◌, refl, sym, ◌∙◌, ap, subst, inl, inr, arith, append_assoc}
 use Rattle.std.specs.Fmt.{decimal}
 use Rattle.std.proofs.lemmas.List.{append-nil}
 use Rattle.std.proofs.lemmas.Fmt.{decimal_injective}
@@ -13,7 +13,7 @@ use Rattle.buf_trace.specs.Lines.{IsGiven}
 use Rattle.buf_trace.specs.Reading.{IsWord, roles_text}
 use Rattle.buf_trace.proofs.Words.{Stops, cut_same, decimal_word}
 
-abbrev Small : List Role → Type 0
+abbrev pub Small : List Role → Type 0
 Small roles = (r : Role) → In r roles → r.0 < 2 ^ 32
 
 pub role_same : (r s : Role) → r.0 ≡ s.0 → r ≡ s
@@ -104,3 +104,12 @@ module _ (given : List Role) (text word tail : List ℕ) (g : IsGiven given) (w 
   pushed role s d above now e =
       subst (λ (z : List Role). (text ≡ roles_text z ++ tail) × IsGiven z) (sym e)
       (whole ∙ ap (λ (z : List ℕ). roles_text given ++ 32 ∷ (z ++ tail)) (sym d) ∙ sym (text_push given role tail), given_push given role g s above)
+
+-- what holds of the roles so far holds of one more
+pub small_next : (roles : List Role) (i : ℕ) (d : Role) → i < length roles → (get_or roles i d).0 < 2 ^ 32 → Small (take i roles) → Small (take (suc i) roles)
+small_next [] i d l s h = absurd (omega arith)
+small_next (r ∷ roles) zero d l s h = λ x k. elim k [ inl e ↦ subst (λ (z : Role). z.0 < 2 ^ 32) e s | inr j ↦ absurd j ]
+small_next (r ∷ roles) (suc i) d l s h = λ x k. elim k [
+  | inl e ↦ h x (inl e)
+  | inr j ↦ small_next roles i d (omega arith) s (λ y m. h y (inr m)) x j
+]
