@@ -1,5 +1,5 @@
 /// The number of a role row of a plan.
-#[derive(Clone, Copy, Debug, PartialEq, Eq, PartialOrd, Ord)]
+#[derive(Clone, Copy, Debug, Default, PartialEq, Eq, PartialOrd, Ord)]
 pub struct Role(pub u32);
 
 /// The number of a variable of a core. 0 is `$root`.

@@ -2,13 +2,14 @@ ghost use Rattle.std.specs.Prelude.{◌≡◌, ◌++◌, ◌∷◌, [], IfOk, On
 ghost use Rattle.gcx_model.specs.Given.{IsAboveLast, IsRising};
 
 use gcx_base::{Memory, Role};
+use smallvec::SmallVec;
 use std::alloc::Global;
 use std::marker::Model;
 
-/// The roles given to a node: a strictly rising list.
+/// The roles given to a node: a strictly rising list. Up to four lie in the value itself.
 #[derive(Drop, Debug)]
 pub struct Given {
-    roles: Vec<Role>,
+    roles: SmallVec<Role, 4>,
 }
 
 impl Model for Given {
@@ -30,7 +31,7 @@ impl Given {
         ensures { result ≡ [] }
     {
         Given {
-            roles: Vec::new(alloc),
+            roles: SmallVec::new(alloc),
         }
     }
 
@@ -49,14 +50,14 @@ impl Given {
         ensures same { result.now ≡ self.now }
         ensures rising { IsRising self.now }
     {
-        &self.roles
+        self.roles.as_slice()
     }
 
     /// The same list once more.
     pub fn copy(&self, alloc: Global) -> Result<Given, Memory>
         ensures { IfOk result (λ given. given ≡ self.now) }
     {
-        let roles = self.roles.as_slice().to_vec(alloc)?;
+        let roles = SmallVec::from_slice(alloc, self.roles.as_slice())?;
         Ok(Given { roles })
     }
 }
