@@ -77,7 +77,7 @@ module _ (f : Row → Row) (p : ℕ) (keeps : (r : Row) → ((f r).serial ≡ r.
   abbrev g : Cell → Cell
   g c = with_at f p c
 
-  g_place : (c : Cell) → (g c).place ≡ c.place
+  pub g_place : (c : Cell) → (g c).place ≡ c.place
   g_place c = go (c.place == p)
     where
       go : (b : Bool) → (cond b (record { place = c.place; row = f c.row }) c).place ≡ c.place
@@ -91,7 +91,7 @@ module _ (f : Row → Row) (p : ℕ) (keeps : (r : Row) → ((f r).serial ≡ r.
       go true = (keeps c.row).0
       go false = refl
 
-  g_parent : (c : Cell) → (g c).row.parent ≡ c.row.parent
+  pub g_parent : (c : Cell) → (g c).row.parent ≡ c.row.parent
   g_parent c = go (c.place == p)
     where
       go : (b : Bool) → (cond b (record { place = c.place; row = f c.row }) c).row.parent ≡ c.row.parent

@@ -7,7 +7,7 @@ use Rattle.gcx_base.specs.declared.kind.Kind.{Kind}
 use Rattle.gcx_model.specs.Tree.{Tree, Token, Start, Chars, End, Node, Root, Under, serial_of, within, is_open_at, grow, grow_at}
 use Rattle.gcx_model.specs.Growth.{may_come, level}
 use Rattle.gcx_model.specs.Held.{is_held, held}
-use Rattle.gcx_model.specs.Past.{Past, IsPast, row_of, rows_of, past_fed}
+use Rattle.gcx_model.specs.Past.{Past, IsPast, past_fed}
 use Rattle.gcx_laws.proofs.Lists.{In, In-left, In-right, In-append, In-filter, In-kept}
 use Rattle.gcx_laws.proofs.Matches.{Grown, Grown-grow, added, added_at, grow_nodes}
 use Rattle.gcx_laws.proofs.Freeze.{within_self}

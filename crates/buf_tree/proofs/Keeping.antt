@@ -101,7 +101,7 @@ module _ (f : Row → Row) (keeps : (r : Row) → ((f r).serial ≡ r.serial) ×
           go false e = e
 
   -- all but the changed row are kept as before
-  tidy_changed : Tidy (cells m) → TidyBut (Some p) (map (with_at f p) (cells m))
+  pub tidy_changed : Tidy (cells m) → TidyBut (Some p) (map (with_at f p) (cells m))
   tidy_changed t c i n =
       let r = In-map (with_at f p) c (cells m) i in
       elim (cases_eq r.0.place p) [

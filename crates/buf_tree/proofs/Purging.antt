@@ -12,7 +12,7 @@ use Rattle.node_store.specs.Rows.{Entry, unlinked, parent_of}
 use Rattle.buf_tree.specs.declared.row.Row.{Row}
 use Rattle.buf_tree.specs.Shape.{Store, Cell, num, cells, Rising, at_serial, place_for, is_under, entry_in, Shape, Shaped, without}
 use Rattle.buf_tree.specs.Rows.{IsDead, IsSpare}
-use Rattle.buf_tree.specs.Purge.{is_gone, Keeps, TidyBut, Falling, Purged, PurgedBut, Climb, Cleared}
+use Rattle.buf_tree.specs.Purge.{is_gone, Keeps, TidyBut, Falling, Leaves, Purged, PurgedBut, Climb, Cleared}
 use Rattle.buf_tree.proofs.Shaping.{at_serial_is, held_in, get_of, rising_same, cells_is}
 use Rattle.buf_tree.proofs.Changes.{shape_unlinked}
 
@@ -47,16 +47,16 @@ Falling-push (l ∷ ks) k f h = (
   Falling-push ks k f.1 (λ j i. h j (inr i)),
 )
 
-pub starts : (m : Store) (xs : List Cell) → Shape m xs → (p : ℕ) → TidyBut (Some p) xs → PurgedBut (Some p) xs xs []
-starts m xs s p t = record {
-  leaves = record { rows = sym (all xs); dead = λ c i e. absurd (false≢true e); down = λ c d i j e u. absurd (false≢true e); falling = tt; known = λ k i. absurd i };
-  tidy = t;
-  low = λ c i e k j. absurd j;
-}
+-- none has gone
+pub leaves_none : (xs : List Cell) → Leaves xs xs []
+leaves_none xs = record { rows = sym (all xs); dead = λ c i e. absurd (false≢true e); down = λ c d i j e u. absurd (false≢true e); falling = tt; known = λ k i. absurd i }
   where
     all : (zs : List Cell) → filter (λ c. not (is_gone [] c)) zs ≡ zs
     all [] = refl
     all (z ∷ zs) = ap (λ w. z ∷ w) (all zs)
+
+pub starts : (xs : List Cell) (p : ℕ) → TidyBut (Some p) xs → PurgedBut (Some p) xs xs []
+starts xs p t = record { leaves = leaves_none xs; tidy = t; low = λ c i e k j. absurd j }
 
 -- nothing is left to go
 pub ends_at_none : (xs ys : List Cell) (gone : List ℕ) → PurgedBut None xs ys gone → Purged xs ys gone
@@ -80,12 +80,23 @@ none_under xs k e d i = false_from_ne_true _ (λ u. go (filter (is_under k) xs) 
     go [] f j = subst (λ (w : List Cell). In d w) f j
     go (z ∷ zs) f j = let bad : ◌≡◌ {A = List ℕ} (z.place ∷ map (λ (d : Cell). d.place) zs) [] = sym (ap (map (λ (d : Cell). d.place)) f) ∙ e in absurd (cc)
 
+-- a row that isn't spare is kept
+pub not_spare : (m : Store) (ys : List Cell) → Shape m ys → (c : Cell) → In c ys → (e : Entry Row) → get m c.place ≡ Some e → (IsSpare e → ⊥) → Keeps ys c
+not_spare m ys s c i e g n = go (map (λ (d : Cell). d.place) (filter (is_under (num c)) ys)) refl
+  where
+    entry : e ≡ entry_in ys c
+    entry = (let a : Some e ≡ Some (entry_in ys c) = sym g ∙ get_of m ys s c i in cc)
+
+    go : (qs : List ℕ) → map (λ (d : Cell). d.place) (filter (is_under (num c)) ys) ≡ qs → Keeps ys c
+    go [] f = inl (λ dead. n (sym (ap (λ (x : Entry Row). x.payload.is_open) (sym entry)) ∙ dead.0, ap (λ (x : Entry Row). x.payload.roles) entry ∙ dead.1, ap (λ (x : Entry Row). x.children) entry ∙ f))
+    go (q ∷ qs) f = inr (child_of ys (num c) q qs f)
+
 -- the row at the place is kept
 pub ends_kept : (m : Store) (xs ys : List Cell) (gone : List ℕ) → Shape m ys → (p : ℕ) (e : Entry Row) → get m p ≡ Some e → (IsSpare e → ⊥) → PurgedBut (Some p) xs ys gone → Purged xs ys gone
 ends_kept m xs ys gone s p e g n h = record {
   leaves = h.leaves;
   tidy = λ c i. elim (cases_eq p c.place) [
-    | inl same ↦ here c i same
+    | inl same ↦ not_spare m ys s c i e (ap (get m) (sym same) ∙ g) n
     | inr other ↦ h.tidy c i (λ q. other (some_is _ _ q))
   ];
 }
@@ -93,18 +104,8 @@ ends_kept m xs ys gone s p e g n h = record {
     some_is : (a b : ℕ) → Some a ≡ Some b → a ≡ b
     some_is a b q = cc
 
-    here : (c : Cell) → In c ys → p ≡ c.place → Keeps ys c
-    here c i same = go (map (λ (d : Cell). d.place) (filter (is_under (num c)) ys)) refl
-      where
-        entry : e ≡ entry_in ys c
-        entry = (let a : Some e ≡ Some (entry_in ys c) = sym g ∙ ap (get m) same ∙ get_of m ys s c i in cc)
-
-        go : (qs : List ℕ) → map (λ (d : Cell). d.place) (filter (is_under (num c)) ys) ≡ qs → Keeps ys c
-        go [] f = inl (λ dead. n (sym (ap (λ (x : Entry Row). x.payload.is_open) (sym entry)) ∙ dead.0, ap (λ (x : Entry Row). x.payload.roles) entry ∙ dead.1, ap (λ (x : Entry Row). x.children) entry ∙ f))
-        go (q ∷ qs) f = inr (child_of ys (num c) q qs f)
-
-module _ (m0 : Store) (xs : List Cell) (s0 : Shape m0 xs) (m : Store) (ys : List Cell) (s : Shape m ys) (gone : List ℕ) (p : ℕ) (e : Entry Row) (g : get m p ≡ Some e) (spare : IsSpare e)
-    (h : PurgedBut (Some p) xs ys gone) where
+-- a spare row goes
+module _ (m : Store) (ys : List Cell) (s : Shape m ys) (p : ℕ) (e : Entry Row) (g : get m p ≡ Some e) (spare : IsSpare e) where
   pub the : (c : Cell) × In c ys × (c.place ≡ p) × (e ≡ entry_in ys c)
   the = held_in m ys s p e g
 
@@ -116,42 +117,6 @@ module _ (m0 : Store) (xs : List Cell) (s0 : Shape m0 xs) (m : Store) (ys : List
 
   pub shape_less : Shape (unlinked m p) (without p ys)
   shape_less = subst (λ (q : ℕ). Shape (unlinked m q) (without q ys)) the.2 (shape_unlinked m ys s c0 the.1 alone)
-
-  in_xs : (c : Cell) → In c ys → In c xs × (not (is_gone gone c) ≡ true)
-  in_xs c i = In-filter (λ (d : Cell). not (is_gone gone d)) c xs (subst (λ (w : List Cell). In c w) h.leaves.rows i)
-
-  in_ys : (c : Cell) → In c xs → is_gone gone c ≡ false → In c ys
-  in_ys c i n = subst (λ (w : List Cell). In c w) (sym h.leaves.rows) (In-kept (λ (d : Cell). not (is_gone gone d)) c xs i (ap not n))
-
-  abbrev gone' : List ℕ
-  gone' = gone ++ num the.0 ∷ []
-
-  -- the one that goes, told by its place or its serial
-  same_test : (c : Cell) → In c xs → (c.place == p) ≡ (num c == num c0)
-  same_test c i = elim (cases_eq c.place p) [
-    | inl a ↦ eq-eqb c.place p a ∙ sym (eq-eqb (num c) (num c0) (ap num (s0.apart c c0 i (in_xs c0 the.1).0 (a ∙ sym the.2))))
-    | inr n ↦ ne_eqb c.place p n ∙ sym (ne_eqb (num c) (num c0) (λ a. n (ap (λ (x : Cell). x.place) (rising_same xs s0.rising c c0 i (in_xs c0 the.1).0 a) ∙ the.2)))
-  ]
-
-  rows_less : without p ys ≡ filter (λ c. not (is_gone gone' c)) xs
-  rows_less =
-      ap (without p) h.leaves.rows
-      ∙ filter-filter (λ (c : Cell). not (c.place == p)) (λ (c : Cell). not (is_gone gone c)) xs
-      ∙ filter_same (λ (c : Cell). not (is_gone gone c) && not (c.place == p)) (λ (c : Cell). not (is_gone gone' c)) xs (λ c i.
-      ap (λ b. not (is_gone gone c) && not b) (same_test c i) ∙ go (is_gone gone c) (num c == num c0) ∙ ap not (sym (any-push (λ k. num c == k) gone (num c0))))
-    where
-      go : (a b : Bool) → (not a && not b) ≡ not (a || b)
-      go true b = refl
-      go false b = refl
-
-  gone_cases : (c : Cell) → In c xs → is_gone gone' c ≡ true → (is_gone gone c ≡ true) ⊎ (c ≡ c0)
-  gone_cases c i e = elim (or_cases (is_gone gone c) (num c == num c0) (sym (any-push (λ k. num c == k) gone (num c0)) ∙ e)) [
-    | inl a ↦ inl a
-    | inr a ↦ inr (rising_same xs s0.rising c c0 i (in_xs c0 the.1).0 (eqb-true _ _ a))
-  ]
-
-  gone_more : (c : Cell) → is_gone gone c ≡ true → is_gone gone' c ≡ true
-  gone_more c e = any-push (λ k. num c == k) gone (num c0) ∙ or_left _ _ e
 
   c0_dead : IsDead c0.row
   c0_dead = (ap (λ (x : Entry Row). x.payload.is_open) (sym the.3) ∙ spare.0, ap (λ (x : Entry Row). x.payload.roles) (sym the.3) ∙ spare.1)
@@ -180,52 +145,18 @@ module _ (m0 : Store) (xs : List Cell) (s0 : Shape m0 xs) (m : Store) (ys : List
         subst (λ (x : Cell). num x < num c0) is k.3)
   ]
 
-  goes : PurgedBut (parent_of m p) xs (without p ys) gone'
-  goes = record {
-    leaves = record {
-      rows = rows_less;
-      dead = λ c i e. elim (gone_cases c i e) [ inl a ↦ h.leaves.dead c i a | inr a ↦ subst (λ (x : Cell). IsDead x.row) (sym a) c0_dead ];
-      down = λ c d i j e u. elim (gone_cases c i e) [
-        | inl a ↦ gone_more d (h.leaves.down c d i j a u)
-        | inr a ↦ elim (cases_Bool (is_gone gone d)) [
-          | inl b ↦ gone_more d b
-          | inr b ↦ absurd (false≢true (sym (alone d (in_ys d j b)) ∙ subst (λ (x : Cell). is_under (num x) d ≡ true) a u))
-        ]
-      ];
-      falling = Falling-push gone (num c0) h.leaves.falling (h.low c0 the.1 (ap (λ z. Some z) (sym the.2)));
-      known = λ k i. elim (In-append k gone (num c0 ∷ []) i) [
-        | inl a ↦ h.leaves.known k a
-        | inr a ↦ elim a [ inl b ↦ (c0, (in_xs c0 the.1).0, b) | inr z ↦ absurd z ]
-      ];
-    };
-    tidy = λ c i n.
-        let a = In-filter (λ (d : Cell). not (d.place == p)) c ys i in
-        elim (h.tidy c a.0 (λ q. false≢true (ap not (sym (eq-eqb c.place p (sym (some_is _ _ q)))) ∙ a.1))) [
-          | inl alive ↦ inl alive
-          | inr d ↦ inr (
-            d.0,
-            In-kept (λ (x : Cell). not (x.place == p)) d.0 ys d.1 (ap not (ne_eqb d.0.place p (λ q.
-                let is : d.0 ≡ c0 = s.apart d.0 c0 d.1 the.1 (q ∙ sym the.2) in
-                n (above_it c a.0 (subst (λ (x : Cell). is_under (num c) x ≡ true) is d.2))))),
-            d.2,
-          )
-        ];
-    low = λ c i e k j.
-        let a = In-filter (λ (d : Cell). not (d.place == p)) c ys i in
-        let l = is_above c a.0 e in
-        elim (In-append k gone (num c0 ∷ []) j) [
-          | inl b ↦ (let o = h.low c0 the.1 (ap (λ z. Some z) (sym the.2)) k b in omega arith)
-          | inr b ↦ elim b [ inl f ↦ omega arith | inr z ↦ absurd z ]
-        ];
-  }
-    where
-      some_is : (a b : ℕ) → Some a ≡ Some b → a ≡ b
-      some_is a b q = cc
+  -- a row that isn't above it is kept as before
+  pub keeps_less : (c : Cell) → (is_under (num c) c0 ≡ true → ⊥) → Keeps ys c → Keeps (without p ys) c
+  keeps_less c n (inl alive) = inl alive
+  keeps_less c n (inr d) = inr (
+    d.0,
+    In-kept (λ (x : Cell). not (x.place == p)) d.0 ys d.1 (ap not (ne_eqb d.0.place p (λ q.
+        let is : d.0 ≡ c0 = s.apart d.0 c0 d.1 the.1 (q ∙ sym the.2) in
+        n (subst (λ (x : Cell). is_under (num c) x ≡ true) is d.2)))),
+    d.2,
+  )
 
-  pub goes_on : PurgedBut (parent_of m p) xs (without p ys) (gone ++ e.payload.serial ∷ [])
-  goes_on = subst (λ (k : ℕ). PurgedBut (parent_of m p) xs (without p ys) (gone ++ k ∷ [])) (sym (ap (λ (x : Entry Row). x.payload.serial) the.3)) goes
-
-  up_there : (q : ℕ) → parent_of m p ≡ Some q → IsSome (get (unlinked m p) q)
+  pub up_there : (q : ℕ) → parent_of m p ≡ Some q → IsSome (get (unlinked m p) q)
   up_there q f = elim (s.up c0 the.1) [
     | inl z ↦ (let bad : None ≡ Some q = sym (ap (λ b. cond b None (option_map (λ (d : Cell). d.place) (at_serial c0.row.parent ys))) (eq-eqb (num c0) 0 z)) ∙ sym parent_place ∙ f in absurd (cc))
     | inr k ↦ (
@@ -240,6 +171,88 @@ module _ (m0 : Store) (xs : List Cell) (s0 : Shape m0 xs) (m : Store) (ys : List
         let g2 : get (unlinked m p) q ≡ Some (entry_in (without p ys) k.0) = ap (get (unlinked m p)) (sym f2) ∙ get_of (unlinked m p) (without p ys) shape_less k.0 i in
         subst (λ o. IsSome o) (sym g2) refl)
   ]
+
+  module _ (xs : List Cell) (rise : Rising xs) (apart : (a b : Cell) → In a xs → In b xs → a.place ≡ b.place → a ≡ b) (gone : List ℕ) (l : Leaves xs ys gone) where
+    in_xs : (c : Cell) → In c ys → In c xs × (not (is_gone gone c) ≡ true)
+    in_xs c i = In-filter (λ (d : Cell). not (is_gone gone d)) c xs (subst (λ (w : List Cell). In c w) l.rows i)
+
+    in_ys : (c : Cell) → In c xs → is_gone gone c ≡ false → In c ys
+    in_ys c i n = subst (λ (w : List Cell). In c w) (sym l.rows) (In-kept (λ (d : Cell). not (is_gone gone d)) c xs i (ap not n))
+
+    abbrev gone' : List ℕ
+    gone' = gone ++ num the.0 ∷ []
+
+    -- the one that goes, told by its place or its serial
+    same_test : (c : Cell) → In c xs → (c.place == p) ≡ (num c == num c0)
+    same_test c i = elim (cases_eq c.place p) [
+      | inl a ↦ eq-eqb c.place p a ∙ sym (eq-eqb (num c) (num c0) (ap num (apart c c0 i (in_xs c0 the.1).0 (a ∙ sym the.2))))
+      | inr n ↦ ne_eqb c.place p n ∙ sym (ne_eqb (num c) (num c0) (λ a. n (ap (λ (x : Cell). x.place) (rising_same xs rise c c0 i (in_xs c0 the.1).0 a) ∙ the.2)))
+    ]
+
+    rows_less : without p ys ≡ filter (λ c. not (is_gone gone' c)) xs
+    rows_less =
+        ap (without p) l.rows
+        ∙ filter-filter (λ (c : Cell). not (c.place == p)) (λ (c : Cell). not (is_gone gone c)) xs
+        ∙ filter_same (λ (c : Cell). not (is_gone gone c) && not (c.place == p)) (λ (c : Cell). not (is_gone gone' c)) xs (λ c i.
+        ap (λ b. not (is_gone gone c) && not b) (same_test c i) ∙ go (is_gone gone c) (num c == num c0) ∙ ap not (sym (any-push (λ k. num c == k) gone (num c0))))
+      where
+        go : (a b : Bool) → (not a && not b) ≡ not (a || b)
+        go true b = refl
+        go false b = refl
+
+    gone_cases : (c : Cell) → In c xs → is_gone gone' c ≡ true → (is_gone gone c ≡ true) ⊎ (c ≡ c0)
+    gone_cases c i e = elim (or_cases (is_gone gone c) (num c == num c0) (sym (any-push (λ k. num c == k) gone (num c0)) ∙ e)) [
+      | inl a ↦ inl a
+      | inr a ↦ inr (rising_same xs rise c c0 i (in_xs c0 the.1).0 (eqb-true _ _ a))
+    ]
+
+    gone_more : (c : Cell) → is_gone gone c ≡ true → is_gone gone' c ≡ true
+    gone_more c e = any-push (λ k. num c == k) gone (num c0) ∙ or_left _ _ e
+
+    leaves_then : ((k : ℕ) → In k gone → num c0 < k) → Leaves xs (without p ys) gone'
+    leaves_then low = record {
+      rows = rows_less;
+      dead = λ c i e. elim (gone_cases c i e) [ inl a ↦ l.dead c i a | inr a ↦ subst (λ (x : Cell). IsDead x.row) (sym a) c0_dead ];
+      down = λ c d i j e u. elim (gone_cases c i e) [
+        | inl a ↦ gone_more d (l.down c d i j a u)
+        | inr a ↦ elim (cases_Bool (is_gone gone d)) [
+          | inl b ↦ gone_more d b
+          | inr b ↦ absurd (false≢true (sym (alone d (in_ys d j b)) ∙ subst (λ (x : Cell). is_under (num x) d ≡ true) a u))
+        ]
+      ];
+      falling = Falling-push gone (num c0) l.falling low;
+      known = λ k i. elim (In-append k gone (num c0 ∷ []) i) [
+        | inl a ↦ l.known k a
+        | inr a ↦ elim a [ inl b ↦ (c0, (in_xs c0 the.1).0, b) | inr z ↦ absurd z ]
+      ];
+    }
+
+    -- a serial more has gone
+    pub leaves_less : ((k : ℕ) → In k gone → e.payload.serial < k) → Leaves xs (without p ys) (gone ++ e.payload.serial ∷ [])
+    leaves_less low =
+        let f = ap (λ (x : Entry Row). x.payload.serial) the.3 in
+        subst (λ (k : ℕ). Leaves xs (without p ys) (gone ++ k ∷ [])) (sym f) (leaves_then (λ k i. let b = low k i in omega arith))
+
+    goes : PurgedBut (Some p) xs ys gone → PurgedBut (parent_of m p) xs (without p ys) gone'
+    goes h = record {
+      leaves = leaves_then (h.low c0 the.1 (ap (λ z. Some z) (sym the.2)));
+      tidy = λ c i n.
+          let a = In-filter (λ (d : Cell). not (d.place == p)) c ys i in
+          keeps_less c (λ u. n (above_it c a.0 u)) (h.tidy c a.0 (λ q. false≢true (ap not (sym (eq-eqb c.place p (sym (some_is _ _ q)))) ∙ a.1)));
+      low = λ c i e k j.
+          let a = In-filter (λ (d : Cell). not (d.place == p)) c ys i in
+          let below = is_above c a.0 e in
+          elim (In-append k gone (num c0 ∷ []) j) [
+            | inl b ↦ (let o = h.low c0 the.1 (ap (λ z. Some z) (sym the.2)) k b in omega arith)
+            | inr b ↦ elim b [ inl f ↦ omega arith | inr z ↦ absurd z ]
+          ];
+    }
+      where
+        some_is : (a b : ℕ) → Some a ≡ Some b → a ≡ b
+        some_is a b q = cc
+
+    pub goes_on : PurgedBut (Some p) xs ys gone → PurgedBut (parent_of m p) xs (without p ys) (gone ++ e.payload.serial ∷ [])
+    goes_on h = subst (λ (k : ℕ). PurgedBut (parent_of m p) xs (without p ys) (gone ++ k ∷ [])) (sym (ap (λ (x : Entry Row). x.payload.serial) the.3)) (goes h)
 
 -- one place less
 pub one_less : (xs : List Cell) → Rising xs → ((a b : Cell) → In a xs → In b xs → a.place ≡ b.place → a ≡ b) → (c : Cell) → In c xs → length (without c.place xs) + 1 ≡ length xs
@@ -261,31 +274,32 @@ one_less (x ∷ xs) r a c i = go (x.place == c.place) refl i (λ j. one_less xs 
 pub climb_start : (m : Store) (g : List ℕ) (p : ℕ) → Shaped m → IsSome (get m p) → TidyBut (Some p) (cells m) → Climb m m (Some p) g g
 climb_start m g p s i t = record {
   shape = s;
-  left = ([], sym (append-nil g), starts m (cells m) s p t);
+  left = ([], sym (append-nil g), starts (cells m) p t);
   there = λ q e. subst (λ (z : ℕ). IsSome (get m z)) (some_is p q e) i;
 }
   where
     some_is : (a b : ℕ) → Some a ≡ Some b → a ≡ b
     some_is a b q = cc
 
-module _ (m0 m : Store) (g0 g : List ℕ) (p : ℕ) (e : Entry Row) (is : get m p ≡ Some e) (s0 : Shaped m0) (c : Climb m0 m (Some p) g0 g) where
+module _ (m : Store) (s : Shaped m) (p : ℕ) (e : Entry Row) (is : get m p ≡ Some e) where
   pub cells_less : IsSpare e → cells (unlinked m p) ≡ without p (cells m)
-  cells_less n = cells_is (unlinked m p) (without p (cells m)) (shape_less m0 (cells m0) s0 m (cells m) c.shape c.left.0 p e is n c.left.2)
+  cells_less n = cells_is (unlinked m p) (without p (cells m)) (shape_less m (cells m) s p e is n)
 
   pub length_less : IsSpare e → length (cells (unlinked m p)) + 1 ≡ length (cells m)
   length_less n =
-      let t = the m0 (cells m0) s0 m (cells m) c.shape c.left.0 p e is n c.left.2 in
-      ap (λ (zs : List Cell). length zs + 1) (cells_less n) ∙ subst (λ (q : ℕ). length (without q (cells m)) + 1 ≡ length (cells m)) t.2 (one_less (cells m) c.shape.rising c.shape.apart t.0 t.1)
+      let t = the m (cells m) s p e is n in
+      ap (λ (zs : List Cell). length zs + 1) (cells_less n) ∙ subst (λ (q : ℕ). length (without q (cells m)) + 1 ≡ length (cells m)) t.2 (one_less (cells m) s.rising s.apart t.0 t.1)
 
+module _ (m0 m : Store) (g0 g : List ℕ) (p : ℕ) (e : Entry Row) (is : get m p ≡ Some e) (s0 : Shaped m0) (c : Climb m0 m (Some p) g0 g) where
   pub climb_step : IsSpare e → (g' : List ℕ) → g' ≡ g ++ e.payload.serial ∷ [] → Climb m0 (unlinked m p) (parent_of m p) g0 g'
   climb_step n g' f = record {
-    shape = subst (λ (zs : List Cell). Shape (unlinked m p) zs) (sym (cells_less n)) (shape_less m0 (cells m0) s0 m (cells m) c.shape c.left.0 p e is n c.left.2);
+    shape = subst (λ (zs : List Cell). Shape (unlinked m p) zs) (sym (cells_less m c.shape p e is n)) (shape_less m (cells m) c.shape p e is n);
     left = (
       c.left.0 ++ e.payload.serial ∷ [],
       f ∙ ap (λ z. z ++ e.payload.serial ∷ []) c.left.1 ∙ append_assoc g0 c.left.0 (e.payload.serial ∷ []),
-      subst (λ (zs : List Cell). PurgedBut (parent_of m p) (cells m0) zs (c.left.0 ++ e.payload.serial ∷ [])) (sym (cells_less n)) (goes_on m0 (cells m0) s0 m (cells m) c.shape c.left.0 p e is n c.left.2),
+      subst (λ (zs : List Cell). PurgedBut (parent_of m p) (cells m0) zs (c.left.0 ++ e.payload.serial ∷ [])) (sym (cells_less m c.shape p e is n)) (goes_on m (cells m) c.shape p e is n (cells m0) s0.rising s0.apart c.left.0 c.left.2.leaves c.left.2),
     );
-    there = up_there m0 (cells m0) s0 m (cells m) c.shape c.left.0 p e is n c.left.2;
+    there = up_there m (cells m) c.shape p e is n;
   }
 
   pub climb_stop : (IsSpare e → ⊥) → Cleared m0 m g0 g

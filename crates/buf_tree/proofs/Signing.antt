@@ -1,19 +1,17 @@
 -- The rows behind a statement, once each row's roles are those that are left.
-use Rattle.std.proofs.Common.{◌≡◌, ◌==◌, ℕ, Bool, true, false, cond, not, ◌&&◌, ◌||◌, List, [], ◌∷◌, ◌++◌, map, refl, sym, ◌∙◌, ap, subst, inl, inr}
+use Rattle.std.proofs.Common.{◌≡◌, ◌==◌, ℕ, Bool, true, false, cond, not, ◌&&◌, ◌||◌, List, [], ◌∷◌, map, refl, sym, ◌∙◌, ap, subst, inl, inr}
 use Rattle.std.specs.List.{filter, list_any}
 use Rattle.std.specs.Ordering.{nat_cmp, eq_by_cmp}
 use Rattle.std.specs.Cmp.{nat_cmp_total, unsigned_tied}
 use Rattle.std.specs.FinSet as set
 use Rattle.std.specs.FinSet.{FinSet, from_list, same_set, contains-from_list, contains-insert, contains-remove, nat_cmp-IsAntisymmetric}
-use Rattle.std.proofs.lemmas.Bool.{or_cases, or_left, or_right, eqb-true, eq-eqb, ne_eqb, cases_eq, cases_Bool, false≢true, true≢false}
-use Rattle.gcx_base.specs.declared.kind.Kind.{Kind}
-use Rattle.gcx_model.specs.Tree.{Node, Under, serial_of, is_open_at}
+use Rattle.std.proofs.lemmas.Bool.{or_cases, or_left, or_right, eqb-true, eq-eqb, ne_eqb, cases_eq, false≢true}
+use Rattle.gcx_model.specs.Tree.{Node, Under, serial_of}
 use Rattle.gcx_model.specs.Core.{OffTree}
-use Rattle.gcx_model.specs.Run.{Action, Offed}
+use Rattle.gcx_model.specs.Run.{Offed}
 use Rattle.gcx_model.specs.Placed.{offs_in}
-use Rattle.gcx_model.specs.Growth.{level}
 use Rattle.gcx_model.specs.Held.{live, roles_live, is_held, held}
-use Rattle.gcx_model.specs.Past.{Past, IsPast, past_acted, is_signed, roles_signed, row_of}
+use Rattle.gcx_model.specs.Past.{Past, IsPast, past_acted, is_signed, roles_signed}
 use Rattle.gcx_laws.specs.Pasts.{bases}
 use Rattle.gcx_laws.proofs.Lists.{In, In-filter, In-kept}
 use Rattle.gcx_laws.proofs.Bases.{is_grown, live_by_bases}
@@ -22,7 +20,7 @@ use Rattle.gcx_laws.proofs.More.{held_by_act}
 use Rattle.gcx_laws.proofs.PastForms.{past_acts}
 use Rattle.gcx_laws.proofs.RowFacts.{row_tells}
 use Rattle.buf_tree.specs.declared.row.Row.{Row}
-use Rattle.buf_tree.specs.Shape.{Cell, num, Rising}
+use Rattle.buf_tree.specs.Shape.{Cell, Rising}
 use Rattle.buf_tree.specs.Purge.{Purged}
 use Rattle.buf_tree.specs.Stands.{Seen, seen, told}
 use Rattle.buf_tree.proofs.Changes.{map-map}
@@ -41,12 +39,12 @@ abbrev pub sign_cell : (Cell → Bool) → ℕ → ℕ → Cell → Cell
 sign_cell keeps p k c = record { place = c.place; row = sign_row (c.place == p) (keeps c) k c.row }
 
 -- what a list of numbers has
-listed : (xs : List ℕ) (q : ℕ) → In q xs → list_any (eq_by_cmp nat_cmp q) xs ≡ true
+pub listed : (xs : List ℕ) (q : ℕ) → In q xs → list_any (eq_by_cmp nat_cmp q) xs ≡ true
 listed [] q i = absurd i
 listed (x ∷ xs) q (inl e) = or_left _ _ (unsigned_tied q x ∙ eq-eqb q x (sym e))
 listed (x ∷ xs) q (inr i) = or_right _ _ (listed xs q i)
 
-in_listed : (xs : List ℕ) (q : ℕ) → list_any (eq_by_cmp nat_cmp q) xs ≡ true → In q xs
+pub in_listed : (xs : List ℕ) (q : ℕ) → list_any (eq_by_cmp nat_cmp q) xs ≡ true → In q xs
 in_listed [] q h = absurd (false≢true h)
 in_listed (x ∷ xs) q h = elim (or_cases (eq_by_cmp nat_cmp q x) (list_any (eq_by_cmp nat_cmp q) xs) h) [
   | inl e ↦ inl (sym (eqb-true q x (sym (unsigned_tied q x) ∙ e)))
@@ -63,7 +61,7 @@ module _ (past : Past) (is : IsPast past) (s : OffTree) (stated : In s (offs_in 
   is_now : IsPast now
   is_now = (past_acts past is).1 s m stated base
 
-  has_live : (p : Past) (q : IsPast p) (n : Node) (r : ℕ) → set.contains (from_list {R = nat_cmp} (roles_live p.plan p.tree p.acts n)) r ≡ live p.plan p.tree p.acts n r
+  pub has_live : (p : Past) (q : IsPast p) (n : Node) (r : ℕ) → set.contains (from_list {R = nat_cmp} (roles_live p.plan p.tree p.acts n)) r ≡ live p.plan p.tree p.acts n r
   has_live p q n r = has_listed (roles_live p.plan p.tree p.acts n) r (live p.plan p.tree p.acts n r) ((row_tells p q n r).0.0) ((row_tells p q n r).0.1)
 
   has_signed : (p : Past) (q : IsPast p) (n : Node) (r : ℕ) → set.contains (from_list {R = nat_cmp} (roles_signed p.plan p.acts n)) r ≡ is_signed p.plan p.acts n r

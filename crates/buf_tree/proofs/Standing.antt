@@ -10,7 +10,7 @@ use Rattle.gcx_model.specs.Tree.{Tree, Node, Root, Under, serial_of, within, is_
 use Rattle.gcx_model.specs.Paths.{any}
 use Rattle.gcx_model.specs.Members.{count}
 use Rattle.gcx_model.specs.Held.{is_live, is_held, live, roles_live}
-use Rattle.gcx_model.specs.Past.{Past, parent_serial, row_of}
+use Rattle.gcx_model.specs.Past.{Past, parent_serial}
 use Rattle.gcx_laws.proofs.Lists.{In, In-filter, In-kept, any_in, any_from}
 use Rattle.gcx_laws.proofs.Matches.{Grown, Numbered-same, Numbered-high}
 use Rattle.gcx_laws.proofs.Freeze.{within_self, within_trans, open_up_at}

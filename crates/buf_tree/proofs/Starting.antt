@@ -16,7 +16,7 @@ use Rattle.gcx_model.specs.Core.{RoleKind, Own, First, Whole, BodyTree, OffTree,
 use Rattle.gcx_model.specs.Cores.{Good}
 use Rattle.gcx_model.specs.Placed.{Placed}
 use Rattle.gcx_model.specs.Held.{path_of, statement_of, is_node, gives, given, roles_given, signed, all_signed, on_off, live, roles_live}
-use Rattle.gcx_model.specs.Past.{opening_past, is_signed, roles_signed, row_of}
+use Rattle.gcx_model.specs.Past.{opening_past, is_signed, roles_signed}
 use Rattle.gcx_laws.proofs.Bases.{tells}
 use Rattle.gcx_laws.proofs.More.{one_statement_law}
 use Rattle.gcx_laws.proofs.PastForms.{past_opens}

@@ -1,5 +1,5 @@
 -- What each call of a buffer makes of the rows.
-use Rattle.std.specs.Prelude.{◌≡◌, ◌+◌, ◌==◌, ℕ, Bool, true, List, [], ◌∷◌, ◌++◌, Option, Some, None, length, map, filter, not, max, is_some}
+use Rattle.std.specs.Prelude.{◌≡◌, ◌+◌, ◌==◌, ℕ, Bool, true, List, [], ◌∷◌, ◌++◌, Option, Some, None, length, map, filter, not, max, reverse, is_some}
 use Rattle.std.specs.List.{list_any}
 use Rattle.std.specs.FinSet as set
 use Rattle.std.specs.Ordering.{nat_cmp}
@@ -9,7 +9,7 @@ use Rattle.gcx_base.specs.declared.kind.Kind.TheVariants.{Document}
 use Rattle.gcx_model.specs.Members.{In}
 use Rattle.buf_tree.specs.declared.row.Row.{Row}
 use Rattle.buf_tree.specs.Rows.{is_bare, below_row, shut_row, untaken}
-use Rattle.buf_tree.specs.Shape.{Cell, at_place, with_at}
+use Rattle.buf_tree.specs.Shape.{Cell, num, at_place, with_at}
 use Rattle.buf_tree.specs.Purge.{Purged}
 use Rattle.buf_tree.specs.View.{View, num_in, level_in}
 
@@ -94,4 +94,20 @@ pub record Untaken (v w : View) (p k : ℕ) : Type 0 where
   pub waiting : w.waiting ≡ v.waiting
   pub nodes : w.nodes ≡ v.nodes
   pub taken : w.taken ≡ v.taken + 1
+  pub most : w.most ≡ v.most
+
+-- the rows with the role k
+abbrev pub role_count : ℕ → List Cell → ℕ
+role_count k xs = length (filter (λ c. set.contains c.row.roles k) xs)
+
+-- the serials of the rows that were there before and aren't there now, falling
+abbrev pub left_out : (before now : List Cell) → List ℕ
+left_out before now = map num (reverse (filter (λ c. not (list_any (λ d. num d == num c) now)) before))
+
+-- `sign_off`, beside what the past tells: the rows that stay keep their places, and the departures and the roles taken are counted
+pub record Signed (v w : View) (k : ℕ) : Type 0 where
+  pub places : (c : Cell) → In c w.rows → (d : Cell) × In d v.rows × (d.place ≡ c.place) × (num d ≡ num c)
+  pub gone : w.gone ≡ v.gone ++ left_out v.rows w.rows
+  pub taken : w.taken + role_count k w.rows ≡ v.taken + role_count k v.rows
+  pub nodes : w.nodes ≡ v.nodes
   pub most : w.most ≡ v.most

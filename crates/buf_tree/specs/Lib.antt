@@ -6,3 +6,6 @@ pub mod View
 pub mod Calls
 pub mod Match
 pub mod Stands
+pub mod Ways
+pub mod Sweep
+pub mod Withdraw

@@ -38,6 +38,10 @@ shut_row r = record r { is_open = false }
 abbrev pub untaken : ℕ → Row → Row
 untaken k r = record r { roles = set.remove r.roles k }
 
+-- signed for the statement of the role k
+abbrev pub signed_for : ℕ → Row → Row
+signed_for k r = record r { signed = set.insert r.signed k }
+
 -- closed and without a role
 abbrev pub IsDead : Row → Type 0
 IsDead r = (r.is_open ≡ false) × (r.roles ≡ set.empty)

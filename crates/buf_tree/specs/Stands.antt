@@ -1,11 +1,14 @@
 -- Which pasts a buffer stands for.
-use Rattle.std.specs.Prelude.{◌≡◌, ◌==◌, ℕ, Bool, cond, List, [], ◌∷◌, length, map, drop, Option, Some, None}
+use Rattle.std.specs.Prelude.{◌≡◌, ◌==◌, ◌⊎◌, ℕ, Bool, true, false, cond, List, [], ◌∷◌, length, map, drop, Option, Some, None}
 use Rattle.std.specs.Ordering.{nat_cmp}
 use Rattle.std.specs.FinSet as set
 use Rattle.gcx_base.specs.declared.ids.Role.{Role}
 use Rattle.gcx_base.specs.declared.kind.Kind.{Kind}
 use Rattle.gcx_base.specs.declared.kind.Kind.TheVariants.{Document, Element, Text}
+use Rattle.gcx_model.specs.declared.item.Off.{Off}
 use Rattle.gcx_model.specs.ItemView.{off_tree}
+use Rattle.gcx_model.specs.Members.{In}
+use Rattle.gcx_model.specs.Placed.{offs_in, is_own}
 use Rattle.gcx_model.specs.Tree.{Node, Token, Start, Chars, End, grow}
 use Rattle.gcx_model.specs.Growth.{level}
 use Rattle.gcx_model.specs.Held.{held, roles_given, roles_taken}
@@ -67,3 +70,29 @@ token_for (Text b) = Chars b
 abbrev pub GivenTo : Past → Token → List Role → List Role → Type 0
 GivenTo past t gs as_ = (n : Node) → drop (length past.tree.nodes) (grow t past.tree).nodes ≡ n ∷ []
     → (numbers gs ≡ roles_given past.plan (grow t past.tree) n) × (numbers as_ ≡ roles_taken past.plan (grow t past.tree) past.acts n)
+
+-- The statement is due at the node of the place: the base's own role is there, live or signed, the statement isn't signed there, and it is one of the plan of a past for which the buffer stands.
+pub record Due (v : View) (p : ℕ) (off : Off) : Type 0 where
+  pub cell : Cell
+  pub among : In cell v.rows
+  pub place : cell.place ≡ p
+  pub base : (set.contains cell.row.roles off.own.0 ≡ true) ⊎ (set.contains cell.row.signed off.own.0 ≡ true)
+  pub unsigned : set.contains cell.row.signed off.role.0 ≡ false
+  pub past : Past
+  pub stands : StandsFor v past
+  pub stated : In (off_tree off) (offs_in past.plan.body)
+
+-- the statement is carried out in advance at the node of the place
+pub record IsAhead (v : View) (p : ℕ) (off : Off) : Type 0 where
+  pub cell : Cell
+  pub among : In cell v.rows
+  pub place : cell.place ≡ p
+  pub is_open : cell.row.is_open ≡ true
+  pub steps : is_own (off_tree off) ≡ false
+
+-- or it isn't
+pub record IsBehind (v : View) (p : ℕ) (off : Off) : Type 0 where
+  pub cell : Cell
+  pub among : In cell v.rows
+  pub place : cell.place ≡ p
+  pub either : (cell.row.is_open ≡ false) ⊎ (is_own (off_tree off) ≡ true)

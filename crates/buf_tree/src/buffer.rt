@@ -17,13 +17,15 @@ ghost use Rattle.buf_tree.specs.Shape.{Cell, num, cells, Shape};
 ghost use Rattle.buf_tree.specs.View.{View, InUse, Innermost, serial_at, level_in};
 ghost use Rattle.buf_tree.specs.Shape.{at_place};
 ghost use Rattle.buf_tree.specs.Calls.{Started, Opened, Closed, HasRole, Untaken, numbers, less};
+ghost use Rattle.buf_tree.specs.Ways.{is_waiting};
 ghost use Rattle.buf_tree.specs.Stands.{StandsFor, past_grown, past_told, token_for, GivenTo};
 
 use crate::ahead::Ahead;
 use crate::edits::{add_row, plant_row, settle, shut, untake};
 use crate::row::{Row, is_bare, row_below};
+use crate::upward::is_waiting;
 use gcx_base::{Kind, Memory, Role, Serial};
-use gcx_model::Given;
+use gcx_model::{Given, Off};
 use node_store::{At, NodeStore, Place};
 use role_set::RoleSet;
 use std::alloc::Global;
@@ -223,6 +225,15 @@ impl<N: NodeStore<Row>> Buffer<N> {
         ensures { (c : Cell) → In c self.now.rows → c.place ≡ place.0 → result ≡ not c.row.is_open }
     {
         self.nodes.payload(place).is_closed()
+    }
+
+    /// Whether the statement is due at the node of the row at the place, if it is one of the plan: the role of its base is
+    /// at the node, live or signed, and the statement isn't signed there. Takes no memory.
+    pub fn is_due(&self, place: Place, off: &Off) -> bool
+        requires { InUse self.now.rows place.0 }
+        ensures { (c : Cell) → In c self.now.rows → c.place ≡ place.0 → result ≡ is_waiting c.row off.now }
+    {
+        is_waiting(self.nodes.payload(place), off)
     }
 
     /// A cursor at the row at the place. Takes no memory.

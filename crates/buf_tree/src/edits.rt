@@ -4,7 +4,7 @@ ghost use Rattle.std.specs.FinMap as map;
 ghost use Rattle.std.specs.FinSet as set;
 ghost use Rattle.gcx_base.specs.declared.ids.Serial.{Serial};
 ghost use Rattle.node_store.specs.Rows.{Entry, planted, appended, unlinked, parent_of, changed_at, paid_by};
-ghost use Rattle.buf_tree.specs.Rows.{IsSpare, shut_row, untaken, serials};
+ghost use Rattle.buf_tree.specs.Rows.{IsSpare, shut_row, untaken, signed_for, serials};
 ghost use Rattle.buf_tree.specs.Shape.{cells, Shaped};
 ghost use Rattle.buf_tree.specs.Purge.{TidyBut, Cleared};
 ghost use Rattle.buf_tree.specs.View.{Ready, Kept};
@@ -35,6 +35,20 @@ pub(crate) fn untake<N: NodeStore<Row>>(nodes: &mut N, place: Place, role: Role)
 {
     let row = nodes.payload_mut(place);
     row.roles.take(role);
+}
+
+/// Signs the node for the role's statement.
+pub(crate) fn sign<N: NodeStore<Row>>(nodes: &mut N, place: Place, role: Role) -> Result<(), Memory>
+    requires { IsSome (map.get (N.rows nodes.old) place.0) }
+    ensures ok { OnOk result (N.rows nodes.new ≡ changed_at (paid_by (signed_for role.0)) place.0 (N.rows nodes.old)) }
+    ensures err { OnErr result (N.rows nodes.new ≡ N.rows nodes.old) }
+    ensures most { N.most_held nodes.new ≡ N.most_held nodes.old }
+    ensures root { N.root_of nodes.new ≡ N.root_of nodes.old }
+    ensures loans { N.loans nodes.new ≡ N.loans nodes.old }
+{
+    let row = nodes.payload_mut(place);
+    row.signed.give(role)?;
+    Ok(())
 }
 
 /// Whether nothing keeps the node: it is closed, has no role and no child.

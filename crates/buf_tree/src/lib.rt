@@ -7,6 +7,10 @@ mod edits;
 mod matches;
 mod row;
 mod search;
+mod statements;
+mod sweep;
+mod trail;
+mod upward;
 
 pub use ahead::Ahead;
 pub use buffer::Buffer;

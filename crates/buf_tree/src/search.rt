@@ -22,7 +22,7 @@ fn is_named(name: &Name, other: &Name) -> bool
 }
 
 /// Whether a node of this kind passes the test.
-fn passes(test: &Test, kind: &Kind) -> bool
+pub(crate) fn passes(test: &Test, kind: &Kind) -> bool
     ensures { result ≡ passes test.now kind.now }
 {
     match kind {
@@ -39,7 +39,7 @@ fn passes(test: &Test, kind: &Kind) -> bool
     }
 }
 
-fn is_same(place: Place, other: Place) -> bool
+pub(crate) fn is_same(place: Place, other: Place) -> bool
     ensures { result ≡ (place.0 == other.0) }
 {
     place.0 == other.0
@@ -73,7 +73,7 @@ fn before<N: NodeStore<Row>>(nodes: &N, place: Place) -> Option<Place>
 }
 
 /// The last row below this one, or None where there is none.
-fn last_below<N: NodeStore<Row>>(nodes: &N, top: Place) -> Option<Place>
+pub(crate) fn last_below<N: NodeStore<Row>>(nodes: &N, top: Place) -> Option<Place>
     requires shape { Shaped (N.rows nodes.now) }
     requires nested { Nested (cells (N.rows nodes.now)) }
     requires there { IsSome (map.get (N.rows nodes.now) top.0) }
@@ -84,7 +84,7 @@ fn last_below<N: NodeStore<Row>>(nodes: &N, top: Place) -> Option<Place>
 }
 
 /// The row before this one that lies below `top`, as this one does, or None where it is the first of these.
-fn before_below<N: NodeStore<Row>>(nodes: &N, top: Place, place: Place) -> Option<Place>
+pub(crate) fn before_below<N: NodeStore<Row>>(nodes: &N, top: Place, place: Place) -> Option<Place>
     requires shape { Shaped (N.rows nodes.now) }
     requires nested { Nested (cells (N.rows nodes.now)) }
     requires there { IsSome (map.get (N.rows nodes.now) place.0) }
@@ -184,7 +184,7 @@ fn behind<N: NodeStore<Row>>(nodes: &N, top: Place, place: Place) -> Option<Plac
 
 /// The row behind this one that lies below `top`, where this one is `top` or lies below it, or None where it is the
 /// last of these.
-fn after<N: NodeStore<Row>>(nodes: &N, top: Place, place: Place) -> Option<Place>
+pub(crate) fn after<N: NodeStore<Row>>(nodes: &N, top: Place, place: Place) -> Option<Place>
     requires shape { Shaped (N.rows nodes.now) }
     requires nested { Nested (cells (N.rows nodes.now)) }
     requires top { IsSome (map.get (N.rows nodes.now) top.0) }

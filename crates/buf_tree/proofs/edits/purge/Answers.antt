@@ -24,7 +24,7 @@ pub up-smaller : goal.up-smaller
 up-smaller g c =
     let climb = rw c.in-Some.is at c.up.invariant.climb in
     let r = some_entry _ (climb.there _ refl) in
-    let less = length_less _ _ _ _ _ r.0 r.1 c.requires.shape climb ((c.is_spare.ensures r.0 r.1).0 (search rules)) in
+    let less = length_less _ climb.shape _ r.0 r.1 ((c.is_spare.ensures r.0 r.1).0 (search rules)) in
     let same = ap (λ m. length (cells m)) c.drop_row-at.ensures.rows in
     omega (arith, less, same)
 
@@ -33,7 +33,7 @@ up-preserved g c =
     let climb = rw c.in-Some.is at c.up.invariant.climb in
     let r = some_entry _ (climb.there _ refl) in
     let spare : IsSpare r.0 = (c.is_spare.ensures r.0 r.1).0 (search rules) in
-    let less = length_less _ _ _ _ _ r.0 r.1 c.requires.shape climb spare in
+    let less = length_less _ climb.shape _ r.0 r.1 spare in
     let same = ap (λ m. length (cells m)) c.drop_row-at.ensures.rows in
     let items = c.drop_row-at.ensures.gone r.0 r.1 in
     record {

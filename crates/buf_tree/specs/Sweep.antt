@@ -1,0 +1,41 @@
+-- What a statement takes from the rows of its base's subtree. This follows the code: private functions alone speak of it.
+use Rattle.std.specs.Prelude.{◌≡◌, ◌↔◌, ◌⊎◌, ◌+◌, ℕ, Bool, true, cond, List, [], ◌∷◌, ◌++◌, length, filter, map, Some, IsSome}
+use Rattle.std.specs.FinMap.{get}
+use Rattle.std.specs.FinSet as set
+use Rattle.gcx_model.specs.declared.item.Off.{Off}
+use Rattle.gcx_model.specs.Members.{In}
+use Rattle.gcx_model.specs.Tree.{Tree, Node}
+use Rattle.node_store.specs.Rows.{Entry, unlinked}
+use Rattle.buf_tree.specs.declared.row.Row.{Row}
+use Rattle.buf_tree.specs.Rows.{IsSpare, untaken}
+use Rattle.buf_tree.specs.Shape.{Store, Cell, cells, Shaped}
+use Rattle.buf_tree.specs.Purge.{PurgedBut}
+use Rattle.buf_tree.specs.Walk.{Within}
+use Rattle.buf_tree.specs.Ways.{Tells, IsKept}
+
+-- the rows, without the role k where it is lost
+abbrev pub taken_by : (Cell → Bool) → ℕ → List Cell → List Cell
+taken_by loses k xs = map (λ c. cond (loses c) (record { place = c.place; row = untaken k c.row }) c) xs
+
+-- The row d loses the statement's role: it is the base's row c or lies below it, has the role, and where there are other bases none of them keeps it.
+pub record Loses (xs : List Cell) (T : Tree) (off : Off) (others : Bool) (c d : Cell) : Type 0 where
+  pub within : Within xs c d
+  pub has : set.contains d.row.roles off.role.0 ≡ true
+  pub unkept : others ≡ true → (n : Node) → Tells xs d n → IsKept xs T off n → ⊥
+
+-- each row has a node, and the test tells which rows lose the role
+pub record LosesBy (xs : List Cell) (T : Tree) (off : Off) (others : Bool) (c : Cell) (loses : Cell → Bool) : Type 0 where
+  pub told : (d : Cell) → In d xs → (n : Node) × Tells xs d n
+  pub each : (d : Cell) → In d xs → (loses d ≡ true) ↔ Loses xs T off others c d
+
+-- the row with the entry e at the place went where it was spare, else nothing did
+abbrev pub Shed : Entry Row → (m0 m : Store) → (place : ℕ) → (g0 g : List ℕ) → (len0 len : ℕ) → Type 0
+Shed e m0 m place g0 g len0 len =
+    (IsSpare e × (m ≡ unlinked m0 place) × (g ≡ g0 ++ e.payload.serial ∷ []) × (len ≡ len0 + 1)) ⊎ ((IsSpare e → ⊥) × (m ≡ m0) × (g ≡ g0) × (len ≡ len0))
+
+-- From m0 to m: the role k went from the rows that lose it, and those rows below the base at this place that nothing keeps any more went, their serials falling.
+pub record Swept (m0 m : Store) (place : ℕ) (loses : Cell → Bool) (k : ℕ) (g0 g : List ℕ) (count : ℕ) : Type 0 where
+  pub shape : Shaped m
+  pub there : IsSome (get m place)
+  pub left : (left : List ℕ) × (g ≡ g0 ++ left) × PurgedBut (Some place) (taken_by loses k (cells m0)) (cells m) left
+  pub taken : count ≡ length (filter loses (cells m0))

@@ -1,0 +1,124 @@
+-- What the rows tell of paths: of which node a row is, and whether steps lead from one node to another.
+use Rattle.std.specs.Prelude.{◌≡◌, ◌<◌, ◌≤◌, ◌+◌, ◌==◌, ◌&&◌, ◌||◌, not, ℕ, Bool, true, false, List, [], length, drop, get_or}
+use Rattle.std.specs.FinSet as set
+use Rattle.gcx_base.specs.declared.kind.Kind.TheVariants.{Document}
+use Rattle.gcx_base.specs.declared.kind.Kind.{Kind}
+use Rattle.gcx_base.specs.declared.steps.Axis.{Axis}
+use Rattle.gcx_base.specs.declared.steps.Axis.TheVariants.{Child, Descendant}
+use Rattle.gcx_base.specs.declared.steps.Step.{Step}
+use Rattle.gcx_model.specs.declared.item.Off.{Off}
+use Rattle.gcx_model.specs.Core.{RoleKind, Own, First, Whole}
+use Rattle.gcx_model.specs.Held.{is_node, reaches}
+use Rattle.gcx_model.specs.ItemView.{off_tree}
+use Rattle.gcx_model.specs.Nodes.{Rising}
+use Rattle.gcx_model.specs.Members.{In}
+use Rattle.gcx_model.specs.Paths.{any, hits, first, passes}
+use Rattle.gcx_model.specs.Tree.{Tree, Node, Root, Under, serial_of, above}
+use Rattle.buf_tree.specs.declared.row.Row.{Row}
+use Rattle.buf_tree.specs.Shape.{Cell, num}
+use Rattle.buf_tree.specs.Walk.{Inside}
+use Rattle.buf_tree.specs.Match.{IsChild}
+
+-- n is the node of the row c: it has the row's serial and kind, and its parent is the node of the row's parent
+abbrev pub Tells : List Cell → Cell → Node → Type 0
+Tells xs c Root = (num c ≡ 0) × (c.row.kind ≡ Document)
+Tells xs c (Under p s k) = (num c ≡ s) × (c.row.kind ≡ k) × ((e : Cell) × In e xs × IsChild e c × Tells xs e p)
+
+-- the row at the place is that of the node n
+pub record NodeOf (xs : List Cell) (p : ℕ) (n : Node) : Type 0 where
+  pub cell : Cell
+  pub among : In cell xs
+  pub place : cell.place ≡ p
+  pub tells : Tells xs cell n
+
+-- each node above n has a smaller number than its child there
+abbrev pub Descends : Node → Type 0
+Descends Root = Unit {0}
+Descends (Under p s k) = (serial_of p < s) × Descends p
+
+abbrev pub is_same : Node → Node → Bool
+is_same n j = serial_of j == serial_of n
+
+-- the steps lead from the node with serial a to a node at which `ends` holds and that is n or above it
+abbrev pub leads : (Node → Bool) → ℕ → List Step → Node → Bool
+leads ends a steps n = any (λ j. ends j && hits a steps j) (above n)
+
+-- a flag for each number of steps that are left out: whether those from there on do
+pub record Flags (ends : Node → Bool) (a : ℕ) (steps : List Step) (n : Node) (flags : List Bool) : Type 0 where
+  pub count : length flags ≡ length steps + 1
+  pub each : (i : ℕ) → i ≤ length steps → get_or flags i false ≡ leads ends a (drop i steps) n
+
+-- a step may also lead on from a node that it could lead to
+abbrev pub goes_on : Axis → Bool
+goes_on Child = false
+goes_on Descendant = true
+
+-- the flag of a step at the parent of a node of this kind, from its flag at the node and the next step's there
+abbrev pub flag_up : Step → Kind → (here next : Bool) → Bool
+flag_up s kind here next = (next && passes s.test kind) || (here && goes_on s.axis)
+
+-- the steps lead from a to no row before that of n
+abbrev pub NoneBefore : List Cell → (a n : Node) → List Step → Type 0
+NoneBefore xs a n steps = (p : ℕ) (j : Node) → NodeOf xs p j → In a (above j) → serial_of j < serial_of n → hits (serial_of a) steps j ≡ false
+
+-- the same but for the last flag
+pub record FlagsBut (ends : Node → Bool) (a : ℕ) (steps : List Step) (n : Node) (flags : List Bool) : Type 0 where
+  pub count : length flags ≡ length steps + 1
+  pub each : (i : ℕ) → i < length steps → get_or flags i false ≡ leads ends a (drop i steps) n
+
+-- T has the nodes of the rows, in order
+pub record TreeOf (xs : List Cell) (T : Tree) : Type 0 where
+  pub told : (p : ℕ) (n : Node) → NodeOf xs p n → In n T.nodes
+  pub row : (n : Node) → In n T.nodes → (p : ℕ) × NodeOf xs p n
+  pub rising : Rising T.nodes
+
+-- a base's row at which the statement isn't signed
+abbrev pub is_waiting : Row → Off → Bool
+is_waiting r o = (set.contains r.roles o.own.0 || set.contains r.signed o.own.0) && not (set.contains r.signed o.role.0)
+
+-- the steps of a tail; where the kind is `Own` they don't count
+abbrev pub tail_steps : RoleKind → List Step → List Step
+tail_steps Own tail = []
+tail_steps First tail = tail
+tail_steps Whole tail = tail
+
+-- the end of the tail's steps: the node, or for the kind `Whole` one above it too
+abbrev pub tail_ends : RoleKind → (n : Node) → Node → Bool
+tail_ends Own n j = is_same n j
+tail_ends First n j = is_same n j
+tail_ends Whole n j = true
+
+abbrev pub is_whole : RoleKind → Bool
+is_whole Own = false
+is_whole First = false
+is_whole Whole = true
+
+-- the tail leads by its kind from j to n
+abbrev pub ends_at : Tree → RoleKind → List Step → (n j : Node) → Bool
+ends_at T Own tail n j = is_same n j
+ends_at T First tail n j = is_node (serial_of n) (first T (serial_of j) tail)
+ends_at T Whole tail n j = any (hits (serial_of j) tail) (above n)
+
+-- the statement reaches n from a row of a base at which it isn't signed
+pub record IsKept (xs : List Cell) (T : Tree) (off : Off) (n : Node) : Type 0 where
+  pub place : ℕ
+  pub base : Node
+  pub at : NodeOf xs place base
+  pub waits : is_waiting at.cell.row off ≡ true
+  pub reached : reaches T (off_tree off) base n ≡ true
+
+-- a row above that of c, or below it, of a base at which the statement isn't signed
+abbrev pub BaseAbove : List Cell → Off → Cell → Type 0
+BaseAbove xs off c = (b : Cell) × In b xs × Inside xs b c × (is_waiting b.row off ≡ true)
+
+abbrev pub BaseBelow : List Cell → Off → Cell → Type 0
+BaseBelow xs off c = (b : Cell) × In b xs × Inside xs c b × (is_waiting b.row off ≡ true)
+
+-- the same, from a row other than that with the serial k
+pub record IsKeptBut (xs : List Cell) (T : Tree) (off : Off) (n : Node) (k : ℕ) : Type 0 where
+  pub place : ℕ
+  pub base : Node
+  pub at : NodeOf xs place base
+  pub other : serial_of base ≡ k → ⊥
+  pub waits : is_waiting at.cell.row off ≡ true
+  pub reached : reaches T (off_tree off) base n ≡ true

@@ -1,0 +1,181 @@
+//! A statement at a base: whether another base may keep its role, and what takes the role from a row.
+ghost use Rattle.std.specs.Prelude.{◌≡◌, ◌==◌, ◌↔◌, ◌⊎◌, ◌+◌, ◌≤◌, ◌<◌, Bool, true, false, cond, length, vec_capacity, vec_len, Some, IsSome};
+ghost use Rattle.std.specs.FinMap as map;
+ghost use Rattle.std.specs.FinSet as set;
+ghost use Rattle.gcx_model.specs.Members.{In};
+ghost use Rattle.gcx_model.specs.Tree.{Tree, Node};
+ghost use Rattle.gcx_model.specs.Placed.{is_own};
+ghost use Rattle.gcx_model.specs.ItemView.{off_tree};
+ghost use Rattle.node_store.specs.Rows.{Entry, changed_at, paid_by};
+ghost use Rattle.buf_tree.specs.Purge.{Tidy};
+ghost use Rattle.buf_tree.specs.Rows.{serials, untaken};
+ghost use Rattle.buf_tree.specs.Sweep.{LosesBy, Shed, Swept};
+ghost use Rattle.buf_tree.specs.Shape.{Cell, cells, Shaped};
+ghost use Rattle.buf_tree.specs.Walk.{Nested};
+ghost use Rattle.buf_tree.specs.Ways.{NodeOf, TreeOf, IsKept, BaseAbove, BaseBelow};
+
+use crate::edits::{drop_row, is_spare, untake};
+use crate::row::Row;
+use crate::search::{before_below, last_below};
+use crate::trail::Trail;
+use crate::upward::{is_kept, is_waiting};
+use gcx_base::Serial;
+use gcx_model::{Off, RoleKind};
+use node_store::{NodeStore, Place};
+
+/// Whether the statement reaches its base alone.
+pub(crate) fn is_own(off: &Off) -> bool
+    ensures { result ≡ is_own (off_tree off.now) }
+{
+    match off.kind {
+        RoleKind::Own => off.rel.items().is_empty(),
+        RoleKind::First => false,
+        RoleKind::Whole => false,
+    }
+}
+
+/// Whether a base stands above at which the statement isn't signed.
+fn has_base_above<N: NodeStore<Row>>(nodes: &N, off: &Off, place: Place) -> bool
+    requires shape { Shaped (N.rows nodes.now) }
+    requires nested { Nested (cells (N.rows nodes.now)) }
+    requires there { IsSome (map.get (N.rows nodes.now) place.0) }
+    ensures { (c : Cell) → In c (cells (N.rows nodes.now)) → c.place ≡ place.0 → (result ≡ true) ↔ BaseAbove (cells (N.rows nodes.now)) off.now c }
+{
+    let mut at = nodes.parent(place);
+    'up: while let Some(here) = at {
+        if is_waiting(nodes.payload(here), off) {
+            return true;
+        }
+        at = nodes.parent(here);
+    }
+    false
+}
+
+/// Whether a base stands below at which the statement isn't signed.
+fn has_base_below<N: NodeStore<Row>>(nodes: &N, off: &Off, place: Place) -> bool
+    requires shape { Shaped (N.rows nodes.now) }
+    requires nested { Nested (cells (N.rows nodes.now)) }
+    requires there { IsSome (map.get (N.rows nodes.now) place.0) }
+    ensures { (c : Cell) → In c (cells (N.rows nodes.now)) → c.place ≡ place.0 → (result ≡ true) ↔ BaseBelow (cells (N.rows nodes.now)) off.now c }
+{
+    let mut at = last_below(nodes, place);
+    'back: while let Some(here) = at {
+        if is_waiting(nodes.payload(here), off) {
+            return true;
+        }
+        at = before_below(nodes, place, here);
+    }
+    false
+}
+
+/// Whether another base may keep the role of this one's statement somewhere.
+pub(crate) fn has_other_base<N: NodeStore<Row>>(nodes: &N, off: &Off, place: Place) -> bool
+    requires shape { Shaped (N.rows nodes.now) }
+    requires nested { Nested (cells (N.rows nodes.now)) }
+    requires there { IsSome (map.get (N.rows nodes.now) place.0) }
+    ensures { (c : Cell) → In c (cells (N.rows nodes.now)) → c.place ≡ place.0 → (result ≡ true) ↔ ((is_own (off_tree off.now) ≡ false) × (BaseAbove (cells (N.rows nodes.now)) off.now c ⊎ BaseBelow (cells (N.rows nodes.now)) off.now c)) }
+{
+    if is_own(off) {
+        return false;
+    }
+    if has_base_above(nodes, off, place) {
+        return true;
+    }
+    has_base_below(nodes, off, place)
+}
+
+/// Takes the statement's role from the row, where it has it and no base keeps it. Answers how many roles were taken.
+/// Where there is no other base none keeps it.
+fn withdraw<N: NodeStore<Row>>(
+    nodes: &mut N,
+    off: &Off,
+    place: Place,
+    others: bool,
+    trail: &mut Trail,
+) -> u64
+    requires shape { Shaped (N.rows nodes.old) }
+    requires nested { Nested (cells (N.rows nodes.old)) }
+    requires there { IsSome (map.get (N.rows nodes.old) place.0) }
+    requires room { others ≡ true → (length off.now.tail + 1 ≤ vec_capacity trail.old.tails) × (length off.now.rel + 1 ≤ vec_capacity trail.old.rels) × (length off.now.tail + 1 ≤ vec_capacity trail.old.again) }
+    ensures few { result ≤ 1 }
+    ensures rows { N.rows nodes.new ≡ cond (result == 1) (changed_at (paid_by (untaken off.now.role.0)) place.0 (N.rows nodes.old)) (N.rows nodes.old) }
+    ensures taken { (T : Tree) (n : Node) (c : Cell) → TreeOf (cells (N.rows nodes.old)) T → NodeOf (cells (N.rows nodes.old)) place.0 n → In c (cells (N.rows nodes.old)) → c.place ≡ place.0 → (result ≡ 1) ↔ ((set.contains c.row.roles off.now.role.0 ≡ true) × (others ≡ true → IsKept (cells (N.rows nodes.old)) T off.now n → ⊥)) }
+    ensures most { N.most_held nodes.new ≡ N.most_held nodes.old }
+    ensures root { N.root_of nodes.new ≡ N.root_of nodes.old }
+    ensures loans { N.loans nodes.new ≡ N.loans nodes.old }
+    ensures tails { vec_capacity trail.old.tails ≤ vec_capacity trail.new.tails }
+    ensures rels { vec_capacity trail.old.rels ≤ vec_capacity trail.new.rels }
+    ensures again { vec_capacity trail.old.again ≤ vec_capacity trail.new.again }
+{
+    if !nodes.payload(place).roles.has(off.role) {
+        return 0;
+    }
+    if others && is_kept(&*nodes, off, place, trail) {
+        return 0;
+    }
+    untake(nodes, place, off.role);
+    1
+}
+
+/// Takes out the row where nothing keeps it.
+fn drop_spare<N: NodeStore<Row>>(nodes: &mut N, gone: &mut Vec<Serial>, place: Place)
+    requires there { IsSome (map.get (N.rows nodes.old) place.0) }
+    requires room { vec_len gone.old < vec_capacity gone.old }
+    ensures dropped { (e : Entry Row) → map.get (N.rows nodes.old) place.0 ≡ Some e → Shed e (N.rows nodes.old) (N.rows nodes.new) place.0 (serials gone.old.items) (serials gone.new.items) (vec_len gone.old) (vec_len gone.new) }
+    ensures capacity { vec_capacity gone.old ≤ vec_capacity gone.new }
+    ensures most { N.most_held nodes.new ≡ N.most_held nodes.old }
+    ensures loans { N.loans nodes.new ≡ N.loans nodes.old }
+{
+    if is_spare(&*nodes, place) {
+        drop_row(nodes, gone, place);
+    }
+}
+
+/// Takes the role from the base's subtree, from its last row back, and takes out the rows below the base that nothing
+/// keeps then. Answers how many roles were taken.
+pub(crate) fn sweep<N: NodeStore<Row>>(
+    nodes: &mut N,
+    gone: &mut Vec<Serial>,
+    off: &Off,
+    place: Place,
+    others: bool,
+    trail: &mut Trail,
+) -> u64
+    requires shape { Shaped (N.rows nodes.old) }
+    requires nested { Nested (cells (N.rows nodes.old)) }
+    requires there { IsSome (map.get (N.rows nodes.old) place.0) }
+    requires tidy { Tidy (cells (N.rows nodes.old)) }
+    requires departures { vec_len gone.old + length (cells (N.rows nodes.old)) ≤ vec_capacity gone.old }
+    requires room { others ≡ true → (length off.now.tail + 1 ≤ vec_capacity trail.old.tails) × (length off.now.rel + 1 ≤ vec_capacity trail.old.rels) × (length off.now.tail + 1 ≤ vec_capacity trail.old.again) }
+    ensures swept { (T : Tree) (c : Cell) (loses : Cell → Bool) → TreeOf (cells (N.rows nodes.old)) T → In c (cells (N.rows nodes.old)) → c.place ≡ place.0 → LosesBy (cells (N.rows nodes.old)) T off.now others c loses → Swept (N.rows nodes.old) (N.rows nodes.new) place.0 loses off.now.role.0 (serials gone.old.items) (serials gone.new.items) result }
+    ensures count { vec_len gone.new + length (cells (N.rows nodes.new)) ≡ vec_len gone.old + length (cells (N.rows nodes.old)) }
+    ensures capacity { vec_capacity gone.old ≤ vec_capacity gone.new }
+    ensures few { result ≤ length (cells (N.rows nodes.old)) }
+    ensures most { N.most_held nodes.new ≡ N.most_held nodes.old }
+    ensures loans { N.loans nodes.new ≡ N.loans nodes.old }
+{
+    let mut taken = 0;
+    let mut at = last_below(&*nodes, place);
+    'back: while let Some(here) = at {
+        taken += withdraw(nodes, off, here, others, trail);
+        at = before_below(&*nodes, place, here);
+        drop_spare(nodes, gone, here);
+    }
+    taken + withdraw(nodes, off, place, others, trail)
+}
+
+/// Takes the role of a statement that reaches its base alone, where the base has it. Answers how many roles were taken.
+pub(crate) fn take_own<N: NodeStore<Row>>(nodes: &mut N, off: &Off, place: Place) -> u64
+    requires there { IsSome (map.get (N.rows nodes.old) place.0) }
+    ensures taken { (e : Entry Row) → map.get (N.rows nodes.old) place.0 ≡ Some e → result ≡ cond (set.contains e.payload.roles off.now.role.0) 1 0 }
+    ensures rows { (e : Entry Row) → map.get (N.rows nodes.old) place.0 ≡ Some e → N.rows nodes.new ≡ cond (set.contains e.payload.roles off.now.role.0) (changed_at (paid_by (untaken off.now.role.0)) place.0 (N.rows nodes.old)) (N.rows nodes.old) }
+    ensures most { N.most_held nodes.new ≡ N.most_held nodes.old }
+    ensures root { N.root_of nodes.new ≡ N.root_of nodes.old }
+    ensures loans { N.loans nodes.new ≡ N.loans nodes.old }
+{
+    if nodes.payload(place).roles.has(off.role) {
+        untake(nodes, place, off.role);
+        return 1;
+    }
+    0
+}

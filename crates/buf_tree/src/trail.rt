@@ -1,0 +1,54 @@
+//! Room for the walks of statements.
+ghost use Rattle.std.specs.Prelude.{◌+◌, ◌≤◌, IfOk, OnOk, length, vec_capacity};
+
+use gcx_base::{Memory, Step};
+use gcx_model::Off;
+use std::alloc::Global;
+
+/// The flags of a walk: for the steps of a statement's tail, for those from the base, and for a tail once more.
+#[derive(Drop)]
+pub(crate) struct Trail {
+    pub(crate) tails: Vec<bool>,
+    pub(crate) rels: Vec<bool>,
+    pub(crate) again: Vec<bool>,
+}
+
+impl Trail {
+    /// No room yet.
+    pub(crate) fn new(alloc: Global) -> Trail {
+        Trail {
+            tails: Vec::new(alloc),
+            rels: Vec::new(alloc),
+            again: Vec::new(alloc),
+        }
+    }
+
+    /// Room for the walks of this statement.
+    pub(crate) fn with_room(alloc: Global, off: &Off) -> Result<Trail, Memory>
+        ensures tails { IfOk result (λ t. length off.now.tail + 1 ≤ vec_capacity t.tails) }
+        ensures rels { IfOk result (λ t. length off.now.rel + 1 ≤ vec_capacity t.rels) }
+        ensures again { IfOk result (λ t. length off.now.tail + 1 ≤ vec_capacity t.again) }
+    {
+        let mut trail = Trail::new(alloc);
+        trail.reserve(off)?;
+        Ok(trail)
+    }
+
+    fn reserve(&mut self, off: &Off) -> Result<(), Memory>
+        ensures tails { OnOk result (length off.now.tail + 1 ≤ vec_capacity self.new.tails) }
+        ensures rels { OnOk result (length off.now.rel + 1 ≤ vec_capacity self.new.rels) }
+        ensures again { OnOk result (length off.now.tail + 1 ≤ vec_capacity self.new.again) }
+    {
+        make_room(&mut self.tails, off.tail.items())?;
+        make_room(&mut self.again, off.tail.items())?;
+        make_room(&mut self.rels, off.rel.items())
+    }
+}
+
+fn make_room(flags: &mut Vec<bool>, steps: &[Step]) -> Result<(), Memory>
+    ensures { OnOk result (length steps.now + 1 ≤ vec_capacity flags.new) }
+{
+    flags.clear();
+    flags.reserve(steps.len() + 1)?;
+    Ok(())
+}

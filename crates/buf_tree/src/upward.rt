@@ -1,0 +1,223 @@
+//! Walks up from a node, which tell from where a statement reaches it.
+//!
+//! For the steps of a path there is a flag each, and one more: at the node at hand, flag i says that the steps from i on
+//! lead from it to the node at which the walk began. The flags of a parent follow from those of its child on the way.
+ghost use Rattle.std.specs.Prelude.{◌≡◌, ◌+◌, ◌≤◌, ◌∷◌, ◌++◌, [], Bool, false, length, vec_capacity, vec_len, ℕ, true, IsSome, ◌↔◌};
+ghost use Rattle.std.specs.FinMap as map;
+ghost use Rattle.std.proofs.Math.ListN.{replicate, set, get_or};
+ghost use Rattle.gcx_model.specs.Members.{In};
+ghost use Rattle.gcx_model.specs.Tree.{Tree, Node, Under, serial_of, above};
+ghost use Rattle.gcx_model.specs.Paths.{hits};
+ghost use Rattle.gcx_model.specs.ItemView.{off_tree, role_kind};
+ghost use Rattle.buf_tree.specs.Shape.{cells, Shaped};
+ghost use Rattle.buf_tree.specs.Walk.{Nested};
+ghost use Rattle.buf_tree.specs.Ways.{NodeOf, NoneBefore, TreeOf, IsKept, FlagsBut, is_waiting, is_whole, tail_steps, tail_ends, ends_at, Descends, Flags, flag_up, goes_on};
+
+use crate::row::Row;
+use crate::search::{after, is_same, passes};
+use crate::trail::Trail;
+use gcx_base::{Axis, Kind, Step};
+use gcx_model::{Off, RoleKind};
+use node_store::{NodeStore, Place};
+
+/// The flags where a walk begins: no step is left to take, or for `end` false none leads there yet.
+fn begin(flags: &mut Vec<bool>, steps: usize, end: bool)
+    requires room { steps + 1 ≤ vec_capacity flags.old }
+    ensures flags { flags.new.items ≡ replicate steps false ++ end ∷ [] }
+    ensures room { vec_capacity flags.old ≤ vec_capacity flags.new }
+{
+    flags.clear();
+    for _step in 0..steps {
+        flags.push_reserved(false);
+    }
+    flags.push_reserved(end);
+}
+
+/// The flag of a step at the parent of a node of this kind, from this step's flag at the node and the next step's.
+fn flag_up(step: &Step, kind: &Kind, here: bool, next: bool) -> bool
+    ensures { result ≡ flag_up step.now kind.now here next }
+{
+    (next && passes(&step.test, kind)) || (here && goes_on(step.axis))
+}
+
+/// Whether a step may also lead on from a node that it could lead to.
+fn goes_on(axis: Axis) -> bool
+    ensures { result ≡ goes_on axis }
+{
+    match axis {
+        Axis::Child => false,
+        Axis::Descendant => true,
+    }
+}
+
+/// From a node of this kind to its parent. `end` is the last flag there.
+fn go_up(flags: &mut [bool], steps: &[Step], kind: &Kind, end: bool)
+    requires count { length flags.old ≡ length steps.now + 1 }
+    ensures count { length flags.new ≡ length flags.old }
+    ensures flags { (ends : Node → Bool) (n p : Node) (s : ℕ) → Descends n → In (Under p s kind.now) (above n) → end ≡ ends p → Flags ends s steps.now n flags.old → Flags ends (serial_of p) steps.now n flags.new }
+    ensures but { (ends : Node → Bool) (n p : Node) (s : ℕ) → Descends n → In (Under p s kind.now) (above n) → Flags ends s steps.now n flags.old → FlagsBut ends (serial_of p) steps.now n flags.new }
+{
+    let mut i = 0;
+    'steps: while i < steps.len() {
+        flags[i] = flag_up(&steps[i], kind, flags[i], flags[i + 1]);
+        i += 1;
+    }
+    flags[steps.len()] = end;
+}
+
+/// Whether the steps lead from the row at `from` to the row at `place`, which is that row or stands below it.
+fn leads<N: NodeStore<Row>>(
+    nodes: &N,
+    from: Place,
+    steps: &[Step],
+    place: Place,
+    flags: &mut Vec<bool>,
+) -> bool
+    requires shape { Shaped (N.rows nodes.now) }
+    requires there { IsSome (map.get (N.rows nodes.now) place.0) }
+    requires room { length steps.now + 1 ≤ vec_capacity flags.old }
+    ensures leads { (a n : Node) → NodeOf (cells (N.rows nodes.now)) from.0 a → NodeOf (cells (N.rows nodes.now)) place.0 n → In a (above n) → result ≡ hits (serial_of a) steps.now n }
+    ensures room { vec_capacity flags.old ≤ vec_capacity flags.new }
+{
+    begin(flags, steps.len(), true);
+    let mut at = Some(place);
+    'up: while let Some(here) = at {
+        if is_same(here, from) {
+            return flags[0];
+        }
+        go_up(flags, steps, &nodes.payload(here).kind, false);
+        at = nodes.parent(here);
+    }
+    false
+}
+
+/// Whether no row from `from` on and before `place` is one to which the steps lead from `from`.
+fn is_first<N: NodeStore<Row>>(
+    nodes: &N,
+    from: Place,
+    steps: &[Step],
+    place: Place,
+    flags: &mut Vec<bool>,
+) -> bool
+    requires shape { Shaped (N.rows nodes.now) }
+    requires nested { Nested (cells (N.rows nodes.now)) }
+    requires from { IsSome (map.get (N.rows nodes.now) from.0) }
+    requires room { length steps.now + 1 ≤ vec_capacity flags.old }
+    ensures first { (a n : Node) → NodeOf (cells (N.rows nodes.now)) from.0 a → NodeOf (cells (N.rows nodes.now)) place.0 n → In a (above n) → (result ≡ true) ↔ NoneBefore (cells (N.rows nodes.now)) a n steps.now }
+    ensures room { vec_capacity flags.old ≤ vec_capacity flags.new }
+{
+    let mut at = Some(from);
+    'rows: while let Some(here) = at {
+        if is_same(here, place) {
+            return true;
+        }
+        if leads(nodes, from, steps, here, flags) {
+            return false;
+        }
+        at = after(nodes, from, here);
+    }
+    false
+}
+
+/// Whether the row is that of a base at which the statement isn't signed.
+pub(crate) fn is_waiting(row: &Row, off: &Off) -> bool
+    ensures { result ≡ is_waiting row.now off.now }
+{
+    (row.roles.has(off.own) || row.signed.has(off.own)) && !row.signed.has(off.role)
+}
+
+/// The steps of the statement's tail. Where it is of the kind `Own` they don't count.
+fn tail_of(off: &Off) -> &[Step]
+    ensures { result.now ≡ tail_steps (off_tree off.now).kind off.now.tail }
+{
+    match off.kind {
+        RoleKind::Own => &[],
+        RoleKind::First | RoleKind::Whole => off.tail.items(),
+    }
+}
+
+/// Whether the statement also reaches what stands below its matches.
+fn is_whole(kind: RoleKind) -> bool
+    ensures { result ≡ is_whole (role_kind kind) }
+{
+    match kind {
+        RoleKind::Own => false,
+        RoleKind::First => false,
+        RoleKind::Whole => true,
+    }
+}
+
+/// Whether the tail, by the statement's kind, leads from the row at `from` to the row at `place`, where the flags say
+/// whether its steps do.
+fn ends_here<N: NodeStore<Row>>(
+    nodes: &N,
+    off: &Off,
+    from: Place,
+    place: Place,
+    trail: &mut Trail,
+) -> bool
+    requires shape { Shaped (N.rows nodes.now) }
+    requires nested { Nested (cells (N.rows nodes.now)) }
+    requires from { IsSome (map.get (N.rows nodes.now) from.0) }
+    requires count { length trail.old.tails.items ≡ length (tail_steps (off_tree off.now).kind off.now.tail) + 1 }
+    requires room { length off.now.tail + 1 ≤ vec_capacity trail.old.again }
+    ensures ends { (T : Tree) (a n : Node) → TreeOf (cells (N.rows nodes.now)) T → NodeOf (cells (N.rows nodes.now)) from.0 a → NodeOf (cells (N.rows nodes.now)) place.0 n → In a (above n) → Flags (tail_ends (off_tree off.now).kind n) (serial_of a) (tail_steps (off_tree off.now).kind off.now.tail) n trail.old.tails.items → result ≡ ends_at T (off_tree off.now).kind off.now.tail n a }
+    ensures room { vec_capacity trail.old.again ≤ vec_capacity trail.new.again }
+    ensures tails { trail.new.tails ≡ trail.old.tails }
+    ensures rels { trail.new.rels ≡ trail.old.rels }
+{
+    if !trail.tails[0] {
+        return false;
+    }
+    match off.kind {
+        RoleKind::Own => true,
+        RoleKind::Whole => true,
+        RoleKind::First => is_first(nodes, from, off.tail.items(), place, &mut trail.again),
+    }
+}
+
+/// Sets the last flag, and answers the first one.
+fn set_last(flags: &mut [bool], last: usize, end: bool) -> bool
+    requires { length flags.old ≡ last + 1 }
+    ensures flags { flags.new ≡ set flags.old last end }
+    ensures first { result ≡ get_or flags.new 0 false }
+{
+    flags[last] = end;
+    flags[0]
+}
+
+/// Whether the statement reaches the row at `place` from a base at which it isn't signed.
+pub(crate) fn is_kept<N: NodeStore<Row>>(
+    nodes: &N,
+    off: &Off,
+    place: Place,
+    trail: &mut Trail,
+) -> bool
+    requires shape { Shaped (N.rows nodes.now) }
+    requires nested { Nested (cells (N.rows nodes.now)) }
+    requires there { IsSome (map.get (N.rows nodes.now) place.0) }
+    requires tails { length off.now.tail + 1 ≤ vec_capacity trail.old.tails }
+    requires rels { length off.now.rel + 1 ≤ vec_capacity trail.old.rels }
+    requires again { length off.now.tail + 1 ≤ vec_capacity trail.old.again }
+    ensures kept { (T : Tree) (n : Node) → TreeOf (cells (N.rows nodes.now)) T → NodeOf (cells (N.rows nodes.now)) place.0 n → (result ≡ true) ↔ IsKept (cells (N.rows nodes.now)) T off.now n }
+    ensures tails { vec_capacity trail.old.tails ≤ vec_capacity trail.new.tails }
+    ensures rels { vec_capacity trail.old.rels ≤ vec_capacity trail.new.rels }
+    ensures again { vec_capacity trail.old.again ≤ vec_capacity trail.new.again }
+{
+    let tail = tail_of(off);
+    let rel = off.rel.items();
+    begin(&mut trail.tails, tail.len(), true);
+    begin(&mut trail.rels, rel.len(), false);
+    let mut at = Some(place);
+    'up: while let Some(here) = at {
+        let end = ends_here(nodes, off, here, place, trail);
+        let row = nodes.payload(here);
+        if set_last(&mut trail.rels, rel.len(), end) && is_waiting(row, off) {
+            return true;
+        }
+        go_up(&mut trail.tails, tail, &row.kind, is_whole(off.kind));
+        go_up(&mut trail.rels, rel, &row.kind, false);
+        at = nodes.parent(here);
+    }
+    false
+}
