@@ -1,0 +1,195 @@
+-- The roles that a row tells are those given to its node.
+use Rattle.std.proofs.Common.{◌≡◌, ◌↔◌, ℕ, zero, suc, ◌+◌, ◌<◌, ◌≤◌, Bool, true, false, cond, List, [], ◌∷◌, ◌++◌, length, refl, sym, ◌∙◌, ap, subst, inl, inr, arith, eqb, Some}
+use Rattle.std.specs.List.{filter}
+use Rattle.std.proofs.lemmas.Bool.{false≢true, eqb-true, eq-eqb}
+use Rattle.std.proofs.lemmas.List.{append-nil}
+use Rattle.gcx_base.specs.declared.steps.Step.{Step}
+use Rattle.gcx_model.specs.Tree.{Node, Root, Under, serial_of, above, Tree}
+use Rattle.gcx_model.specs.Paths.{hits, head, first, matches}
+use Rattle.gcx_model.specs.Nodes.{Grown}
+use Rattle.gcx_model.specs.Growth.{level}
+use Rattle.gcx_model.specs.Core.{RoleKind, Own, First, Whole, RoleRowTree, PlanTree}
+use Rattle.gcx_model.specs.Held.{path_of, is_node, gives, given_row, on_row, given, roles_given}
+use Rattle.gcx_model.specs.Placed.{row_at}
+use Rattle.gcx_model.specs.Members.{count}
+use Rattle.gcx_laws.proofs.Lists.{In, In-filter, In-kept, any_in, any_from}
+use Rattle.gcx_laws.proofs.Matches.{Numbered-same, Matches-in, Matches-from}
+use Rattle.gcx_laws.proofs.Chains.{above_in, hits_above}
+use Rattle.gcx_laws.proofs.Bases.{In-count-from, head_in, node_is}
+use Rattle.matcher.specs.Lists.{Holds, Climbs}
+use Rattle.matcher.specs.Spots.{AreSpots, kind_with, tail_with}
+use Rattle.matcher.specs.Rows.{HasRole}
+use Rattle.matcher.specs.Row.{IsFound, IsInside, IsRow}
+use Rattle.matcher.specs.declared.spots.Spots.{Spots}
+use Rattle.matcher.specs.declared.row.Row.{Row}
+use Rattle.matcher.specs.declared.row.Rows.{Rows}
+use Rattle.matcher.specs.Parts.{whole_at, hits_at, found_at}
+use Rattle.matcher.specs.declared.row.Found.{Found}
+use Rattle.matcher.proofs.Looking.{some_at}
+use Rattle.matcher.proofs.NewRow.{row_there, ended, end_of}
+
+-- rising lists with the same members are one
+
+pub climbs_same : (xs ys : List ℕ) → Climbs xs → Climbs ys → ((y : ℕ) → In y xs → In y ys) → ((y : ℕ) → In y ys → In y xs) → xs ≡ ys
+climbs_same [] [] c d f g = refl
+climbs_same [] (y ∷ ys) c d f g = absurd (g y (inl refl))
+climbs_same (x ∷ xs) [] c d f g = absurd (f x (inl refl))
+climbs_same (x ∷ xs) (y ∷ ys) c d f g =
+    let e = heads (f x (inl refl)) (g y (inl refl)) in
+    ap (λ (z : ℕ). z ∷ xs) e ∙ ap (λ (zs : List ℕ). y ∷ zs) (climbs_same xs ys c.1 d.1
+    (λ z i. elim (f z (inr i)) [ inl h ↦ (let l = c.0 z i in absurd (omega arith)) | inr j ↦ j ])
+    (λ z i. elim (g z (inr i)) [ inl h ↦ (let l = d.0 z i in absurd (omega arith)) | inr j ↦ j ]))
+  where
+    heads : In x (y ∷ ys) → In y (x ∷ xs) → x ≡ y
+    heads (inl h) j = sym h
+    heads (inr i) (inl h) = h
+    heads (inr i) (inr j) = let l = d.0 x i in let m = c.0 y j in absurd (omega arith)
+
+In-count-low : (k n y : ℕ) → In y (count k n) → (k ≤ y) × (y < k + n)
+In-count-low k zero y i = absurd i
+In-count-low k (suc n) y (inl e) = (omega arith, omega arith)
+In-count-low k (suc n) y (inr i) = let r = In-count-low (suc k) n y i in let a = r.0 in let b = r.1 in (omega arith, omega arith)
+
+climbs_count : (k n : ℕ) → Climbs (count k n)
+climbs_count k zero = tt
+climbs_count k (suc n) = (λ y i. let r = In-count-low (suc k) n y i in let a = r.0 in omega arith, climbs_count (suc k) n)
+
+climbs_filter : (p : ℕ → Bool) (xs : List ℕ) → Climbs xs → Climbs (filter p xs)
+climbs_filter p [] c = tt
+climbs_filter p (x ∷ xs) c = go (p x) (climbs_filter p xs c.1)
+  where
+    go : (b : Bool) → Climbs (filter p xs) → Climbs (cond b (x ∷ filter p xs) (filter p xs))
+    go true r = (λ y i. c.0 y (In-filter p y xs i).0, r)
+    go false r = r
+
+-- a rising list is the roles of which a test holds
+pub climbs_filtered : (p : ℕ → Bool) (n : ℕ) (xs : List ℕ) → Climbs xs → ((y : ℕ) → In y xs → (y < n) × (p y ≡ true)) → ((y : ℕ) → y < n → p y ≡ true → In y xs) → xs ≡ filter p (count 0 n)
+climbs_filtered p n xs c f g =
+    climbs_same xs (filter p (count 0 n)) c (climbs_filter p (count 0 n) (climbs_count 0 n))
+    (λ y i. let q = f y i in In-kept p y (count 0 n) (subst (λ (z : ℕ). In z (count 0 n)) (zero_add y) (In-count-from 0 n y q.0)) q.1)
+    (λ y i. let q = In-filter p y (count 0 n) i in let l = (In-count-low 0 n y q.0).1 in g y (omega arith) q.1)
+  where
+    zero_add : (y : ℕ) → 0 + y ≡ y
+    zero_add y = omega arith
+
+pub root_above : (n : Node) → In Root (above n)
+root_above Root = inl refl
+root_above (Under p s k) = inr (root_above p)
+
+-- The kinds.
+
+pub kind_whole : (k : RoleKind) (tail : List Step) → kind_with k tail ≡ Whole → k ≡ Whole
+kind_whole Own tail e = absurd (cc)
+kind_whole First [] e = absurd (cc)
+kind_whole First (s ∷ tail) e = absurd (cc)
+kind_whole Whole tail e = refl
+
+pub kind_first : (k : RoleKind) (tail : List Step) → kind_with k tail ≡ First → k ≡ First
+kind_first Own tail e = absurd (cc)
+kind_first First [] e = absurd (cc)
+kind_first First (s ∷ tail) e = refl
+kind_first Whole tail e = absurd (cc)
+
+pub row_within : (rs : List RoleRowTree) (r : ℕ) (row : RoleRowTree) → row_at rs r ≡ Some row → r < length rs
+row_within [] r row e = absurd (cc)
+row_within (x ∷ rs) zero row e = omega arith
+row_within (x ∷ rs) (suc r) row e = let l = row_within rs r row e in omega arith
+
+-- the first node with a node's number
+pub self_first : (ns : List Node) (a : Node) → In a ns → is_node (serial_of a) (head (filter (hits (serial_of a) []) ns)) ≡ true
+self_first [] a i = absurd i
+self_first (n ∷ ns) a i = go (eqb (serial_of n) (serial_of a)) refl (λ j. self_first ns a j) i
+  where
+    go : (b : Bool) → eqb (serial_of n) (serial_of a) ≡ b → (In a ns → is_node (serial_of a) (head (filter (hits (serial_of a) []) ns)) ≡ true) → In a (n ∷ ns)
+        → is_node (serial_of a) (head (cond b (n ∷ filter (hits (serial_of a) []) ns) (filter (hits (serial_of a) []) ns))) ≡ true
+    go true e ih j = e
+    go false e ih (inl f) = absurd (false≢true (sym e ∙ eq-eqb (serial_of n) (serial_of a) (ap serial_of f)))
+    go false e ih (inr j) = ih j
+
+module _ (plan : PlanTree) (t : Spots) (A : AreSpots plan t) (P : Tree) (w : Grown P) (a : Node) (i : In a P.nodes) (whole leading : List ℕ) (firsts : List Found)
+    (hits_are : (c : ℕ) → In c leading ↔ ((c < length t.spots.items) × (hits 0 (A.path c) a ≡ true)))
+    (whole_are : (r : ℕ) → In r whole ↔ IsInside plan a r)
+    (found_are : (f : Found) → In f firsts ↔ IsFound plan P a f) where
+  -- what a role with this row is given by
+  by_row : (r : ℕ) (rw : RoleRowTree) → row_at plan.roles r ≡ Some rw → given plan P a r ≡ gives P 0 (path_of plan rw.var) rw.tail rw.kind a
+  by_row r rw e = ap (on_row (given_row (path_of plan) P a)) e
+
+  own_to : (k : RoleKind) (path tail : List Step) → kind_with k tail ≡ Own → hits 0 (path ++ tail_with k tail) a ≡ true → gives P 0 path tail k a ≡ true
+  own_to Own path tail e h = subst (λ (z : List Step). hits 0 z a ≡ true) (append-nil path) h
+  own_to First path [] e h =
+      let g = subst (λ (z : List Step). hits 0 z a ≡ true) (append-nil path) h in
+      any_from (λ (j : Node). is_node (serial_of a) (first P (serial_of j) [])) a (matches P 0 path) (Matches-from P 0 path a i g) (self_first P.nodes a i)
+  own_to First path (s ∷ tail) e h = absurd (cc)
+  own_to Whole path tail e h = absurd (cc)
+
+  own_from : (k : RoleKind) (path tail : List Step) → kind_with k tail ≡ Own → gives P 0 path tail k a ≡ true → hits 0 (path ++ tail_with k tail) a ≡ true
+  own_from Own path tail e h = subst (λ (z : List Step). hits 0 z a ≡ true) (sym (append-nil path)) h
+  own_from First path [] e h =
+      let f : Node → Bool = λ j. is_node (serial_of a) (first P (serial_of j) []) in
+      let q = any_in f (matches P 0 path) h in
+      let m = Matches-in P 0 path q.0 q.1 in
+      let x = node_is (serial_of a) (first P (serial_of q.0) []) q.2 in
+      let y = Matches-in P (serial_of q.0) [] x.0 (head_in (matches P (serial_of q.0) []) x.0 x.1) in
+      let same : q.0 ≡ a = Numbered-same 0 P.nodes w.numbered q.0 a m.0 i (sym (eqb-true (serial_of x.0) (serial_of q.0) y.1) ∙ x.2) in
+      subst (λ (z : List Step). hits 0 z a ≡ true) (sym (append-nil path)) (subst (λ (z : Node). hits 0 path z ≡ true) same m.1)
+  own_from First path (s ∷ tail) e h = absurd (cc)
+  own_from Whole path tail e h = absurd (cc)
+
+  first_to : (path tail : List Step) (b : Node) → In b (above a) → hits 0 path b ≡ true → first P (serial_of b) tail ≡ Some a → gives P 0 path tail First a ≡ true
+  first_to path tail b o h e =
+      any_from (λ (j : Node). is_node (serial_of a) (first P (serial_of j) tail)) b (matches P 0 path) (Matches-from P 0 path b (above_in P w a b i o) h)
+      (ap (is_node (serial_of a)) e ∙ eq-eqb (serial_of a) (serial_of a) refl)
+
+  first_from : (path tail : List Step) → gives P 0 path tail First a ≡ true → (b : Node) × In b (above a) × (hits 0 path b ≡ true) × (first P (serial_of b) tail ≡ Some a)
+  first_from path tail h =
+      let f : Node → Bool = λ j. is_node (serial_of a) (first P (serial_of j) tail) in
+      let q = any_in f (matches P 0 path) h in
+      let m = Matches-in P 0 path q.0 q.1 in
+      let x = node_is (serial_of a) (first P (serial_of q.0) tail) q.2 in
+      let y = Matches-in P (serial_of q.0) tail x.0 (head_in (matches P (serial_of q.0) tail) x.0 x.1) in
+      let same : x.0 ≡ a = Numbered-same 0 P.nodes w.numbered x.0 a y.0 i x.2 in
+      let g : hits (serial_of q.0) tail a ≡ true = subst (λ (z : Node). hits (serial_of q.0) tail z ≡ true) same y.1 in
+      (q.0, hits_above P w q.0 tail a m.0 i g, m.1, x.1 ∙ ap (λ (z : Node). Some z) same)
+
+  gives_as : (r : ℕ) (rw : RoleRowTree) (k : RoleKind) → row_at plan.roles r ≡ Some rw → rw.kind ≡ k → gives P 0 (path_of plan rw.var) rw.tail k a ≡ true → given plan P a r ≡ true
+  gives_as r rw k e f h = by_row r rw e ∙ subst (λ (z : RoleKind). gives P 0 (path_of plan rw.var) rw.tail z a ≡ true) (sym f) h
+
+  role_to : (r : ℕ) → HasRole t.spots.items whole leading firsts r → (r < length plan.roles) × (given plan P a r ≡ true)
+  role_to r (inl h) =
+      let d = (whole_are r).0 h in
+      (row_within plan.roles r d.row d.role.at, gives_as r d.row Whole d.role.at (kind_whole d.row.kind d.row.tail d.role.same) d.hit)
+  role_to r (inr (inl f)) =
+      let u = f.is in
+      let e = ended plan t A r f.of Own (((A.linked f.of u.spot u.at).own r).0 u.member) in
+      let h : hits 0 (path_of plan e.0.var ++ tail_with e.0.kind e.0.tail) a ≡ true = subst (λ (z : List Step). hits 0 z a ≡ true) e.2 ((hits_are f.of).0 f.member).1 in
+      (row_within plan.roles r e.0 e.1.at, by_row r e.0 e.1.at ∙ own_to e.0.kind (path_of plan e.0.var) e.0.tail e.1.same h)
+  role_to r (inr (inr f)) =
+      let d = (found_are f.of).0 f.member in
+      let q = d.is in
+      let at : row_at plan.roles r ≡ Some q.row = subst (λ (z : ℕ). row_at plan.roles z ≡ Some q.row) f.is q.role.at in
+      (row_within plan.roles r q.row at, gives_as r q.row First at (kind_first q.row.kind q.row.tail q.role.same) (first_to (path_of plan q.row.var) q.row.tail d.context d.over q.hit q.is))
+
+  by_kind : (r : ℕ) (rw : RoleRowTree) → row_at plan.roles r ≡ Some rw → (k : RoleKind) → kind_with rw.kind rw.tail ≡ k → given plan P a r ≡ true → HasRole t.spots.items whole leading firsts r
+  by_kind r rw e Own s h =
+      let v = end_of plan t A r Own rw (record { at = e; same = s }) in
+      let q = some_at t.spots.items v.0 v.1 in
+      let g = own_from rw.kind (path_of plan rw.var) rw.tail s (sym (by_row r rw e) ∙ h) in
+      inr (inl (record { of = v.0; member = (hits_are v.0).1 (v.1, subst (λ (z : List Step). hits 0 z a ≡ true) (sym v.3) g); is = record { spot = q.0; at = q.1; member = ((A.linked v.0 q.0 q.1).own r).1 v.2 } }))
+  by_kind r rw e First s h =
+      let g = first_from (path_of plan rw.var) rw.tail (subst (λ (z : RoleKind). gives P 0 (path_of plan rw.var) rw.tail z a ≡ true) (kind_first rw.kind rw.tail s) (sym (by_row r rw e) ∙ h)) in
+      let f : Found = record { role = r; level = level g.0 } in
+      inr (inr (record { of = f; member = (found_are f).1 (record { context = g.0; over = g.1; at = refl; is = record { row = rw; role = record { at = e; same = s }; hit = g.2; is = g.3 } }); is = refl }))
+  by_kind r rw e Whole s h =
+      inl ((whole_are r).1 (record { row = rw; role = record { at = e; same = s }; hit = subst (λ (z : RoleKind). gives P 0 (path_of plan rw.var) rw.tail z a ≡ true) (kind_whole rw.kind rw.tail s) (sym (by_row r rw e) ∙ h) }))
+
+  role_from : (r : ℕ) → r < length plan.roles → given plan P a r ≡ true → HasRole t.spots.items whole leading firsts r
+  role_from r l h = let q = row_there plan.roles r l in by_kind r q.0 q.1 (kind_with q.0.kind q.0.tail) refl h
+
+  -- the roles that these tell, as a rising list
+  pub roles_told : (rs : List ℕ) → Climbs rs → Holds rs (HasRole t.spots.items whole leading firsts) → rs ≡ roles_given plan P a
+  roles_told rs c h = climbs_filtered (given plan P a) (length plan.roles) rs c (λ y j. role_to y ((h.has y).0 j)) (λ y l g. (h.has y).1 (role_from y l g))
+
+-- the roles that the row tells
+pub roles_are : (plan : PlanTree) (t : Spots) (A : AreSpots plan t) (P : Tree) (w : Grown P) (a : Node) (i : In a P.nodes) (rows : Rows) (row : Row) (R : IsRow plan P t.spots.items A.path rows row a) (rs : List ℕ) → Climbs rs
+    → Holds rs (HasRole t.spots.items (whole_at rows row) (hits_at rows row) (found_at rows row)) → rs ≡ roles_given plan P a
+roles_are plan t A P w a i rows row R rs c h = roles_told plan t A P w a i (whole_at rows row) (hits_at rows row) (found_at rows row) R.hits R.whole R.found rs c h

@@ -1,0 +1,7 @@
+use Rattle.std.proofs.Common.{[], take}
+use Rattle.matcher.specs.Lists.{From, Gains}
+use Rattle.matcher.specs.Rows.{IsLevelOf}
+use Rattle.matcher.proofs.found.contexts_found.Given as goal
+
+abbrev pub invariant-loop-one : goal.invariant-loop-one
+invariant-loop-one l = Gains [] l.levels.items (From (take l.one-index l.found) (IsLevelOf l.role))

@@ -1,0 +1,11 @@
+pub mod Lists
+pub mod Spots
+pub mod Growing
+pub mod Parts
+pub mod Rows
+pub mod Stacks
+pub mod Signs
+pub mod Ahead
+pub mod Row
+pub mod Matcher
+pub mod Entering
