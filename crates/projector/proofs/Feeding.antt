@@ -1,0 +1,150 @@
+-- What feeding a token makes of a projector.
+use Rattle.std.proofs.Common.{◌≡◌, ◌≤◌, ℕ, Bool, true, false, not, ◌&&◌, List, length, take, refl, sym, ◌∙◌, ap, subst, inl, inr, Some, None, Option, ◌==◌}
+use Rattle.std.specs.Prelude.{option_map, is_some, IsSome, Result, Ok, Err, OnOk, IfOk}
+use Rattle.gcx_base.specs.declared.memory.Memory.{Memory}
+use Rattle.projector.specs.declared.projector.Fed.{Fed}
+use Rattle.projector.specs.declared.projector.Fed.TheVariants.{Opened, Closed}
+use Rattle.std.specs.FinSet as set
+use Rattle.std.proofs.lemmas.Bool.{false≢true}
+use Rattle.gcx_base.specs.declared.kind.Kind.{Kind}
+use Rattle.gcx_base.specs.declared.kind.Kind.TheVariants.{Document, Element, Text}
+use Rattle.gcx_base.specs.declared.ids.Role.{Role}
+use Rattle.gcx_model.specs.Tree.{Node, Under, serial_of, Tree, Token, Start, Chars, End, grow, grow_at}
+use Rattle.gcx_model.specs.Run.{Action}
+use Rattle.gcx_model.specs.Held.{roles_given}
+use Rattle.gcx_model.specs.Growth.{may_come, level}
+use Rattle.gcx_model.specs.Past.{Past, IsPast, past_fed}
+use Rattle.gcx_laws.specs.Pasts.{Opens}
+use Rattle.node_store.specs.declared.store.Place.{Place}
+use Rattle.matcher.specs.Matcher.{Stands, token_for, past_grown}
+use Rattle.matcher.specs.declared.matcher.Matcher.{Matcher}
+use Rattle.buf_tree.specs.declared.ahead.Ahead.{Ahead}
+use Rattle.buf_tree.specs.Rows.{is_text, IsNode}
+use Rattle.buf_tree.specs.Shape.{Cell}
+use Rattle.buf_tree.specs.View.{View}
+use Rattle.buf_tree.specs.Calls.{numbers, new_row, new_roles, stays, with_new}
+use Rattle.buf_tree.specs.Stands.{StandsFor}
+use Rattle.projector.specs.declared.projector.Projector.{Projector}
+use Rattle.projector.specs.Signing.{AreDue, carried, with_more}
+use Rattle.projector.specs.Projector.{ahead_in, Projects, HasHeard, KeepsPlace, OpenedAlone, DoesBy, Changes}
+use Rattle.projector.proofs.Pasts.{is_open, reopened_same}
+use Rattle.projector.proofs.Waiting.{all_heard}
+use Rattle.projector.proofs.Grown.{behind, added_then, opens, heard_here, projects_fed, projects_ended}
+use Rattle.projector.proofs.Places.{Up, below_nodes, element_place, text_place}
+
+-- what telling the matcher of these statements makes
+abbrev pub Told : Matcher → Matcher → List Ahead → Type 0
+Told m0 m ws = (past : Past) (ns : List Node) → Stands m0 past false → AreDue past.plan past.tree ws ns → Stands m (with_more (carried ws ns) past) false
+
+-- the matcher hears of all that waits
+pub hears : (p : Projector) (m : Matcher) (v : View) (ws : List Ahead) → ws ≡ v.waiting → Told p.matcher m ws → (past : Past) → StandsFor v past → Projects p past → (t : Token) → may_come t past.tree ≡ true → HasHeard m past
+hears p m v ws e told past h q t c =
+    let a = is_open past.tree t c in
+    let r = reopened_same past.tree a.0 a.1 in
+    let s : Stands p.matcher (ahead_in past.tree (take past.fed past.acts) past) false = subst (λ (T : Tree). Stands p.matcher (ahead_in T (take past.fed past.acts) past) false) r q.matcher in
+    let x = all_heard past h.is_past v.waiting h.waiting in
+    let told' : Told p.matcher m v.waiting = subst (λ (z : List Ahead). Told p.matcher m z) e told in
+    let s' = told' (ahead_in past.tree (take past.fed past.acts) past) x.0 s x.1 in
+    record {
+      matcher = subst (λ (T : Tree). Stands m (ahead_in T past.acts past) false) (sym r) (subst (λ (A : List Action). Stands m (record { plan = past.plan; tree = past.tree; acts = A; fed = 0 }) false) x.2 s');
+    }
+
+-- the innermost open node is the one that is known, so it is no deeper
+pub shallow_one : (P : Tree) (a : Node) → P.at ≡ Some a → level a ≤ 1000 → (p : Node) → P.at ≡ Some p → level p ≤ 1000
+shallow_one P a e l p f = let g : Some a ≡ Some p = sym e ∙ f in let same : a ≡ p = cc in subst (λ (z : Node). level z ≤ 1000) same l
+
+module _ (past : Past) (is : IsPast past) (kind : Kind) (k : IsNode kind) (may : may_come (token_for kind) past.tree ≡ true) where
+  abbrev a : (n : Node) × (past.tree.at ≡ Some n)
+  a = is_open past.tree (token_for kind) may
+
+  -- some node is open then
+  open_then : (kind : Kind) → IsNode kind → (n : Node) → past.tree.at ≡ Some n → (b : Node) × ((grow (token_for kind) past.tree).at ≡ Some b)
+  open_then Document k n e = absurd k
+  open_then (Element v) k n e = (Under n (length past.tree.nodes) (Element v), ap (λ z. (grow_at z (Start v) past.tree).at) e)
+  open_then (Text v) k n e = (n, ap (λ z. (grow_at z (Chars v) past.tree).at) e)
+
+  pub projects_node : (p : Projector) (m : Matcher) → HasHeard m past → (m' : Matcher) → ((n : Node) → past.tree.at ≡ Some n → level n ≤ 1000) → ((q : Past) → Stands m q false → may_come (token_for kind) q.tree ≡ true → ((n : Node) → q.tree.at ≡ Some n → level n ≤ 1000) → Stands m' (past_grown (token_for kind) q) (is_text kind))
+      → (is_text kind ≡ true → (q : Past) → Stands m' q true → Stands p.matcher q false) → (is_text kind ≡ false → p.matcher ≡ m') → Projects p (past_fed (token_for kind) past)
+  projects_node p m h m' low enters leaves stays =
+      let s = enters (ahead_in past.tree past.acts past) (heard_here m past a.0 a.1 h) may low in
+      let b = open_then kind k a.0 a.1 in
+      projects_fed p past is (token_for kind) may b.0 b.1 (go (is_text kind) refl s)
+    where
+      go : (c : Bool) → is_text kind ≡ c → Stands m' (past_grown (token_for kind) (ahead_in past.tree past.acts past)) (is_text kind) → Stands p.matcher (past_grown (token_for kind) (ahead_in past.tree past.acts past)) false
+      go true e s = leaves e (past_grown (token_for kind) (ahead_in past.tree past.acts past)) (subst (λ (z : Bool). Stands m' (past_grown (token_for kind) (ahead_in past.tree past.acts past)) z) e s)
+      go false e s = subst (λ (z : Matcher). Stands z (past_grown (token_for kind) (ahead_in past.tree past.acts past)) false) (sym (stays e)) (subst (λ (z : Bool). Stands m' (past_grown (token_for kind) (ahead_in past.tree past.acts past)) z) e s)
+
+  pub does_node : (given : List Role) (count : ℕ) → count ≡ length past.tree.nodes → (m : Matcher) → HasHeard m past
+      → ((q : Past) (n : Node) → Stands m q false → may_come (token_for kind) q.tree ≡ true → Opens q.tree (token_for kind) n → numbers given ≡ roles_given q.plan (grow (token_for kind) q.tree) n)
+      → (n : Node) × Opens past.tree (token_for kind) n × (serial_of n ≡ count) × (numbers given ≡ roles_given past.plan (grow (token_for kind) past.tree) n)
+  does_node given count e m h told =
+      let n = Under a.0 (length past.tree.nodes) kind in
+      let o = opens past is (token_for kind) n (behind (token_for kind) past.tree ∙ added_then past kind k a.0 a.1) in
+      (n, o, sym e, told (ahead_in past.tree past.acts past) n (heard_here m past a.0 a.1 h) may o)
+
+pub node_place : (kept place now : Option Place) (v u : View) (q : ℕ) (past : Past) → StandsFor v past → (kind : Kind) (given : List Role) (stood : Past → Type 0) → OpenedAlone stood v u q (option_map (λ (p : Place). p.0) place) kind given
+    → KeepsPlace kept v.rows → (is_text kind ≡ true → now ≡ kept) → (is_text kind ≡ false → now ≡ place) → KeepsPlace now u.rows
+node_place kept place now v u q past h kind given stood o k text element = go (is_text kind) refl
+  where
+    rows : u.rows ≡ with_new (option_map (λ (p : Place). p.0) place) (new_row v q kind given o.ahead) v.rows
+    rows = ap (λ (z : View). z.rows) o.cleared ∙ o.opened.rows
+
+    held : is_text kind ≡ false → is_some (option_map (λ (p : Place). p.0) place) ≡ true
+    held f = o.opened.held ∙ ap (λ b. not (b && (set.len (new_roles given o.ahead) == 0))) f
+
+    at_place : (z : Option Place) → is_some (option_map (λ (p : Place). p.0) z) ≡ true → is_text kind ≡ false → KeepsPlace z (with_new (option_map (λ (p : Place). p.0) z) (new_row v q kind given o.ahead) v.rows)
+    at_place None s f = absurd (false≢true s)
+    at_place (Some p) s f = element_place v q p.0 kind given o.ahead f (below_nodes v past h)
+
+    go : (c : Bool) → is_text kind ≡ c → KeepsPlace now u.rows
+    go true e = subst (λ (z : Option Place). KeepsPlace z u.rows) (sym (text e)) (subst (λ (z : List Cell). KeepsPlace kept z) (sym rows) (text_place kept v q (option_map (λ (p : Place). p.0) place) kind given o.ahead e k))
+    go false e = subst (λ (z : Option Place). KeepsPlace z u.rows) (sym (element e)) (subst (λ (z : List Cell). KeepsPlace place z) (sym rows) (at_place place (held e) e))
+
+pub projects_end : (p : Projector) (m : Matcher) (v : View) (past : Past) (h : StandsFor v past) → may_come End past.tree ≡ true → (o : Option Place) → Up v past h (option_map (λ (p : Place). p.0) o)
+    → (IsSome o → (q : Past) (n : Node) (s : ℕ) (k : Kind) → Stands m q false → q.tree.at ≡ Some (Under n s k) → Stands p.matcher (past_grown End q) false) → (o ≡ None → p.matcher ≡ m) → HasHeard m past → Projects p (past_fed End past)
+projects_end p m v past h c None (inl t) up stays heard = projects_ended p past t.0 (subst (λ (z : Matcher). HasHeard z past) (sym (stays refl)) heard)
+projects_end p m v past h c (Some pl) (inl t) up stays heard = let e = t.1 in absurd (cc)
+projects_end p m v past h c None (inr (n, s, k, e, d, i, f, g)) up stays heard = absurd (cc)
+projects_end p m v past h c (Some pl) (inr (n, s, k, e, d, i, f, g)) up stays heard =
+    projects_fed p past h.is_past End c n (ap (λ z. (grow_at z End past.tree).at) e)
+    (up refl (ahead_in past.tree past.acts past) n s k (heard_here m past (Under n s k) e heard) e)
+
+-- the matcher has heard of all statements of each past for which the projector and the buffer stand
+abbrev pub Hears : Projector → Matcher → View → Token → Type 0
+Hears p m v t = (past : Past) → StandsFor v past → Projects p past → may_come t past.tree ≡ true → HasHeard m past
+
+-- so what holds where it has heard of them holds of the projector
+pub stands_by : (p p' : Projector) (m : Matcher) (v u : View) (t : Token) (r : Result Fed Memory) → Hears p m v t
+    → OnOk r ((past : Past) → StandsFor v past → HasHeard m past → may_come t past.tree ≡ true → Projects p' (past_fed t past) × StandsFor u (past_fed t past))
+    → OnOk r ((past : Past) → StandsFor v past → Projects p past → may_come t past.tree ≡ true → Projects p' (past_fed t past) × StandsFor u (past_fed t past))
+stands_by p p' m v u t (Ok x) a f = λ past h q c. f past h (a past h q c) c
+stands_by p p' m v u t (Err x) a f = f
+
+pub does_by : (p : Projector) (m : Matcher) (v : View) (t : Token) (r : Result Fed Memory) → Hears p m v t
+    → IfOk r (λ fed. (past : Past) → StandsFor v past → HasHeard m past → may_come t past.tree ≡ true → DoesBy fed t past)
+    → IfOk r (λ fed. (past : Past) → StandsFor v past → Projects p past → may_come t past.tree ≡ true → DoesBy fed t past)
+does_by p m v t (Ok x) a f = λ past h q c. f past h (a past h q c) c
+does_by p m v t (Err x) a f = f
+
+pub changes_by : (p : Projector) (m : Matcher) (v u : View) (t : Token) (fed : Fed) → Hears p m v t → Changes (HasHeard m) v u t fed → Changes (Projects p) v u t fed
+changes_by p m v u t (Opened s given) a c = record {
+  parent = c.parent;
+  below = c.below;
+  kind = c.kind;
+  is_node = c.is_node;
+  token = c.token;
+  at = c.at;
+  opened = record {
+    ahead = c.opened.ahead;
+    between = c.opened.between;
+    opened = c.opened.opened;
+    cleared = c.opened.cleared;
+    taken = λ past n h q may o. c.opened.taken past n h (a past h q (subst (λ (z : Token). may_come z past.tree ≡ true) c.token may)) may o;
+  };
+  serial = c.serial;
+}
+changes_by p m v u t (Closed s) a c = c
+
+pub changed_by : (p : Projector) (m : Matcher) (v u : View) (t : Token) (r : Result Fed Memory) → Hears p m v t → IfOk r (λ fed. Changes (HasHeard m) v u t fed) → IfOk r (λ fed. Changes (Projects p) v u t fed)
+changed_by p m v u t (Ok x) a f = changes_by p m v u t x a f
+changed_by p m v u t (Err x) a f = f

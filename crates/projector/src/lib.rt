@@ -1,0 +1,10 @@
+//! Tokens into a buffer: each new node with the roles that it is given.
+#![tactic(auto)]
+
+mod projector;
+mod signing;
+
+pub use projector::{Fed, Projector};
+
+#[cfg(test)]
+mod tests;
