@@ -1,0 +1,3 @@
+mod Feeds
+mod Offs
+mod Places

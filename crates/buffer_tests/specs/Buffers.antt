@@ -1,0 +1,24 @@
+-- What tests of buffers have fed.
+use Rattle.std.specs.Prelude.{◌≡◌, ℕ, true, List, map}
+use Rattle.gcx_base.specs.Limits.{full_limits}
+use Rattle.gcx_model.specs.Core.{PlanTree}
+use Rattle.gcx_model.specs.Past.{Past}
+use Rattle.gcx_model.specs.Seen.{seen_tree}
+use Rattle.doc_reader.specs.Standing.{ReaderView, Stands, said_of}
+use Rattle.doc_reader.specs.declared.token.Token.{Token}
+use Rattle.buf_tree.specs.View.{View}
+use Rattle.buf_tree.specs.Stands.{StandsFor}
+use Rattle.projector.specs.declared.projector.Projector.{Projector}
+use Rattle.projector.specs.Projector.{Projects, Places}
+
+-- The reader was given a whole document, and the tokens that it gave since were fed to the projector and the buffer.
+pub record IsFed (plan : PlanTree) (r : ReaderView) (p : Projector) (v : View) : Type 0 where
+  pub document : List ℕ
+  pub given : List Token
+  pub read : Stands r full_limits document true given
+  pub past : Past
+  pub plan_is : past.plan ≡ plan
+  pub tree_is : past.tree ≡ seen_tree (map said_of given)
+  pub stands : StandsFor v past
+  pub projects : Projects p past
+  pub place : Places p v
