@@ -1,5 +1,5 @@
 -- What a statement that is carried out makes of a buffer.
-use Rattle.std.proofs.Common.{◌≡◌, ◌==◌, ℕ, suc, ◌+◌, ◌<◌, Bool, true, false, cond, not, ◌&&◌, List, [], ◌∷◌, ◌++◌, length, map, refl, sym, ◌∙◌, ap, subst, inl, inr, ◌⊎◌, arith}
+use Rattle.std.proofs.Common.{◌≡◌, ◌==◌, ℕ, suc, ◌+◌, Bool, true, false, cond, not, ◌&&◌, List, [], ◌∷◌, ◌++◌, length, map, refl, sym, ◌∙◌, ap, subst, inl, inr, ◌⊎◌, arith}
 use Rattle.std.specs.Prelude.{◌↔◌, IsSome}
 use Rattle.std.specs.List.{filter}
 use Rattle.std.proofs.lemmas.List.{append-nil, map-append}
@@ -24,7 +24,7 @@ use Rattle.buf_tree.specs.Rows.{signed_for, IsDead}
 use Rattle.buf_tree.specs.Shape.{Store, Cell, num, cells, Rising, Shaped, with_at, at_place}
 use Rattle.buf_tree.specs.Ways.{BaseAbove, BaseBelow}
 use Rattle.buf_tree.specs.Purge.{is_gone, Keeps, Tidy, Purged}
-use Rattle.buf_tree.specs.View.{View, Kept, num_in, serial_at}
+use Rattle.buf_tree.specs.View.{View, Kept, capped, num_in, serial_at}
 use Rattle.buf_tree.specs.Calls.{Signed, role_count, left_out}
 use Rattle.buf_tree.specs.Sweep.{taken_by}
 use Rattle.buf_tree.specs.Withdraw.{Taking, Withdrawn}
@@ -38,7 +38,7 @@ use Rattle.buf_tree.proofs.Signing.{sign_cell, rows_signed}
 use Rattle.buf_tree.proofs.Losing as losing
 use Rattle.buf_tree.proofs.Losing.{is_base, roles_signed}
 use Rattle.buf_tree.proofs.Reading.{used}
-use Rattle.buf_tree.proofs.Taking.{length_map, bare, bare_alike, bare_rising}
+use Rattle.buf_tree.proofs.Taking.{bare, bare_alike, bare_rising}
 use Rattle.buf_tree.proofs.Withdrawing.{left_is, roles_counted}
 
 -- ---- the row signed
@@ -113,10 +113,8 @@ signed_by v u w k p loses rise rise' b h has = record {
         sym (same_num k p y.0) ∙ ap num y.2 ∙ (bare_alike loses k x.0).serial ∙ ap num x.2,
       );
   gone = h.leaves.gone ∙ (λ t. b.gone t ++ left t);
-  taken =
-      let e = roles_counted loses k u.rows w.rows h.leaves.left h.leaves.purged has in
-      let f = ap (role_count k) b.rows ∙ same_count k p k v.rows in
-      omega (arith, e, f, h.taken, b.taken);
+  fewer = (let e = count in omega arith);
+  taken = h.taken ∙ ap capped (let e = count in let f = b.taken in omega arith);
   nodes = h.nodes ∙ b.nodes;
   most = h.most ∙ b.most;
 }
@@ -126,6 +124,9 @@ signed_by v u w k p loses rise rise' b h has = record {
 
     rows : map both v.rows ≡ taken_by loses k u.rows
     rows = sym (map-map (with_at (signed_for k) p) (bare loses k) v.rows) ∙ ap (taken_by loses k) (sym b.rows)
+
+    count : length (filter loses u.rows) + role_count k w.rows ≡ role_count k v.rows
+    count = roles_counted loses k u.rows w.rows h.leaves.left h.leaves.purged has ∙ ap (role_count k) b.rows ∙ same_count k p k v.rows
 
     left : h.leaves.left ≡ left_out v.rows w.rows
     left = left_is both (λ c. sym (bare_alike loses k (with_at (signed_for k) p c)).serial ∙ same_num k p c) v.rows w.rows h.leaves.left rise
@@ -255,12 +256,6 @@ module _ (m0 m1 : Store) (v : View) (p : ℕ) (off : Off) (e0 : cells m0 ≡ v.r
 
   pub due_kept : Kept m1 gone cap count nodes
   due_kept = kept_signed m0 m1 off.role.0 p gone cap count nodes f h due.cell cell_there due.place
-
-  same_length : length (map (with_at (signed_for off.role.0) p) (cells m0)) ≡ length (cells m0)
-  same_length = length_map (with_at (signed_for off.role.0) p) (cells m0)
-
-  pub due_taken : (taken most : ℕ) → v.taken ≡ taken → v.taken + length v.rows < most → taken + length (cells m1) < most
-  due_taken taken most e l = omega (arith, e, l, ap length (cells_signed m0 m1 off.role.0 p f h.shape), same_length, ap length e0)
 
   module _ (others : Bool) (law : OthersLaw (cells m0) p off others) where
     pub due_taking : Taking (cells m1) p off others

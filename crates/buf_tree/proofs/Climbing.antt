@@ -6,13 +6,14 @@ use Rattle.std.proofs.lemmas.List.{append-nil, length-append, length-replicate}
 use Rattle.node_store.specs.declared.store.Place.{Place}
 use Rattle.std.specs.Prelude.{option_map, IsSome, IfSome}
 use Rattle.std.specs.FinMap.{get}
-use Rattle.std.proofs.lemmas.Bool.{and_parts, and_from, false≢true, eqb-true, eq-eqb, ne_eqb}
+use Rattle.std.proofs.lemmas.Bool.{and_parts, and_from, or_cases, false≢true, false_from_ne_true, eqb-true, eq-eqb, ne_eqb}
 use Rattle.gcx_base.specs.declared.kind.Kind.{Kind}
 use Rattle.gcx_base.specs.declared.steps.Step.{Step}
-use Rattle.gcx_model.specs.Tree.{Node, Root, Under, serial_of, above}
+use Rattle.gcx_model.specs.Tree.{Node, Root, Under, serial_of, above, within}
 use Rattle.gcx_model.specs.Paths.{hits}
 use Rattle.gcx_laws.proofs.Lists.{In, any_in, any_from}
 use Rattle.gcx_laws.proofs.Chains.{above_self, above_trans}
+use Rattle.gcx_laws.proofs.Freeze.{hits_within}
 use Rattle.node_store.specs.Rows.{Entry, parent_of}
 use Rattle.buf_tree.specs.declared.row.Row.{Row}
 use Rattle.buf_tree.specs.Shape.{Store, Cell, num, cells, Rising, Shaped}
@@ -113,6 +114,13 @@ module _ (m : Store) (s : Shaped m) where
 
 -- ---- whether steps lead from one row to another
 
+pub within_some : (n : ℕ) (m : Node) → within n m ≡ true → (j : Node) × In j (above m) × (serial_of j ≡ n)
+within_some n Root h = (Root, inl refl, eqb-true 0 n h)
+within_some n (Under p s k) h = elim (or_cases (s == n) (within n p) h) [
+  | inl e ↦ (Under p s k, inl refl, eqb-true s n e)
+  | inr w ↦ (let r = within_some n p w in (r.0, inr r.1, r.2))
+]
+
 -- steps that lead to n itself
 pub leads_same : (a : ℕ) (steps : List Step) (n : Node) → Descends n → leads (is_same n) a steps n ≡ hits a steps n
 leads_same a steps n d = bools _ _ to from
@@ -126,18 +134,26 @@ leads_same a steps n d = bools _ _ to from
     from : hits a steps n ≡ true → leads (is_same n) a steps n ≡ true
     from h = any_from (λ (j : Node). is_same n j && hits a steps j) n (above n) (above_self n) (and_from _ _ (eq-eqb _ _ refl) h)
 
--- on the way up from n to a
+-- steps lead to a node from itself or from one above it
+above_hit : (m : Store) (s : Shaped m) (a n : Node) (p q : ℕ) → NodeOf (cells m) p a → NodeOf (cells m) q n → (steps : List Step) → hits (serial_of a) steps n ≡ true → In a (above n)
+above_hit m s a n p q u v steps h =
+    let w = within_some (serial_of a) n (hits_within (serial_of a) steps n h) in
+    let d = tells_above (cells m) s.rising v.cell n w.0 v.among v.tells w.1 in
+    let same : d.0 ≡ u.cell = rising_same (cells m) s.rising d.0 u.cell d.1 u.among (tells_serial (cells m) d.0 w.0 d.2 ∙ w.2 ∙ sym (tells_serial (cells m) u.cell a u.tells)) in
+    subst (λ (x : Node). In x (above n)) (tells_same (cells m) s.rising u.cell w.0 a (subst (λ (c : Cell). Tells (cells m) c w.0) same d.2) u.tells) w.1
+
+-- on the way up from n, on which a isn't passed
 abbrev pub Leading : List Cell → (a n : Node) → List Step → Option ℕ → List Bool → Type 0
-Leading rows a n steps None flags = ⊥
-Leading rows a n steps (Some p) flags = (h : Node) × NodeOf rows p h × In h (above n) × In a (above h) × Flags (is_same n) (serial_of h) steps n flags
+Leading rows a n steps None flags = In a (above n) → ⊥
+Leading rows a n steps (Some p) flags = (h : Node) × NodeOf rows p h × In h (above n) × (In a (above n) → In a (above h)) × Flags (is_same n) (serial_of h) steps n flags
 
 -- what a step up makes of the flags
 abbrev pub Raised : List Step → Kind → Bool → List Bool → List Bool → Type 0
 Raised steps kind end old new = (ends : Node → Bool) (n p : Node) (s : ℕ) → Descends n → In (Under p s kind) (above n) → end ≡ ends p → Flags ends s steps n old → Flags ends (serial_of p) steps n new
 
 module _ (m : Store) (s : Shaped m) (a n : Node) (steps : List Step) where
-  pub leading_start : (p : ℕ) → NodeOf (cells m) p n → In a (above n) → Leading (cells m) a n steps (Some p) (replicate (length steps) false ++ true ∷ [])
-  leading_start p u i = (n, u, above_self n, i, flags_start steps (is_same n) n (tells_descends (cells m) u.cell n u.tells) true (sym (eq-eqb _ _ refl)))
+  pub leading_start : (p : ℕ) → NodeOf (cells m) p n → Leading (cells m) a n steps (Some p) (replicate (length steps) false ++ true ∷ [])
+  leading_start p u = (n, u, above_self n, (λ i. i), flags_start steps (is_same n) n (tells_descends (cells m) u.cell n u.tells) true (sym (eq-eqb _ _ refl)))
 
   pub leading_found : (p from : ℕ) (flags : List Bool) → NodeOf (cells m) from a → Descends n → (p == from) ≡ true → Leading (cells m) a n steps (Some p) flags → get_or flags 0 false ≡ hits (serial_of a) steps n
   leading_found p from flags u d e l =
@@ -149,7 +165,8 @@ module _ (m : Store) (s : Shaped m) (a n : Node) (steps : List Step) where
       → (o : Option ℕ) → o ≡ parent_of m p → (r : Row) → option_map (λ (e : Entry Row). e.payload) (get m p) ≡ Some r → Raised steps r.kind false flags new → Leading (cells m) a n steps o new
   leading_on p from flags new u d f l None e r h raise =
       let root : l.0 ≡ Root = no_parent_node m s p l.0 l.1 (sym e) in
-      let i : In a (above Root) = subst (λ (x : Node). In a (above x)) root l.3 in
+      λ j.
+      let i : In a (above Root) = subst (λ (x : Node). In a (above x)) root (l.3 j) in
       elim i [ inl z ↦ apart (root ∙ z) | inr z ↦ absurd z ]
     where
       apart : l.0 ≡ a → ⊥
@@ -157,12 +174,14 @@ module _ (m : Store) (s : Shaped m) (a n : Node) (steps : List Step) where
   leading_on p from flags new u d f l (Some q) e r h raise =
       let k = parent_node m s p q l.0 l.1 (sym e) r h in
       let here : In (Under k.0 (serial_of l.0) r.kind) (above n) = subst (λ (x : Node). In x (above n)) k.1 l.2 in
-      let on : In a (above (Under k.0 (serial_of l.0) r.kind)) = subst (λ (x : Node). In a (above x)) k.1 l.3 in
       let up : In k.0 (above n) = above_trans k.0 (Under k.0 (serial_of l.0) r.kind) n (inr (above_self k.0)) here in
-      (k.0, k.2, up, elim on [ inl z ↦ absurd (apart (k.1 ∙ z)) | inr z ↦ z ], raise (is_same n) n k.0 (serial_of l.0) d here (sym (other k.0 (serial_of l.0) r.kind here)) l.4)
+      (k.0, k.2, up, (λ j. on k.0 (serial_of l.0) r.kind k.1 (l.3 j)), raise (is_same n) n k.0 (serial_of l.0) d here (sym (other k.0 (serial_of l.0) r.kind here)) l.4)
     where
       apart : l.0 ≡ a → ⊥
       apart z = false≢true (sym f ∙ eq-eqb p from (one_place m s p from a (subst (λ (x : Node). NodeOf (cells m) p x) z l.1) u))
+
+      on : (g : Node) (v : ℕ) (w : Kind) → l.0 ≡ Under g v w → In a (above l.0) → In a (above g)
+      on g v w z i = elim (subst (λ (x : Node). In a (above x)) z i) [ inl y ↦ absurd (apart (z ∙ y)) | inr y ↦ y ]
 
       -- what is above a node isn't the node
       other : (g : Node) (v : ℕ) (w : Kind) → In (Under g v w) (above n) → is_same n g ≡ false
@@ -170,6 +189,9 @@ module _ (m : Store) (s : Shaped m) (a n : Node) (steps : List Step) where
           let b = above_low n (Under g v w) d i in
           let c = (descends_above n (Under g v w) d i).0 in
           ne_eqb (serial_of g) (serial_of n) (λ z. omega arith)
+
+  pub leading_missed : (from p : ℕ) (flags : List Bool) → NodeOf (cells m) from a → NodeOf (cells m) p n → Leading (cells m) a n steps None flags → false ≡ hits (serial_of a) steps n
+  leading_missed from p flags u v l = sym (false_from_ne_true (hits (serial_of a) steps n) (λ h. l (above_hit m s a n from p u v steps h)))
 
 -- a list that is filled again
 pub refilled : (items new : List Bool) (len : ℕ) → len ≡ length items → length new ≡ length items → take len (new ++ drop (length new) items) ≡ new

@@ -28,3 +28,4 @@ pub mod Upto
 pub mod Taking
 pub mod Sweeping
 pub mod Sweeps
+pub mod Counts

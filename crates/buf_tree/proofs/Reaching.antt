@@ -1,10 +1,10 @@
 -- What a statement reaches over rows, told by the walks up.
-use Rattle.std.proofs.Common.{◌≡◌, ℕ, ◌<◌, Bool, true, false, cond, ◌&&◌, List, [], ◌∷◌, ◌++◌, refl, sym, ◌∙◌, ap, subst, inl, inr, arith, eqb, get_or, Some}
+use Rattle.std.proofs.Common.{◌≡◌, ℕ, ◌<◌, Bool, true, false, cond, ◌&&◌, List, [], ◌∷◌, ◌++◌, refl, sym, ◌∙◌, ap, subst, inl, inr, arith, get_or, Some}
 use Rattle.std.specs.List.{filter}
 use Rattle.std.specs.Prelude.{◌↔◌}
-use Rattle.std.proofs.lemmas.Bool.{or_cases, and_parts, and_from, false≢true, eqb-true, eq-eqb, cases_Bool, false_from_ne_true}
+use Rattle.std.proofs.lemmas.Bool.{and_parts, and_from, false≢true, eqb-true, eq-eqb, cases_Bool, false_from_ne_true}
 use Rattle.gcx_base.specs.declared.steps.Step.{Step}
-use Rattle.gcx_model.specs.Tree.{Tree, Node, Root, Under, serial_of, above, within}
+use Rattle.gcx_model.specs.Tree.{Tree, Node, serial_of, above, within}
 use Rattle.gcx_model.specs.Paths.{any, hits, reach, first, head, matches}
 use Rattle.gcx_model.specs.Core.{RoleKind, Own, First, Whole}
 use Rattle.gcx_model.specs.Held.{is_node, gives}
@@ -17,17 +17,10 @@ use Rattle.buf_tree.specs.Shape.{Store, Cell, cells, Shaped}
 use Rattle.buf_tree.specs.Ways.{Tells, Descends, is_same, leads, TreeOf, NoneBefore, Flags, tail_ends, tail_steps, ends_at}
 use Rattle.buf_tree.proofs.Feeding.{bools}
 use Rattle.buf_tree.proofs.Ways.{chain_within, leads_none}
-use Rattle.buf_tree.proofs.Climbing.{tells_serial, tells_descends, tells_above, tells_same, leads_same}
+use Rattle.buf_tree.proofs.Climbing.{within_some, tells_serial, tells_descends, tells_above, tells_same, leads_same}
 use Rattle.buf_tree.proofs.Shaping.{rising_same}
 
 -- ---- paths in two parts
-
-within_some : (n : ℕ) (m : Node) → within n m ≡ true → (j : Node) × In j (above m) × (serial_of j ≡ n)
-within_some n Root h = (Root, inl refl, eqb-true 0 n h)
-within_some n (Under p s k) h = elim (or_cases (eqb s n) (within n p) h) [
-  | inl e ↦ (Under p s k, inl refl, eqb-true s n e)
-  | inr w ↦ (let r = within_some n p w in (r.0, inr r.1, r.2))
-]
 
 hits_join : (n : ℕ) (p q : List Step) (j m : Node) → In j (above m) → hits n p j ≡ true → hits (serial_of j) q m ≡ true → hits n (p ++ q) m ≡ true
 hits_join n [] q j m i a b = subst (λ k. hits k q m ≡ true) (eqb-true _ _ a) b

@@ -46,7 +46,7 @@ base_waits o [] rel tail k h = ap (λ b. (not b || false) && true) h
 base_waits o (s ∷ p) rel tail k h = absurd (true≢false (sym h ∙ none_given s (p ++ rel) tail k))
 
 module _ (core : BodyTree) (good : Good core) (plan : PlanTree) (pl : Placed core plan) where
-  none_taken : (r : ℕ) → given plan opening Root r ≡ true → on_off (all_signed (path_of plan) opening [] Root) (statement_of plan r) ≡ false
+  pub none_taken : (r : ℕ) → given plan opening Root r ≡ true → on_off (all_signed (path_of plan) opening [] Root) (statement_of plan r) ≡ false
   none_taken r h = go (statement_of plan r) refl
     where
       go : (o : Option OffTree) → statement_of plan r ≡ o → on_off (all_signed (path_of plan) opening [] Root) o ≡ false

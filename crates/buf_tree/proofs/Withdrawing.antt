@@ -22,7 +22,7 @@ use Rattle.buf_tree.specs.Purge.{is_gone, Tidy, TidyBut, Falling, Purged, Purged
 use Rattle.buf_tree.specs.Sweep.{taken_by, Swept}
 use Rattle.gcx_model.specs.declared.item.Off.{Off}
 use Rattle.buf_tree.specs.Withdraw.{Taking, Withdrawn}
-use Rattle.buf_tree.specs.View.{View, Ordered, Kept, Ready}
+use Rattle.buf_tree.specs.View.{View, Ordered, Kept, Ready, capped}
 use Rattle.buf_tree.specs.Calls.{role_count, left_out}
 use Rattle.buf_tree.proofs.Shaping.{get_of, held_in, shaped}
 use Rattle.buf_tree.proofs.Changes.{In-map, In-mapped, Rising-filtered, shape_changed}
@@ -410,7 +410,7 @@ pub swept_of : (m0 m1 : Store) (xs : List Cell) (p : ℕ) (off : Off) (others : 
 swept_of m0 m1 xs p off others k g0 g1 res e h = subst (λ (zs : List Cell). (t : Taking zs p off others) → Swept m0 m1 p t.loses k g0 g1 res) e h
 
 pub withdrawn_by : (v w : View) (m0 m1 m2 : Store) (p : ℕ) (off : Off) (others : Bool) (k : ℕ) (g0 g1 : List ℕ) (res : ℕ) → cells m0 ≡ v.rows → cells m2 ≡ w.rows → g0 ≡ v.gone → ((u : Taking (cells m0) p off others) → Swept m0 m1 p u.loses k g0 g1 res) → Cleared m1 m2 g1 w.gone
-    → w.taken ≡ v.taken + res → w.waiting ≡ v.waiting → w.nodes ≡ v.nodes → w.most ≡ v.most → w.loans ≡ v.loans → (t : Taking v.rows p off others) → Withdrawn v w t.loses k
+    → w.taken ≡ capped (v.taken + res) → w.waiting ≡ v.waiting → w.nodes ≡ v.nodes → w.most ≡ v.most → w.loans ≡ v.loans → (t : Taking v.rows p off others) → Withdrawn v w t.loses k
 withdrawn_by v w m0 m1 m2 p off others k g0 g1 res e f g h c taken waiting nodes most loans t =
     let s = swept_of m0 m1 v.rows p off others k g0 g1 res e h t in
     let l = swept_cleared m0 m1 m2 p t.loses k g0 g1 w.gone res s c in
@@ -420,7 +420,7 @@ withdrawn_by v w m0 m1 m2 p off others k g0 g1 res e f g h c taken waiting nodes
         gone = l.1 ∙ ap (λ z. z ++ l.0) g;
         purged = subst (λ (zs : List Cell). Purged (taken_by t.loses k zs) w.rows l.0) e (subst (λ (zs : List Cell). Purged (taken_by t.loses k (cells m0)) zs l.0) f l.2);
       };
-      taken = taken ∙ ap (λ z. v.taken + z) (s.taken ∙ ap (λ zs. length (filter t.loses zs)) e);
+      taken = taken ∙ ap (λ z. capped (v.taken + z)) (s.taken ∙ ap (λ zs. length (filter t.loses zs)) e);
       waiting = waiting;
       nodes = nodes;
       most = most;

@@ -1,5 +1,5 @@
 -- What each call of a buffer makes of the rows.
-use Rattle.std.specs.Prelude.{◌≡◌, ◌+◌, ◌==◌, ℕ, Bool, true, List, [], ◌∷◌, ◌++◌, Option, Some, None, length, map, filter, not, max, reverse, is_some}
+use Rattle.std.specs.Prelude.{◌≡◌, ◌+◌, ◌-◌, ◌≤◌, ◌==◌, ℕ, Bool, true, List, [], ◌∷◌, ◌++◌, Option, Some, None, length, map, filter, not, max, reverse, is_some}
 use Rattle.std.specs.List.{list_any}
 use Rattle.std.specs.FinSet as set
 use Rattle.std.specs.Ordering.{nat_cmp}
@@ -11,7 +11,7 @@ use Rattle.buf_tree.specs.declared.row.Row.{Row}
 use Rattle.buf_tree.specs.Rows.{is_bare, below_row, shut_row, untaken}
 use Rattle.buf_tree.specs.Shape.{Cell, num, at_place, with_at}
 use Rattle.buf_tree.specs.Purge.{Purged}
-use Rattle.buf_tree.specs.View.{View, num_in, level_in}
+use Rattle.buf_tree.specs.View.{View, capped, num_in, level_in}
 
 abbrev pub numbers : List Role → List ℕ
 numbers rs = map (λ (r : Role). r.0) rs
@@ -70,7 +70,7 @@ pub record Opened (v w : View) (q : ℕ) (at : Option ℕ) (kind : Kind) (given 
   pub free : (c : Cell) → In c v.rows → at ≡ Some c.place → ⊥
   pub waiting : w.waiting ≡ v.waiting
   pub nodes : w.nodes ≡ v.nodes + 1
-  pub taken : w.taken ≡ v.taken + length ahead
+  pub taken : w.taken ≡ capped (v.taken + length ahead)
   pub most : w.most ≡ most_new at v
 
 -- `close_node`
@@ -93,7 +93,7 @@ pub record Untaken (v w : View) (p k : ℕ) : Type 0 where
   pub leaves : Left v w (map (with_at (untaken k) p) v.rows)
   pub waiting : w.waiting ≡ v.waiting
   pub nodes : w.nodes ≡ v.nodes
-  pub taken : w.taken ≡ v.taken + 1
+  pub taken : w.taken ≡ capped (v.taken + 1)
   pub most : w.most ≡ v.most
 
 -- the rows with the role k
@@ -108,6 +108,7 @@ left_out before now = map num (reverse (filter (λ c. not (list_any (λ d. num d
 pub record Signed (v w : View) (k : ℕ) : Type 0 where
   pub places : (c : Cell) → In c w.rows → (d : Cell) × In d v.rows × (d.place ≡ c.place) × (num d ≡ num c)
   pub gone : w.gone ≡ v.gone ++ left_out v.rows w.rows
-  pub taken : w.taken + role_count k w.rows ≡ v.taken + role_count k v.rows
+  pub fewer : role_count k w.rows ≤ role_count k v.rows
+  pub taken : w.taken ≡ capped (v.taken + (role_count k v.rows - role_count k w.rows))
   pub nodes : w.nodes ≡ v.nodes
   pub most : w.most ≡ v.most

@@ -1,4 +1,4 @@
--- Which rows a step reaches from a row.
+-- Which rows a step reaches from a row, and from where a search for them may go on.
 use Rattle.std.specs.Prelude.{◌≡◌, ◌<◌, ◌≤◌, ◌⊎◌, ℕ, zero, suc, true, List}
 use Rattle.gcx_base.specs.declared.steps.Axis.{Axis}
 use Rattle.gcx_base.specs.declared.steps.Axis.TheVariants.{Child, Descendant}
@@ -6,6 +6,7 @@ use Rattle.gcx_base.specs.declared.steps.Step.{Step}
 use Rattle.gcx_model.specs.Members.{In}
 use Rattle.gcx_model.specs.Paths.{passes}
 use Rattle.buf_tree.specs.Shape.{Cell, num}
+use Rattle.buf_tree.specs.View.{InUse}
 
 -- the row d is a child of the row c
 abbrev pub IsChild : Cell → Cell → Type 0
@@ -41,3 +42,9 @@ pub record FirstReached (xs : List Cell) (c : Cell) (s : Step) (after p : ℕ) :
 -- from where a search may go on: the row itself, a child of it, or for a descendant step any row below it
 abbrev pub IsFrom : List Cell → Axis → Cell → Cell → Type 0
 IsFrom xs axis c d = (c ≡ d) ⊎ Lies xs axis c d
+
+-- a search for matches of a step on this axis from the row at the place p may go on behind the row at the place q
+pub record GoesFrom (xs : List Cell) (p : ℕ) (axis : Axis) (q : ℕ) : Type 0 where
+  pub top : InUse xs p
+  pub from : InUse xs q
+  pub way : IsFrom xs axis top.cell from.cell

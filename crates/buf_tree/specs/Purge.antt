@@ -1,4 +1,4 @@
--- What leaves with a node that nothing keeps any more.
+-- What leaves with a node that nothing keeps any more. Public clauses speak of `Purged` and the buffer's invariant of `Tidy`; the rest follows the code.
 use Rattle.std.specs.Prelude.{◌≡◌, ◌==◌, ◌<◌, ◌⊎◌, ℕ, Bool, true, not, List, [], ◌∷◌, ◌++◌, Option, Some, filter, IsSome}
 use Rattle.gcx_model.specs.Members.{In}
 use Rattle.gcx_model.specs.Paths.{any}

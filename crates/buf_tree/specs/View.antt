@@ -1,5 +1,5 @@
 -- What contracts see of a buffer, and what holds of its store.
-use Rattle.std.specs.Prelude.{◌≡◌, ◌<◌, ◌≤◌, ◌+◌, ℕ, true, List, Option, Some, None, length, IsSome, refl}
+use Rattle.std.specs.Prelude.{◌≡◌, ◌<◌, ◌≤◌, ◌+◌, ◌-◌, ◌^◌, min, ℕ, true, List, Option, Some, None, length, IsSome, refl}
 use Rattle.std.specs.Coded.{Coded, code_by, coded×, coded_ℕ, coded_list}
 use Rattle.std.specs.FinMap.{get}
 use Rattle.gcx_model.specs.Members.{In}
@@ -8,6 +8,10 @@ use Rattle.buf_tree.specs.declared.ahead.Ahead.{Ahead}
 use Rattle.buf_tree.specs.Shape.{Store, Cell, num, cells, Shaped, at_place}
 use Rattle.buf_tree.specs.Walk.{Nested}
 use Rattle.buf_tree.specs.Purge.{Tidy, TidyBut}
+
+-- A count stands still at the end of its type, that of 128 bits.
+abbrev pub capped : ℕ → ℕ
+capped n = min n (2 ^ 128 - 1)
 
 -- the rows in document order, each with its place; the departures and the statements that wait, in order; the number of nodes so far, and of roles taken back; and of the store the greatest number of rows and the loans
 pub record View : Type 0 where

@@ -1,4 +1,4 @@
--- What the walks over the rows answer. This follows the code: private functions alone speak of it.
+-- What the walks over the rows answer. This follows the code: only private functions and the buffer's invariant, which has `Nested`, speak of it.
 use Rattle.std.specs.Prelude.{◌≡◌, ◌<◌, ◌≤◌, ◌⊎◌, ℕ, suc, true, ltb, List, length, filter, Option, Some, None}
 use Rattle.gcx_base.specs.declared.steps.Test.{Test}
 use Rattle.gcx_model.specs.Paths.{passes}

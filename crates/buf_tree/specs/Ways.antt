@@ -1,4 +1,4 @@
--- What the rows tell of paths: of which node a row is, and whether steps lead from one node to another.
+-- What the rows tell of paths: of which node a row is, and whether steps lead from one node to another. Public clauses speak of `NodeOf` and `is_waiting`; the rest follows the code.
 use Rattle.std.specs.Prelude.{◌≡◌, ◌<◌, ◌≤◌, ◌+◌, ◌==◌, ◌&&◌, ◌||◌, not, ℕ, Bool, true, false, List, [], length, drop, get_or}
 use Rattle.std.specs.FinSet as set
 use Rattle.gcx_base.specs.declared.kind.Kind.TheVariants.{Document}

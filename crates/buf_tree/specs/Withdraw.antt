@@ -8,7 +8,7 @@ use Rattle.gcx_model.specs.Placed.{is_own}
 use Rattle.gcx_model.specs.Tree.{Tree}
 use Rattle.buf_tree.specs.Shape.{Cell}
 use Rattle.buf_tree.specs.Ways.{TreeOf}
-use Rattle.buf_tree.specs.View.{View}
+use Rattle.buf_tree.specs.View.{View, capped}
 use Rattle.buf_tree.specs.Calls.{Left}
 use Rattle.buf_tree.specs.Sweep.{LosesBy, taken_by}
 
@@ -30,7 +30,7 @@ pub record Taking (xs : List Cell) (p : ℕ) (off : Off) (others : Bool) : Type 
 -- the role k is taken from the rows that lose it, and what nothing keeps then leaves
 pub record Withdrawn (v w : View) (loses : Cell → Bool) (k : ℕ) : Type 0 where
   pub leaves : Left v w (taken_by loses k v.rows)
-  pub taken : w.taken ≡ v.taken + length (filter loses v.rows)
+  pub taken : w.taken ≡ capped (v.taken + length (filter loses v.rows))
   pub waiting : w.waiting ≡ v.waiting
   pub nodes : w.nodes ≡ v.nodes
   pub most : w.most ≡ v.most

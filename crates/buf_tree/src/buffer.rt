@@ -34,7 +34,7 @@ use std::marker::Model;
 /// The nodes of a document that are open or have a role in their subtree.
 ///
 /// A contract sees the rows in document order with their places. Freeing takes no memory: there is room for the
-/// departure of each row.
+/// departure of each row. `Memory` is want of memory, and the only error of its calls.
 #[derive(Drop)]
 pub struct Buffer<N: NodeStore<Row>> {
     pub(crate) nodes: N,
@@ -144,9 +144,8 @@ impl<N: NodeStore<Row>> Buffer<N> {
     ) -> Result<Option<Place>, Memory>
         requires parent { Innermost self.old.rows parent.0 }
         requires kind { IsNode kind }
-        requires nodes { self.old.nodes ≤ 2 ^ 40 }
+        requires nodes { self.old.nodes ≤ 2 ^ 40 + 1 }
         requires depth { level_in (at_place parent.0 self.old.rows) ≤ 1000 }
-        requires taken { self.old.taken + length ahead < 2 ^ 128 }
         ensures opened { IfOk result (λ p. Opened self.old self.new parent.0 (option_map (λ q. q.0) p) kind given ahead) }
         ensures stands { OnOk result ((past : Past) → StandsFor self.old past → may_come (token_for kind) past.tree ≡ true → GivenTo past (token_for kind) given ahead → StandsFor self.new (past_grown (token_for kind) past)) }
         ensures err { OnErr result (self.new ≡ self.old) }
@@ -158,7 +157,7 @@ impl<N: NodeStore<Row>> Buffer<N> {
         if is_bare(&kind, &roles) {
             self.gone.push_reserved(Serial(self.count));
             self.count += 1;
-            self.taken += taken;
+            self.taken = self.taken.saturating_add(taken);
             return Ok(None);
         }
         let above = self.nodes.payload(parent);
@@ -166,7 +165,7 @@ impl<N: NodeStore<Row>> Buffer<N> {
         let place = add_row(&mut self.nodes, parent, row)?;
         self.held += 1;
         self.count += 1;
-        self.taken += taken;
+        self.taken = self.taken.saturating_add(taken);
         Ok(Some(place))
     }
 
@@ -186,12 +185,11 @@ impl<N: NodeStore<Row>> Buffer<N> {
     /// Takes a role, which the node has, back from it. Then what nothing keeps leaves. Takes no memory.
     pub fn take_role(&mut self, place: Place, role: Role)
         requires role { HasRole self.old.rows place.0 role.0 }
-        requires taken { self.old.taken + 1 < 2 ^ 128 }
         ensures untaken { Untaken self.old self.new place.0 role.0 }
         ensures loans { self.new.loans ≡ self.old.loans }
     {
         untake(&mut self.nodes, place, role);
-        self.taken += 1;
+        self.taken = self.taken.saturating_add(1);
         let held = settle(&mut self.nodes, &mut self.gone, place, self.held);
         self.held = held;
     }
@@ -214,7 +212,8 @@ impl<N: NodeStore<Row>> Buffer<N> {
     /// The serial of the row at the place. Takes no memory.
     pub fn serial(&self, place: Place) -> Serial
         requires { InUse self.now.rows place.0 }
-        ensures { result.0 ≡ serial_at place.0 self.now.rows }
+        ensures serial { result.0 ≡ serial_at place.0 self.now.rows }
+        ensures row { (c : Cell) → In c self.now.rows → c.place ≡ place.0 → num c ≡ result.0 }
     {
         self.nodes.payload(place).serial()
     }
@@ -236,7 +235,7 @@ impl<N: NodeStore<Row>> Buffer<N> {
         is_waiting(self.nodes.payload(place), off)
     }
 
-    /// A cursor at the row at the place. Takes no memory.
+    /// A cursor over the store, at the row at the place. Takes no memory.
     pub fn at(&self, place: Place) -> At<'_, N, Row>
         requires { InUse self.now.rows place.0 }
         ensures place { result.place ≡ place }
@@ -245,14 +244,14 @@ impl<N: NodeStore<Row>> Buffer<N> {
         At::new(&self.nodes, place)
     }
 
-    /// The number of rows. Takes no memory.
+    /// The number of rows, which is that of the nodes held. Takes no memory.
     pub fn held(&self) -> u64
         ensures { result ≡ length self.now.rows }
     {
         self.held as u64
     }
 
-    /// The number of nodes so far. Takes no memory.
+    /// The number of nodes so far, the document node among them. Takes no memory.
     pub fn nodes(&self) -> u64
         ensures { result ≡ self.now.nodes }
     {
@@ -274,7 +273,7 @@ impl<N: NodeStore<Row>> Buffer<N> {
         self.gone.clear();
     }
 
-    /// The number of roles that were taken back from nodes so far. Takes no memory.
+    /// The number of roles that were taken back from nodes so far. It stands still at 2^128 - 1. Takes no memory.
     pub fn taken(&self) -> u128
         ensures { result ≡ self.now.taken }
     {

@@ -34,7 +34,6 @@ impl<N: NodeStore<Row>> Buffer<N> {
     pub fn sign_off(&mut self, alloc: Global, place: Place, off: &Off) -> Result<(), Memory>
         requires due { Due self.old place.0 off.now }
         requires behind { IsBehind self.old place.0 off.now }
-        requires taken { self.old.taken + length self.old.rows < 2 ^ 128 }
         ensures stands { OnOk result ((past : Past) → StandsFor self.old past → In (off_tree off.now) (offs_in past.plan.body) → StandsFor self.new (past_acted (Offed (off_tree off.now) (serial_at place.0 self.old.rows)) past)) }
         ensures signed { OnOk result (Signed self.old self.new off.now.role.0) }
         ensures waiting { OnOk result (self.new.waiting ≡ self.old.waiting) }
@@ -55,7 +54,6 @@ impl<N: NodeStore<Row>> Buffer<N> {
     pub fn sign_ahead(&mut self, alloc: Global, place: Place, off: &Off) -> Result<(), Memory>
         requires due { Due self.old place.0 off.now }
         requires ahead { IsAhead self.old place.0 off.now }
-        requires taken { self.old.taken + length self.old.rows < 2 ^ 128 }
         ensures stands { OnOk result ((past : Past) → StandsFor self.old past → In (off_tree off.now) (offs_in past.plan.body) → StandsFor self.new (past_acted (Offed (off_tree off.now) (serial_at place.0 self.old.rows)) past)) }
         ensures signed { OnOk result (Signed self.old self.new off.now.role.0) }
         ensures err { OnErr result (self.new ≡ self.old) }
@@ -76,13 +74,12 @@ impl<N: NodeStore<Row>> Buffer<N> {
     /// nothing keeps then. `others` says whether another base may keep it, and then there is room for the walks.
     fn withdraw(&mut self, place: Place, off: &Off, others: bool, trail: &mut Trail)
         requires taking { Taking self.old.rows place.0 off.now others }
-        requires taken { self.old.taken + length self.old.rows < 2 ^ 128 }
         requires room { others ≡ true → (length off.now.tail + 1 ≤ vec_capacity trail.old.tails) × (length off.now.rel + 1 ≤ vec_capacity trail.old.rels) × (length off.now.tail + 1 ≤ vec_capacity trail.old.again) }
         ensures withdrawn { (t : Taking self.old.rows place.0 off.now others) → Withdrawn self.old self.new t.loses off.now.role.0 }
     {
         let before = self.gone.len();
         let taken = take_back(&mut self.nodes, &mut self.gone, off, place, others, trail);
-        self.taken += taken as u128;
+        self.taken = self.taken.saturating_add(taken as u128);
         let left = self.held - (self.gone.len() - before);
         let held = settle(&mut self.nodes, &mut self.gone, place, left);
         self.held = held;

@@ -45,7 +45,8 @@ impl Trail {
     }
 }
 
-fn make_room(flags: &mut Vec<bool>, steps: &[Step]) -> Result<(), Memory>
+/// Room for a walk with these steps.
+pub(crate) fn make_room(flags: &mut Vec<bool>, steps: &[Step]) -> Result<(), Memory>
     ensures { OnOk result (length steps.now + 1 ≤ vec_capacity flags.new) }
 {
     flags.clear();

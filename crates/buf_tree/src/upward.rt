@@ -65,8 +65,8 @@ fn go_up(flags: &mut [bool], steps: &[Step], kind: &Kind, end: bool)
     flags[steps.len()] = end;
 }
 
-/// Whether the steps lead from the row at `from` to the row at `place`, which is that row or stands below it.
-fn leads<N: NodeStore<Row>>(
+/// Whether the steps lead from the row at `from` to the row at `place`.
+pub(crate) fn leads<N: NodeStore<Row>>(
     nodes: &N,
     from: Place,
     steps: &[Step],
@@ -76,7 +76,7 @@ fn leads<N: NodeStore<Row>>(
     requires shape { Shaped (N.rows nodes.now) }
     requires there { IsSome (map.get (N.rows nodes.now) place.0) }
     requires room { length steps.now + 1 ≤ vec_capacity flags.old }
-    ensures leads { (a n : Node) → NodeOf (cells (N.rows nodes.now)) from.0 a → NodeOf (cells (N.rows nodes.now)) place.0 n → In a (above n) → result ≡ hits (serial_of a) steps.now n }
+    ensures leads { (a n : Node) → NodeOf (cells (N.rows nodes.now)) from.0 a → NodeOf (cells (N.rows nodes.now)) place.0 n → result ≡ hits (serial_of a) steps.now n }
     ensures room { vec_capacity flags.old ≤ vec_capacity flags.new }
 {
     begin(flags, steps.len(), true);

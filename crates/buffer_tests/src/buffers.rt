@@ -33,7 +33,7 @@ use std::process::Abort;
 use std::test::Fail;
 use xq_parse::parse;
 
-/// More nodes than the tests feed, and more roles than they take back.
+/// More nodes than the tests feed.
 const MANY: u64 = 1_000_000;
 
 /// A query, a document, a script, and what is told.
@@ -163,7 +163,7 @@ fn feed_one<N: NodeStore<Row>>(
     ensures { OnOk result ((plan : PlanTree) → IsFed plan reader.old projector.old buffer.old → IsFed plan reader.new projector.new buffer.new) }
 {
     let taken = buffer.taken();
-    if buffer.nodes() > MANY || taken > MANY as u128 {
+    if buffer.nodes() > MANY {
         return Err("too many nodes")?;
     }
     let Some(token) = reader.next() else {
@@ -217,9 +217,6 @@ fn carry_out<N: NodeStore<Row>>(
     requires fed { (plan : PlanTree) × (reader : ReaderView) × (projector : Projector) × IsFed plan reader projector buffer.old × In (off_tree off.now) (offs_in plan.body) }
     ensures { OnOk result ((plan : PlanTree) (reader : ReaderView) (projector : Projector) → IsFed plan reader projector buffer.old → In (off_tree off.now) (offs_in plan.body) → IsFed plan reader projector buffer.new) }
 {
-    if buffer.held() > MANY || buffer.taken() > MANY as u128 {
-        return Err("too many nodes")?;
-    }
     if !buffer.is_due(place, off) {
         return Err("not due")?;
     }

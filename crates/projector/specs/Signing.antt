@@ -1,4 +1,4 @@
--- The statements that waited, as actions of which the matcher hears (this project's).
+-- The statements that waited, as actions of which the matcher hears (this project's). This follows the code: private functions alone speak of it.
 use Rattle.std.specs.Prelude.{◌≡◌, List, [], ◌∷◌, ◌++◌}
 use Rattle.gcx_model.specs.Tree.{Tree, Node, serial_of}
 use Rattle.gcx_model.specs.Paths.{matches}

@@ -32,7 +32,7 @@ use matcher::Matcher;
 use node_store::{At, NodeStore, Place};
 use std::alloc::Global;
 
-/// What a token did.
+/// What a token did, with the node's number in document order.
 #[derive(Drop, Debug)]
 pub enum Fed {
     /// A node was opened and given these roles.
@@ -41,7 +41,8 @@ pub enum Fed {
     Closed(Serial),
 }
 
-/// Feeds the tokens of a document to a buffer: it tells which roles each new node has.
+/// Feeds the tokens of a document to a buffer: it tells which roles each new node has. `Memory` is want of memory, and
+/// the only error of its calls.
 #[derive(Drop, Debug)]
 pub struct Projector {
     matcher: Matcher,
@@ -50,7 +51,7 @@ pub struct Projector {
 }
 
 impl Projector {
-    /// A projector at the open document node.
+    /// A projector for the plan, at the open document node.
     pub fn new(alloc: Global, plan: &Plan) -> Result<Projector, Memory>
         ensures stands { IfOk result (λ p. (core : BodyTree) → Good core → Placed core (plan_tree plan.now) → Projects p (opening_past (plan_tree plan.now))) }
         ensures place { IfOk result (λ p. (v : View) (given : List Role) → Started v given → Places p v) }
@@ -59,7 +60,7 @@ impl Projector {
         Ok(Projector { matcher, at: None })
     }
 
-    /// The roles of the document node.
+    /// The roles of the document node, by rising number.
     pub fn document(&self, alloc: Global) -> Result<Given, Memory>
         ensures { (past : Past) → Projects self.now past → IfOk result (λ given. numbers given ≡ roles_given past.plan past.tree Root) }
     {
@@ -79,9 +80,8 @@ impl Projector {
     ) -> Result<Fed, Memory>
         requires place { Places self.old buffer.old }
         requires may { MayBeFed buffer.old (said_of token) }
-        requires nodes { buffer.old.nodes ≤ 2 ^ 40 }
+        requires nodes { buffer.old.nodes ≤ 2 ^ 40 + 1 }
         requires depth { (c : Cell) → In c buffer.old.rows → c.row.is_open ≡ true → c.row.level ≤ 1000 }
-        requires taken { buffer.old.taken + 2 ^ 64 < 2 ^ 128 }
         ensures stands { OnOk result ((past : Past) → StandsFor buffer.old past → Projects self.old past → may_come (said_of token) past.tree ≡ true → Projects self.new (past_fed (said_of token) past) × StandsFor buffer.new (past_fed (said_of token) past)) }
         ensures place { OnOk result (Places self.new buffer.new) }
         ensures fed { IfOk result (λ fed. (past : Past) → StandsFor buffer.old past → Projects self.old past → may_come (said_of token) past.tree ≡ true → DoesBy fed (said_of token) past) }
@@ -108,9 +108,8 @@ impl Projector {
         requires place { KeepsPlace self.old.at buffer.old.rows }
         requires may { MayBeFed buffer.old (token_for kind) }
         requires kind { IsNode kind }
-        requires nodes { buffer.old.nodes ≤ 2 ^ 40 }
+        requires nodes { buffer.old.nodes ≤ 2 ^ 40 + 1 }
         requires depth { (c : Cell) → In c buffer.old.rows → c.row.is_open ≡ true → c.row.level ≤ 1000 }
-        requires taken { buffer.old.taken + 2 ^ 64 < 2 ^ 128 }
         ensures stands { OnOk result ((past : Past) → StandsFor buffer.old past → HasHeard self.old.matcher past → may_come (token_for kind) past.tree ≡ true → Projects self.new (past_fed (token_for kind) past) × StandsFor buffer.new (past_fed (token_for kind) past)) }
         ensures place { OnOk result (KeepsPlace self.new.at buffer.new.rows) }
         ensures fed { IfOk result (λ fed. (past : Past) → StandsFor buffer.old past → HasHeard self.old.matcher past → may_come (token_for kind) past.tree ≡ true → DoesBy fed (token_for kind) past) }
@@ -187,10 +186,9 @@ fn open_below<N: NodeStore<Row>>(
 ) -> Result<(Option<Place>, Given), Memory>
     requires parent { Innermost buffer.old.rows parent.0 }
     requires kind { IsNode kind }
-    requires nodes { buffer.old.nodes ≤ 2 ^ 40 }
+    requires nodes { buffer.old.nodes ≤ 2 ^ 40 + 1 }
     requires depth { level_in (at_place parent.0 buffer.old.rows) ≤ 1000 }
     requires levels { (c : Cell) → In c buffer.old.rows → c.row.is_open ≡ true → c.row.level ≤ 1000 }
-    requires taken { buffer.old.taken + 2 ^ 64 < 2 ^ 128 }
     ensures matcher { OnOk result ((past : Past) → Stands matcher.old past false → may_come (token_for kind) past.tree ≡ true → ((p : Node) → past.tree.at ≡ Some p → level p ≤ 1000) → Stands matcher.new (past_grown (token_for kind) past) (is_text kind)) }
     ensures given { IfOk result (λ x. (past : Past) (n : Node) → Stands matcher.old past false → may_come (token_for kind) past.tree ≡ true → Opens past.tree (token_for kind) n → numbers x.1 ≡ roles_given past.plan (grow (token_for kind) past.tree) n) }
     ensures opened { IfOk result (λ x. OpenedAlone (HasHeard matcher.old) buffer.old buffer.new parent.0 (option_map (λ p. p.0) x.0) kind x.1) }

@@ -1,14 +1,12 @@
-//! The matches of a step among the rows of a buffer.
+//! The matches of a step among the rows of a buffer, and where steps lead.
 ghost use Rattle.std.specs.Prelude.{◌≡◌, IfSome};
 ghost use Rattle.std.specs.FinMap as map;
-ghost use Rattle.gcx_model.specs.Members.{In};
-ghost use Rattle.buf_tree.specs.Shape.{Cell};
 ghost use Rattle.buf_tree.specs.View.{InUse};
-ghost use Rattle.buf_tree.specs.Match.{IsFrom};
+ghost use Rattle.buf_tree.specs.Match.{GoesFrom};
 
 use super::{begin, feed, place_of, plan_of, read};
 use buf_tree::{Buffer, Row};
-use gcx_base::{Axis, Name, Serial, Step, Test};
+use gcx_base::{Axis, Name, Serial, Step, Steps, Test};
 use node_store::{NodeStore, Place, SlabNodes};
 use raw_nodes::RawNodes;
 use std::alloc::Global;
@@ -37,6 +35,27 @@ const MATCHES: [Match; 16] = [
     (4, b"/.", 5, Some(6)),
     (2, b">.", 3, None),
     (1, b"/#", 1, None),
+];
+
+/// A node, steps as those of a match, another node, and whether they lead there.
+type Way = (u64, &'static [&'static [u8; 2]], u64, bool);
+
+// Over the same.
+const WAYS: [Way; 14] = [
+    (1, &[], 1, true),
+    (1, &[], 2, false),
+    (0, &[b"/a"], 1, true),
+    (0, &[b"/a", b"/b"], 2, true),
+    (0, &[b"/a", b"/b"], 5, false),
+    (0, &[b"/a", b">b"], 5, true),
+    (0, &[b">c", b"/b"], 5, true),
+    (0, &[b">c", b"/b"], 7, false),
+    (0, &[b">*", b">*", b">b"], 5, true),
+    (0, &[b">*", b">*", b">b"], 7, false),
+    (0, &[b"/a", b"/c"], 5, false),
+    (1, &[b">#"], 6, true),
+    (2, &[b">b"], 5, false),
+    (5, &[b"/c"], 4, false),
 ];
 
 fn step_of(alloc: Global, axis: u8, test: u8) -> Result<Step, Fail> {
@@ -84,15 +103,12 @@ fn from_behind<N: NodeStore<Row>>(
     serial: u64,
 ) -> Option<Place>
     requires { InUse buffer.now.rows place.0 }
-    ensures used { IfSome result (λ p. InUse buffer.now.rows p.0) }
-    ensures from { IfSome result (λ p. (c d : Cell) → In c buffer.now.rows → In d buffer.now.rows → c.place ≡ place.0 → d.place ≡ p.0 → IsFrom buffer.now.rows axis c d) }
+    ensures { IfSome result (λ p. GoesFrom buffer.now.rows place.0 axis p.0) }
 {
     let step = Step {
         axis,
         test: Test::AnyNode,
     };
-    // As the cursor has it, the place is that of one row.
-    let _cursor = buffer.at(place);
     buffer.next_match(place, &step, Serial(serial))
 }
 
@@ -100,8 +116,6 @@ fn from_behind<N: NodeStore<Row>>(
 fn found_from_top<N: NodeStore<Row>>(buffer: &Buffer<N>, place: Place, step: &Step) -> Option<u64>
     requires { InUse buffer.now.rows place.0 }
 {
-    // As the cursor has it, the place is that of one row.
-    let _cursor = buffer.at(place);
     serial_of(buffer, buffer.match_behind(place, step, place))
 }
 
@@ -139,6 +153,30 @@ fn is_found<N: NodeStore<Row>>(
     Ok(())
 }
 
+fn steps_of(alloc: Global, letters: &[&[u8; 2]]) -> Result<Steps, Fail> {
+    let mut steps = Steps::new(alloc);
+    for step in letters {
+        let [axis, test] = **step;
+        steps.push(step_of(alloc, axis, test)?)?;
+    }
+    Ok(steps)
+}
+
+fn is_way<N: NodeStore<Row>>(
+    rt: &impl Abort,
+    alloc: Global,
+    buffer: &Buffer<N>,
+    flags: &mut Vec<bool>,
+    (from, letters, to, want): Way,
+) -> Result<(), Fail> {
+    let steps = steps_of(alloc, letters)?;
+    let top = place_of(buffer, from)?;
+    let end = place_of(buffer, to)?;
+    let leads = buffer.leads(top, steps.items(), end, flags)?;
+    assert_eq!(rt; leads, want, "{from} to {to}");
+    Ok(())
+}
+
 fn are_found<N: NodeStore<Row> + Drop>(rt: &impl Abort, alloc: Global, nodes: N) -> Result<(), Fail>
     requires { N.rows nodes ≡ map.empty }
 {
@@ -157,11 +195,15 @@ fn are_found<N: NodeStore<Row> + Drop>(rt: &impl Abort, alloc: Global, nodes: N)
     for case in MATCHES {
         is_found(rt, alloc, &buffer, case)?;
     }
+    let mut flags = Vec::new(alloc);
+    for case in WAYS {
+        is_way(rt, alloc, &buffer, &mut flags, case)?;
+    }
     Ok(())
 }
 
 #[test]
-fn matches_are_those_of_the_table(rt: HostRuntime) -> Result<(), Fail> {
+fn matches_and_ways_are_those_of_the_tables(rt: HostRuntime) -> Result<(), Fail> {
     let alloc = rt.alloc();
     are_found(&rt, alloc, SlabNodes::new(alloc))?;
     are_found(&rt, alloc, RawNodes::new(alloc))

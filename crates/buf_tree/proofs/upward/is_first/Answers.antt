@@ -28,7 +28,7 @@ pub returns-then-leads-clause-first : goal.returns-then-leads-clause-first
 returns-then-leads-clause-first g c a n u v i = (
   (λ e. absurd (false≢true e)),
   (λ none. passing_lost _ c.requires.shape c.requires.nested a n c.args.steps.now c.args.from.0 c.args.place.0 u v i _ (sym c.is_same.ensures ∙ c.if-is_same.false) (rw c.in-Some.is at c.rows.invariant.within) (rw c.in-Some.is at (c.rows.invariant.walk a n u v i))
-      (λ j w k. sym c.if-leads.true ∙ c.leads.ensures.leads a j u w k) none),
+      (λ j w k. sym c.if-leads.true ∙ c.leads.ensures.leads a j u w) none),
 )
 
 pub after-at-requires-clause-within : goal.after-at-requires-clause-within
@@ -50,5 +50,5 @@ rows-preserved g c =
       room = omega (arith, c.rows.invariant.room, c.leads.ensures.room);
       within = all_on _ c.requires.shape c.requires.nested d.0 h.0 c.args.from.0 _ d.1 d.2 b;
       walk = λ a n u v i. passing_on _ c.requires.shape c.requires.nested a n c.args.steps.now c.args.from.0 c.args.place.0 u v i _ (sym c.is_same.ensures ∙ c.if-is_same.false) (rw c.in-Some.is at c.rows.invariant.within) (rw c.in-Some.is at (c.rows.invariant.walk a n u v i))
-          (λ j w k. sym c.if-leads.false ∙ c.leads.ensures.leads a j u w k) _ c.after-at.ensures;
+          (λ j w k. sym c.if-leads.false ∙ c.leads.ensures.leads a j u w) _ c.after-at.ensures;
     }

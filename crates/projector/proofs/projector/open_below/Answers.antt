@@ -16,9 +16,6 @@ use Rattle.projector.proofs.Grown.{heard_here, given_to, opened_node}
 use Rattle.projector.proofs.projector.open_below.Given.{Over}
 use Rattle.projector.proofs.projector.open_below.Goals as goal
 
-pub open_node-requires-clause-taken : goal.open_node-requires-clause-taken
-open_node-requires-clause-taken g c = let f = c.in_ok-ahead.ensures.few in let t = c.requires.taken in omega arith
-
 -- what the matcher tells of the new node is what the buffer asks
 gives : (g : Over) (c : goal.After-clear_waiting g) (past : Past) → StandsFor c.args.buffer.now past → HasHeard c.args.matcher.now past → may_come (token_for c.args.kind) past.tree ≡ true → GivenTo past (token_for c.args.kind) c.in_ok-copy.copy c.in_ok-ahead.ahead
 gives g c past h heard may =

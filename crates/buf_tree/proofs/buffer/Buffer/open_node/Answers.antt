@@ -2,7 +2,7 @@ use Rattle.std.proofs.Common.{arith, ◌≡◌, sym, ◌∙◌, ap, length, ◌+
 use Rattle.std.proofs.lemmas.List.{append-nil}
 use Rattle.buf_tree.specs.declared.row.Row.{Row}
 use Rattle.buf_tree.specs.Rows.{serials, is_bare, below_row}
-use Rattle.buf_tree.specs.View.{View}
+use Rattle.buf_tree.specs.View.{View, capped}
 use Rattle.buf_tree.specs.Calls.{new_row}
 use Rattle.buf_tree.proofs.Keeping.{kept_bare, kept_opened, kept_same, cells_opened, alive_new, serials_push, length_serials, free_place, place_in, more_rows}
 use Rattle.buf_tree.proofs.Reading.{used, serial_is, level_is, innermost_used, less_same}
@@ -29,7 +29,7 @@ returns-then-is_bare-clause-opened g c = record {
   free = λ d i e. absurd (cc);
   waiting = ap (λ (v : View). v.waiting) c.self.view_is;
   nodes = ap (λ (v : View). v.nodes + 1) c.self.view_is;
-  taken = ap (λ (v : View). v.taken + length c.items-3.result.now) c.self.view_is ∙ ap (λ (xs : _). c.args.self.now.taken + length xs) c.items-3.ensures.same;
+  taken = c.saturating_add-self-inside.ensures ∙ ap (λ (v : View). capped (v.taken + length c.items-3.result.now)) c.self.view_is ∙ ap (λ (xs : _). capped (c.args.self.now.taken + length xs)) c.items-3.ensures.same;
   most = ap (λ (v : View). v.most) c.self.view_is;
 }
 
@@ -69,7 +69,7 @@ returns-clause-opened g c =
       free = λ d i f. free_place _ _ _ e c.self.invariant.shape c.in_ok-place.ensures.free d i (cc);
       waiting = ap (λ (v : View). v.waiting) c.self.view_is;
       nodes = ap (λ (v : View). v.nodes + 1) c.self.view_is;
-      taken = ap (λ (v : View). v.taken + length c.items-3.result.now) c.self.view_is ∙ ap (λ (xs : _). c.args.self.now.taken + length xs) c.items-3.ensures.same;
+      taken = c.saturating_add-self-inside-2.ensures ∙ ap (λ (v : View). capped (v.taken + length c.items-3.result.now)) c.self.view_is ∙ ap (λ (xs : _). capped (c.args.self.now.taken + length xs)) c.items-3.ensures.same;
       most = c.in_ok-place.ensures.most ∙ (λ t. max (m t) (more t));
     }
 

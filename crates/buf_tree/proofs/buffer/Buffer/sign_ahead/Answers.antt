@@ -2,7 +2,7 @@ use Rattle.std.proofs.Common.{refl, sym, ◌∙◌, ap, ◌++◌, ◌∷◌, []}
 use Rattle.buf_tree.specs.declared.row.Row.{Row}
 use Rattle.buf_tree.specs.View.{View}
 use Rattle.buf_tree.proofs.Reading.{row_at}
-use Rattle.buf_tree.proofs.Acting.{due_there, due_kept, due_taking, due_taken, due_signed, due_ahead}
+use Rattle.buf_tree.proofs.Acting.{due_there, due_kept, due_taking, due_signed, due_ahead}
 use Rattle.buf_tree.proofs.buffer.Buffer.sign_ahead.Goals as goal
 
 pub has_other_base-others-requires-clause-there : goal.has_other_base-others-requires-clause-there
@@ -16,9 +16,6 @@ invariant_of-self-2 g c = due_kept _ _ _ _ c.args.off.now (ap (λ (v : View). v.
 
 pub withdraw-requires-clause-taking : goal.withdraw-requires-clause-taking
 withdraw-requires-clause-taking g c = due_taking _ _ _ _ c.args.off.now (ap (λ (v : View). v.rows) c.self.view_is) _ _ _ _ c.self.invariant c.in_ok-sign.ensures.ok c.requires.due _ c.has_other_base-others.ensures
-
-pub withdraw-requires-clause-taken : goal.withdraw-requires-clause-taken
-withdraw-requires-clause-taken g c = due_taken _ _ _ _ c.args.off.now (ap (λ (v : View). v.rows) c.self.view_is) _ _ _ _ c.self.invariant c.in_ok-sign.ensures.ok c.requires.due _ _ (sym (ap (λ (v : View). v.taken) c.self.view_is)) c.requires.taken
 
 pub returns-clause-stands : goal.returns-clause-stands
 returns-clause-stands g c =

@@ -1,5 +1,5 @@
 use Rattle.std.proofs.Common.{refl, ◌∙◌, ◌+◌, ap, subst}
-use Rattle.buf_tree.specs.View.{View}
+use Rattle.buf_tree.specs.View.{View, capped}
 use Rattle.buf_tree.specs.Rows.{serials}
 use Rattle.buf_tree.specs.Purge.{Cleared}
 use Rattle.buf_tree.proofs.Keeping.{role_there, ready_untaken, cells_untaken, left_by_purge}
@@ -21,6 +21,6 @@ returns-clause-untaken g c = record {
       (subst (λ gone. Cleared (g.N.NodeStore.rows c.untake.new.nodes) (g.N.NodeStore.rows c.settle-held.new.nodes) gone (serials c.settle-held.new.gone.items)) (ap (λ (v : View). v.gone) c.self.view_is) c.settle-held.ensures.cleared);
   waiting = ap (λ (v : View). v.waiting) c.self.view_is;
   nodes = ap (λ (v : View). v.nodes) c.self.view_is;
-  taken = ap (λ (v : View). v.taken + 1) c.self.view_is;
+  taken = c.saturating_add-self-inside.ensures ∙ ap (λ (v : View). capped (v.taken + 1)) c.self.view_is;
   most = c.settle-held.ensures.most ∙ c.untake.ensures.most ∙ ap (λ (v : View). v.most) c.self.view_is;
 }

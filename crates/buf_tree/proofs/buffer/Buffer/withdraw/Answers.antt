@@ -1,5 +1,5 @@
 use Rattle.std.proofs.Common.{arith, refl, sym, ◌∙◌, ◌+◌, ◌-◌, ap}
-use Rattle.buf_tree.specs.View.{View}
+use Rattle.buf_tree.specs.View.{View, capped}
 use Rattle.buf_tree.proofs.Keeping.{length_serials}
 use Rattle.buf_tree.proofs.Withdrawing.{gone_longer, swept_of, ready_swept, withdrawn_by}
 use Rattle.buf_tree.proofs.buffer.Buffer.withdraw.Goals as goal
@@ -32,7 +32,7 @@ pub returns : goal.returns
 returns g c = record {
   withdrawn = withdrawn_by c.args.self.now _ (g.N.NodeStore.rows c.self.inside.nodes) (g.N.NodeStore.rows c.take_back-taken.new.nodes) (g.N.NodeStore.rows c.settle-held.new.nodes) _ _ _ _ _ _ _
       (ap (λ (v : View). v.rows) c.self.view_is) refl (ap (λ (v : View). v.gone) c.self.view_is) c.take_back-taken.ensures.swept c.settle-held.ensures.cleared
-      (ap (λ (v : View). v.taken + c.take_back-taken.result) c.self.view_is)
+      (c.saturating_add-self-inside.ensures ∙ ap (λ (v : View). capped (v.taken + c.take_back-taken.result)) c.self.view_is)
       (ap (λ (v : View). v.waiting) c.self.view_is)
       (ap (λ (v : View). v.nodes) c.self.view_is)
       (c.settle-held.ensures.most ∙ c.take_back-taken.ensures.most ∙ ap (λ (v : View). v.most) c.self.view_is)

@@ -1,0 +1,5 @@
+use Rattle.run_laws.proofs.Feeds as from
+use Rattle.run_laws.proofs.feeding.matches_grow.Goals as goal
+
+pub returns : goal.returns
+returns c = from.matches_grow

@@ -1,0 +1,4 @@
+pub mod Bindings
+pub mod Feeding
+pub mod Peaks
+pub mod Sums
