@@ -1,9 +1,10 @@
-//! The program: it makes the real shelf and the standard streams, takes its words and ends with the exit status.
+//! The program: it makes the real shelf, the standard streams and the store of nodes, takes its words and ends with the exit status.
 #![tactic(auto)]
 
 use gcx_base::Text;
 use gcx_cmd::{Status, gcx_main};
 use gcx_io::{FileShelf, StdErr, StdOut};
+use raw_nodes::RawNodes;
 use std::env;
 use std::io::ErrorKind;
 use std::process::ExitCode;
@@ -30,7 +31,15 @@ fn main(rt: HostRuntime) -> ExitCode {
             let mut files = FileShelf::new(rt);
             let mut out = StdOut::new(rt);
             let mut err = StdErr::new(rt);
-            let status = gcx_main(rt.alloc(), &words, &mut files, &mut out, &mut err);
+            let mut nodes = RawNodes::new(rt.alloc());
+            let status = gcx_main(
+                rt.alloc(),
+                &words,
+                &mut files,
+                &mut out,
+                &mut err,
+                &mut nodes,
+            );
             ExitCode::from(status.code())
         }
         Err(code) => ExitCode::from(code),

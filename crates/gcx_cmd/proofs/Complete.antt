@@ -11,7 +11,7 @@ use Rattle.gcx_model.specs.Query.{ExprTree}
 use Rattle.signoff_place.specs.Refused.{refusal_of}
 use Rattle.doc_laws.proofs.Unique.{fault_one}
 use Rattle.gcx_io.specs.Shelf.{Names, content_of, IsMissing}
-use Rattle.gcx_cmd.specs.Main.{IsRun, IsQuery, IsOneQuery, IsDocument, SaysOfQuery, SaysOfDocument, AttachesQuery, StopsDocument, QueryFaultOf}
+use Rattle.gcx_cmd.specs.Main.{IsRun, IsQuery, IsOneQuery, IsDocument, SaysOfQuery, SaysOfDocument, AttachesQuery, AttachesDocument, QueryFaultOf}
 use Rattle.gcx_cmd.proofs.Handles.{at_most_one}
 use Rattle.gcx_cmd.specs.declared.status.Status.{Status}
 use Rattle.gcx_cmd.specs.declared.status.Status.TheVariants.{Ok, Usage, QueryRefused, DocumentRefused, ReadFault, WriteFault, Memory}
@@ -73,27 +73,27 @@ complete_from Memory q d says_q says_d good_q good_d not_read not_write = inr re
 
 -- the document is refused, and the query isn't
 document_refused_from : (status : Status) (query document : List ℕ) (f : DocFault) → SaysOfQuery status query → SaysOfDocument status document → IsQuery query → FaultIs full_limits document true (o.Some f)
-    → (status ≡ ReadFault → ⊥) → (status ≡ DocumentRefused f) ⊎ (status ≡ Memory)
-document_refused_from Ok q d f says_q says_d good_q bad_d not_read = absurd (no_some f (fault_one full_limits d true o.None (o.Some f) says_d bad_d))
-document_refused_from Usage q d f says_q says_d good_q bad_d not_read = absurd says_q
-document_refused_from (QueryRefused g) q d f says_q says_d good_q bad_d not_read = absurd (refused_not q g says_q good_q)
-document_refused_from (DocumentRefused g) q d f says_q says_d good_q bad_d not_read = inl (ap DocumentRefused (same_fault g f (fault_one full_limits d true (o.Some g) (o.Some f) says_d bad_d)))
+    → (status ≡ ReadFault → ⊥) → (status ≡ WriteFault → ⊥) → (status ≡ DocumentRefused f) ⊎ (status ≡ Memory)
+document_refused_from Ok q d f says_q says_d good_q bad_d not_read not_write = absurd (no_some f (fault_one full_limits d true o.None (o.Some f) says_d bad_d))
+document_refused_from Usage q d f says_q says_d good_q bad_d not_read not_write = absurd says_q
+document_refused_from (QueryRefused g) q d f says_q says_d good_q bad_d not_read not_write = absurd (refused_not q g says_q good_q)
+document_refused_from (DocumentRefused g) q d f says_q says_d good_q bad_d not_read not_write = inl (ap DocumentRefused (same_fault g f (fault_one full_limits d true (o.Some g) (o.Some f) says_d bad_d)))
   where
     same_fault : (g f : DocFault) → o.Some g ≡ o.Some f → g ≡ f
     same_fault g f e = cc
-document_refused_from ReadFault q d f says_q says_d good_q bad_d not_read = absurd (not_read refl)
-document_refused_from WriteFault q d f says_q says_d good_q bad_d not_read = absurd (no_some f (fault_one full_limits d true o.None (o.Some f) says_d bad_d))
-document_refused_from Memory q d f says_q says_d good_q bad_d not_read = inr refl
+document_refused_from ReadFault q d f says_q says_d good_q bad_d not_read not_write = absurd (not_read refl)
+document_refused_from WriteFault q d f says_q says_d good_q bad_d not_read not_write = absurd (not_write refl)
+document_refused_from Memory q d f says_q says_d good_q bad_d not_read not_write = inr refl
 
--- a run that stops at the document has a query
-pub says_of_query : (status : Status) (query : List ℕ) (before after : ℕ) → StopsDocument status before after → IsOneQuery query → SaysOfQuery status query
-says_of_query Ok q before after stop good = absurd stop
-says_of_query Usage q before after stop good = absurd stop
-says_of_query (QueryRefused f) q before after stop good = absurd stop
-says_of_query (DocumentRefused f) q before after stop good = good
-says_of_query ReadFault q before after stop good = tt
-says_of_query WriteFault q before after stop good = absurd stop
-says_of_query Memory q before after stop good = tt
+-- a run that came to the document has a query
+pub says_of_query : (status : Status) (query : List ℕ) (before after : ℕ) → AttachesDocument status before after → IsOneQuery query → SaysOfQuery status query
+says_of_query Ok q before after came good = good
+says_of_query Usage q before after came good = absurd came
+says_of_query (QueryRefused f) q before after came good = absurd came
+says_of_query (DocumentRefused f) q before after came good = good
+says_of_query ReadFault q before after came good = tt
+says_of_query WriteFault q before after came good = good
+says_of_query Memory q before after came good = tt
 
 pub same_run : (words : List (List ℕ)) (q d q' d' : List ℕ) → IsRun words q d → IsRun words q' d' → (q ≡ q') × (d ≡ d')
 same_run words q d q' d' a b = (cc, cc)
@@ -111,14 +111,15 @@ complete_run status names words cq cd q d query document rose_read rose_write ru
     (λ is. ⊎_elim not_read (⊎_elim (there names cq query at_q) (there names cd document at_d)) (read is))
     (λ is. not_write (write is))
 
-pub document_refused_run : (status : Status) (names : Names) (words : List (List ℕ)) (cq cd q d query document : List ℕ) (f : DocFault) (rose : Type 0)
+pub document_refused_run : (status : Status) (names : Names) (words : List (List ℕ)) (cq cd q d query document : List ℕ) (f : DocFault) (rose_read rose_write : Type 0)
     → IsRun words cq cd → IsRun words q d → content_of names q ≡ o.Some query → content_of names d ≡ o.Some document → IsQuery query → FaultIs full_limits document true (o.Some f)
     → ((q : List ℕ) → content_of names cq ≡ o.Some q → SaysOfQuery status q) → ((d : List ℕ) → content_of names cd ≡ o.Some d → SaysOfDocument status d)
-    → (status ≡ ReadFault → rose ⊎ (IsMissing names cq ⊎ IsMissing names cd)) → (rose → ⊥)
+    → (status ≡ ReadFault → rose_read ⊎ (IsMissing names cq ⊎ IsMissing names cd)) → (status ≡ WriteFault → rose_write) → (rose_read → ⊥) → (rose_write → ⊥)
     → (status ≡ DocumentRefused f) ⊎ (status ≡ Memory)
-document_refused_run status names words cq cd q d query document f rose run run' told_q told_d good_q bad_d says_q says_d read not_rose =
+document_refused_run status names words cq cd q d query document f rose_read rose_write run run' told_q told_d good_q bad_d says_q says_d read write not_read not_write =
     let same = same_run words q d cq cd run' run in
     let at_q : content_of names cq ≡ o.Some query = subst (λ (n : List ℕ). content_of names n ≡ o.Some query) same.0 told_q in
     let at_d : content_of names cd ≡ o.Some document = subst (λ (n : List ℕ). content_of names n ≡ o.Some document) same.1 told_d in
     document_refused_from status query document f (says_q query at_q) (says_d document at_d) good_q bad_d
-    (λ is. ⊎_elim not_rose (⊎_elim (there names cq query at_q) (there names cd document at_d)) (read is))
+    (λ is. ⊎_elim not_read (⊎_elim (there names cq query at_q) (there names cd document at_d)) (read is))
+    (λ is. not_write (write is))

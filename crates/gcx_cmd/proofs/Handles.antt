@@ -1,5 +1,5 @@
 -- What handles that were given before have left.
-use Rattle.std.proofs.Common.{◌≡◌, ℕ, ◌+◌, ◌≤◌, ◌<◌, List, Option, ◌∙◌, arith}
+use Rattle.std.proofs.Common.{◌≡◌, ℕ, ◌+◌, ◌≤◌, List, Option, ◌∙◌, subst, arith}
 use Rattle.std.specs.declared.result.Result.TheVariants.{Err}
 use Rattle.gcx_io.specs.Shelf.{LeavesOthers}
 use Rattle.gcx_cmd.specs.Main.{KeepsGiven, AttachesQuery}
@@ -23,3 +23,10 @@ at_most_one T (DocumentRefused f) before after h = absurd h
 at_most_one T ReadFault before after h = h.1
 at_most_one T WriteFault before after h = absurd h
 at_most_one T Memory before after h = h.1
+
+-- nor does it end the run well
+pub not_two : (T : Type 0) (status : Status) (before after : ℕ) → AttachesQuery {T = T} (Err status) before after → after ≡ before + 2 → ⊥
+not_two T status before after h two = let a = at_most_one T status before after h in let b = two in omega arith
+
+pub not_ok : (T : Type 0) (status : Status) (before after : ℕ) → AttachesQuery {T = T} (Err status) before after → status ≡ Ok → ⊥
+not_ok T status before after h is = subst (λ (s : Status). AttachesQuery {T = T} (Err s) before after) is h

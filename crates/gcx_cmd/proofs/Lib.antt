@@ -3,5 +3,8 @@ pub mod Complete
 pub mod Growing
 pub mod Documents
 pub mod Queries
+pub mod Rows
+pub mod Runs
+pub mod Left
 pub mod Stopping
 pub mod Handles

@@ -1,5 +1,5 @@
 -- What QUERY holds, from what was read.
-use Rattle.std.proofs.Common.{◌≡◌, ℕ, ◌≤◌, ◌<◌, true, List, [], ◌++◌, length, refl, sym, ◌∙◌, ap, subst, arith, length-append, append-nil, inl, inr}
+use Rattle.std.proofs.Common.{◌≡◌, ℕ, ◌≤◌, ◌<◌, true, List, ◌++◌, length, refl, sym, ◌∙◌, ap, subst, arith, length-append, append-nil, inl, inr}
 use Rattle.std.specs.declared.option.Option.TheVariants.{None, Some}
 use Rattle.gcx_model.specs.Normal.{normal}
 use Rattle.gcx_model.specs.Query.{ExprTree}
@@ -8,19 +8,17 @@ use Rattle.signoff_place.specs.Refused.{refusal_of}
 use Rattle.gcx_model.specs.declared.fault.QueryFault.{QueryFault}
 use Rattle.gcx_model.specs.declared.fault.QueryFault.TheVariants.{Utf8, Lex, Syntax, UnknownVar, TagMismatch, DescendantNotLast, IntegerWide, TooLarge, Memory}
 use Rattle.gcx_model.specs.declared.fault.What.{What}
-use Rattle.gcx_model.specs.declared.fault.What.TheVariants.{Text, Nesting, Loops, Steps, Conditions, Roles, Descendants}
+use Rattle.gcx_model.specs.declared.fault.What.TheVariants.{Text}
 use Rattle.xq_parse.specs.Faults.{TextFaultOf, HasOnlyQuery, HasOnlyRefusal}
 use Rattle.xq_parse.specs.Spelling.{QuerySpells}
 use Rattle.gcx_model.specs.Refusals.{UnlessMemory}
-use Rattle.gcx_cmd.specs.declared.status.Status.{Status}
 use Rattle.gcx_cmd.specs.declared.status.Status.TheVariants as status
-use Rattle.gcx_cmd.specs.Main.{Accepts, SaysOfQuery, IsQuery, IsOneQuery, PassesLimit}
+use Rattle.gcx_cmd.specs.Main.{Accepts, SaysOfQuery, IsQuery, IsOneQuery, IsPlanOfBytes, PassesLimit}
+use Rattle.gcx_cmd.specs.Running.{IsPlanOf, IsPlaced}
 use Rattle.gcx_cmd.specs.ReadEnd.{query_status}
 use Rattle.gcx_cmd.specs.Reading.{IsReadUpTo}
-use Rattle.gcx_cmd.specs.Document.{BytesSpell, IsWhole}
-use Rattle.gcx_model.specs.Answer.{answer}
-use Rattle.gcx_model.specs.Document.{Nodes, tree_of}
-use Rattle.gcx_model.specs.Tree.{Tree}
+use Rattle.gcx_model.specs.Core.{PlanTree}
+use Rattle.gcx_laws.proofs.Moved.{normal_good}
 
 too_large : (bytes : List ℕ) → 1048576 < length bytes → TextFaultOf bytes (TooLarge Text 1048576)
 too_large bytes long = inl (refl, refl, long)
@@ -56,9 +54,8 @@ pub record SpellsOne (bytes : List ℕ) (q : List ExprTree) : Type 0 where
 pub query_read : (bytes read : List ℕ) (q : List ExprTree) → IsReadUpTo 1048576 bytes read → length read ≤ 1048576 → SpellsOne read q → SpellsOne bytes q
 query_read bytes read q h short one = subst (λ (l : List ℕ). SpellsOne l q) (whole_query bytes read h short) one
 
-pub query_found : (bytes : List ℕ) (parsed kept : List ExprTree) → SpellsOne bytes parsed → kept ≡ parsed → refusal_of (normal parsed) ≡ None → Accepts bytes kept × HasOnlyQuery bytes kept
-query_found bytes parsed kept one same within =
-    subst (λ (q : List ExprTree). Accepts bytes q × HasOnlyQuery bytes q) (sym same) (record { spells = one.spells; sound = one.sound; within = within }, one.only)
+pub plan_found : (bytes : List ℕ) (q : List ExprTree) (plan : PlanTree) → SpellsOne bytes q → refusal_of (normal q) ≡ None → IsPlanOf q plan → IsPlanOfBytes bytes plan
+plan_found bytes q plan one within is = (q, record { spells = one.spells; sound = one.sound; within = within }, one.only, is)
 
 passes : (bytes : List ℕ) (q : List ExprTree) (f : QueryFault) → SpellsOne bytes q → refusal_of (normal q) ≡ Some f → PassesLimit bytes f
 passes bytes q f one limit = record { query = q; spells = one.spells; sound = one.sound; only = one.only; limit = limit }
@@ -90,14 +87,15 @@ pub query_refused : (bytes read : List ℕ) (f : QueryFault) → IsReadUpTo 1048
 query_refused bytes read f h short a o = subst (λ (l : List ℕ). SaysOfQuery (query_status f) l) (whole_query bytes read h short) (refused_by read f a o)
 
 -- what is said of the query where the document decides
-pub one_query : (bytes : List ℕ) (q : List ExprTree) → Accepts bytes q × HasOnlyQuery bytes q → IsOneQuery bytes
-one_query bytes q h = (q, h.0, h.1)
+pub one_query : (bytes : List ℕ) (plan : PlanTree) → IsPlanOfBytes bytes plan → IsOneQuery bytes
+one_query bytes plan h = (h.0, h.1, h.2)
 
-pub is_query : (bytes : List ℕ) (q : List ExprTree) → Accepts bytes q × HasOnlyQuery bytes q → IsQuery bytes
-is_query bytes q h = (q, h.0)
+pub is_query : (bytes : List ℕ) (plan : PlanTree) → IsPlanOfBytes bytes plan → IsQuery bytes
+is_query bytes plan h = (h.0, h.1)
 
--- what is written is the answer
-pub answer_is : (items query_bytes document_bytes : List ℕ) (q r : List ExprTree) (tree : Tree) (d : Nodes) → Accepts query_bytes r × HasOnlyQuery query_bytes r → IsWhole document_bytes tree
-    → ((d : Nodes) → tree ≡ tree_of d → items ≡ answer r d) → Accepts query_bytes q → BytesSpell document_bytes d → items ≡ answer q d
-answer_is items query_bytes document_bytes q r tree d one whole written accepted spelled =
-    written whole.document whole.tree_is ∙ (λ i. answer (sym (one.1.once q accepted.spells) i) (sym (whole.only d spelled) i))
+-- the plan is that of each query that the bytes spell
+pub plan_is : (bytes : List ℕ) (plan : PlanTree) (q : List ExprTree) → IsPlanOfBytes bytes plan → Accepts bytes q → IsPlanOf q plan
+plan_is bytes plan q h accepted = subst (λ (r : List ExprTree). IsPlanOf r plan) (sym (h.2.once q accepted.spells)) h.3
+
+pub plan_placed : (q : List ExprTree) (plan : PlanTree) → IsPlanOf q plan → IsPlaced plan
+plan_placed q plan is = (normal q, normal_good q, is.placed)

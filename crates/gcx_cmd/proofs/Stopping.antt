@@ -1,106 +1,30 @@
--- What the source of a document gave, and where its reading stops.
-use Rattle.std.proofs.Common.{◌≡◌, ℕ, ◌+◌, ◌-◌, ◌≤◌, Bool, true, false, List, [], ◌++◌, length, take, drop, Option, Some, None, refl, sym, ◌∙◌, ap, subst, arith, length-append, append-nil}
+-- What the source of a document gave, and what is said of all its bytes.
+use Rattle.std.proofs.Common.{◌≡◌, ℕ, ◌+◌, Bool, true, false, List, [], ◌++◌, Option, Some, None, refl, sym, ◌∙◌, ap, subst, arith, append-nil}
 use Rattle.std.proofs.lemmas.Bool.{false≢true}
-use Rattle.std.proofs.lemmas.List.{take-append-drop, take-append-le}
-use Rattle.std.specs.declared.result.Result.TheVariants.{Ok, Err}
-use Rattle.std.specs.Io.KnownBytes.{Consumes, Keeps, IsAtEnd}
-use Rattle.std.proofs.KnownBytes.{Consumes-trans}
+use Rattle.std.specs.Io.KnownBytes.{Consumes, IsAtEnd}
 use Rattle.gcx_base.specs.Limits.{full_limits}
 use Rattle.gcx_io.specs.Shelf.{Names, content_of}
-use Rattle.gcx_model.specs.Tree.{Tree}
 use Rattle.gcx_model.specs.Faults.{FaultIs}
 use Rattle.gcx_model.specs.declared.fault.DocFault.{DocFault}
 use Rattle.doc_laws.proofs.Pieces.{fault_stays}
-use Rattle.doc_laws.proofs.Unique.{fault_one}
-use Rattle.doc_laws.proofs.Found.{found}
-use Rattle.doc_reader.specs.Standing.{ReaderView}
-use Rattle.gcx_cmd.specs.declared.document.DocumentEnd.{DocumentEnd}
-use Rattle.gcx_cmd.specs.declared.document.DocumentEnd.TheVariants as end
-use Rattle.gcx_cmd.specs.Main.{SaysOfDocument}
-use Rattle.gcx_cmd.specs.ReadEnd.{document_status}
-use Rattle.gcx_cmd.specs.Document.{IsWhole, HasRead, EndsBy, Finds}
-use Rattle.gcx_cmd.specs.Stopping.{Gave, DocumentGave, SaysOfGiven, SaysOfRead}
-use Rattle.gcx_cmd.proofs.Documents.{none_within, none_at_start, consumes_none}
+use Rattle.gcx_cmd.specs.declared.status.Status.{Status}
+use Rattle.gcx_cmd.specs.declared.status.Status.TheVariants.{Ok, Usage, QueryRefused, DocumentRefused, ReadFault, WriteFault, Memory}
+use Rattle.gcx_cmd.specs.Main.{SaysOfDocument, AttachesDocument}
+use Rattle.gcx_cmd.specs.Running.{Gave}
+use Rattle.gcx_cmd.specs.Stopping.{DocumentGave, SaysOfGiven}
+use Rattle.gcx_cmd.proofs.Documents.{none_at_start, consumes_none}
 
--- ---- a front of bytes without a fault
+-- ---- nothing was read
 
-no_some : (f : DocFault) → None ≡ Some f → ⊥
-no_some f e = cc
+pub gave_none : (a : Option (List ℕ)) → Gave a a [] false
+gave_none a = record { moved = consumes_none a; at_end = λ e. absurd (false≢true e) }
 
-front_none : (b : List ℕ) (n : ℕ) → FaultIs full_limits b false None → FaultIs full_limits (take n b) false None
-front_none b n clean = let f = found full_limits (take n b) false in go f.0 f.1
-  where
-    go : (o : Option DocFault) → FaultIs full_limits (take n b) false o → FaultIs full_limits (take n b) false None
-    go None h = h
-    go (Some f) h = absurd (no_some f (fault_one full_limits b false None (Some f) clean
-        (subst (λ (l : List ℕ). FaultIs full_limits l false (Some f)) (take-append-drop n b) (fault_stays full_limits (take n b) (drop n b) false f h))))
+pub gave_nothing : (a : Option (List ℕ)) → DocumentGave a a (SaysOfGiven Memory)
+gave_nothing a = record { bytes = []; ended = false; gave = gave_none a; earlier = none_at_start full_limits; bound = omega arith; says = tt }
 
-earlier_none : (b front rest : List ℕ) → b ≡ front ++ rest → length rest ≤ 65536 → FaultIs full_limits front false None → FaultIs full_limits (take (length b - 65536) b) false None
-earlier_none b front rest parts short clean =
-    let total = ap length parts in
-    let split = length-append front rest in
-    let within : length b - 65536 ≤ length front = omega arith in
-    subst (λ (l : List ℕ). FaultIs full_limits l false None) (sym (ap (take (length b - 65536)) parts ∙ take-append-le (length b - 65536) front rest within)) (front_none front (length b - 65536) clean)
+-- ---- what is said of all bytes, where they are told
 
--- ---- what was given, at each end of the reading
-
-pub gave_nothing : (a : Option (List ℕ)) (Says : List ℕ → Bool → Type 0) → Says [] false → DocumentGave a a Says
-gave_nothing a Says says = record {
-  bytes = [];
-  ended = false;
-  gave = record { moved = consumes_none a; at_end = λ e. absurd (false≢true e) };
-  earlier = earlier_none [] [] [] refl (omega arith) (none_at_start full_limits);
-  bound = omega arith;
-  says = says;
-}
-
--- what a source has left stays as it was where a read fails
-kept_moved : (a b c : Option (List ℕ)) (bytes : List ℕ) → Consumes a b bytes → Keeps b c → Consumes a c bytes
-kept_moved None b c bytes m k = tt
-kept_moved (Some xs) None c bytes m k = absurd m
-kept_moved (Some xs) (Some ys) None bytes m k = absurd k
-kept_moved (Some xs) (Some ys) (Some zs) bytes m k = m ∙ ap (λ (l : List ℕ). bytes ++ l) (sym k)
-
-pub gave_failed : (r : ReaderView) (t : Tree) (a b c : Option (List ℕ)) (count : ℕ) (Says : List ℕ → Bool → Type 0) → (h : HasRead r t a b count) → Keeps b c → Says h.bytes false → DocumentGave a c Says
-gave_failed r t a b c count Says h keeps says = record {
-  bytes = h.bytes;
-  ended = false;
-  gave = record { moved = kept_moved a b c h.bytes h.moved keeps; at_end = λ e. absurd (false≢true e) };
-  earlier = earlier_none h.bytes h.bytes [] (sym (append-nil h.bytes)) (omega arith) h.grown.no_fault;
-  bound = let w = none_within full_limits h.bytes false h.grown.no_fault in omega arith;
-  says = says;
-}
-
-pub gave_piece : (r : ReaderView) (t : Tree) (a b c : Option (List ℕ)) (count : ℕ) (piece : List ℕ) (Says : List ℕ → Bool → Type 0) → (h : HasRead r t a b count) → Consumes b c piece → length piece ≤ 65536
-    → Says (h.bytes ++ piece) false → DocumentGave a c Says
-gave_piece r t a b c count piece Says h moved short says = record {
-  bytes = h.bytes ++ piece;
-  ended = false;
-  gave = record { moved = Consumes-trans a b c h.bytes piece h.moved moved; at_end = λ e. absurd (false≢true e) };
-  earlier = earlier_none (h.bytes ++ piece) h.bytes piece refl short h.grown.no_fault;
-  bound = let w = none_within full_limits h.bytes false h.grown.no_fault in let e = length-append h.bytes piece in omega arith;
-  says = says;
-}
-
-pub gave_end : (r : ReaderView) (t : Tree) (a b c : Option (List ℕ)) (count : ℕ) (Says : List ℕ → Bool → Type 0) → (h : HasRead r t a b count) → Consumes b c [] → IsAtEnd c → Says h.bytes true → DocumentGave a c Says
-gave_end r t a b c count Says h moved at_end says = record {
-  bytes = h.bytes;
-  ended = true;
-  gave = record { moved = subst (λ (l : List ℕ). Consumes a c l) (append-nil h.bytes) (Consumes-trans a b c h.bytes [] h.moved moved); at_end = λ e. at_end };
-  earlier = earlier_none h.bytes h.bytes [] (sym (append-nil h.bytes)) (omega arith) h.grown.no_fault;
-  bound = let w = none_within full_limits h.bytes false h.grown.no_fault in omega arith;
-  says = says;
-}
-
--- how the reader's call ends is found in the bytes
-pub finds_by : (T P : Type 0) (e : DocumentEnd) (b : List ℕ) (ended : Bool) → EndsBy {T = T} ended b (Err e) P → (e ≡ end.Fault → ⊥) → Finds (Err e) b ended
-finds_by T P (end.Refused f) b ended h never = h
-finds_by T P end.Fault b ended h never = absurd (never refl)
-finds_by T P end.Memory b ended h never = tt
-
--- ---- what it says of all bytes, where they are told
-
-given_all : (bytes b : List ℕ) (left : Option (List ℕ)) → Consumes (Some bytes) left b → IsAtEnd left → bytes ≡ b
+pub given_all : (bytes b : List ℕ) (left : Option (List ℕ)) → Consumes (Some bytes) left b → IsAtEnd left → bytes ≡ b
 given_all bytes b None m e = absurd m
 given_all bytes b (Some rest) m e = m ∙ ap (λ (l : List ℕ). b ++ l) e ∙ append-nil b
 
@@ -109,33 +33,37 @@ fault_given bytes b true f left g h = subst (λ (l : List ℕ). FaultIs full_lim
 fault_given bytes b false f None g h = absurd g.moved
 fault_given bytes b false f (Some rest) g h = subst (λ (l : List ℕ). FaultIs full_limits l true (Some f)) (sym g.moved) (fault_stays full_limits b rest true f h)
 
-pub tree_given : (bytes : List ℕ) (tree : Tree) (left : Option (List ℕ)) → DocumentGave (Some bytes) left (Finds (Ok tree)) → IsWhole bytes tree
-tree_given bytes tree left g = subst (λ (l : List ℕ). IsWhole l tree) (sym (given_all bytes g.bytes left g.gave.moved (g.gave.at_end g.says.0))) g.says.1
+pub says_given : (status : Status) (bytes : List ℕ) (left : Option (List ℕ)) → DocumentGave (Some bytes) left (SaysOfGiven status) → SaysOfDocument status bytes
+says_given Ok bytes left g =
+    let ended : g.ended ≡ true = g.says.0 in
+    subst (λ (l : List ℕ). FaultIs full_limits l true None) (sym (given_all bytes g.bytes left g.gave.moved (g.gave.at_end ended))) g.says.1
+says_given Usage bytes left g = tt
+says_given (QueryRefused f) bytes left g = tt
+says_given (DocumentRefused f) bytes left g = fault_given bytes g.bytes g.ended f left g.gave g.says
+says_given ReadFault bytes left g = tt
+says_given WriteFault bytes left g = tt
+says_given Memory bytes left g = tt
 
-pub end_given : (e : DocumentEnd) (bytes : List ℕ) (left : Option (List ℕ)) → DocumentGave (Some bytes) left (Finds (Err e)) → SaysOfDocument (document_status e) bytes
-end_given (end.Refused f) bytes left g = fault_given bytes g.bytes g.ended f left g.gave g.says
-end_given end.Fault bytes left g = tt
-end_given end.Memory bytes left g = tt
+-- where DOC isn't attached nothing is said
+pub says_of_document : (status : Status) (names : Names) (name bytes : List ℕ) (before after : ℕ) (left : Option (List ℕ)) → content_of names name ≡ Some bytes → AttachesDocument status before after
+    → (after ≡ before + 1 → DocumentGave (content_of names name) left (SaysOfGiven status)) → SaysOfDocument status bytes
+says_of_document status names name bytes before after left told came gave = go status came (λ e. subst (λ (o : Option (List ℕ)). DocumentGave o left (SaysOfGiven status)) told (gave e))
+  where
+    go : (s : Status) → AttachesDocument s before after → (after ≡ before + 1 → DocumentGave (Some bytes) left (SaysOfGiven s)) → SaysOfDocument s bytes
+    go Ok c h = says_given Ok bytes left (h c)
+    go Usage c h = tt
+    go (QueryRefused f) c h = tt
+    go (DocumentRefused f) c h = says_given (DocumentRefused f) bytes left (h c)
+    go ReadFault c h = tt
+    go WriteFault c h = tt
+    go Memory c h = tt
 
--- ---- the same of a status
+-- ---- behind QUERY, whose reading left the names as they were
 
-gave_as : (a c : Option (List ℕ)) (P Q : List ℕ → Bool → Type 0) → ((b : List ℕ) (ended : Bool) → P b ended → Q b ended) → DocumentGave a c P → DocumentGave a c Q
-gave_as a c P Q f g = record { bytes = g.bytes; ended = g.ended; gave = g.gave; earlier = g.earlier; bound = g.bound; says = f g.bytes g.ended g.says }
-
-pub tree_says : (tree : Tree) (a c : Option (List ℕ)) → DocumentGave a c (Finds (Ok tree)) → DocumentGave a c (SaysOfRead (Ok tree))
-tree_says tree a c g = gave_as a c (Finds (Ok tree)) (SaysOfRead (Ok tree)) (λ b ended h. (h.0, h.1.no_fault)) g
-
-pub end_says : (T : Type 0) (e : DocumentEnd) (a c : Option (List ℕ)) → DocumentGave a c (Finds (Err e)) → DocumentGave a c (SaysOfRead {T = T} (Err (document_status e)))
-end_says T (end.Refused f) a c g = gave_as a c (Finds (Err (end.Refused f))) (SaysOfRead {T = T} (Err (document_status (end.Refused f)))) (λ b ended h. h) g
-end_says T end.Fault a c g = gave_as a c (Finds (Err end.Fault)) (SaysOfRead {T = T} (Err (document_status end.Fault))) (λ b ended h. h) g
-end_says T end.Memory a c g = gave_as a c (Finds (Err end.Memory)) (SaysOfRead {T = T} (Err (document_status end.Memory))) (λ b ended h. h) g
-
--- behind QUERY, whose reading left the names as they were
-pub run_gave : (names behind : Names) (name : List ℕ) (n m : ℕ) (left : ℕ → Option (List ℕ)) (P Q : List ℕ → Bool → Type 0) → behind ≡ names → m ≡ n + 1 → ((b : List ℕ) (ended : Bool) → P b ended → Q b ended)
-    → DocumentGave (content_of behind name) (left m) P → DocumentGave (content_of names name) (left (n + 1)) Q
-run_gave names behind name n m left P Q same next f g =
-    subst (λ (k : ℕ). DocumentGave (content_of names name) (left k) Q) next
-    (subst (λ (l : Names). DocumentGave (content_of l name) (left m) Q) same (gave_as (content_of behind name) (left m) P Q f g))
+pub run_gave : (names behind : Names) (name : List ℕ) (n m : ℕ) (left : ℕ → Option (List ℕ)) (P : (before after : Option (List ℕ)) → Type 0) → behind ≡ names → m ≡ n + 1
+    → P (content_of behind name) (left m) → P (content_of names name) (left (n + 1))
+run_gave names behind name n m left P same next g =
+    subst (λ (k : ℕ). P (content_of names name) (left k)) next (subst (λ (l : Names). P (content_of l name) (left m)) same g)
 
 -- where two handles were given, DOC's is the second
 pub behind_one : (before between after : ℕ) → between ≡ before + 1 → after ≡ before + 2 → after ≡ between + 1

@@ -1,4 +1,5 @@
 pub mod Main
+pub mod Running
 pub mod Stopping
 pub mod Status
 pub mod ReadEnd

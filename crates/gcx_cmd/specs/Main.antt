@@ -6,18 +6,18 @@ use Rattle.std.specs.declared.result.Result.{Result}
 use Rattle.std.specs.declared.result.Result.TheVariants as result
 use Rattle.gcx_base.specs.Limits.{full_limits}
 use Rattle.gcx_io.specs.Shelf.{Names, IsMissing}
-use Rattle.gcx_io.specs.Bytes.{Grows, GrowsWithin}
+use Rattle.gcx_model.specs.Core.{PlanTree}
 use Rattle.gcx_model.specs.Query.{ExprTree}
 use Rattle.gcx_model.specs.Sound.{is_sound}
 use Rattle.gcx_model.specs.Normal.{normal}
 use Rattle.gcx_model.specs.Faults.{FaultIs}
-use Rattle.gcx_model.specs.declared.fault.DocFault.{DocFault}
 use Rattle.gcx_model.specs.declared.fault.DocFault.TheVariants as doc_fault
 use Rattle.gcx_model.specs.declared.fault.QueryFault.{QueryFault}
 use Rattle.gcx_model.specs.declared.fault.QueryFault.TheVariants as query_fault
 use Rattle.xq_parse.specs.Spelling.{QuerySpells}
 use Rattle.xq_parse.specs.Faults.{TextFaultOf, HasOnlyQuery, HasOnlyRefusal}
 use Rattle.signoff_place.specs.Refused.{refusal_of}
+use Rattle.gcx_cmd.specs.Running.{IsPlanOf}
 use Rattle.gcx_cmd.specs.declared.status.Status.{Status}
 use Rattle.gcx_cmd.specs.declared.status.Status.TheVariants.{Ok, Usage, QueryRefused, DocumentRefused, ReadFault, WriteFault, Memory}
 
@@ -38,6 +38,10 @@ IsQuery bytes = (q : List ExprTree) × Accepts bytes q
 -- The bytes are an accepted query, they spell no other one, and nothing is wrong with them.
 abbrev pub IsOneQuery : List ℕ → Type 0
 IsOneQuery bytes = (q : List ExprTree) × Accepts bytes q × HasOnlyQuery bytes q
+
+-- the plan is that of the one query that the bytes spell
+abbrev pub IsPlanOfBytes : List ℕ → PlanTree → Type 0
+IsPlanOfBytes bytes plan = (q : List ExprTree) × Accepts bytes q × HasOnlyQuery bytes q × IsPlanOf q plan
 
 -- Something is wrong with the text: this, and nothing else.
 abbrev pub HasTextFault : List ℕ → QueryFault → Type 0
@@ -76,14 +80,8 @@ SaysOfDocument Usage document = ⊤
 SaysOfDocument (QueryRefused f) document = ⊤
 SaysOfDocument (DocumentRefused f) document = FaultIs full_limits document true (option.Some f)
 SaysOfDocument ReadFault document = ⊤
-SaysOfDocument WriteFault document = IsDocument document
+SaysOfDocument WriteFault document = ⊤
 SaysOfDocument Memory document = ⊤
-
--- what each status says of the bytes that were written
-abbrev pub Writes : Status → Option (List ℕ) → Option (List ℕ) → List ℕ → Type 0
-Writes Ok before after answer = Grows before after answer
-Writes WriteFault before after answer = GrowsWithin before after answer
-Writes status before after answer = after ≡ before
 
 -- want of memory stands in no refusal
 abbrev pub HasNoMemory : Status → Type 0
@@ -117,16 +115,15 @@ AttachesQuery (result.Err ReadFault) before after = GivesAtMost 1 before after
 AttachesQuery (result.Err Memory) before after = GivesAtMost 1 before after
 AttachesQuery (result.Err status) before after = ⊥
 
--- how the reading of DOC may end without a document: it is attached, where it was read
-abbrev pub StopsDocument : Status → ℕ → ℕ → Type 0
-StopsDocument (DocumentRefused f) before after = after ≡ before + 1
-StopsDocument ReadFault before after = GivesAtMost 1 before after
-StopsDocument Memory before after = GivesAtMost 1 before after
-StopsDocument status before after = ⊥
-
-abbrev pub AttachesDocument : {T : Type 0} → Result T Status → ℕ → ℕ → Type 0
-AttachesDocument (result.Ok x) before after = after ≡ before + 1
-AttachesDocument (result.Err status) before after = StopsDocument status before after
+-- DOC is attached, where a run began
+abbrev pub AttachesDocument : Status → ℕ → ℕ → Type 0
+AttachesDocument Ok before after = after ≡ before + 1
+AttachesDocument Usage before after = ⊥
+AttachesDocument (QueryRefused f) before after = ⊥
+AttachesDocument (DocumentRefused f) before after = after ≡ before + 1
+AttachesDocument ReadFault before after = GivesAtMost 1 before after
+AttachesDocument WriteFault before after = after ≡ before + 1
+AttachesDocument Memory before after = GivesAtMost 1 before after
 
 -- the words are `run` and two names, and the shelf tells its names and one of these isn't there
 pub record LacksFile (words : List (List ℕ)) (names : Names) : Type 0 where

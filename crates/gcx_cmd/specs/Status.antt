@@ -1,5 +1,7 @@
--- The exit status of the program (this project's).
+-- The status of a run's end, and the exit status of the program (this project's).
 use Rattle.std.specs.Prelude.{ℕ}
+use Rattle.engine.specs.declared.report.Ended.{Ended}
+use Rattle.engine.specs.declared.report.Ended.TheVariants as end
 use Rattle.gcx_cmd.specs.declared.status.Status.{Status}
 use Rattle.gcx_cmd.specs.declared.status.Status.TheVariants.{Ok, Usage, QueryRefused, DocumentRefused, ReadFault, WriteFault, Memory}
 
@@ -11,3 +13,10 @@ code_of (DocumentRefused f) = 4
 code_of ReadFault = 5
 code_of WriteFault = 6
 code_of Memory = 7
+
+abbrev pub ended_status : Ended → Status
+ended_status end.Ok = Ok
+ended_status (end.Refused f) = DocumentRefused f
+ended_status end.ReadFault = ReadFault
+ended_status end.WriteFault = WriteFault
+ended_status end.Memory = Memory

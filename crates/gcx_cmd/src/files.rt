@@ -1,27 +1,24 @@
-//! QUERY and DOC, read and judged.
+//! QUERY, read, judged and compiled.
 ghost use Rattle.std.specs.Prelude.{◌≡◌, ◌⊎◌, ◌≤◌, ◌+◌, ℕ, List, true, None, Some, IfErr, IfOk, OnOk, IsErrOf, MatchResult};
 ghost use Rattle.gcx_io.specs.Causes.{Rose};
 ghost use Rattle.gcx_io.specs.Shelf.{content_of, IsMissing};
 ghost use Rattle.gcx_model.specs.Normal.{normal};
+ghost use Rattle.gcx_model.specs.PlanView.{plan_tree};
 ghost use Rattle.gcx_model.specs.Query.{query_trees};
 ghost use Rattle.gcx_model.specs.Sound.{is_sound};
 ghost use Rattle.signoff_place.specs.Refused.{refusal_of};
 ghost use Rattle.gcx_model.specs.Refusals.{UnlessMemory};
-ghost use Rattle.xq_parse.specs.Faults.{HasOnlyQuery};
-ghost use Rattle.gcx_cmd.specs.Document.{IsWhole};
 ghost use Rattle.gcx_cmd.specs.Reading.{IsReadUpTo};
-ghost use Rattle.gcx_cmd.specs.Main.{Accepts, SaysOfQuery, SaysOfDocument, HasNoMemory, GivesAtMost, KeepsGiven, AttachesQuery, AttachesDocument};
-ghost use Rattle.gcx_cmd.specs.Stopping.{DocumentGave, SaysOfRead};
+ghost use Rattle.gcx_cmd.specs.Running.{IsPlanOf, IsPlaced};
+ghost use Rattle.gcx_cmd.specs.Main.{SaysOfQuery, HasNoMemory, GivesAtMost, KeepsGiven, AttachesQuery, IsPlanOfBytes};
 
 use crate::Status;
-use crate::document::{DocumentEnd, read_tree};
 use crate::reading::{ReadEnd, attach, read_up_to};
 use gcx_base::Text;
 use gcx_io::{Opened, Shelf};
-use gcx_model::{Query, QueryFault, What};
+use gcx_model::{Plan, Query, QueryFault, What};
 use signoff_place::compile;
 use std::alloc::Global;
-use tree_eval::Tree;
 use xq_parse::parse;
 
 /// The most bytes of a query.
@@ -37,21 +34,6 @@ impl From<QueryFault> for Status {
         match fault {
             QueryFault::Memory => Status::Memory,
             fault => Status::QueryRefused(fault),
-        }
-    }
-}
-
-impl From<DocumentEnd> for Status {
-    ghost use Rattle.std.specs.Prelude.{◌≡◌};
-    ghost use Rattle.gcx_cmd.specs.ReadEnd.{document_status};
-
-    ghost from_gives = { λ end e. e ≡ document_status end };
-
-    fn from(end: DocumentEnd) -> Status {
-        match end {
-            DocumentEnd::Refused(fault) => Status::DocumentRefused(fault),
-            DocumentEnd::Fault => Status::ReadFault,
-            DocumentEnd::Memory => Status::Memory,
         }
     }
 }
@@ -76,15 +58,14 @@ fn read_file<F: Shelf>(
     read_up_to(alloc, &mut source, limit)
 }
 
-/// The query again, where its core passes no limit. Its plan isn't kept: the answer comes from the whole tree.
-fn within_limits(alloc: Global, query: Query) -> Result<Query, QueryFault>
-    requires sound { is_sound (query_trees query) ≡ true }
-    ensures same { IfOk result (λ kept. query_trees kept ≡ query_trees query) }
-    ensures within { IfOk result (λ kept. refusal_of (normal (query_trees query)) ≡ None) }
-    ensures refused { IfErr result (UnlessMemory (λ fault. refusal_of (normal (query_trees query)) ≡ Some fault)) }
+/// Compiles the query.
+fn plan_of(alloc: Global, query: &Query) -> Result<Plan, QueryFault>
+    requires sound { is_sound (query_trees query.now) ≡ true }
+    ensures plan { IfOk result (λ plan. IsPlanOf (query_trees query.now) (plan_tree plan)) }
+    ensures within { IfOk result (λ plan. refusal_of (normal (query_trees query.now)) ≡ None) }
+    ensures refused { IfErr result (UnlessMemory (λ fault. refusal_of (normal (query_trees query.now)) ≡ Some fault)) }
 {
-    let _ = compile(alloc, &query)?;
-    Ok(query)
+    compile(alloc, query)
 }
 
 /// Reads a query and compiles it, or the status to end with.
@@ -92,9 +73,10 @@ pub(crate) fn read_query<F: Shelf>(
     alloc: Global,
     files: &mut F,
     name: &Text,
-) -> Result<Query, Status>
+) -> Result<Plan, Status>
     ensures told { (bytes : List ℕ) → content_of (F.names files.old) name.now ≡ Some bytes →
-        MatchResult result (λ query. Accepts bytes (query_trees query) × HasOnlyQuery bytes (query_trees query)) (λ status. SaysOfQuery status bytes) }
+        MatchResult result (λ plan. IsPlanOfBytes bytes (plan_tree plan)) (λ status. SaysOfQuery status bytes) }
+    ensures placed { IfOk result (λ plan. IsPlaced (plan_tree plan)) }
     ensures cause { IsErrOf result Status.ReadFault → Rose (F.faults files.old) (F.faults files.new) ⊎ IsMissing (F.names files.old) name.now }
     ensures names { F.names files.new ≡ F.names files.old }
     ensures handles { AttachesQuery result (F.handles files.old) (F.handles files.new) }
@@ -106,30 +88,7 @@ pub(crate) fn read_query<F: Shelf>(
     if LIMIT < bytes.len() {
         return Err(Status::QueryRefused(QueryFault::TooLarge(What::Text, LIMIT as u64)));
     }
-    let parsed = parse(alloc, &bytes)?;
-    let query = within_limits(alloc, parsed)?;
-    Ok(query)
-}
-
-/// Reads a document, or the status to end with.
-pub(crate) fn read_document<F: Shelf>(
-    alloc: Global,
-    files: &mut F,
-    name: &Text,
-) -> Result<Tree, Status>
-    ensures told { (bytes : List ℕ) → content_of (F.names files.old) name.now ≡ Some bytes →
-        MatchResult result (λ tree. IsWhole bytes tree) (λ status. SaysOfDocument status bytes) }
-    ensures cause { IsErrOf result Status.ReadFault → Rose (F.faults files.old) (F.faults files.new) ⊎ IsMissing (F.names files.old) name.now }
-    ensures names { F.names files.new ≡ F.names files.old }
-    ensures stopped { F.handles files.new ≡ F.handles files.old + 1 →
-        DocumentGave (content_of (F.names files.old) name.now) (F.left files.new (F.handles files.old)) (SaysOfRead result) }
-    ensures handles { AttachesDocument result (F.handles files.old) (F.handles files.new) }
-    ensures others { KeepsGiven (F.handles files.old) (F.left files.old) (F.left files.new) }
-    ensures memory { IfErr result HasNoMemory }
-    ensures later { F.faults files.old ≤ F.faults files.new }
-{
-    let handle = attach(files, name)?;
-    let mut source = Opened::new(files, handle);
-    let tree = read_tree(alloc, &mut source)?;
-    Ok(tree)
+    let query = parse(alloc, &bytes)?;
+    let plan = plan_of(alloc, &query)?;
+    Ok(plan)
 }

@@ -3,9 +3,9 @@
 
 mod command;
 mod diagnosis;
-mod document;
 mod files;
 mod reading;
+mod running;
 mod status;
 mod words;
 

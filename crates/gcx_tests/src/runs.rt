@@ -1,18 +1,25 @@
 //! Runs of the top call over files in memory.
+mod failing;
 mod limits;
 
+ghost use Rattle.std.specs.Prelude.{◌≡◌};
+ghost use Rattle.std.specs.FinMap as map;
+
 use crate::large::repeated;
+use buf_tree::Row;
 use gcx_base::Text;
 use gcx_cmd::{Status, gcx_main};
 use gcx_io::{MemShelf, MemSink, SureShelf, SureSink};
 use gcx_model::{DocFault, QueryFault, What};
+use node_store::{NodeStore, SlabNodes};
+use raw_nodes::RawNodes;
 use std::alloc::Global;
 use std::process::Abort;
 use std::test::Fail;
 
 /// The numbers of the calls that are to fail.
 #[derive(Drop)]
-struct Failing {
+struct FailingCalls {
     files: Vec<u64>,
     out: Vec<u64>,
     err: Vec<u64>,
@@ -27,8 +34,8 @@ struct Ran {
 }
 
 /// No call is to fail.
-fn nothing(alloc: Global) -> Failing {
-    Failing {
+fn nothing(alloc: Global) -> FailingCalls {
+    FailingCalls {
         files: Vec::new(alloc),
         out: Vec::new(alloc),
         err: Vec::new(alloc),
@@ -47,7 +54,37 @@ fn words(alloc: Global, list: &[&[u8]]) -> Result<Vec<Text>, Fail> {
     Ok(words)
 }
 
-/// A run of these words over the files `q` and `d`, each call of which moves at most `most` bytes.
+/// A run of these words over the files `q` and `d`, each call of which moves at most `most` bytes, in this store.
+fn run_in<N: NodeStore<Row> + Drop>(
+    rt: &impl Abort,
+    alloc: Global,
+    list: &[&[u8]],
+    files: (&[u8], &[u8]),
+    most: usize,
+    failing: FailingCalls,
+    nodes: &mut N,
+) -> Result<Ran, Fail>
+    requires empty { N.rows nodes.old ≡ map.empty }
+    requires fresh { N.most_held nodes.old ≡ 0 }
+{
+    assert!(rt; most > 0);
+    let (query, document) = files;
+    let mut files = MemShelf::new(alloc, 0, most, failing.files);
+    files.put(text(alloc, b"q")?, query.to_vec(alloc)?)?;
+    files.put(text(alloc, b"d")?, document.to_vec(alloc)?)?;
+    let mut out = MemSink::new(alloc, 10_000, most, failing.out)?;
+    let mut err = MemSink::new(alloc, 100, most, failing.err)?;
+    let words = words(alloc, list)?;
+    let status = gcx_main(alloc, &words, &mut files, &mut out, &mut err, nodes);
+    assert!(rt; out.is_whole() && err.is_whole());
+    Ok(Ran {
+        status,
+        out: out.bytes().to_vec(alloc)?,
+        err: err.bytes().to_vec(alloc)?,
+    })
+}
+
+/// A run in a store of its own.
 fn run(
     rt: &impl Abort,
     alloc: Global,
@@ -55,22 +92,65 @@ fn run(
     query: &[u8],
     document: &[u8],
     most: usize,
-    failing: Failing,
+    failing: FailingCalls,
 ) -> Result<Ran, Fail> {
-    assert!(rt; most > 0);
-    let mut files = MemShelf::new(alloc, 0, most, failing.files);
+    let mut nodes: RawNodes<Row> = RawNodes::new(alloc);
+    run_in(
+        rt,
+        alloc,
+        list,
+        (query, document),
+        most,
+        failing,
+        &mut nodes,
+    )
+}
+
+/// A run of `run q d` over objects that never fail, in a store of slots.
+fn run_surely(rt: &impl Abort, alloc: Global, query: &[u8], document: &[u8]) -> Result<Ran, Fail> {
+    let mut files = SureShelf::new(alloc, 0);
     files.put(text(alloc, b"q")?, query.to_vec(alloc)?)?;
     files.put(text(alloc, b"d")?, document.to_vec(alloc)?)?;
-    let mut out = MemSink::new(alloc, 10_000, most, failing.out)?;
-    let mut err = MemSink::new(alloc, 100, most, failing.err)?;
-    let words = words(alloc, list)?;
-    let status = gcx_main(alloc, &words, &mut files, &mut out, &mut err);
+    let mut out = SureSink::new(alloc, 10_000)?;
+    let mut err = SureSink::new(alloc, 100)?;
+    let mut nodes: SlabNodes<Row> = SlabNodes::new(alloc);
+    let words = words(alloc, &[b"run", b"q", b"d"])?;
+    let status = gcx_main(alloc, &words, &mut files, &mut out, &mut err, &mut nodes);
     assert!(rt; out.is_whole() && err.is_whole());
     Ok(Ran {
         status,
         out: out.bytes().to_vec(alloc)?,
         err: err.bytes().to_vec(alloc)?,
     })
+}
+
+/// The query over the document ends so, with these bytes and this line: over objects whose calls move a byte, some or all,
+/// and over objects that never fail, in each store.
+fn ends_with(
+    rt: &impl Abort,
+    alloc: Global,
+    files: (&[u8], &[u8]),
+    status: Status,
+    written: &[u8],
+    line: &[u8],
+) -> Result<(), Fail> {
+    let (query, document) = files;
+    for most in [1, 7, 65_536] {
+        let list: &[&[u8]] = &[b"run", b"q", b"d"];
+        let ran = run(rt, alloc, list, query, document, most, nothing(alloc))?;
+        assert_eq!(rt; ran.status, status, "{query:?} {document:?} {most}");
+        assert_eq!(rt;
+            ran.out.as_slice(),
+            written,
+            "{query:?} {document:?} {most}"
+        );
+        assert_eq!(rt; ran.err.as_slice(), line, "{query:?} {document:?} {most}");
+    }
+    let ran = run_surely(rt, alloc, query, document)?;
+    assert_eq!(rt; ran.status, status, "{query:?} {document:?}");
+    assert_eq!(rt; ran.out.as_slice(), written, "{query:?} {document:?}");
+    assert_eq!(rt; ran.err.as_slice(), line, "{query:?} {document:?}");
+    Ok(())
 }
 
 /// The query has this answer over the document, and `err` takes nothing.
@@ -81,24 +161,10 @@ fn is_answered(
     document: &[u8],
     answer: &[u8],
 ) -> Result<(), Fail> {
-    for most in [1, 7, 65_536] {
-        let ran = run(
-            rt,
-            alloc,
-            &[b"run", b"q", b"d"],
-            query,
-            document,
-            most,
-            nothing(alloc),
-        )?;
-        assert_eq!(rt; ran.status, Status::Ok, "{query:?} {document:?} {most}");
-        assert_eq!(rt; ran.out.as_slice(), answer, "{query:?} {document:?} {most}");
-        assert_eq!(rt; ran.err.as_slice(), b"".as_slice());
-    }
-    Ok(())
+    ends_with(rt, alloc, (query, document), Status::Ok, answer, b"")
 }
 
-/// A run ends with this status and this line, and `out` takes nothing.
+/// A run of these words ends with this status and this line, and `out` takes nothing.
 fn is_told(
     rt: &impl Abort,
     alloc: Global,
@@ -117,7 +183,7 @@ fn is_told(
     Ok(())
 }
 
-/// The query, or the document under it, is refused with this line.
+/// The query is refused with this line, and nothing is written.
 fn is_refused(
     rt: &impl Abort,
     alloc: Global,
@@ -126,15 +192,7 @@ fn is_refused(
     status: Status,
     line: &[u8],
 ) -> Result<(), Fail> {
-    is_told(
-        rt,
-        alloc,
-        &[b"run", b"q", b"d"],
-        query,
-        document,
-        status,
-        line,
-    )
+    ends_with(rt, alloc, (query, document), status, b"", line)
 }
 
 #[test]
@@ -247,30 +305,82 @@ fn each_query_has_its_answer(rt: HostRuntime) -> Result<(), Fail> {
     Ok(())
 }
 
+/// A document that is refused: the query, the bytes, the fault and its line, and what was written before.
+type Refusal<'a> = (&'a [u8], &'a [u8], DocFault, &'a [u8], &'a [u8]);
+
 #[test]
-fn a_document_that_is_refused_is_told(rt: HostRuntime) -> Result<(), Fail> {
-    let rows: &[(&[u8], DocFault, &[u8])] = &[
+fn what_is_settled_before_a_fault_is_written(rt: HostRuntime) -> Result<(), Fail> {
+    let exists: &[u8] = b"for $x in /r/p return if (exists($x/k)) then <y/> else <n/>";
+    let either: &[u8] =
+        b"for $x in /r/p return if (exists($x/k) or exists($x/j)) then <y/> else <n/>";
+    let rows: &[Refusal<'_>] = &[
         (
-            b"<a></a>x",
-            DocFault::Syntax(7),
-            b"gcx: document Syntax 7\n",
+            exists,
+            b"<r><p><k/>",
+            DocFault::Truncated(10),
+            b"gcx: document Truncated 10\n",
+            b"<y></y>",
         ),
         (
+            either,
+            b"<r><p><j/>",
+            DocFault::Truncated(10),
+            b"gcx: document Truncated 10\n",
+            b"",
+        ),
+        (
+            b"<r>{/a/b}</r>",
             b"<a><b></a>",
             DocFault::Syntax(8),
             b"gcx: document Syntax 8\n",
+            b"<r><b>",
         ),
-        (b"<a>\xFF", DocFault::Utf8(3), b"gcx: document Utf8 3\n"),
         (
+            b"<r>{/a}</r>",
+            b"",
+            DocFault::Truncated(0),
+            b"gcx: document Truncated 0\n",
+            b"<r>",
+        ),
+        (
+            b"/a",
+            b"<a></a>x",
+            DocFault::Syntax(7),
+            b"gcx: document Syntax 7\n",
+            b"<a></a>",
+        ),
+        (
+            b"/a",
+            b"<a>\xFF",
+            DocFault::Utf8(3),
+            b"gcx: document Utf8 3\n",
+            b"<a>",
+        ),
+        (
+            b"/a",
             b"<a>&#0;</a>",
             DocFault::Syntax(6),
             b"gcx: document Syntax 6\n",
+            b"<a>",
         ),
         (
+            b"/a",
             b"<a>&nbsp;</a>",
             DocFault::Syntax(4),
             b"gcx: document Syntax 4\n",
+            b"<a>",
         ),
+    ];
+    for &(query, document, fault, line, written) in rows {
+        let status = Status::DocumentRefused(fault);
+        ends_with(&rt, rt.alloc(), (query, document), status, written, line)?;
+    }
+    Ok(())
+}
+
+#[test]
+fn before_the_first_tag_is_whole_nothing_is_written(rt: HostRuntime) -> Result<(), Fail> {
+    let rows: &[(&[u8], DocFault, &[u8])] = &[
         (
             b"<!DOCTYPE a [",
             DocFault::Syntax(12),
@@ -296,7 +406,7 @@ fn a_document_that_is_refused_is_told(rt: HostRuntime) -> Result<(), Fail> {
     ];
     for &(document, fault, line) in rows {
         let status = Status::DocumentRefused(fault);
-        is_refused(&rt, rt.alloc(), b"/a", document, status, line)?;
+        ends_with(&rt, rt.alloc(), (b"/a", document), status, b"", line)?;
     }
     Ok(())
 }
@@ -371,12 +481,12 @@ fn limits_are_told(rt: HostRuntime) -> Result<(), Fail> {
     let most = tower(alloc, 1_000)?;
     is_answered(&rt, alloc, b"/a", &most, &most)?;
     let more = tower(alloc, 1_001)?;
-    is_refused(
+    ends_with(
         &rt,
         alloc,
-        b"/a",
-        &more,
+        (b"/a", &more),
         Status::DocumentRefused(DocFault::Depth(3_000)),
+        &repeated(alloc, b"<a>", 1_000)?,
         b"gcx: document Depth 3000\n",
     )?;
     let mut name = b"<".to_vec(alloc)?;
@@ -455,106 +565,5 @@ fn words_and_names_are_told(rt: HostRuntime) -> Result<(), Fail> {
         Status::Memory.code(),
     ];
     assert_eq!(rt; codes, [0, 2, 3, 4, 5, 6, 7]);
-    Ok(())
-}
-
-/// A run of one byte a call with the query of the loop over `b`.
-fn run_by_bytes(
-    rt: &impl Abort,
-    alloc: Global,
-    document: &[u8],
-    failing: Failing,
-) -> Result<Ran, Fail> {
-    let query = b"<r>{for $x in /a/b return $x}</r>";
-    run(
-        rt,
-        alloc,
-        &[b"run", b"q", b"d"],
-        query,
-        document,
-        1,
-        failing,
-    )
-}
-
-#[test]
-fn each_call_of_the_files_fails_once(rt: HostRuntime) -> Result<(), Fail> {
-    let alloc = rt.alloc();
-    // an attach and 34 reads of the query's 33 bytes, an attach and 28 reads of the document's 27
-    for number in 1..=65u64 {
-        let mut failing = nothing(alloc);
-        failing.files.push(number)?;
-        let ran = run_by_bytes(&rt, alloc, b"<a><b>1</b><c/><b>2</b></a>", failing)?;
-        if number <= 64 {
-            assert_eq!(rt; ran.status, Status::ReadFault, "call {number}");
-            assert_eq!(rt; ran.out.as_slice(), b"".as_slice(), "call {number}");
-            assert_eq!(rt; ran.err.as_slice(), b"gcx: read fault\n".as_slice());
-        } else {
-            assert_eq!(rt; ran.status, Status::Ok);
-            assert_eq!(rt; ran.out.as_slice(), b"<r><b>1</b><b>2</b></r>".as_slice());
-            assert_eq!(rt; ran.err.as_slice(), b"".as_slice());
-        }
-    }
-    Ok(())
-}
-
-#[test]
-fn each_write_fails_once(rt: HostRuntime) -> Result<(), Fail> {
-    let alloc = rt.alloc();
-    let answer = b"<r><b>1</b><b>2</b></r>".as_slice();
-    // 23 writes of one byte
-    for number in 1..=24usize {
-        let mut failing = nothing(alloc);
-        failing.out.push(number as u64)?;
-        let ran = run_by_bytes(&rt, alloc, b"<a><b>1</b><c/><b>2</b></a>", failing)?;
-        if number <= 23 {
-            assert_eq!(rt; ran.status, Status::WriteFault, "write {number}");
-            assert_eq!(rt; ran.out.as_slice(), &answer[..number - 1]);
-            assert_eq!(rt; ran.err.as_slice(), b"gcx: write fault\n".as_slice());
-        } else {
-            assert_eq!(rt; ran.status, Status::Ok);
-            assert_eq!(rt; ran.out.as_slice(), answer);
-        }
-    }
-    Ok(())
-}
-
-#[test]
-fn each_write_of_the_line_fails_once(rt: HostRuntime) -> Result<(), Fail> {
-    let alloc = rt.alloc();
-    let line = b"gcx: document Syntax 8\n".as_slice();
-    let status = Status::DocumentRefused(DocFault::Syntax(8));
-    // 23 writes of one byte
-    for number in 1..=24usize {
-        let mut failing = nothing(alloc);
-        failing.err.push(number as u64)?;
-        let ran = run_by_bytes(&rt, alloc, b"<a><b></a>", failing)?;
-        assert_eq!(rt; ran.status, status, "write {number}");
-        assert_eq!(rt; ran.err.as_slice(), &line[..number - 1]);
-        assert_eq!(rt; ran.out.as_slice(), b"".as_slice());
-    }
-    Ok(())
-}
-
-#[test]
-fn what_never_fails_answers_too(rt: HostRuntime) -> Result<(), Fail> {
-    let alloc = rt.alloc();
-    let mut files = SureShelf::new(alloc, 0);
-    files.put(
-        text(alloc, b"q")?,
-        b"<r>{for $x in /a/b return $x}</r>".to_vec(alloc)?,
-    )?;
-    files.put(
-        text(alloc, b"d")?,
-        b"<a><b>1</b><c/><b>2</b></a>".to_vec(alloc)?,
-    )?;
-    let mut out = SureSink::new(alloc, 100)?;
-    let mut err = SureSink::new(alloc, 100)?;
-    let words = words(alloc, &[b"run", b"q", b"d"])?;
-    let status = gcx_main(alloc, &words, &mut files, &mut out, &mut err);
-    assert_eq!(rt; status, Status::Ok);
-    assert!(rt; out.is_whole() && err.is_whole());
-    assert_eq!(rt; out.bytes(), b"<r><b>1</b><b>2</b></r>".as_slice());
-    assert_eq!(rt; err.bytes(), b"".as_slice());
     Ok(())
 }

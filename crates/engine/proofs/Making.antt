@@ -1,0 +1,76 @@
+-- An engine before any byte.
+use Rattle.std.proofs.Common.{◌≡◌, ℕ, ◌+◌, ◌<◌, ◌≤◌, ◌^◌, max, false, List, [], ◌∷◌, ◌++◌, length, map, refl, sym, ◌∙◌, ap, subst, arith, None}
+use Rattle.std.proofs.lemmas.List.{length-map}
+use Rattle.gcx_base.specs.declared.limits.Limits.{Limits}
+use Rattle.gcx_base.specs.declared.ids.Role.{Role}
+use Rattle.gcx_model.specs.Tree.{Root, Tree, opening}
+use Rattle.gcx_model.specs.Core.{BodyTree, PlanTree}
+use Rattle.gcx_model.specs.PlanView.{plan_tree}
+use Rattle.gcx_model.specs.Cores.{Good}
+use Rattle.gcx_model.specs.Placed.{Placed}
+use Rattle.gcx_model.specs.Held.{held, roles_given, sum_given}
+use Rattle.gcx_model.specs.Points.{so_far}
+use Rattle.gcx_model.specs.Past.{opening_past}
+use Rattle.doc_reader.specs.declared.token.Token.{Token}
+use Rattle.doc_reader.specs.Standing.{ReaderView, Stands, IsFault, waiting, said_of}
+use Rattle.buf_tree.specs.View.{View, capped}
+use Rattle.buf_tree.specs.Calls.{Started, numbers}
+use Rattle.buf_tree.specs.Stands.{StandsFor}
+use Rattle.projector.specs.Projector.{Projects, Places}
+use Rattle.projector.specs.declared.projector.Projector.{Projector}
+use Rattle.pull_eval.specs.Acting.{Beside}
+use Rattle.pull_eval.specs.declared.position.Position.{Position}
+use Rattle.engine.specs.declared.engine.Engine.{Engine}
+use Rattle.engine.specs.Engine.{Actors, ActorsStand, CountsOf, Starts, past_at}
+use Rattle.engine.specs.Going.{ActsOn, Begins, SomeActors, all_of, bytes_at}
+use Rattle.engine.proofs.Counting.{counts_acted, counts_opened}
+use Rattle.engine.proofs.Courses.{settled_by}
+use Rattle.engine.proofs.Nothing.{none_at_start, nothing_seen}
+use Rattle.engine.proofs.RowsHeld.{rows_count}
+
+-- the actors before any token and any action
+pub actors_begin : (plan : PlanTree) (stands : Tree → Type 0) (p : Projector) (w : Position) (v : View) (given : List Role) → Projects p (opening_past plan) → Places p v → Started v given → StandsFor v (opening_past plan)
+    → (v.taken ≡ 0 → Beside w v (opening_past plan) 0) → stands opening → ActorsStand plan stands p w v opening 0
+actors_begin plan stands p w v given h places started st beside on = record { fed = 0; projects = h; keeps = places; gone = started.gone; beside = beside started.taken; stand = on }
+
+-- the roles of the document node are all that were given
+pub given_begin : (plan : PlanTree) (given : List Role) → length given < 2 ^ 64 → numbers given ≡ roles_given plan opening Root → length given ≡ capped (sum_given plan opening)
+given_begin plan given few e =
+    let l : length given ≡ length (roles_given plan opening Root) = sym (length-map given (λ (r : Role). r.0)) ∙ ap length e in
+    omega arith
+
+module _ {N C : Type 0} (stands : C → Tree → Type 0) (lim : Limits) where
+  pub some_begin : (e : Engine N C) → Begins stands lim e → SomeActors stands e
+  some_begin e h = record { tree = opening; taken = 0; of = h.actors }
+
+  -- with every action taken it stands for no bytes
+  pub starts : (e d : Engine N C) → Begins stands lim e → 1 ≤ e.ahead → d.plan ≡ e.plan → d.reader ≡ e.reader → d.ahead ≡ e.ahead → d.counts ≡ e.counts → d.refused ≡ e.refused → d.buffer.most ≡ e.buffer.most
+      → ActsOn stands e d opening 0 → Starts stands lim d
+  starts e d h one plan reader ahead counts refused most a =
+      let is = h.actors.beside.buffer.is_past in
+      let pl = plan_tree e.plan.now in
+      let plan' : plan_tree d.plan.now ≡ pl = ap (λ z. plan_tree z.now) plan in
+      let acts : Actors stands d opening (all_of (plan_tree d.plan.now) opening) = subst (λ z. Actors stands d opening z) (ap (λ z. all_of (plan_tree z.now) opening) (sym plan)) a.actors in
+      let before : length e.buffer.rows ≡ length (held pl opening (so_far pl opening 0)) = rows_count e.buffer (past_at pl opening 0 h.actors.fed) h.actors.beside.buffer in
+      let behind : length d.buffer.rows ≡ length (held pl opening (so_far pl opening (all_of pl opening))) = rows_count d.buffer (past_at (plan_tree d.plan.now) opening (all_of (plan_tree d.plan.now) opening) acts.fed) acts.beside.buffer
+      ∙ ap (λ (z : PlanTree). length (held z opening (so_far z opening (all_of z opening)))) plan' in
+      let c0 : CountsOf pl [] e.ahead e.buffer e.counts = counts_opened is.core is.good pl is.placed e.ahead one e.buffer e.counts h.given h.peak h.most before in
+      let c1 : CountsOf pl [] e.ahead d.buffer e.counts = counts_acted is.core is.good pl is.placed [] e.ahead 0 e.buffer d.buffer e.counts before behind most c0 in
+      let c : CountsOf (plan_tree d.plan.now) [] d.ahead d.buffer d.counts = subst (λ (z : PlanTree). CountsOf z [] d.ahead d.buffer d.counts) (sym plan')
+      (subst (λ z. CountsOf pl [] z d.buffer d.counts) (sym ahead) (subst (λ z. CountsOf pl [] e.ahead d.buffer z) (sym counts) c1)) in
+      let fresh : d.refused ≡ None = refused ∙ h.fresh in
+      let out : d.out.items ≡ bytes_at pl opening (all_of pl opening) = a.goes.grew ∙ (ap (λ (z : List ℕ). z ++ a.goes.more) h.out ∙ sym a.goes.written) in
+      record {
+        of = record {
+          given = [];
+          seen = nothing_seen lim;
+          parts = record { limits = h.limits; reader = subst (λ (z : ReaderView). Stands z lim [] false []) (sym reader) h.reader; actors = acts; counts = c };
+          none = ap waiting reader ∙ h.none;
+          bytes = ap (λ z. z.bytes) counts ∙ h.bytes;
+          fault = subst (λ z. IsFault z lim [] false) (sym fresh) (none_at_start lim);
+          lasting = λ m. let x = sym fresh ∙ m in cc;
+          kept = λ n. absurd (n fresh);
+        };
+        fresh = fresh;
+        settled = settled_by (plan_tree d.plan.now) lim [] false [] d.out.items (nothing_seen lim) (ap (λ (z : PlanTree). bytes_at z opening (all_of z opening)) plan' ∙ sym out);
+      }

@@ -1,0 +1,32 @@
+use Rattle.std.proofs.Common.{◌≡◌, ◌∙◌, ◌++◌, ℕ, false, List, None, ap, subst, refl, sym, rules}
+use Rattle.engine.specs.Engine.{Kept, Lost, StandsSome}
+use Rattle.engine.proofs.Courses.{asked_none, exact_by, on_answer, some_none}
+use Rattle.engine.proofs.engine.Engine.feed.Goals as goal
+
+pub returns-in-Some-clause-fed : goal.returns-in-Some-clause-fed
+returns-in-Some-clause-fed g c = λ lim b s fresh. some_none c.args.self.now.refused c.in-Some.fault _ c.in-Some.is fresh
+
+pub returns-in-Some-clause-exact : goal.returns-in-Some-clause-exact
+returns-in-Some-clause-exact g c = λ lim b s fresh. some_none c.args.self.now.refused c.in-Some.fault _ c.in-Some.is fresh
+
+pub returns-in-Some-clause-bytes : goal.returns-in-Some-clause-bytes
+returns-in-Some-clause-bytes g c = λ fresh. some_none c.args.self.now.refused c.in-Some.fault _ c.in-Some.is fresh
+
+pub feed_piece-requires-clause-stands : goal.feed_piece-requires-clause-stands
+feed_piece-requires-clause-stands g c = asked_none c.args.self.now.refused (Unit {0}) (StandsSome g.C.Conds.stands c.args.self.now false) c.in-None.is c.requires
+
+pub returns-in-None-clause-fed : goal.returns-in-None-clause-fed
+returns-in-None-clause-fed g c = λ lim b s fresh.
+    let old = c.args.self.now in
+    let d = c.feed_piece.new.self in
+    let w = b ++ c.args.piece.now in
+    on_answer d.refused c.answer.result (Lost lim old d b false w false) (Kept g.C.Conds.stands lim old d b false w false) c.answer.ensures (c.feed_piece.ensures.fed lim b s)
+
+pub returns-in-None-clause-exact : goal.returns-in-None-clause-exact
+returns-in-None-clause-exact g c = λ lim b s fresh.
+    let old = c.args.self.now in
+    let d = c.feed_piece.new.self in
+    exact_by g.C.Conds.stands lim old d b false (b ++ c.args.piece.now) false c.answer.result c.answer.ensures (c.feed_piece.ensures.fed lim b s)
+
+pub returns-in-None-clause-again : goal.returns-in-None-clause-again
+returns-in-None-clause-again g c = λ f e. some_none c.args.self.now.refused f _ e c.in-None.is

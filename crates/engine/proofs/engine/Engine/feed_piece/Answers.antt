@@ -1,0 +1,84 @@
+use Rattle.std.proofs.Common.{◌≡◌, ◌∙◌, ◌+◌, ◌++◌, ◌≤◌, ℕ, false, [], List, length, None, ap, subst, refl, sym, arith, rules, append_assoc}
+use Rattle.std.proofs.lemmas.List.{append-nil, length-append}
+use Rattle.gcx_base.specs.declared.limits.Limits.{Limits}
+use Rattle.engine.specs.declared.engine.Engine.{Engine}
+use Rattle.engine.specs.Engine.{Kept, Lost, OnRefusal}
+use Rattle.engine.proofs.Courses.{bytes_small, piece_begins, piece_ends, piece_on, piece_some}
+use Rattle.engine.proofs.engine.Engine.feed_piece.Goals as goal
+
+pub slices-init : goal.slices-init
+slices-init g c = record {
+  done = [];
+  parts = refl;
+  fed = λ lim b s. piece_begins g.C.Conds.stands lim b c.args.self.now c.requires.fresh s;
+  bytes = omega arith;
+  same = (refl, refl, refl);
+  silent = λ s. s;
+  loans = refl;
+}
+
+pub feed_slice-requires-clause-stands : goal.feed_slice-requires-clause-stands
+feed_slice-requires-clause-stands g c =
+    let s = c.requires.stands in
+    let inv = c.slices.invariant in
+    let fresh = (c.is_left.ensures.left c.slices-test.true).0 in
+    piece_some g.C.Conds.stands s.limits s.read c.args.self.now c.slices.self inv.done fresh (inv.fed s.limits s.read s.of)
+
+pub feed_slice-requires-clause-fresh : goal.feed_slice-requires-clause-fresh
+feed_slice-requires-clause-fresh g c = (c.is_left.ensures.left c.slices-test.true).0
+
+pub slices-preserved : goal.slices-preserved
+slices-preserved g c =
+    let inv = c.slices.invariant in
+    let old = c.args.self.now in
+    let e = c.slices.self in
+    let d = c.feed_slice.new.self in
+    let o = c.feed_slice.ensures in
+    let slice = c.cut.result.0.now in
+    let fresh = (c.is_left.ensures.left c.slices-test.true).0 in
+    let l = length-append inv.done slice in
+    let n = inv.bytes in
+    let m = o.bytes in
+    record {
+      done = inv.done ++ slice;
+      parts = append_assoc inv.done slice c.cut.result.1.now ∙ (ap (λ (z : List ℕ). inv.done ++ z) c.cut.ensures.parts ∙ inv.parts);
+      fed = λ lim b s. piece_on g.C.Conds.stands lim b old e d inv.done slice inv.same.0 fresh (inv.fed lim b s) (λ x y. o.fed lim x y);
+      bytes = omega arith;
+      same = (o.same.0 ∙ inv.same.0, o.same.1 ∙ inv.same.1, o.same.2 ∙ inv.same.2);
+      silent = λ s. o.silent (inv.silent s);
+      loans = o.loans ∙ inv.loans;
+    }
+
+pub slices-smaller : goal.slices-smaller
+slices-smaller g c = c.cut.ensures.fewer (c.is_left.ensures.left c.slices-test.true).1
+
+pub overflow_add-self : goal.overflow_add-self
+overflow_add-self g c =
+    let s = c.requires.stands in
+    let inv = c.slices.invariant in
+    let n = bytes_small g.C.Conds.stands s.limits c.args.self.now s.read false s.of c.requires.fresh in
+    let l = ap length inv.parts in
+    let m = length-append inv.done c.slices.rest.now in
+    let k = inv.bytes in
+    omega arith
+
+pub returns-clause-fed : goal.returns-clause-fed
+returns-clause-fed g c = λ lim b s.
+    let inv = c.slices.invariant in
+    let old = c.args.self.now in
+    let e = c.slices.self in
+    let rest = c.slices.rest.now in
+    let d : Engine g.row.N.Denot g.row.C.Denot = record e { counts = record e.counts { bytes = e.counts.bytes + length rest } } in
+    subst (λ (z : List ℕ). OnRefusal d.refused (Lost lim old d b false (b ++ z) false) (Kept g.C.Conds.stands lim old d b false (b ++ z) false)) inv.parts
+    (piece_ends g.C.Conds.stands lim b old e d inv.done rest inv.same.0 refl (c.is_left.ensures.over c.slices-test.false) (inv.fed lim b s))
+
+pub returns-clause-bytes : goal.returns-clause-bytes
+returns-clause-bytes g c =
+    let inv = c.slices.invariant in
+    let l = ap length inv.parts in
+    let m = length-append inv.done c.slices.rest.now in
+    let k = inv.bytes in
+    omega arith
+
+pub returns-clause-silent : goal.returns-clause-silent
+returns-clause-silent g c = λ s. let t = c.slices.invariant.silent s in record { untold = t.untold; empty = t.empty }

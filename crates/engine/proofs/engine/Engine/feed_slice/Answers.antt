@@ -1,0 +1,38 @@
+use Rattle.std.proofs.Common.{◌≡◌, ◌∙◌, ◌+◌, ◌++◌, ◌≤◌, ℕ, false, List, length, ap, subst, refl, sym, arith}
+use Rattle.std.proofs.lemmas.List.{length-append}
+use Rattle.gcx_base.specs.declared.limits.Limits.{Limits}
+use Rattle.doc_reader.specs.Standing.{Answers}
+use Rattle.engine.specs.declared.engine.Engine.{Engine}
+use Rattle.engine.proofs.Courses.{bytes_small, fault_of_answer, fed_to, parts_read}
+use Rattle.engine.proofs.engine.Engine.feed_slice.Goals as goal
+
+pub overflow_add-self : goal.overflow_add-self
+overflow_add-self g c = let s = c.requires.stands in let n = bytes_small g.C.Conds.stands s.limits c.args.self.now s.read false s.of c.requires.fresh in omega arith
+
+pub feed-read-requires : goal.feed-read-requires
+feed-read-requires g c = c.requires.stands.of.parts.reader.finished
+
+pub go_on-requires-clause-parts : goal.go_on-requires-clause-parts
+go_on-requires-clause-parts g c =
+    let s = c.requires.stands in
+    let b = s.read ++ c.args.slice.now in
+    record { limits = s.limits; read = b; ended = false; given = s.of.given; of = parts_read g.C.Conds.stands s.limits c.args.self.now s.read false b false s.of c.feed-read.new.self (c.args.self.now.counts.bytes + length c.args.slice.now) (c.feed-read.ensures.stands s.limits s.read s.of.given s.of.parts.reader) }
+
+pub returns-clause-fed : goal.returns-clause-fed
+returns-clause-fed g c = λ lim b s.
+    let old = c.args.self.now in
+    let r = c.feed-read.new.self in
+    let o = c.feed-read.ensures in
+    let d = c.go_on.new.self in
+    let w = b ++ c.args.slice.now in
+    let n = old.counts.bytes + length c.args.slice.now in
+    let e : Engine g.row.N.Denot g.row.C.Denot = record old { reader = r; counts = record old.counts { bytes = n } } in
+    let l = length-append b c.args.slice.now in
+    let y = s.bytes in
+    let x = c.go_on.ensures.bytes in
+    let bytes : d.counts.bytes ≡ length w = omega arith in
+    fed_to g.C.Conds.stands lim b false w false old e d s refl refl c.go_on.ensures.keeps (fault_of_answer r.refused c.feed-read.result lim w false o.answer (o.exact lim b s.given s.parts.reader)) bytes
+    (c.go_on.ensures.goes lim w false s.given (parts_read g.C.Conds.stands lim old b false w false s r n (o.stands lim b s.given s.parts.reader)))
+
+pub returns-clause-silent : goal.returns-clause-silent
+returns-clause-silent g c = λ s. c.go_on.ensures.silent (record { untold = s.untold; empty = s.empty })

@@ -1,0 +1,142 @@
+use Rattle.std.proofs.Common.{◌≡◌, ◌∙◌, ◌+◌, ◌<◌, ◌≤◌, ◌++◌, ℕ, Bool, true, false, [], ◌∷◌, ◌&&◌, List, length, ap, subst, sym, refl, arith}
+use Rattle.gcx_base.specs.declared.limits.Limits.{Limits}
+use Rattle.gcx_model.specs.PlanView.{plan_tree}
+use Rattle.gcx_model.specs.Seen.{seen_tree}
+use Rattle.doc_reader.specs.declared.token.Token.{Token}
+use Rattle.doc_reader.specs.Standing.{Keeps, ReaderView, Stands, said_of, waiting}
+use Rattle.std.specs.Prelude.{map}
+use Rattle.std.proofs.lemmas.Bool.{false≢true, true≢false}
+use Rattle.engine.specs.declared.engine.Engine.{Engine}
+use Rattle.engine.specs.Engine.{Balanced, PartsStand}
+use Rattle.engine.specs.Going.{FeedsSome, all_of}
+use Rattle.engine.proofs.Acting.{on_err}
+use Rattle.engine.proofs.Forms.{fed_on, keeps_none, keeps_on, read_on}
+use Rattle.engine.proofs.Grouping.{comes_next, group_begins, group_given, group_on, group_stops, may_next, some_ahead}
+use Rattle.engine.proofs.engine.Engine.feed_some.Goals as goal
+
+pub tokens-init : goal.tokens-init
+tokens-init g c = record {
+  group = λ lim b ended given p. group_begins g.C.Conds.stands lim b ended given c.args.self.now p;
+  fewer = omega arith;
+  some = λ y. absurd (false≢true y);
+  none = λ y. refl;
+  keeps = keeps_none c.args.self.now.reader;
+  rest = refl;
+  bytes = refl;
+  silent = λ s. s;
+  loans = refl;
+}
+
+pub feed_one-requires : goal.feed_one-requires
+feed_one-requires g c =
+    let q = c.requires in
+    let inv = c.tokens.invariant in
+    let e = c.tokens.self in
+    let r = c.next.new.self in
+    let x = inv.group q.limits q.read q.ended q.given q.of in
+    let plan = ap (λ (z : Engine g.row.N.Denot g.row.C.Denot). z.plan) inv.rest in
+    may_next g.C.Conds.stands q.limits q.read q.ended q.given c.args.self.now e e r c.in-Some.token c.tokens.quiet true x.0 plan c.in-Some.ensures.takes (c.in-Some.ensures.stands q.limits q.read q.ended (q.given ++ x.0.more) x.0.reader) (record e { reader = r }) refl
+
+pub returns-in_err-still-clause-balance : goal.returns-in_err-still-clause-balance
+returns-in_err-still-clause-balance g c =
+    let inv = c.tokens.invariant in
+    let e = c.tokens.self in
+    let r = c.next.new.self in
+    let plan = ap (λ (z : Engine g.row.N.Denot g.row.C.Denot). z.plan) inv.rest in
+    let h : (lim : Limits) (b : List ℕ) (ended : Bool) (given : List Token) → PartsStand g.C.Conds.stands lim c.args.self.now b ended given → Balanced c.feed_one.new.self = λ lim b ended given p.
+    let x = inv.group lim b ended given p in
+    let comes = comes_next g.C.Conds.stands lim b ended given c.args.self.now e e r c.in-Some.token c.tokens.quiet true x.0 plan c.in-Some.ensures.takes (c.in-Some.ensures.stands lim b ended (given ++ x.0.more) x.0.reader) in
+    c.in_err-still.ensures.balance (seen_tree (map said_of (given ++ x.0.more))) (all_of (plan_tree c.args.self.now.plan.now) (seen_tree (map said_of given))) x.0.actors comes (group_given g.C.Conds.stands lim b ended given c.args.self.now e c.tokens.quiet x.0 plan) in
+    on_err _ _ h
+
+pub tokens-preserved : goal.tokens-preserved
+tokens-preserved g c =
+    let inv = c.tokens.invariant in
+    let old = c.args.self.now in
+    let e = c.tokens.self in
+    let r = c.next.new.self in
+    let t = c.in-Some.token in
+    let d = c.feed_one.new.self in
+    let o = c.in_ok-still.ensures in
+    let plan = ap (λ (z : Engine g.row.N.Denot g.row.C.Denot). z.plan) inv.rest in
+    let same : d.reader ≡ r = ap (λ (z : Engine g.row.N.Denot g.row.C.Denot). z.reader) c.feed_one.ensures.rest in
+    let takes : waiting e.reader ≡ t ∷ waiting r = c.in-Some.ensures.takes in
+    let one_less = ap length takes in
+    let now = ap (λ (z : ReaderView). length (waiting z)) same in
+    let before = inv.fewer in
+    let less : length (waiting d.reader) < length (waiting old.reader) = omega arith in
+    record {
+      group = λ lim b ended given p.
+          let x = inv.group lim b ended given p in
+          let f = x.0 in
+          let few = x.1 in
+          let reads = c.in-Some.ensures.stands lim b ended (given ++ f.more) f.reader in
+          let comes = comes_next g.C.Conds.stands lim b ended given old e d r t c.tokens.quiet c.in_ok-still.still f plan takes reads in
+          let ahead : length f.more < old.ahead = let l = c.tokens-test.true in omega arith in
+          let one = o.feeds (seen_tree (map said_of (given ++ f.more))) (all_of (plan_tree old.plan.now) (seen_tree (map said_of given))) f.actors comes in
+          let n = group_on g.C.Conds.stands lim b ended given old e d r t c.tokens.quiet c.in_ok-still.still f plan takes reads ahead one same o.quiet in
+          let m : (n : FeedsSome g.C.Conds.stands lim old d b ended given (c.in_ok-still.still && c.tokens.quiet)) × (length n.more ≤ c.tokens._index + 1) = (n.0, let k = n.1 in omega arith) in
+          subst (λ (z : Bool). (n : FeedsSome g.C.Conds.stands lim old d b ended given z) × (length n.more ≤ c.tokens._index + 1)) (sym c.both-quiet.ensures) m;
+      fewer = omega arith;
+      some = λ y. less;
+      none = λ y. absurd (true≢false y);
+      keeps = keeps_on old.reader e.reader d.reader inv.keeps (subst (λ (z : ReaderView). Keeps e.reader z) (sym same) c.in-Some.ensures.keeps);
+      rest = fed_on old e d r inv.rest c.feed_one.ensures.rest;
+      bytes = c.feed_one.ensures.bytes ∙ inv.bytes;
+      silent = λ s. c.feed_one.ensures.silent (record { untold = (inv.silent s).untold; empty = (inv.silent s).empty });
+      loans = c.feed_one.ensures.loans ∙ inv.loans;
+    }
+
+pub returns-in_err-still-clause-keeps : goal.returns-in_err-still-clause-keeps
+returns-in_err-still-clause-keeps g c =
+    let same : c.feed_one.new.self.reader ≡ c.next.new.self = ap (λ (z : Engine g.row.N.Denot g.row.C.Denot). z.reader) c.feed_one.ensures.rest in
+    keeps_on c.args.self.now.reader c.tokens.self.reader c.feed_one.new.self.reader c.tokens.invariant.keeps (subst (λ (z : ReaderView). Keeps c.tokens.self.reader z) (sym same) c.in-Some.ensures.keeps)
+
+pub returns-in_err-still-clause-rest : goal.returns-in_err-still-clause-rest
+returns-in_err-still-clause-rest g c = fed_on c.args.self.now c.tokens.self c.feed_one.new.self c.next.new.self c.tokens.invariant.rest c.feed_one.ensures.rest
+
+pub returns-in_err-still-clause-silent : goal.returns-in_err-still-clause-silent
+returns-in_err-still-clause-silent g c = λ s. let t = c.tokens.invariant.silent s in c.feed_one.ensures.silent (record { untold = t.untold; empty = t.empty })
+
+pub returns-in_default-clause-feeds : goal.returns-in_default-clause-feeds
+returns-in_default-clause-feeds g c = λ lim b ended given p.
+    let e = c.tokens.self in
+    let r = c.next.new.self in
+    let x = c.tokens.invariant.group lim b ended given p in
+    let t : (waiting e.reader ≡ []) × (waiting r ≡ []) = c.in_default.ensures.takes in
+    let s : Stands r lim b ended ((given ++ x.0.more) ++ []) = c.in_default.ensures.stands lim b ended (given ++ x.0.more) x.0.reader in
+    group_stops g.C.Conds.stands lim b ended given c.args.self.now e c.tokens.quiet r x.0 t.0 t.1 s
+
+pub returns-in_default-clause-none : goal.returns-in_default-clause-none
+returns-in_default-clause-none g c = λ y. let t : (waiting c.tokens.self.reader ≡ []) × (waiting c.next.new.self ≡ []) = c.in_default.ensures.takes in t.1
+
+pub returns-in_default-clause-fewer : goal.returns-in_default-clause-fewer
+returns-in_default-clause-fewer g c = λ y.
+    let t : (waiting c.tokens.self.reader ≡ []) × (waiting c.next.new.self ≡ []) = c.in_default.ensures.takes in
+    let before = ap length t.0 in
+    let now = ap length t.1 in
+    let less = c.tokens.invariant.some y in
+    omega arith
+
+pub returns-in_default-clause-keeps : goal.returns-in_default-clause-keeps
+returns-in_default-clause-keeps g c = keeps_on c.args.self.now.reader c.tokens.self.reader c.next.new.self c.tokens.invariant.keeps c.in_default.ensures.keeps
+
+pub returns-in_default-clause-rest : goal.returns-in_default-clause-rest
+returns-in_default-clause-rest g c = read_on c.args.self.now c.tokens.self c.next.new.self c.tokens.invariant.rest
+
+pub returns-in_default-clause-silent : goal.returns-in_default-clause-silent
+returns-in_default-clause-silent g c = λ s. let t = c.tokens.invariant.silent s in record { untold = t.untold; empty = t.empty }
+
+pub returns-clause-feeds : goal.returns-clause-feeds
+returns-clause-feeds g c = λ lim b ended given p. (c.tokens.invariant.group lim b ended given p).0
+
+pub returns-clause-none : goal.returns-clause-none
+returns-clause-none g c = λ y.
+    let q = c.requires in
+    let n = c.tokens.invariant.none y in
+    let l = c.tokens-test.false in
+    let one = some_ahead g.C.Conds.stands q.limits q.read q.ended q.given c.args.self.now q.of in
+    absurd (omega arith)
+
+pub returns-clause-fewer : goal.returns-clause-fewer
+returns-clause-fewer g c = c.tokens.invariant.some

@@ -1,0 +1,21 @@
+use Rattle.std.proofs.Common.{◌≡◌, ℕ, Bool, List, length}
+use Rattle.gcx_base.specs.declared.limits.Limits.{Limits}
+use Rattle.doc_reader.specs.declared.token.Token.{Token}
+use Rattle.doc_reader.specs.Standing.{Keeps, waiting}
+use Rattle.engine.specs.Engine.{IsSilent, PartsStand}
+use Rattle.engine.specs.Going.{FeedsOn}
+use Rattle.engine.proofs.Forms.{all_form}
+use Rattle.engine.proofs.engine.Engine.feed_waiting.Given as goal
+
+abbrev pub invariant-groups : goal.invariant-groups
+invariant-groups g l = record {
+  feeds : (lim : Limits) (b : List ℕ) (ended : Bool) (given : List Token) → PartsStand g.C.Conds.stands lim l.fn.self b ended given → FeedsOn g.C.Conds.stands lim l.fn.self l.self b ended given;
+  keeps : Keeps l.fn.self.reader l.self.reader;
+  rest : l.self ≡ all_form l.fn.self l.self;
+  bytes : l.self.counts.bytes ≡ l.fn.self.counts.bytes;
+  silent : IsSilent l.fn.self → IsSilent l.self;
+  loans : l.self.buffer.loans ≡ l.fn.self.buffer.loans;
+}
+
+abbrev pub decreases-groups : goal.decreases-groups
+decreases-groups g l = length (waiting l.self.reader)

@@ -1,0 +1,23 @@
+use Rattle.std.proofs.Common.{◌≡◌, ◌∙◌, ◌≤◌, ℕ, ap, arith}
+use Rattle.gcx_model.specs.Tree.{opening}
+use Rattle.engine.specs.declared.engine.Engine.{Engine}
+use Rattle.engine.proofs.Making.{some_begin, starts}
+use Rattle.engine.proofs.engine.Engine.new.Goals as goal
+
+pub act_all-requires : goal.act_all-requires
+act_all-requires g c = some_begin g.C.Conds.stands c.args.limits c.in_ok-engine.engine c.in_ok-engine.ensures.begins
+
+pub returns-clause-starts : goal.returns-clause-starts
+returns-clause-starts g c =
+    let e = c.in_ok-engine.engine in
+    let d = c.act_all.new.self in
+    let h = c.in_ok-engine.ensures.begins in
+    let r = c.act_all.ensures.rest in
+    let a = c.in_ok-engine.ensures.ahead in
+    let n = c.requires.ahead.0 in
+    let one : 1 ≤ e.ahead = omega arith in
+    starts g.C.Conds.stands c.args.limits e d h one (ap (λ (z : Engine g.row.N.Denot g.row.C.Denot). z.plan) r) (ap (λ (z : Engine g.row.N.Denot g.row.C.Denot). z.reader) r) (ap (λ (z : Engine g.row.N.Denot g.row.C.Denot). z.ahead) r)
+    (ap (λ (z : Engine g.row.N.Denot g.row.C.Denot). z.counts) r) (ap (λ (z : Engine g.row.N.Denot g.row.C.Denot). z.refused) r) c.act_all.ensures.most (c.in_ok-act_all.ensures.acts opening 0 h.actors)
+
+pub returns-clause-silent : goal.returns-clause-silent
+returns-clause-silent g c = λ h. c.act_all.ensures.silent (record { untold = c.in_ok-engine.ensures.tracing ∙ h; empty = c.in_ok-engine.ensures.silent h })

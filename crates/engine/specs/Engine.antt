@@ -1,0 +1,150 @@
+-- What an engine stands for, and what its calls write (this project's).
+use Rattle.std.specs.Prelude.{◌≡◌, ◌≤◌, ◌<◌, ◌+◌, ℕ, Bool, false, List, [], ◌++◌, length, map, Option, Some, None, Result, Ok, Err, ⊤}
+use Rattle.gcx_base.specs.declared.limits.Limits.{Limits}
+use Rattle.gcx_model.specs.declared.fault.DocFault.{DocFault}
+use Rattle.gcx_model.specs.declared.fault.DocFault.TheVariants.{Memory}
+use Rattle.gcx_model.specs.Tree.{Tree, Token as Said}
+use Rattle.gcx_model.specs.Core.{PlanTree}
+use Rattle.gcx_model.specs.PlanView.{plan_tree}
+use Rattle.gcx_model.specs.Run.{bytes_written}
+use Rattle.gcx_model.specs.Held.{sum_given}
+use Rattle.gcx_model.specs.Points.{actions, so_far}
+use Rattle.gcx_model.specs.Past.{Past}
+use Rattle.gcx_model.specs.Demand.{peak_of}
+use Rattle.gcx_model.specs.Seen.{SeenIs, seen_tree}
+use Rattle.doc_reader.specs.declared.token.Token.{Token}
+use Rattle.doc_reader.specs.Standing.{Stands, IsFault, waiting, said_of}
+use Rattle.buf_tree.specs.View.{View, capped}
+use Rattle.projector.specs.Projector.{Projects, KeepsPlace}
+use Rattle.projector.specs.declared.projector.Projector.{Projector}
+use Rattle.pull_eval.specs.Acting.{Beside}
+use Rattle.pull_eval.specs.declared.position.Position.{Position}
+use Rattle.engine.specs.declared.engine.Counts.{Counts}
+use Rattle.engine.specs.declared.engine.Engine.{Engine}
+
+-- the plan over the tree P with the first k actions of its run, of which so many were taken before the last token
+abbrev pub past_at : PlanTree → Tree → (k fed : ℕ) → Past
+past_at plan P k fed = record { plan = plan; tree = P; acts = so_far plan P k; fed = fed }
+
+-- The two actors stand for the tree P with the first k actions of the plan's run taken. No departure is kept.
+pub record ActorsStand (plan : PlanTree) (stands : Tree → Type 0) (p : Projector) (w : Position) (v : View) (P : Tree) (k : ℕ) : Type 0 where
+  pub fed : ℕ
+  pub projects : Projects p (past_at plan P k fed)
+  pub keeps : KeepsPlace p.at v.rows
+  pub gone : v.gone ≡ []
+  pub beside : Beside w v (past_at plan P k fed) k
+  pub stand : stands P
+
+-- They do so with every action taken.
+abbrev pub AllTaken : PlanTree → (Tree → Type 0) → Projector → Position → View → Tree → Type 0
+AllTaken plan stands p w v P = ActorsStand plan stands p w v P (length (actions plan P))
+
+-- A greatest number of rows: with one token at a time it is the peak, else at least the peak, and above it by less than `ahead`.
+pub record Peaks (peak ahead most : ℕ) : Type 0 where
+  pub least : peak ≤ most
+  pub near : most < peak + ahead
+
+-- The numbers of these tokens: of the roles given, of the rows that were counted, and of the store's.
+pub record CountsOf (plan : PlanTree) (ts : List Said) (ahead : ℕ) (v : View) (n : Counts) : Type 0 where
+  pub given : n.given ≡ capped (sum_given plan (seen_tree ts))
+  pub peak : Peaks (peak_of plan ts) ahead n.peak
+  pub among : n.peak ≤ length (seen_tree ts).nodes
+  pub store : Peaks (peak_of plan ts) ahead v.most
+  pub store_now : length v.rows ≤ v.most
+
+-- the limits that a reader may have
+pub record MayLimit (lim : Limits) : Type 0 where
+  pub depth : lim.depth ≤ 1000
+  pub bytes : lim.bytes ≤ 1099511627776
+
+-- the actors of an engine stand for the state (P, k)
+abbrev pub Actors : {N C : Type 0} → (C → Tree → Type 0) → Engine N C → Tree → ℕ → Type 0
+Actors stands e P k = ActorsStand (plan_tree e.plan.now) (stands e.machine.conds) e.projector e.machine.position e.buffer P k
+
+-- The reader was fed these bytes and gave these tokens. The actors stand for them with every action taken, and the counts are theirs.
+pub record PartsStand {N C : Type 0} (stands : C → Tree → Type 0) (lim : Limits) (e : Engine N C) (b : List ℕ) (ended : Bool) (given : List Token) : Type 0 where
+  pub limits : MayLimit lim
+  pub reader : Stands e.reader lim b ended given
+  pub actors : Actors stands e (seen_tree (map said_of given)) (length (actions (plan_tree e.plan.now) (seen_tree (map said_of given))))
+  pub counts : CountsOf (plan_tree e.plan.now) (map said_of given) e.ahead e.buffer e.counts
+
+-- An engine stands for these bytes: it was fed them, no token waits, and every action is taken that is possible behind the tokens seen. What it answers is their fault, and no want of memory.
+pub record StandsOf {N C : Type 0} (stands : C → Tree → Type 0) (lim : Limits) (e : Engine N C) (b : List ℕ) (ended : Bool) : Type 0 where
+  pub given : List Token
+  pub seen : SeenIs lim b ended (map said_of given)
+  pub parts : PartsStand stands lim e b ended given
+  pub none : waiting e.reader ≡ []
+  pub bytes : e.counts.bytes ≡ length b
+  pub fault : IsFault e.refused lim b ended
+  pub lasting : e.refused ≡ Some Memory → ⊥
+  pub kept : (e.refused ≡ None → ⊥) → e.reader.refused ≡ e.refused
+
+-- It does so for some bytes.
+pub record StandsSome {N C : Type 0} (stands : C → Tree → Type 0) (e : Engine N C) (ended : Bool) : Type 0 where
+  pub limits : Limits
+  pub read : List ℕ
+  pub of : StandsOf stands limits e read ended
+
+-- behind want of memory, or behind another answer
+abbrev pub OnFault : DocFault → (lost kept : Type 0) → Type 0
+OnFault Memory lost kept = lost
+OnFault f lost kept = kept
+
+abbrev pub OnRefusal : Option DocFault → (lost kept : Type 0) → Type 0
+OnRefusal None lost kept = kept
+OnRefusal (Some f) lost kept = OnFault f lost kept
+
+abbrev pub OnAnswer : Result ⊤ DocFault → (lost kept : Type 0) → Type 0
+OnAnswer (Ok u) lost kept = kept
+OnAnswer (Err f) lost kept = OnFault f lost kept
+
+-- Where memory ran out nothing is asked of an engine: it only answers so again.
+abbrev pub MayGoOn : {N C : Type 0} → (C → Tree → Type 0) → Engine N C → (ended : Bool) → Type 0
+MayGoOn stands e ended = OnRefusal e.refused (Unit {0}) (StandsSome stands e ended)
+
+-- what the plan's run writes over the tree of the tokens seen in these bytes
+pub record Settles (plan : PlanTree) (lim : Limits) (b : List ℕ) (ended : Bool) (w : List ℕ) : Type 0 where
+  pub tokens : List Said
+  pub seen : SeenIs lim b ended tokens
+  pub is : w ≡ bytes_written plan.body (seen_tree tokens)
+
+-- The output grew by what the second bytes settle beyond the first ones.
+pub record GrewBy (plan : PlanTree) (lim : Limits) (b : List ℕ) (was : Bool) (c : List ℕ) (ended : Bool) (before after : List ℕ) : Type 0 where
+  pub old : List ℕ
+  pub more : List ℕ
+  pub settled : Settles plan lim b was old
+  pub settles : Settles plan lim c ended (old ++ more)
+  pub grew : after ≡ before ++ more
+
+-- It grew by a front of that.
+pub record GrewWithin (plan : PlanTree) (lim : Limits) (b : List ℕ) (was : Bool) (c : List ℕ) (ended : Bool) (before after : List ℕ) : Type 0 where
+  pub old : List ℕ
+  pub part : List ℕ
+  pub rest : List ℕ
+  pub settled : Settles plan lim b was old
+  pub settles : Settles plan lim c ended (old ++ (part ++ rest))
+  pub grew : after ≡ before ++ part
+
+-- No more roles are taken back than were given.
+abbrev pub Balanced : {N C : Type 0} → Engine N C → Type 0
+Balanced e = e.buffer.taken ≤ e.counts.given
+
+-- An engine before any byte, as `new` makes it: what the plan's run writes before any token waits.
+pub record Starts {N C : Type 0} (stands : C → Tree → Type 0) (lim : Limits) (e : Engine N C) : Type 0 where
+  pub of : StandsOf stands lim e [] false
+  pub fresh : e.refused ≡ None
+  pub settled : Settles (plan_tree e.plan.now) lim [] false e.out.items
+
+-- No trace is wanted, and none waits.
+pub record IsSilent {N C : Type 0} (e : Engine N C) : Type 0 where
+  pub untold : e.tracing ≡ false
+  pub empty : e.trace.items ≡ []
+
+-- What a call that fed these bytes made: the output grew by what they settle, and the engine stands for them; or memory ran out on the way.
+pub record Lost {N C : Type 0} (lim : Limits) (old new : Engine N C) (b : List ℕ) (was : Bool) (c : List ℕ) (ended : Bool) : Type 0 where
+  pub grew : GrewWithin (plan_tree old.plan.now) lim b was c ended old.out.items new.out.items
+  pub balance : Balanced new
+
+pub record Kept {N C : Type 0} (stands : C → Tree → Type 0) (lim : Limits) (old new : Engine N C) (b : List ℕ) (was : Bool) (c : List ℕ) (ended : Bool) : Type 0 where
+  pub of : StandsOf stands lim new c ended
+  pub grew : GrewBy (plan_tree old.plan.now) lim b was c ended old.out.items new.out.items

@@ -1,0 +1,4 @@
+pub mod Engine
+pub mod Going
+pub mod Runs
+pub mod Turns

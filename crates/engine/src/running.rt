@@ -1,0 +1,190 @@
+//! A whole run, from a source to a sink.
+ghost use Rattle.std.specs.Prelude.{◌≡◌, ◌⊎◌, ◌≤◌, ◌<◌, ◌+◌, ◌++◌, ℕ, List, Option, [], None, Some, Ok, Err, false, true, length, take, OnOk, OnErr, IfSome};
+ghost use Rattle.gcx_base.specs.declared.limits.Limits.{Limits};
+ghost use Rattle.gcx_io.specs.Bytes.{Grows, GrowsWithin};
+ghost use Rattle.gcx_io.specs.Causes.{Rose};
+ghost use Rattle.gcx_model.specs.PlanView.{plan_tree};
+ghost use Rattle.gcx_model.specs.Faults.{FaultIs};
+ghost use Rattle.gcx_model.specs.declared.fault.DocFault.{DocFault};
+ghost use Rattle.gcx_model.specs.declared.fault.DocFault.TheVariants.{Memory as Lack};
+ghost use Rattle.engine.specs.Engine.{Balanced, IsSilent, Settles, Starts, StandsOf};
+ghost use Rattle.engine.specs.Runs.{Between, EndsSo, Ran, Reports, TurnsTo, WriteFails, ended_by};
+
+use crate::engine::Engine;
+use crate::report::{Ended, Report};
+use buf_tree::Row;
+use gcx_io::{Failed, Sink, Source, write_all};
+use gcx_model::DocFault;
+use node_store::NodeStore;
+use pull_eval::Conds;
+use std::alloc::Global;
+
+/// The most bytes of one read.
+const PIECE: usize = 65_536;
+
+/// Writes what waits: the output, and then the trace.
+fn write_waiting<N: NodeStore<Row>, C: Conds, O: Sink, E: Sink>(
+    engine: &mut Engine<'_, N, C>,
+    out: &mut O,
+    err: &mut E,
+) -> Result<(), Failed>
+    ensures all { OnOk result (Grows (O.taken out.old) (O.taken out.new) engine.old.out.items × (engine.new.out.items ≡ [])) }
+    ensures part { OnErr result (GrowsWithin (O.taken out.old) (O.taken out.new) engine.old.out.items) }
+    ensures rest { engine.new ≡ record engine.old { out = engine.new.out; trace = engine.new.trace } }
+    ensures cause { OnErr result (WriteFails (IsSilent engine.old) (O.faults out.old) (O.faults out.new) (E.faults err.old) (E.faults err.new)) }
+    ensures write_count { O.faults out.old ≤ O.faults out.new }
+    ensures trace_count { E.faults err.old ≤ E.faults err.new }
+    ensures silent { IsSilent engine.old → IsSilent engine.new × (err.new ≡ err.old) }
+{
+    write_all(out, engine.output())?;
+    engine.clear_output();
+    if !engine.trace().is_empty() {
+        write_all(err, engine.trace())?;
+        engine.clear_trace();
+    }
+    Ok(())
+}
+
+/// Ends so, unless memory ran out, once what waits is written; or with a write fault.
+fn end_with<N: NodeStore<Row>, C: Conds, O: Sink, E: Sink>(
+    engine: &mut Engine<'_, N, C>,
+    out: &mut O,
+    err: &mut E,
+    answer: Result<(), DocFault>,
+) -> Ended
+    ensures ends { EndsSo answer result (O.taken out.old) (O.taken out.new) engine.old.out.items }
+    ensures rest { engine.new ≡ record engine.old { out = engine.new.out; trace = engine.new.trace } }
+    ensures write { result ≡ Ended.WriteFault → WriteFails (IsSilent engine.old) (O.faults out.old) (O.faults out.new) (E.faults err.old) (E.faults err.new) }
+    ensures write_count { O.faults out.old ≤ O.faults out.new }
+    ensures trace_count { E.faults err.old ≤ E.faults err.new }
+    ensures silent { IsSilent engine.old → IsSilent engine.new × (err.new ≡ err.old) }
+{
+    let ended = ended_by(answer);
+    if matches!(ended, Ended::Memory) {
+        return ended;
+    }
+    match write_waiting(engine, out, err) {
+        Ok(()) => ended,
+        Err(Failed) => Ended::WriteFault,
+    }
+}
+
+/// How an answer of the engine ends a run.
+fn ended_by(answer: Result<(), DocFault>) -> Ended
+    ensures { result ≡ ended_by answer }
+{
+    match answer {
+        Ok(()) => Ended::Ok,
+        Err(DocFault::Memory) => Ended::Memory,
+        Err(fault) => Ended::Refused(fault),
+    }
+}
+
+/// Writes what waits, reads once and feeds what was read. Answers how the run ends, if it does.
+fn turn<N: NodeStore<Row>, C: Conds, D: Source, O: Sink, E: Sink>(
+    engine: &mut Engine<'_, N, C>,
+    alloc: Global,
+    doc: &mut D,
+    out: &mut O,
+    err: &mut E,
+    buf: &mut [u8],
+) -> Option<Ended>
+    requires between { (lim : Limits) × (b : List ℕ) × (left taken : Option (List ℕ)) × Between C.stands lim engine.old b left (D.left doc.old) taken (O.taken out.old) }
+    requires size { length buf.old ≡ 65536 }
+    ensures size { length buf.new ≡ 65536 }
+    ensures goes { (lim : Limits) (b : List ℕ) (left taken : Option (List ℕ)) → Between C.stands lim engine.old b left (D.left doc.old) taken (O.taken out.old) → TurnsTo C.stands lim engine.new result left (D.left doc.new) taken (O.taken out.new) }
+    ensures fewer { result ≡ None → engine.old.counts.bytes < engine.new.counts.bytes }
+    ensures plan { engine.new.plan ≡ engine.old.plan }
+    ensures ahead { engine.new.ahead ≡ engine.old.ahead }
+    ensures balance { Balanced engine.new }
+    ensures read { result ≡ Some Ended.ReadFault → Rose (D.faults doc.old) (D.faults doc.new) }
+    ensures write { result ≡ Some Ended.WriteFault → WriteFails (IsSilent engine.old) (O.faults out.old) (O.faults out.new) (E.faults err.old) (E.faults err.new) }
+    ensures kept { D.keeps doc.old doc.new }
+    ensures read_count { D.faults doc.old ≤ D.faults doc.new }
+    ensures write_count { O.faults out.old ≤ O.faults out.new }
+    ensures trace_count { E.faults err.old ≤ E.faults err.new }
+    ensures silent { IsSilent engine.old → IsSilent engine.new × (err.new ≡ err.old) }
+    ensures loans { engine.new.buffer.loans ≡ engine.old.buffer.loans }
+{
+    if write_waiting(engine, out, err).is_err() {
+        return Some(Ended::WriteFault);
+    }
+    let Ok(n) = doc.read(buf) else {
+        return Some(Ended::ReadFault);
+    };
+    if n == 0 {
+        let answer = engine.finish(alloc);
+        return Some(end_with(engine, out, err, answer));
+    }
+    match engine.feed(alloc, &buf[..n]) {
+        Ok(()) => None,
+        Err(fault) => Some(end_with(engine, out, err, Err(fault))),
+    }
+}
+
+/// Reads and runs to the end.
+fn run<N: NodeStore<Row>, C: Conds, D: Source, O: Sink, E: Sink>(
+    engine: &mut Engine<'_, N, C>,
+    alloc: Global,
+    doc: &mut D,
+    out: &mut O,
+    err: &mut E,
+) -> Ended
+    requires starts { (lim : Limits) × Starts C.stands lim engine.old }
+    ensures ran { (lim : Limits) → Starts C.stands lim engine.old → Ran C.stands lim engine.new result (D.left doc.old) (D.left doc.new) (O.taken out.old) (O.taken out.new) }
+    ensures plan { engine.new.plan ≡ engine.old.plan }
+    ensures ahead { engine.new.ahead ≡ engine.old.ahead }
+    ensures balance { Balanced engine.new }
+    ensures read { result ≡ Ended.ReadFault → Rose (D.faults doc.old) (D.faults doc.new) }
+    ensures write { result ≡ Ended.WriteFault → WriteFails (IsSilent engine.old) (O.faults out.old) (O.faults out.new) (E.faults err.old) (E.faults err.new) }
+    ensures kept { D.keeps doc.old doc.new }
+    ensures read_count { D.faults doc.old ≤ D.faults doc.new }
+    ensures write_count { O.faults out.old ≤ O.faults out.new }
+    ensures trace_count { E.faults err.old ≤ E.faults err.new }
+    ensures silent { IsSilent engine.old → IsSilent engine.new × (err.new ≡ err.old) }
+    ensures loans { engine.new.buffer.loans ≡ engine.old.buffer.loans }
+{
+    let mut buf = [0u8; PIECE];
+    'reading: loop {
+        if let Some(ended) = turn(engine, alloc, doc, out, err, &mut buf) {
+            return ended;
+        }
+    }
+}
+
+/// Runs an engine, as `new` made it, over all that the source gives, in reads of 65,536 bytes. Before each read all output
+/// that waits is written to `out`, and then the trace to `err`.
+pub fn run_query<N: NodeStore<Row>, C: Conds, D: Source, O: Sink, E: Sink>(
+    engine: &mut Engine<'_, N, C>,
+    alloc: Global,
+    doc: &mut D,
+    out: &mut O,
+    err: &mut E,
+) -> Report
+    requires starts { (lim : Limits) × Starts C.stands lim engine.old }
+    ensures ran { (lim : Limits) → Starts C.stands lim engine.old → Ran C.stands lim engine.new result.ended (D.left doc.old) (D.left doc.new) (O.taken out.old) (O.taken out.new) }
+    ensures report { Reports result engine.new }
+    ensures plan { engine.new.plan ≡ engine.old.plan }
+    ensures ahead { engine.new.ahead ≡ engine.old.ahead }
+    ensures balance { result.taken ≤ result.given }
+    ensures read { result.ended ≡ Ended.ReadFault → Rose (D.faults doc.old) (D.faults doc.new) }
+    ensures write { result.ended ≡ Ended.WriteFault → WriteFails (IsSilent engine.old) (O.faults out.old) (O.faults out.new) (E.faults err.old) (E.faults err.new) }
+    ensures kept { D.keeps doc.old doc.new }
+    ensures read_count { D.faults doc.old ≤ D.faults doc.new }
+    ensures write_count { O.faults out.old ≤ O.faults out.new }
+    ensures trace_count { E.faults err.old ≤ E.faults err.new }
+    ensures silent { IsSilent engine.old → err.new ≡ err.old }
+    ensures loans { engine.new.buffer.loans ≡ engine.old.buffer.loans }
+{
+    let ended = run(engine, alloc, doc, out, err);
+    let counts = engine.counts();
+    Report {
+        ended,
+        taken_bytes: counts.bytes,
+        nodes: engine.buffer.nodes(),
+        peak: counts.peak,
+        given: counts.given,
+        taken: counts.taken,
+        held: engine.buffer.held(),
+    }
+}

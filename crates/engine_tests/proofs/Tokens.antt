@@ -1,0 +1,23 @@
+-- The tokens that a reader gave may come one by one, within limits.
+use Rattle.std.proofs.Common.{◌≡◌, ℕ, ◌+◌, ◌≤◌, ◌^◌, Bool, true, List, ◌++◌, length, map, ap, ◌∙◌, arith, append_assoc}
+use Rattle.gcx_base.specs.Limits.{full_limits}
+use Rattle.gcx_model.specs.Growth.{may_all}
+use Rattle.gcx_model.specs.Tree.{Token as Said, opening}
+use Rattle.doc_laws.proofs.Growing.{seen_comes}
+use Rattle.doc_laws.proofs.TreeBounds.{seen_within}
+use Rattle.doc_reader.specs.declared.token.Token.{Token}
+use Rattle.doc_reader.specs.Standing.{ReaderView, Stands, said_of}
+use Rattle.engine.specs.Turns.{AreWithin}
+use Rattle.engine.proofs.Seeing.{seeing, may_parts}
+
+pub given_comes : (r : ReaderView) (b : List ℕ) (ended : Bool) (given : List Token) → Stands r full_limits b ended given → may_all (map said_of given) opening ≡ true
+given_comes r b ended given s =
+    let x = seeing r full_limits b ended given s in
+    (may_parts (map said_of given) x.rest opening (seen_comes full_limits b ended (map said_of given ++ x.rest) x.seen)).0
+
+pub given_within : (r : ReaderView) (b : List ℕ) (ended : Bool) (given : List Token) → Stands r full_limits b ended given → AreWithin (map said_of given)
+given_within r b ended given s = λ before after e.
+    let x = seeing r full_limits b ended given s in
+    let w = seen_within full_limits b ended (map said_of given ++ x.rest) before (after ++ x.rest) x.seen (ap (λ (l : List Said). l ++ x.rest) e ∙ append_assoc before after x.rest) in
+    let a = w.at_most in
+    (omega arith, λ p at. let h = w.open_elements p at in omega arith)

@@ -1,0 +1,148 @@
+//! The two actors by hand, in any order.
+ghost use Rattle.std.specs.Prelude.{◌≡◌, ℕ, true, [], map, IfOk};
+ghost use Rattle.gcx_base.specs.Limits.{full_limits};
+ghost use Rattle.gcx_model.specs.Core.{BodyTree};
+ghost use Rattle.gcx_model.specs.Cores.{Good};
+ghost use Rattle.gcx_model.specs.Growth.{may_all};
+ghost use Rattle.gcx_model.specs.Past.{Past, opening_past};
+ghost use Rattle.gcx_model.specs.Placed.{Placed};
+ghost use Rattle.gcx_model.specs.PlanView.{plan_tree};
+ghost use Rattle.gcx_model.specs.Tree.{opening};
+ghost use Rattle.doc_reader.specs.Standing.{Stands, said_of};
+ghost use Rattle.pull_eval.specs.Acting.{Beside};
+ghost use Rattle.engine.specs.Turns.{AreWithin};
+
+use super::{marked, plan_of};
+use buf_tree::{Buffer, Row};
+use doc_reader::{Reader, Token};
+use engine::{Reached, Turn, interleave};
+use gcx_base::Limits;
+use gcx_model::Plan;
+use node_store::SlabNodes;
+use projector::Projector;
+use pull_eval::{Acted, Machine, Plain};
+use raw_nodes::RawNodes;
+use std::alloc::Global;
+use std::collections::VecDeque;
+use std::test::Fail;
+
+/// A reader that was given the whole document.
+fn read(alloc: Global, document: &[u8]) -> Result<Reader, Fail>
+    ensures { IfOk result (λ reader. Stands reader full_limits document.now true []) }
+{
+    let mut reader = Reader::new(alloc, Limits::full());
+    reader.feed(document)?;
+    reader.finish()?;
+    Ok(reader)
+}
+
+/// The tokens of the document.
+fn tokens_of(alloc: Global, document: &[u8]) -> Result<VecDeque<Token>, Fail>
+    ensures comes { IfOk result (λ tokens. may_all (map said_of tokens.items) opening ≡ true) }
+    ensures within { IfOk result (λ tokens. AreWithin (map said_of tokens.items)) }
+{
+    let mut reader = read(alloc, document)?;
+    let mut tokens = VecDeque::new(alloc);
+    'given: while let Some(token) = reader.next() {
+        tokens.push_back(token)?;
+    }
+    Ok(tokens)
+}
+
+/// The machine and its buffer before the first action.
+fn begin(alloc: Global, plan: &Plan) -> Result<(Machine<'_, Plain>, Buffer<SlabNodes<Row>>), Fail>
+    requires placed { (core : BodyTree) × Good core × Placed core (plan_tree plan.now) }
+    ensures { IfOk result (λ x. Beside x.0.position x.1 (opening_past (plan_tree plan.now)) 0) }
+{
+    let projector = Projector::new(alloc, plan)?;
+    let given = projector.document(alloc)?;
+    let buffer = Buffer::new(alloc, SlabNodes::new(alloc), given)?;
+    let machine = Machine::new(alloc, plan, Plain)?;
+    Ok((machine, buffer))
+}
+
+/// The next action.
+fn act(
+    alloc: Global,
+    machine: &mut Machine<'_, Plain>,
+    buffer: &mut Buffer<SlabNodes<Row>>,
+    out: &mut Vec<u8>,
+) -> Result<Acted, Fail>
+    requires { (past : Past) × (k : ℕ) × Beside machine.old.position buffer.old past k }
+    ensures { IfOk result (λ _. (past : Past) × (k : ℕ) × Beside machine.new.position buffer.new past k) }
+{
+    Ok(machine.act(alloc, buffer, out)?)
+}
+
+const COPIES: &[u8] = b"<r>{for $x in /a/b return $x}</r>";
+
+const TWO: &[u8] = b"<a><b>1</b><c/><b>2</b></a>";
+
+#[test]
+fn one_action_is_taken_a_call(rt: HostRuntime) -> Result<(), Fail> {
+    let alloc = rt.alloc();
+    let plan = plan_of(alloc, COPIES)?;
+    let (mut machine, mut buffer) = begin(alloc, &plan)?;
+    let mut out = Vec::new(alloc);
+    assert_eq!(rt;
+        act(alloc, &mut machine, &mut buffer, &mut out)?,
+        Acted::Wrote(3)
+    );
+    assert_eq!(rt;
+        act(alloc, &mut machine, &mut buffer, &mut out)?,
+        Acted::Blocked
+    );
+    assert_eq!(rt; out.as_slice(), b"<r>".as_slice());
+    Ok(())
+}
+
+/// What these turns reach: `f` feeds, `a` acts.
+fn reach(alloc: Global, turns: &str, out: &mut Vec<u8>) -> Result<Reached, Fail> {
+    let plan = plan_of(alloc, COPIES)?;
+    let tokens = tokens_of(alloc, TWO)?;
+    let mut list = Vec::new(alloc);
+    for letter in turns.as_bytes() {
+        list.push(if *letter == b'f' {
+            Turn::Feed
+        } else {
+            Turn::Act
+        })?;
+    }
+    let reached = interleave(
+        alloc,
+        &plan,
+        RawNodes::new(alloc),
+        marked(alloc),
+        tokens,
+        &list,
+        out,
+    )?;
+    Ok(reached)
+}
+
+#[test]
+fn turns_go_in_any_order(rt: HostRuntime) -> Result<(), Fail> {
+    let alloc = rt.alloc();
+    for (turns, out, fed, acted, held, nodes) in [
+        ("", "", 0, 0, 1, 1),
+        ("aaa", "<r>", 0, 1, 1, 1),
+        ("fffffffffffffff", "", 11, 0, 6, 7),
+        ("ffffa", "<r>", 4, 1, 4, 4),
+        ("ffffaaaaa", "<r><b>1</b>", 4, 5, 3, 4),
+        (
+            "fffffffffffaaaaaaaaaaaaaaaa",
+            "<r><b>1</b><b>2</b></r>",
+            11,
+            14,
+            0,
+            7,
+        ),
+    ] {
+        let mut bytes = Vec::new(alloc);
+        let reached = reach(alloc, turns, &mut bytes)?;
+        assert_eq!(rt; bytes.as_slice(), out.as_bytes(), "{turns}");
+        assert_eq!(rt; (reached.fed, reached.acted), (fed, acted), "{turns}");
+        assert_eq!(rt; (reached.held, reached.nodes), (held, nodes), "{turns}");
+    }
+    Ok(())
+}

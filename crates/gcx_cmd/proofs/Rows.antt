@@ -1,0 +1,111 @@
+-- The rows of a store that a buffer gave back.
+use Rattle.std.proofs.Common.{◌≡◌, ◌==◌, ℕ, Bool, true, false, cond, List, [], ◌∷◌, length, map, filter, Option, Some, None, refl, sym, ◌∙◌, ap, subst, inl, inr}
+use Rattle.std.specs.Prelude.{option_map, option_and_then}
+use Rattle.std.specs.Ordering.{nat_cmp}
+use Rattle.std.specs.Cmp.{nat_cmp_total}
+use Rattle.std.specs.FinMap.{empty, get, get-empty, same_map, nat_cmp-IsAntisymmetric}
+use Rattle.std.proofs.lemmas.Bool.{false≢true, eq-eqb}
+use Rattle.std.proofs.lemmas.List.{length-map}
+use Rattle.node_store.specs.Rows.{Entry}
+use Rattle.gcx_laws.proofs.Lists.{In, In-filter}
+use Rattle.gcx_model.specs.Tree.{Node, Tree}
+use Rattle.gcx_model.specs.Past.{Past}
+use Rattle.buf_tree.specs.declared.row.Row.{Row}
+use Rattle.buf_tree.specs.Shape.{Store, Cell, num, Rising, at_serial, place_for, is_under, entry_in, Shape}
+use Rattle.buf_tree.specs.Stands.{Seen, seen, told, parent_seen}
+use Rattle.buf_tree.proofs.Shaping.{at_place_is, at_serial_is, held_in, rows_number}
+use Rattle.gcx_cmd.specs.Running.{serial_in, serials_in, AreRising, Shows, RowsAre}
+
+-- ---- rows and nodes, one by one
+
+told_by : (past : Past) (xs : List Cell) (ns : List Node) → map seen xs ≡ map (told past) ns → (c : Cell) → In c xs → (n : Node) × In n ns × (seen c ≡ told past n)
+told_by past [] ns e c i = absurd i
+told_by past (x ∷ xs) [] e c i = let no : ⊥ = cc in absurd no
+told_by past (x ∷ xs) (n ∷ ns) e c (inl f) = let here : seen x ≡ told past n = cc in (n, inl refl, subst (λ (z : Cell). seen z ≡ told past n) f here)
+told_by past (x ∷ xs) (n ∷ ns) e c (inr i) =
+    let rest : map seen xs ≡ map (told past) ns = cc in
+    let r = told_by past xs ns rest c i in
+    (r.0, inr r.1, r.2)
+
+row_for : (past : Past) (xs : List Cell) (ns : List Node) → map seen xs ≡ map (told past) ns → (n : Node) → In n ns → (c : Cell) × In c xs × (seen c ≡ told past n)
+row_for past xs [] e n i = absurd i
+row_for past [] (m ∷ ns) e n i = let no : ⊥ = cc in absurd no
+row_for past (x ∷ xs) (m ∷ ns) e n (inl f) = let here : seen x ≡ told past m = cc in (x, inl refl, subst (λ (z : Node). seen x ≡ told past z) f here)
+row_for past (x ∷ xs) (m ∷ ns) e n (inr i) =
+    let rest : map seen xs ≡ map (told past) ns = cc in
+    let r = row_for past xs ns rest n i in
+    (r.0, inr r.1, r.2)
+
+-- ---- children
+
+rising_filter : (p : Cell → Bool) (xs : List Cell) → Rising xs → Rising (filter p xs)
+rising_filter p [] r = r
+rising_filter p (x ∷ xs) r = go (p x) (rising_filter p xs r.1)
+  where
+    go : (b : Bool) → Rising (filter p xs) → Rising (cond b (x ∷ filter p xs) (filter p xs))
+    go true rest = (λ y i. r.0 y (In-filter p y xs i).0, rest)
+    go false rest = rest
+
+are_rising : (ys : List Cell) → Rising ys → AreRising (map num ys)
+are_rising [] r = tt
+are_rising (y ∷ []) r = tt
+are_rising (y ∷ (z ∷ ys)) r = (r.0 z (inl refl), are_rising (z ∷ ys) r.1)
+
+module _ (m : Store) (xs : List Cell) (s : Shape m xs) where
+  gets_cell : (c : Cell) → In c xs → get m c.place ≡ Some (entry_in xs c)
+  gets_cell c i = s.gets c.place ∙ ap (option_map (entry_in xs)) (at_place_is xs s.apart c i)
+
+  serial_here : (c : Cell) → In c xs → serial_in m c.place ≡ Some (num c)
+  serial_here c i = ap (option_map (λ (e : Entry Row). e.payload.serial)) (gets_cell c i)
+
+  children_serials : (ys : List Cell) → ((d : Cell) → In d ys → In d xs) → serials_in m (map (λ (d : Cell). d.place) ys) ≡ map num ys
+  children_serials [] h = refl
+  children_serials (y ∷ ys) h = rw (serial_here y (h y (inl refl))) (ap (λ (l : List ℕ). num y ∷ l) (children_serials ys (λ d i. h d (inr i))))
+
+  rising_children : (c : Cell) → AreRising (serials_in m (entry_in xs c).children)
+  rising_children c = subst AreRising (sym (children_serials (filter (is_under (num c)) xs) (λ d i. (In-filter (is_under (num c)) d xs i).0))) (are_rising (filter (is_under (num c)) xs) (rising_filter (is_under (num c)) xs s.rising))
+
+  -- the row of the parent is that of the serial that the row keeps
+  parent_kept : (c : Cell) → In c xs → option_and_then (serial_in m) (place_for xs c.row) ≡ parent_seen c.row
+  parent_kept c i = go (c.row.serial == 0) refl
+    where
+      go : (b : Bool) → (c.row.serial == 0) ≡ b → option_and_then (serial_in m) (cond b None (option_map (λ (d : Cell). d.place) (at_serial c.row.parent xs))) ≡ cond b None (Some c.row.parent)
+      go true e = refl
+      go false e = elim (s.up c i) [
+        | inl z ↦ absurd (false≢true (sym e ∙ eq-eqb c.row.serial 0 z))
+        | inr a ↦
+            ap (λ (o : Option Cell). option_and_then (serial_in m) (option_map (λ (d : Cell). d.place) o)) (at_serial_is xs s.rising a.0 c.row.parent a.1 a.2)
+            ∙ serial_here a.0 a.1 ∙ ap (λ (k : ℕ). Some k) a.2
+      ]
+
+  shows_here : (past : Past) (c : Cell) → In c xs → (n : Node) → seen c ≡ told past n → Shows m past.tree (entry_in xs c) n
+  shows_here past c i n e = record {
+    serial = ap (λ (z : Seen). z.serial) e;
+    kind = ap (λ (z : Seen). z.kind) e;
+    is_open = ap (λ (z : Seen). z.is_open) e;
+    parent = parent_kept c i ∙ ap (λ (z : Seen). z.parent) e;
+  }
+
+  -- rows that tell what the past tells of these nodes are theirs
+  pub rows_are : (past : Past) (ns : List Node) → map seen xs ≡ map (told past) ns → RowsAre m past.tree ns
+  rows_are past ns e = record {
+    each = λ p x g.
+        let h = held_in m xs s p x g in
+        let t = told_by past xs ns e h.0 h.1 in
+        (t.0, t.1, subst (λ (y : Entry Row). Shows m past.tree y t.0) (sym h.3) (shows_here past h.0 h.1 t.0 t.2));
+    all = λ n i.
+        let r = row_for past xs ns e n i in
+        (r.0.place, entry_in xs r.0, gets_cell r.0 r.1, shows_here past r.0 r.1 n r.2);
+    count = rows_number m xs s ∙ sym (length-map xs seen) ∙ ap length e ∙ length-map ns (told past);
+    order = λ p x g.
+        let h = held_in m xs s p x g in
+        subst (λ (y : Entry Row). AreRising (serials_in m y.children)) (sym h.3) (rising_children h.0);
+  }
+
+-- where no node is held the store is empty
+pub no_rows : (m : Store) (P : Tree) → RowsAre m P [] → m ≡ empty
+no_rows m P r = same_map nat_cmp_total nat_cmp-IsAntisymmetric m empty (λ p. go p (get m p) refl ∙ sym (get-empty nat_cmp p))
+  where
+    go : (p : ℕ) (o : Option (Entry Row)) → get m p ≡ o → o ≡ None
+    go p None e = refl
+    go p (Some x) e = let h = r.each p x e in absurd h.1

@@ -1,5 +1,0 @@
-use Rattle.gcx_cmd.proofs.Documents.{taken_on}
-use Rattle.gcx_cmd.proofs.document.take_waiting.Goals as goal
-
-pub tokens-preserved : goal.tokens-preserved
-tokens-preserved c = taken_on c.args.reader.now c.tokens.reader c.next.new.self c.args.tree.now c.tokens.tree c.take.new.self c.in-Some.token c.tokens.invariant c.in-Some.ensures.takes c.in-Some.ensures.stands c.in-Some.ensures.keeps c.in_ok-take.ensures.ok

@@ -1,0 +1,23 @@
+use Rattle.std.proofs.Common.{◌≡◌, length, arith, refl, ap, subst, Some}
+use Rattle.pull_eval.specs.Acting.{NextIs}
+use Rattle.pull_eval.specs.declared.block.Copying.{Copying}
+use Rattle.pull_eval.proofs.CopyBytes.{counted_by, no_fewer}
+use Rattle.pull_eval.proofs.Inside.{the_copy}
+use Rattle.pull_eval.proofs.CopyGoes.{child_copied}
+use Rattle.pull_eval.proofs.position.Position.copy_child.Goals as goal
+
+pub wrote-requires : goal.wrote-requires
+wrote-requires g c =
+    let u = c.requires.used in
+    let before : c.len-before.result ≡ length c.args.out.now.items = omega (arith, c.len-before.ensures, c.args.out.now.ok.0) in
+    no_fewer c.len-before.result c.args.out.now.items c.put_begin.new.out.items _ before (c.in_ok-put_begin.ensures.ok u.cell u.among u.place)
+
+pub returns-clause-moved : goal.returns-clause-moved
+returns-clause-moved g c = λ past k b.
+    let before : c.len-before.result ≡ length c.args.out.now.items = omega (arith, c.len-before.ensures, c.args.out.now.ok.0) in
+    let copy = the_copy c.args.self.now c.args.buffer.now past k b c.args.copying c.requires.copying in
+    child_copied c.args.self.now _ c.args.buffer.now past k b c.args.copying c.requires.copying c.requires.begun (record { top = refl; below = refl; env = refl; begun = c.requires.begun })
+    c.args.child (subst (λ (z : _). NextIs c.args.buffer.now.rows past.tree z c.args.child.0) copy.innermost (c.requires.next past k b))
+    c.args.out.now.items c.put_begin.new.out.items c.wrote.result
+    (counted_by c.len-before.result c.args.out.now.items c.put_begin.new.out.items c.wrote.result before c.wrote.ensures.none c.wrote.ensures.some)
+    c.in_ok-put_begin.ensures.ok (λ n i e. ap (λ (z : Copying). Some z) (c.come_to.ensures n i e))

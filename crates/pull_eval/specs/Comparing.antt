@@ -1,0 +1,61 @@
+-- What an `exists` or a comparison reads of the rows. Private functions alone speak of it.
+use Rattle.std.specs.Prelude.{◌≡◌, ℕ, Bool, true, List, filter, map, Some}
+use Rattle.gcx_base.specs.declared.steps.Step.{Step}
+use Rattle.gcx_model.specs.Tree.{Node, serial_of, Tree, is_closed}
+use Rattle.gcx_model.specs.Paths.{matches, first}
+use Rattle.gcx_model.specs.Members.{In}
+use Rattle.gcx_model.specs.Core.{CondTree}
+use Rattle.gcx_model.specs.Values.{Value}
+use Rattle.gcx_model.specs.Truth.{Env, node_value}
+use Rattle.gcx_model.specs.Truth as verdict
+use Rattle.gcx_laws.specs.Kept.{only}
+use Rattle.buf_tree.specs.Shape.{Cell}
+use Rattle.buf_tree.specs.View.{InUse}
+use Rattle.pull_eval.specs.Bindings.{Bindings}
+use Rattle.pull_eval.specs.Asking.{verdict_of, RowsOf, Asked}
+use Rattle.pull_eval.specs.Reads.{NodeAt, IsWhole, AreNodes}
+use Rattle.pull_eval.specs.declared.truth.Truth.{Truth}
+use Rattle.pull_eval.specs.declared.sets.Member.{Member}
+
+-- over some tree and environment the condition is asked
+pub record IsAsked (rows : List Cell) (bound : Bindings) (c : CondTree) : Type 0 where
+  pub tree : Tree
+  pub env : Env
+  pub asked : Asked rows bound c tree env
+
+-- its truth over each of them is told
+abbrev pub Tells : List Cell → Bindings → CondTree → Truth → Type 0
+Tells rows bound c t = (P : Tree) (env : Env) → Asked rows bound c P env → verdict_of t ≡ verdict.truth c env P
+
+-- the row at the place is a node's
+pub record IsNodeRow (rows : List Cell) (p : ℕ) : Type 0 where
+  pub tree : Tree
+  pub keep : Node → Bool
+  pub node : Node
+  pub at : NodeAt rows tree keep p node
+
+-- the rows of the members are there
+abbrev pub AreInUse : List Cell → List Member → Type 0
+AreInUse rows ms = (m : Member) → In m ms → InUse rows m.place
+
+-- the members are the closed ones of what the steps reach from the row at the place among the kept nodes
+abbrev pub AreClosed : List Cell → ℕ → List Step → List Member → Type 0
+AreClosed rows p steps ms = (P : Tree) (keep : Node → Bool) (n : Node) → NodeAt rows P keep p n → AreNodes rows ms (filter (is_closed P) (matches (only keep P) (serial_of n) steps))
+
+-- the first match of the steps is kept
+abbrev pub KeepsFirst : Tree → (Node → Bool) → Node → List Step → Type 0
+KeepsFirst P keep n steps = (m : Node) → first P (serial_of n) steps ≡ Some m → keep m ≡ true
+
+-- all matches are, with their subtrees
+abbrev pub KeepsMatches : Tree → (Node → Bool) → Node → List Step → Type 0
+KeepsMatches P keep n steps = (j : Node) → In j (matches P (serial_of n) steps) → IsWhole P keep j
+
+-- the values of the closed ones of them
+abbrev pub closed_values : Tree → Node → List Step → List Value
+closed_values P n steps = map (node_value P) (filter (is_closed P) (matches P (serial_of n) steps))
+
+-- the members are nodes whose subtrees are kept
+pub record Readable (rows : List Cell) (P : Tree) (keep : Node → Bool) (ms : List Member) (ns : List Node) : Type 0 where
+  pub rows_of : RowsOf rows P keep
+  pub nodes : AreNodes rows ms ns
+  pub whole : (n : Node) → In n ns → In n P.nodes × IsWhole P keep n

@@ -1,0 +1,241 @@
+//! Loops: from match to match.
+ghost use Rattle.std.specs.Prelude.{◌≡◌, ◌<◌, suc, ℕ, true, [], List, Some, None, IfOk};
+ghost use Rattle.gcx_model.specs.Members.{In};
+ghost use Rattle.gcx_model.specs.Core.{For};
+ghost use Rattle.gcx_model.specs.Past.{Past};
+ghost use Rattle.buf_tree.specs.Shape.{Cell, num};
+ghost use Rattle.buf_tree.specs.View.{InUse};
+ghost use Rattle.buf_tree.specs.Match.{GoesFrom};
+ghost use Rattle.pull_eval.specs.Position.{items};
+ghost use Rattle.pull_eval.specs.Acting.{Beside, Moves, IsNextItem, IsSought};
+ghost use Rattle.pull_eval.specs.Rounds.{Finds, from_seen, Learnt, GoesOnAt, Began};
+ghost use Rattle.pull_eval.specs.declared.block.Next.TheVariants.{Unsought};
+
+use crate::block::{Block, Next, Round, ends_with_off};
+use crate::env::place_of;
+use crate::machine::Acted;
+use crate::position::Position;
+use buf_tree::{Buffer, Row};
+use gcx_base::{Memory, Serial, Step, VarId};
+use gcx_model::Item;
+use node_store::{NodeStore, Place};
+
+/// The serial of the newest node.
+fn newest<N: NodeStore<Row>>(buffer: &Buffer<N>) -> u64
+    requires { 0 < buffer.now.nodes }
+    ensures { suc result ≡ buffer.now.nodes }
+{
+    buffer.nodes() - 1
+}
+
+/// The first match with a serial above `seen`, up to which there is none. 0: nothing is known.
+fn first_match<N: NodeStore<Row>>(
+    buffer: &Buffer<N>,
+    context: Place,
+    step: &Step,
+    seen: u64,
+) -> Option<Place>
+    requires used { InUse buffer.now.rows context.0 }
+    requires below { (c : Cell) → In c buffer.now.rows → num c < buffer.now.nodes }
+    ensures { (c : Cell) → In c buffer.now.rows → c.place ≡ context.0 → Finds buffer.now.rows c step.now (from_seen c seen) result }
+{
+    if seen == 0 {
+        buffer.match_behind(context, step, context)
+    } else {
+        new_match(buffer, context, step, seen)
+    }
+}
+
+/// The first match among the nodes behind this serial.
+fn new_match<N: NodeStore<Row>>(
+    buffer: &Buffer<N>,
+    context: Place,
+    step: &Step,
+    after: u64,
+) -> Option<Place>
+    requires used { InUse buffer.now.rows context.0 }
+    requires below { (c : Cell) → In c buffer.now.rows → num c < buffer.now.nodes }
+    ensures { (c : Cell) → In c buffer.now.rows → c.place ≡ context.0 → Finds buffer.now.rows c step.now after result }
+{
+    if after < newest(buffer) {
+        buffer.next_match(context, step, Serial(after))
+    } else {
+        None
+    }
+}
+
+/// What is found of the next match of a loop behind the one at this place.
+fn match_behind<N: NodeStore<Row>>(
+    buffer: &Buffer<N>,
+    context: Place,
+    step: &Step,
+    from: Place,
+) -> Next
+    requires goes { GoesFrom buffer.now.rows context.0 step.now.axis from.0 }
+    requires some { 0 < buffer.now.nodes }
+    ensures learnt { (c d : Cell) → In c buffer.now.rows → In d buffer.now.rows → c.place ≡ context.0 → d.place ≡ from.0 → Learnt buffer.now c step.now (num d) result }
+    ensures sought { result ≡ Unsought → ⊥ }
+{
+    match buffer.match_behind(context, step, from) {
+        Some(place) => Next::Found(place),
+        None => Next::NoneUpTo(Serial(newest(buffer))),
+    }
+}
+
+/// The match with which the loop goes on, if it is there.
+fn next_of<N: NodeStore<Row>>(
+    buffer: &Buffer<N>,
+    context: Place,
+    step: &Step,
+    next: Next,
+) -> Option<Place>
+    requires used { InUse buffer.now.rows context.0 }
+    requires below { (c : Cell) → In c buffer.now.rows → num c < buffer.now.nodes }
+    requires sought { next ≡ Unsought → ⊥ }
+    ensures { (c : Cell) → In c buffer.now.rows → c.place ≡ context.0 → GoesOnAt buffer.now.rows c step.now next result }
+{
+    match next {
+        Next::Found(place) => Some(place),
+        Next::NoneUpTo(seen) => new_match(buffer, context, step, seen.0),
+        Next::Unsought => unreachable!(),
+    }
+}
+
+impl<'p> Position<'p> {
+    /// A loop is entered at its first match, or passed where it has none and none comes.
+    #[inline(always)]
+    pub(crate) fn enter<N: NodeStore<Row>>(
+        &mut self,
+        vars: (VarId, VarId),
+        step: &'p Step,
+        body: &'p [Item],
+        rest: &'p [Item],
+        buffer: &Buffer<N>,
+    ) -> Result<Option<Acted>, Memory>
+        requires next { IsNextItem self.old (For vars.0.0 vars.1.0 step.now (items body.now)) (items rest.now) }
+        requires begun { self.old.is_begun ≡ true }
+        requires beside { (past : Past) × (k : ℕ) × Beside self.old buffer.now past k }
+        ensures begun { IfOk result (λ _. self.new.is_begun ≡ true) }
+        ensures moved { IfOk result (λ a. (past : Past) (k : ℕ) (out : List ℕ) → Beside self.old buffer.now past k → Moves past k self.old self.new buffer.now buffer.now out out a) }
+    {
+        let (var, from) = vars;
+        let context = place_of(&self.env, from);
+        match first_match(buffer, context, step, self.top.seen) {
+            Some(place) => {
+                let round = Round {
+                    var,
+                    step,
+                    body,
+                    context,
+                    present: place,
+                    next: Next::Unsought,
+                };
+                self.top.go_on(rest);
+                self.below.push(self.top)?;
+                self.begin_round(round, buffer)
+            }
+            None => {
+                if buffer.is_closed(context) {
+                    self.top.go_on(rest);
+                    return Ok(None);
+                }
+                self.top.seen = newest(buffer);
+                Ok(Some(Acted::Blocked))
+            }
+        }
+    }
+
+    /// The body begins at the round's match. Where it doesn't end with a statement, the loop looks for its next match now.
+    fn begin_round<N: NodeStore<Row>>(
+        &mut self,
+        round: Round<'p>,
+        buffer: &Buffer<N>,
+    ) -> Result<Option<Acted>, Memory>
+        requires goes { GoesFrom buffer.now.rows round.context.0 round.step.now.axis round.present.0 }
+        requires some { 0 < buffer.now.nodes }
+        ensures began { IfOk result (λ a. Began buffer.now self.old self.new round.entry × (a ≡ None)) }
+    {
+        let place = round.present;
+        self.env.bind(round.var, place, buffer.serial(place))?;
+        let next = if ends_with_off(round.body) {
+            Next::Unsought
+        } else {
+            match_behind(buffer, round.context, round.step, place)
+        };
+        self.top = Block {
+            rest: round.body,
+            round: Some(Round { next, ..round }),
+            seen: 0,
+        };
+        Ok(None)
+    }
+
+    /// The loop of the body that runs looks for its next match, if it hasn't yet.
+    #[inline(always)]
+    pub(crate) fn look_ahead<N: NodeStore<Row>>(&mut self, buffer: &Buffer<N>)
+        requires begun { self.old.is_begun ≡ true }
+        requires beside { (past : Past) × (k : ℕ) × Beside self.old buffer.now past k }
+        requires some { self.old.top.rest.now ≡ [] → ⊥ }
+        requires no_copy { self.old.copying ≡ None }
+        ensures stays { (past : Past) (k : ℕ) → Beside self.old buffer.now past k → Beside self.new buffer.now past k }
+        ensures sought { IsSought self.new.top }
+        ensures rest { self.new.top.rest ≡ self.old.top.rest }
+        ensures no_copy { self.new.copying ≡ None }
+        ensures begun { self.new.is_begun ≡ true }
+        ensures env { self.new.env ≡ self.old.env }
+    {
+        if let Some(round) = self.top.round {
+            if let Next::Unsought = round.next {
+                let next = match_behind(buffer, round.context, round.step, round.present);
+                self.top.round = Some(Round { next, ..round });
+            }
+        }
+    }
+
+    /// A body is over: of the plan, of a branch or of a round.
+    #[inline(always)]
+    pub(crate) fn leave<N: NodeStore<Row>>(
+        &mut self,
+        buffer: &Buffer<N>,
+    ) -> Result<Option<Acted>, Memory>
+        requires over { self.old.top.rest.now ≡ [] }
+        requires no_copy { self.old.copying ≡ None }
+        requires begun { self.old.is_begun ≡ true }
+        requires beside { (past : Past) × (k : ℕ) × Beside self.old buffer.now past k }
+        ensures begun { IfOk result (λ _. self.new.is_begun ≡ true) }
+        ensures moved { IfOk result (λ a. (past : Past) (k : ℕ) (out : List ℕ) → Beside self.old buffer.now past k → Moves past k self.old self.new buffer.now buffer.now out out a) }
+    {
+        match self.top.round {
+            Some(round) => self.next_round(round, buffer),
+            None => Ok(self.go_below()),
+        }
+    }
+
+    /// The next round of the loop, or out of it where none comes.
+    #[inline(always)]
+    fn next_round<N: NodeStore<Row>>(
+        &mut self,
+        round: Round<'p>,
+        buffer: &Buffer<N>,
+    ) -> Result<Option<Acted>, Memory>
+        requires over { self.old.top.rest.now ≡ [] }
+        requires no_copy { self.old.copying ≡ None }
+        requires round { self.old.top.round ≡ Some round }
+        requires begun { self.old.is_begun ≡ true }
+        requires beside { (past : Past) × (k : ℕ) × Beside self.old buffer.now past k }
+        ensures begun { IfOk result (λ _. self.new.is_begun ≡ true) }
+        ensures moved { IfOk result (λ a. (past : Past) (k : ℕ) (out : List ℕ) → Beside self.old buffer.now past k → Moves past k self.old self.new buffer.now buffer.now out out a) }
+    {
+        match next_of(buffer, round.context, round.step, round.next) {
+            Some(present) => self.begin_round(Round { present, ..round }, buffer),
+            None => {
+                if buffer.is_closed(round.context) {
+                    return Ok(self.go_below());
+                }
+                let next = Next::NoneUpTo(Serial(newest(buffer)));
+                self.top.round = Some(Round { next, ..round });
+                Ok(Some(Acted::Blocked))
+            }
+        }
+    }
+}

@@ -1,0 +1,169 @@
+//! The evaluator.
+ghost use Rattle.std.specs.Prelude.{◌≡◌, ℕ, true, List, None, IfOk, OnErr};
+ghost use Rattle.gcx_model.specs.Core.{If};
+ghost use Rattle.gcx_model.specs.CondView.{core_cond_tree};
+ghost use Rattle.gcx_model.specs.PlanView.{plan_tree};
+ghost use Rattle.gcx_model.specs.Past.{Past, opening_past};
+ghost use Rattle.buf_tree.specs.View.{View};
+ghost use Rattle.buf_tree.specs.Stands.{StandsFor};
+ghost use Rattle.pull_eval.specs.Position.{items};
+ghost use Rattle.pull_eval.specs.Acting.{Beside, MayAct, Acts, Moves, MovesOn, IsNextItem};
+
+use crate::conds::Conds;
+use crate::position::Position;
+use crate::truth::Truth;
+use buf_tree::{Buffer, Row};
+use gcx_base::{Memory, Role, Serial};
+use gcx_model::{Cond, Item, Plan};
+use node_store::NodeStore;
+use std::alloc::Global;
+
+/// What a call did.
+#[derive(Clone, Copy, Debug, PartialEq, Eq)]
+pub enum Acted {
+    /// So many bytes were written.
+    Wrote(u64),
+    /// The role's statement was carried out at this node.
+    SignedOff(Serial, Role),
+    /// No action is left, and the query isn't done.
+    Blocked,
+    /// No action is left, and the query is done.
+    Finished,
+}
+
+/// Runs a plan over a buffer, one action a call.
+#[derive(Drop)]
+pub struct Machine<'p, C> {
+    pub(crate) position: Position<'p>,
+    pub(crate) conds: C,
+}
+
+impl<'p, C: Conds> Machine<'p, C> {
+    /// A machine before the first action of the plan.
+    pub fn new(alloc: Global, plan: &'p Plan, conds: C) -> Result<Machine<'p, C>, Memory>
+        ensures stands { IfOk result (λ m. (v : View) → StandsFor v (opening_past (plan_tree plan.now)) → v.taken ≡ 0 → Beside m.position v (opening_past (plan_tree plan.now)) 0) }
+        ensures conds { IfOk result (λ m. m.conds ≡ conds) }
+    {
+        Ok(Machine {
+            position: Position::new(alloc, plan.body.items()),
+            conds,
+        })
+    }
+
+    /// What finds the truth of conditions.
+    pub fn conds(&self) -> &C
+        ensures { result.now ≡ self.now.conds }
+    {
+        &self.conds
+    }
+
+    /// Takes the next action of the plan's run, and answers which it is. A write goes to `out`, a statement is carried
+    /// out in the buffer.
+    ///
+    /// After `Memory` the output is as before, and no further call may be made.
+    pub fn act<N: NodeStore<Row>>(
+        &mut self,
+        alloc: Global,
+        buffer: &mut Buffer<N>,
+        out: &mut Vec<u8>,
+    ) -> Result<Acted, Memory>
+        requires { MayAct (C.stands self.old.conds) self.old.position buffer.old }
+        ensures acts { IfOk result (λ a. Acts (C.stands self.old.conds) (C.stands self.new.conds) self.old.position self.new.position buffer.old buffer.new out.old.items out.new.items a) }
+        ensures err { OnErr result (out.new.items ≡ out.old.items) }
+        ensures kept { OnErr result (buffer.new ≡ buffer.old) }
+        ensures most { buffer.new.most ≡ buffer.old.most }
+        ensures loans { buffer.new.loans ≡ buffer.old.loans }
+    {
+        self.position.begin(buffer)?;
+        'moves: loop {
+            if let Some(acted) = self.advance(alloc, buffer, out)? {
+                return Ok(acted);
+            }
+        }
+    }
+
+    /// One move: an action or the end of all, or None for a move that takes no action.
+    #[inline(always)]
+    fn advance<N: NodeStore<Row>>(
+        &mut self,
+        alloc: Global,
+        buffer: &mut Buffer<N>,
+        out: &mut Vec<u8>,
+    ) -> Result<Option<Acted>, Memory>
+        requires may { MayAct (C.stands self.old.conds) self.old.position buffer.old }
+        requires begun { self.old.position.is_begun ≡ true }
+        ensures moves { IfOk result (λ a. MovesOn (C.stands self.old.conds) (C.stands self.new.conds) self.old.position self.new.position buffer.old buffer.new out.old.items out.new.items a) }
+        ensures begun { IfOk result (λ _. self.new.position.is_begun ≡ true) }
+        ensures err { OnErr result (out.new.items ≡ out.old.items) }
+        ensures kept { OnErr result (buffer.new ≡ buffer.old) }
+        ensures most { buffer.new.most ≡ buffer.old.most }
+        ensures loans { buffer.new.loans ≡ buffer.old.loans }
+    {
+        match self.position.copying {
+            Some(copying) => self.position.copy_on(copying, buffer, out),
+            None => self.run_on(alloc, buffer, out),
+        }
+    }
+
+    /// A move of the block that runs.
+    #[inline(always)]
+    fn run_on<N: NodeStore<Row>>(
+        &mut self,
+        alloc: Global,
+        buffer: &mut Buffer<N>,
+        out: &mut Vec<u8>,
+    ) -> Result<Option<Acted>, Memory>
+        requires may { MayAct (C.stands self.old.conds) self.old.position buffer.old }
+        requires begun { self.old.position.is_begun ≡ true }
+        requires no_copy { self.old.position.copying ≡ None }
+        ensures moves { IfOk result (λ a. MovesOn (C.stands self.old.conds) (C.stands self.new.conds) self.old.position self.new.position buffer.old buffer.new out.old.items out.new.items a) }
+        ensures begun { IfOk result (λ _. self.new.position.is_begun ≡ true) }
+        ensures err { OnErr result (out.new.items ≡ out.old.items) }
+        ensures kept { OnErr result (buffer.new ≡ buffer.old) }
+        ensures most { buffer.new.most ≡ buffer.old.most }
+        ensures loans { buffer.new.loans ≡ buffer.old.loans }
+    {
+        let position = &mut self.position;
+        match position.top.rest.split_first() {
+            None => position.leave(buffer),
+            Some((item, rest)) => match item {
+                Item::Write(text) => position.write(text, rest, out),
+                Item::Copy(var) => position.begin_copy(*var, rest, buffer, out),
+                Item::For {
+                    var,
+                    from,
+                    step,
+                    body,
+                } => position.enter((*var, *from), step, body.items(), rest, buffer),
+                Item::If { cond, then, other } => {
+                    self.choose(alloc, cond, (then.items(), other.items()), rest, buffer)
+                }
+                Item::Off(off) => position.sign(alloc, off, rest, buffer),
+            },
+        }
+    }
+
+    /// A branch is taken, where the condition is known.
+    #[inline(always)]
+    fn choose<N: NodeStore<Row>>(
+        &mut self,
+        alloc: Global,
+        cond: &Cond,
+        branches: (&'p [Item], &'p [Item]),
+        rest: &'p [Item],
+        buffer: &Buffer<N>,
+    ) -> Result<Option<Acted>, Memory>
+        requires next { IsNextItem self.old.position (If (core_cond_tree cond.now) (items branches.0.now) (items branches.1.now)) (items rest.now) }
+        requires begun { self.old.position.is_begun ≡ true }
+        requires may { MayAct (C.stands self.old.conds) self.old.position buffer.now }
+        ensures moved { IfOk result (λ a. (past : Past) (k : ℕ) (out : List ℕ) → Beside self.old.position buffer.now past k → C.stands self.old.conds past.tree → Moves past k self.old.position self.new.position buffer.now buffer.now out out a × C.stands self.new.conds past.tree) }
+        ensures begun { IfOk result (λ _. self.new.position.is_begun ≡ true) }
+    {
+        let (then, other) = branches;
+        match self.conds.truth(alloc, cond, &self.position.env, buffer)? {
+            Truth::Unknown => Ok(Some(Acted::Blocked)),
+            Truth::True => self.position.begin_branch(then, rest),
+            Truth::False => self.position.begin_branch(other, rest),
+        }
+    }
+}

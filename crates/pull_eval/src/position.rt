@@ -1,0 +1,185 @@
+//! Where a machine stands, and its moves but for those that ask conditions.
+ghost use Rattle.std.specs.Prelude.{◌≡◌, ℕ, true, false, [], List, None, IfOk, OnOk, OnErr};
+ghost use Rattle.gcx_model.specs.Core as tree;
+ghost use Rattle.gcx_model.specs.Core.{Write, If, CondTree, BodyTree};
+ghost use Rattle.gcx_model.specs.Members.{In};
+ghost use Rattle.gcx_model.specs.Placed.{offs_in};
+ghost use Rattle.gcx_model.specs.Placed.{is_own as takes_own};
+ghost use Rattle.gcx_model.specs.Run.{Offed};
+ghost use Rattle.buf_tree.specs.View.{View, serial_at};
+ghost use Rattle.buf_tree.specs.Calls.{Signed};
+ghost use Rattle.buf_tree.specs.Stands.{StandsFor, Due};
+ghost use Rattle.gcx_model.specs.ItemView.{off_tree};
+ghost use Rattle.gcx_model.specs.Past.{Past, past_acted};
+ghost use Rattle.pull_eval.specs.Position.{items};
+ghost use Rattle.pull_eval.specs.Acting.{Beside, Moves, IsNextItem, Chosen, IsOver};
+
+use crate::block::{Block, Copying};
+use crate::env::{Env, place_of};
+use crate::machine::Acted;
+use buf_tree::{Buffer, Row};
+use gcx_base::{Memory, Serial, Text, VarId};
+use gcx_model::{Item, Off, RoleKind};
+use node_store::{NodeStore, Place};
+use std::alloc::Global;
+
+/// Where a machine stands: the block that runs, those that go on behind it, the next one last, and a copy in progress.
+#[derive(Drop, Debug)]
+pub(crate) struct Position<'p> {
+    pub top: Block<'p>,
+    pub below: Vec<Block<'p>>,
+    pub env: Env,
+    pub copying: Option<Copying>,
+    /// Whether variable 0 is bound.
+    pub is_begun: bool,
+}
+
+impl<'p> Position<'p> {
+    /// Before the first item of the body.
+    pub fn new(alloc: Global, body: &'p [Item]) -> Position<'p>
+        ensures rest { result.top.rest.now ≡ body.now }
+        ensures round { result.top.round ≡ None }
+        ensures seen { result.top.seen ≡ 0 }
+        ensures below { result.below.items ≡ [] }
+        ensures copying { result.copying ≡ None }
+        ensures begun { result.is_begun ≡ false }
+    {
+        Position {
+            top: Block::new(body),
+            below: Vec::new(alloc),
+            env: Env::new(alloc),
+            copying: None,
+            is_begun: false,
+        }
+    }
+
+    /// Binds variable 0 to the document node, before the first move.
+    pub fn begin<N: NodeStore<Row>>(&mut self, buffer: &Buffer<N>) -> Result<(), Memory>
+        requires { (past : Past) × (k : ℕ) × Beside self.old buffer.now past k }
+        ensures stays { IfOk result (λ _. (past : Past) (k : ℕ) → Beside self.old buffer.now past k → Beside self.new buffer.now past k) }
+        ensures begun { IfOk result (λ _. self.new.is_begun ≡ true) }
+    {
+        if self.is_begun {
+            return Ok(());
+        }
+        let Some(root) = buffer.root() else {
+            unreachable!()
+        };
+        self.env.bind(VarId(0), root, Serial(0))?;
+        self.is_begun = true;
+        Ok(())
+    }
+
+    /// Bytes are written.
+    #[inline(always)]
+    pub fn write(
+        &mut self,
+        text: &Text,
+        rest: &'p [Item],
+        out: &mut Vec<u8>,
+    ) -> Result<Option<Acted>, Memory>
+        requires next { IsNextItem self.old (Write text.now) (items rest.now) }
+        requires begun { self.old.is_begun ≡ true }
+        ensures moved { IfOk result (λ a. (v : View) (past : Past) (k : ℕ) → Beside self.old v past k → Moves past k self.old self.new v v out.old.items out.new.items a) }
+        ensures begun { self.new.is_begun ≡ true }
+        ensures err { OnErr result (out.new.items ≡ out.old.items) }
+    {
+        let bytes = text.as_bytes();
+        out.extend_from_slice(bytes)?;
+        self.top.go_on(rest);
+        Ok(Some(Acted::Wrote(bytes.len() as u64)))
+    }
+
+    /// A branch is taken.
+    #[inline(always)]
+    pub fn begin_branch(
+        &mut self,
+        branch: &'p [Item],
+        rest: &'p [Item],
+    ) -> Result<Option<Acted>, Memory>
+        requires begun { self.old.is_begun ≡ true }
+        ensures moved { IfOk result (λ a. (c : CondTree) (this other : BodyTree) (v : View) (past : Past) (k : ℕ) (out : List ℕ) → IsNextItem self.old (If c this other) (items rest.now) → (b : Beside self.old v past k) → Chosen past.tree b.position.fs c this other (items branch.now) → Moves past k self.old self.new v v out out a) }
+        ensures begun { self.new.is_begun ≡ true }
+    {
+        self.top.go_on(rest);
+        self.below.push(self.top)?;
+        self.top = Block::new(branch);
+        Ok(None)
+    }
+
+    /// A statement is carried out. Before the first one of a body the loop looks for its next match.
+    #[inline(always)]
+    pub fn sign<N: NodeStore<Row>>(
+        &mut self,
+        alloc: Global,
+        off: &Off,
+        rest: &'p [Item],
+        buffer: &mut Buffer<N>,
+    ) -> Result<Option<Acted>, Memory>
+        requires next { IsNextItem self.old (tree.Off (off_tree off.now)) (items rest.now) }
+        requires begun { self.old.is_begun ≡ true }
+        requires beside { (past : Past) × (k : ℕ) × Beside self.old buffer.old past k }
+        ensures moved { IfOk result (λ a. (past : Past) (k : ℕ) (out : List ℕ) → Beside self.old buffer.old past k → Moves past k self.old self.new buffer.old buffer.new out out a) }
+        ensures begun { self.new.is_begun ≡ true }
+        ensures kept { OnErr result (buffer.new ≡ buffer.old) }
+        ensures most { buffer.new.most ≡ buffer.old.most }
+        ensures loans { buffer.new.loans ≡ buffer.old.loans }
+    {
+        self.look_ahead(buffer);
+        let place = place_of(&self.env, off.base);
+        let serial = buffer.serial(place);
+        carry_out(alloc, buffer, place, off)?;
+        self.top.go_on(rest);
+        Ok(Some(Acted::SignedOff(serial, off.role)))
+    }
+
+    /// Goes on with the block below. Without one all is done.
+    #[inline(always)]
+    pub fn go_below(&mut self) -> Option<Acted>
+        requires over { self.old.top.rest.now ≡ [] }
+        requires no_copy { self.old.copying ≡ None }
+        requires begun { self.old.is_begun ≡ true }
+        ensures moved { (v : View) (past : Past) (k : ℕ) (out : List ℕ) → (b : Beside self.old v past k) → IsOver past.tree b.position.fs → Moves past k self.old self.new v v out out result }
+        ensures begun { self.new.is_begun ≡ true }
+    {
+        match self.below.pop() {
+            Some(block) => {
+                self.top = block;
+                None
+            }
+            None => Some(Acted::Finished),
+        }
+    }
+}
+
+/// Carries out the statement, in advance where nodes may come that it reaches.
+#[inline(always)]
+fn carry_out<N: NodeStore<Row>>(
+    alloc: Global,
+    buffer: &mut Buffer<N>,
+    place: Place,
+    off: &Off,
+) -> Result<(), Memory>
+    requires due { Due buffer.old place.0 off.now }
+    ensures stands { OnOk result ((past : Past) → StandsFor buffer.old past → In (off_tree off.now) (offs_in past.plan.body) → StandsFor buffer.new (past_acted (Offed (off_tree off.now) (serial_at place.0 buffer.old.rows)) past)) }
+    ensures signed { OnOk result (Signed buffer.old buffer.new off.now.role.0) }
+    ensures kept { OnErr result (buffer.new ≡ buffer.old) }
+    ensures loans { buffer.new.loans ≡ buffer.old.loans }
+{
+    if buffer.is_closed(place) || is_own(off) {
+        buffer.sign_off(alloc, place, off)
+    } else {
+        buffer.sign_ahead(alloc, place, off)
+    }
+}
+
+/// Whether the statement reaches its base alone.
+fn is_own(off: &Off) -> bool
+    ensures { result ≡ takes_own (off_tree off.now) }
+{
+    match off.kind {
+        RoleKind::Own => off.rel.items().is_empty(),
+        RoleKind::First => false,
+        RoleKind::Whole => false,
+    }
+}
