@@ -24,9 +24,8 @@ use Rattle.gcx_laws.proofs.Public.{root_from, grown_from, from_state}
 use Rattle.run_laws.proofs.Feeds.{nodes_grow, matches_grow}
 use Rattle.node_store.specs.declared.store.Place.{Place}
 use Rattle.buf_tree.specs.Shape.{Cell, num}
-use Rattle.pull_eval.specs.Asking.{PlacedAt, IsBound}
-use Rattle.pull_eval.specs.Bindings.{Bindings}
-use Rattle.pull_eval.specs.Position.{items, KnowsNext, IsUpTo, IsRound, SeenItem, SeenTo, AreFrames, none, alone, in_round, PresentAt, IsCopy, Copies, StandsAt}
+use Rattle.pull_eval.specs.Asking.{PlacedAt}
+use Rattle.pull_eval.specs.Position.{items, KnowsNext, IsUpTo, IsRound, SeenItem, SeenTo, AreFrames, none, alone, in_round, PresentAt, Copies, StandsAt}
 use Rattle.pull_eval.specs.declared.block.Next.{Next}
 use Rattle.pull_eval.specs.declared.block.Next.TheVariants.{Unsought, Found, NoneUpTo}
 use Rattle.pull_eval.specs.declared.block.Round.{Round as CodeRound}

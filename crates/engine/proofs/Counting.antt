@@ -1,6 +1,6 @@
 -- How the counts go on.
-use Rattle.std.proofs.Common.{◌≡◌, ℕ, suc, ◌+◌, ◌-◌, ◌<◌, ◌≤◌, true, max, List, [], ◌∷◌, ◌++◌, length, take, drop, refl, sym, ◌∙◌, ap, subst, arith, append_assoc}
-use Rattle.std.proofs.lemmas.List.{length-append, take-append-drop, take_all}
+use Rattle.std.proofs.Common.{◌≡◌, ℕ, ◌+◌, ◌<◌, ◌≤◌, true, max, List, [], ◌∷◌, ◌++◌, length, drop, refl, sym, ◌∙◌, ap, subst, arith, append_assoc}
+use Rattle.std.proofs.lemmas.List.{length-append, take-append-drop}
 use Rattle.gcx_model.specs.Tree.{Tree, Token as Said, opening, grow, grow_all}
 use Rattle.gcx_model.specs.Core.{BodyTree, PlanTree}
 use Rattle.gcx_model.specs.Run.{Action}

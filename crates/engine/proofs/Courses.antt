@@ -1,7 +1,6 @@
 -- From one state for which an engine stands to a later one: bytes were fed, or the input ended.
-use Rattle.std.proofs.Common.{◌≡◌, ℕ, ◌+◌, ◌≤◌, Bool, true, false, List, [], ◌∷◌, ◌++◌, length, map, refl, sym, ◌∙◌, ap, subst, arith, append_assoc, Some, None, Option}
+use Rattle.std.proofs.Common.{◌≡◌, ℕ, ◌+◌, ◌≤◌, Bool, false, List, [], ◌++◌, length, map, refl, sym, ◌∙◌, ap, subst, arith, append_assoc, Some, None, Option}
 use Rattle.std.specs.Prelude.{flat_map, Result, OnOk, ⊤}
-use Rattle.std.specs.declared.result.Result.TheVariants.{Ok, Err}
 use Rattle.std.proofs.lemmas.List.{append-nil, length-append}
 use Rattle.gcx_base.specs.declared.limits.Limits.{Limits}
 use Rattle.gcx_model.specs.declared.fault.DocFault.{DocFault}
@@ -10,21 +9,19 @@ use Rattle.gcx_model.specs.Tree.{Tree, Token as Said}
 use Rattle.gcx_model.specs.Core.{PlanTree}
 use Rattle.gcx_model.specs.PlanView.{plan_tree}
 use Rattle.gcx_model.specs.Run.{bytes_of, bytes_written}
-use Rattle.gcx_model.specs.Faults.{FaultIs}
 use Rattle.gcx_model.specs.Seen.{SeenIs, seen_tree}
 use Rattle.doc_laws.proofs.Found.{found_seen}
 use Rattle.doc_laws.proofs.Growing.{seen_more}
 use Rattle.doc_laws.proofs.LastTag.{seen_one}
-use Rattle.doc_reader.specs.declared.token.Token.{Token}
-use Rattle.doc_reader.specs.Standing.{ReaderView, Stands, Keeps, IsFault, IsRefused, Answers, answer_by, answer_of, waiting, said_of}
+use Rattle.doc_reader.specs.Standing.{ReaderView, Stands, Keeps, IsFault, IsRefused, Answers, answer_by, said_of}
 use Rattle.doc_reader.proofs.Standings.{stands_still}
 use Rattle.engine.specs.declared.engine.Engine.{Engine}
-use Rattle.engine.specs.Engine.{Balanced, GrewBy, GrewWithin, Kept, Lost, OnAnswer, OnRefusal, PartsStand, Settles, StandsOf, StandsSome}
+use Rattle.engine.specs.Engine.{GrewBy, GrewWithin, Kept, Lost, OnAnswer, OnRefusal, PartsStand, Settles, StandsOf, StandsSome}
 use Rattle.engine.specs.Going.{Breaks, FedAll, GoesOn, all_of, bytes_at}
 use Rattle.engine.proofs.Nothing.{none_within}
 use Rattle.engine.proofs.Writing.{all_is, bytes_front}
 use Rattle.engine.proofs.Seeing.{all_given, front_leads}
-use Rattle.engine.proofs.Waiting.{on_refusal, on_none, from_none, refusal_map}
+use Rattle.engine.proofs.Waiting.{on_none, from_none, refusal_map}
 
 -- what is settled, by tokens
 pub settled_by : (plan : PlanTree) (lim : Limits) (b : List ℕ) (ended : Bool) (ts : List Said) (w : List ℕ) → SeenIs lim b ended ts → bytes_at plan (seen_tree ts) (all_of plan (seen_tree ts)) ≡ w → Settles plan lim b ended w

@@ -1,12 +1,11 @@
 -- At the end of a document nothing is held, and all roles that were given are taken back.
-use Rattle.std.proofs.Common.{◌≡◌, ℕ, true, List, [], ◌∷◌, ◌++◌, length, map, refl, sym, ◌∙◌, ap, subst, Some, None, Option}
+use Rattle.std.proofs.Common.{◌≡◌, ℕ, true, List, [], ◌∷◌, ◌++◌, map, refl, sym, ◌∙◌, ap, subst, None, Option}
 use Rattle.std.specs.Prelude.{Result, ⊤, OnOk}
-use Rattle.std.specs.declared.result.Result.TheVariants.{Ok, Err}
 use Rattle.std.proofs.lemmas.List.{map-append}
 use Rattle.gcx_base.specs.declared.limits.Limits.{Limits}
 use Rattle.gcx_model.specs.declared.fault.DocFault.{DocFault}
 use Rattle.gcx_model.specs.Document.{Nodes, tokens, tree_of}
-use Rattle.gcx_model.specs.Tree.{Tree, Token as Said, End, opening, grow_all}
+use Rattle.gcx_model.specs.Tree.{Tree, Token as Said, End}
 use Rattle.gcx_model.specs.PlanView.{plan_tree}
 use Rattle.gcx_model.specs.Held.{held, sum_given, sum_taken}
 use Rattle.gcx_model.specs.Points.{actions, so_far}
@@ -23,10 +22,10 @@ use Rattle.doc_reader.specs.declared.token.Token.TheVariants.{EndOfDocument}
 use Rattle.doc_reader.specs.Standing.{ReaderView, Stands, Accepted, GivesBy, Gives, answer_by, waiting, given_token, reader_tokens, said_of}
 use Rattle.doc_reader.proofs.Givings.{said-map}
 use Rattle.buf_tree.specs.Shape.{Cell}
-use Rattle.buf_tree.specs.View.{View, capped}
-use Rattle.buf_tree.specs.Stands.{seen, told, StandsFor}
+use Rattle.buf_tree.specs.View.{capped}
+use Rattle.buf_tree.specs.Stands.{seen, told}
 use Rattle.engine.specs.declared.engine.Engine.{Engine}
-use Rattle.engine.specs.Engine.{Kept, StandsOf, past_at}
+use Rattle.engine.specs.Engine.{StandsOf, past_at}
 use Rattle.engine.specs.Going.{all_of}
 use Rattle.engine.proofs.Writing.{all_is}
 

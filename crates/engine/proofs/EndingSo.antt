@@ -1,5 +1,5 @@
 -- How an answer of the engine ends a run, and which counts of faults rose.
-use Rattle.std.proofs.Common.{◌≡◌, ◌⊎◌, ⊎_elim, ℕ, ◌+◌, ◌-◌, ◌^◌, ◌≤◌, min, List, refl, sym, ◌∙◌, ap, subst, inl, inr, arith, Option}
+use Rattle.std.proofs.Common.{◌≡◌, ◌⊎◌, ⊎_elim, ℕ, ◌≤◌, List, refl, sym, ◌∙◌, inl, inr, arith, Option}
 use Rattle.std.specs.Prelude.{Result, ⊤}
 use Rattle.std.specs.declared.result.Result.TheVariants.{Ok, Err}
 use Rattle.gcx_io.specs.Bytes.{Grows, GrowsWithin}

@@ -1,17 +1,15 @@
 -- What a token makes of the actors and of the counts.
-use Rattle.std.proofs.Common.{◌≡◌, ◌⊎◌, ⊎_elim, ℕ, ◌+◌, ◌<◌, ◌≤◌, Bool, true, false, not, cond, ◌==◌, max, List, [], ◌∷◌, ◌++◌, length, map, refl, sym, ◌∙◌, ap, subst, inl, inr, arith, Some, None, Option}
-use Rattle.std.specs.Prelude.{is_some}
-use Rattle.std.specs.List.{filter}
-use Rattle.std.proofs.lemmas.List.{length-map, length-append, append-nil}
+use Rattle.std.proofs.Common.{◌≡◌, ⊎_elim, ℕ, ◌+◌, ◌≤◌, Bool, true, false, not, cond, ◌==◌, max, List, [], ◌∷◌, length, map, refl, sym, ◌∙◌, ap, subst, inl, inr, arith, Some, None, Option}
+use Rattle.std.proofs.lemmas.List.{length-map, length-append}
 use Rattle.gcx_base.specs.declared.ids.Role.{Role}
 use Rattle.gcx_base.specs.declared.kind.Kind.{Kind}
-use Rattle.gcx_model.specs.Tree.{Node, serial_of, Tree, Token as Said, End, opening, grow}
+use Rattle.gcx_model.specs.Tree.{Node, Tree, Token as Said, End, opening, grow}
 use Rattle.gcx_model.specs.Members.{In}
 use Rattle.gcx_model.specs.Core.{PlanTree}
 use Rattle.gcx_model.specs.Run.{Action}
 use Rattle.gcx_model.specs.Held.{held, roles_given, roles_taken, sum_given, sum_taken}
-use Rattle.gcx_model.specs.Growth.{Leads, Grow, more, stays, may_come}
-use Rattle.gcx_model.specs.Points.{actions, so_far, CoreState, fed as feeds}
+use Rattle.gcx_model.specs.Growth.{Leads, more, stays, may_come}
+use Rattle.gcx_model.specs.Points.{so_far, fed as feeds}
 use Rattle.gcx_model.specs.Past.{Past, IsPast, past_fed}
 use Rattle.gcx_laws.specs.Pasts.{Opens}
 use Rattle.gcx_laws.proofs.Lists.{In-append, In-filter}
@@ -25,19 +23,18 @@ use Rattle.buf_tree.specs.Rows.{shut_row}
 use Rattle.buf_tree.specs.Shape.{Cell, num, with_at}
 use Rattle.buf_tree.specs.Purge.{is_gone}
 use Rattle.buf_tree.specs.View.{View, capped}
-use Rattle.buf_tree.specs.Calls.{numbers, new_row, with_new, most_new, Opened as OpenedBelow}
+use Rattle.buf_tree.specs.Calls.{numbers, new_row, with_new, most_new}
 use Rattle.buf_tree.specs.Stands.{StandsFor}
 use Rattle.buf_tree.proofs.Counts.{capped_twice}
-use Rattle.projector.specs.Projector.{Projects, KeepsPlace, OpenedAlone, OpenedOne, ClosedOne, Changes, DoesBy}
+use Rattle.projector.specs.Projector.{Projects, KeepsPlace, Changes, DoesBy}
 use Rattle.projector.specs.declared.projector.Fed.{Fed}
 use Rattle.projector.specs.declared.projector.Fed.TheVariants.{Opened, Closed}
 use Rattle.projector.specs.declared.projector.Projector.{Projector}
 use Rattle.pull_eval.specs.Acting.{Beside}
-use Rattle.pull_eval.specs.Position.{StandsAt}
 use Rattle.pull_eval.specs.declared.position.Position.{Position}
 use Rattle.engine.specs.declared.engine.Counts.{Counts}
 use Rattle.engine.specs.Engine.{ActorsStand, past_at}
-use Rattle.engine.specs.Going.{ComesWithin, Counted, counted, roles_in}
+use Rattle.engine.specs.Going.{Counted, counted}
 use Rattle.engine.proofs.Coming.{Comes, position_on}
 use Rattle.engine.proofs.RowsHeld.{rows_count}
 use Rattle.engine.proofs.Taking.{told_all, beside_told}

@@ -1,23 +1,21 @@
 -- A token is fed to an engine.
-use Rattle.std.proofs.Common.{◌≡◌, ℕ, ◌+◌, ◌≤◌, ◌^◌, Bool, true, false, max, List, [], ◌∷◌, ◌++◌, length, refl, sym, ◌∙◌, ap, subst, arith, Some, None, Option}
-use Rattle.gcx_model.specs.Tree.{Node, Tree, Token as Said, opening, grow}
+use Rattle.std.proofs.Common.{◌≡◌, ℕ, ◌+◌, ◌≤◌, ◌^◌, true, [], length, refl, sym, ◌∙◌, ap, subst, arith}
+use Rattle.gcx_model.specs.Tree.{Tree, Token as Said, opening, grow}
 use Rattle.gcx_model.specs.Members.{In}
-use Rattle.gcx_model.specs.Core.{PlanTree}
 use Rattle.gcx_model.specs.PlanView.{plan_tree}
 use Rattle.gcx_model.specs.Held.{sum_given}
-use Rattle.gcx_model.specs.Growth.{Leads, may_come, level}
-use Rattle.gcx_model.specs.Points.{actions, so_far}
+use Rattle.gcx_model.specs.Growth.{Leads, may_come}
+use Rattle.gcx_model.specs.Points.{actions}
 use Rattle.gcx_model.specs.Past.{Past, past_fed}
-use Rattle.gcx_model.specs.Run.{Action}
 use Rattle.buf_tree.specs.Shape.{Cell}
 use Rattle.buf_tree.specs.View.{View, capped}
 use Rattle.buf_tree.specs.Stands.{StandsFor}
-use Rattle.projector.specs.Projector.{Projects, KeepsPlace, MayBeFed, Places, Changes, DoesBy}
+use Rattle.projector.specs.Projector.{Projects, MayBeFed, Places, Changes, DoesBy}
 use Rattle.projector.specs.declared.projector.Fed.{Fed}
 use Rattle.projector.specs.declared.projector.Projector.{Projector}
 use Rattle.engine.specs.declared.engine.Engine.{Engine}
 use Rattle.engine.specs.Engine.{Actors, Balanced, past_at}
-use Rattle.engine.specs.Going.{ComesWithin, Counted, FeedsOne, MayFeed, all_of, counted, is_quiet}
+use Rattle.engine.specs.Going.{ComesWithin, FeedsOne, MayFeed, counted, is_quiet}
 use Rattle.engine.proofs.Writing.{all_is}
 use Rattle.engine.proofs.RowsHeld.{shallow_rows}
 use Rattle.engine.proofs.Taking.{taken_few, told_all}

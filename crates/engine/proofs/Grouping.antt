@@ -1,24 +1,23 @@
 -- A group of tokens: one fed after the other, with no action between.
-use Rattle.std.proofs.Common.{◌≡◌, ℕ, suc, ◌+◌, ◌<◌, ◌≤◌, Bool, true, false, ◌&&◌, List, [], ◌∷◌, ◌++◌, length, map, refl, sym, ◌∙◌, ap, subst, arith, append_assoc, Some, None, Option}
+use Rattle.std.proofs.Common.{◌≡◌, ℕ, ◌+◌, ◌<◌, ◌≤◌, Bool, true, ◌&&◌, List, [], ◌∷◌, ◌++◌, length, map, refl, sym, ◌∙◌, ap, subst, arith, append_assoc, Some, None, Option}
 use Rattle.std.proofs.lemmas.List.{append-nil, length-append, map-append, length-map}
-use Rattle.std.proofs.lemmas.Bool.{false≢true, and_parts}
+use Rattle.std.proofs.lemmas.Bool.{and_parts}
 use Rattle.gcx_base.specs.declared.limits.Limits.{Limits}
 use Rattle.gcx_model.specs.Tree.{Tree, Token as Said, opening, grow}
 use Rattle.gcx_model.specs.Core.{PlanTree}
 use Rattle.gcx_model.specs.PlanView.{plan_tree}
-use Rattle.gcx_model.specs.Run.{Action}
 use Rattle.gcx_model.specs.Held.{sum_given}
 use Rattle.gcx_model.specs.Placed.{Placed}
 use Rattle.gcx_model.specs.Growth.{may_all}
 use Rattle.gcx_model.specs.Points.{actions}
-use Rattle.gcx_model.specs.Seen.{SeenIs, seen_tree}
+use Rattle.gcx_model.specs.Seen.{seen_tree}
 use Rattle.gcx_laws.proofs.Growing.{grow_all-append}
 use Rattle.doc_laws.proofs.Growing.{seen_comes}
 use Rattle.doc_reader.specs.declared.token.Token.{Token}
 use Rattle.doc_reader.specs.Standing.{ReaderView, Stands, waiting, said_of}
 use Rattle.buf_tree.specs.View.{capped}
 use Rattle.engine.specs.declared.engine.Engine.{Engine}
-use Rattle.engine.specs.Engine.{Actors, CountsOf, MayLimit, PartsStand}
+use Rattle.engine.specs.Engine.{Actors, CountsOf, PartsStand}
 use Rattle.engine.specs.Going.{ComesWithin, Counted, FeedsOne, FeedsSome, MayFeed, all_of}
 use Rattle.engine.proofs.Seeing.{next_comes, seeing, may_parts}
 use Rattle.engine.proofs.Counting.{counts_on}

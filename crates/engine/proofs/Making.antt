@@ -1,18 +1,15 @@
 -- An engine before any byte.
-use Rattle.std.proofs.Common.{◌≡◌, ℕ, ◌+◌, ◌<◌, ◌≤◌, ◌^◌, max, false, List, [], ◌∷◌, ◌++◌, length, map, refl, sym, ◌∙◌, ap, subst, arith, None}
+use Rattle.std.proofs.Common.{◌≡◌, ℕ, ◌<◌, ◌≤◌, ◌^◌, false, List, [], ◌++◌, length, sym, ◌∙◌, ap, subst, arith, None}
 use Rattle.std.proofs.lemmas.List.{length-map}
 use Rattle.gcx_base.specs.declared.limits.Limits.{Limits}
 use Rattle.gcx_base.specs.declared.ids.Role.{Role}
 use Rattle.gcx_model.specs.Tree.{Root, Tree, opening}
-use Rattle.gcx_model.specs.Core.{BodyTree, PlanTree}
+use Rattle.gcx_model.specs.Core.{PlanTree}
 use Rattle.gcx_model.specs.PlanView.{plan_tree}
-use Rattle.gcx_model.specs.Cores.{Good}
-use Rattle.gcx_model.specs.Placed.{Placed}
 use Rattle.gcx_model.specs.Held.{held, roles_given, sum_given}
 use Rattle.gcx_model.specs.Points.{so_far}
 use Rattle.gcx_model.specs.Past.{opening_past}
-use Rattle.doc_reader.specs.declared.token.Token.{Token}
-use Rattle.doc_reader.specs.Standing.{ReaderView, Stands, IsFault, waiting, said_of}
+use Rattle.doc_reader.specs.Standing.{ReaderView, Stands, IsFault, waiting}
 use Rattle.buf_tree.specs.View.{View, capped}
 use Rattle.buf_tree.specs.Calls.{Started, numbers}
 use Rattle.buf_tree.specs.Stands.{StandsFor}

@@ -1,6 +1,5 @@
 -- No byte was read: there is no fault, and no token is seen.
-use Rattle.std.proofs.Common.{◌≡◌, ℕ, suc, ◌+◌, ◌≤◌, Bool, true, false, ◌&&◌, List, [], ◌∷◌, ◌++◌, length, map, refl, sym, ◌∙◌, ap, subst, arith, Some, None, Option}
-use Rattle.std.proofs.lemmas.List.{length-append}
+use Rattle.std.proofs.Common.{◌≡◌, ℕ, ◌≤◌, Bool, false, List, [], ◌∷◌, ◌++◌, length, refl, subst, arith, Some, None}
 use Rattle.std.proofs.lemmas.Bool.{false≢true, and_parts}
 use lib.Utf8.{encode}
 use Rattle.gcx_base.specs.declared.limits.Limits.{Limits}
@@ -8,9 +7,9 @@ use Rattle.gcx_base.specs.Utf8.{IsCharFront}
 use Rattle.gcx_model.specs.declared.fault.DocFault.{DocFault}
 use Rattle.gcx_model.specs.declared.fault.DocFault.TheVariants.{TooLong}
 use Rattle.gcx_model.specs.Faults.{FaultIs, none_yet, within_limit, before_limit, past_limit}
-use Rattle.gcx_model.specs.Tree.{Tree, Token as Said, Start, Chars, End, opening, grow}
-use Rattle.gcx_model.specs.Growth.{may_come, may_all}
-use Rattle.gcx_model.specs.Seen.{SeenIs, seen_tree}
+use Rattle.gcx_model.specs.Tree.{Token as Said, Start, Chars, End, opening, grow}
+use Rattle.gcx_model.specs.Growth.{may_all}
+use Rattle.gcx_model.specs.Seen.{SeenIs}
 use Rattle.doc_laws.proofs.TreeBounds.{seen_within}
 use Rattle.doc_laws.proofs.Growing.{seen_comes}
 use Rattle.doc_laws.proofs.Found.{found_seen}

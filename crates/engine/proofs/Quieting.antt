@@ -1,23 +1,20 @@
 -- Tokens behind which no action is possible that wasn't before.
-use Rattle.std.proofs.Common.{◌≡◌, ◌⊎◌, ⊎_elim, ℕ, ◌==◌, ◌≤◌, ◌||◌, ◌&&◌, Bool, true, false, not, List, [], ◌∷◌, ◌++◌, length, map, refl, sym, ◌∙◌, ap, subst, inl, inr, arith, Some, None, Option, eq-eqb, eqb-true}
+use Rattle.std.proofs.Common.{◌≡◌, ◌⊎◌, ⊎_elim, ℕ, ◌==◌, ◌||◌, ◌&&◌, Bool, true, false, not, List, [], ◌∷◌, ◌++◌, length, map, refl, sym, ◌∙◌, ap, subst, inl, inr, arith, Some, eq-eqb, eqb-true}
 use Rattle.std.specs.Prelude.{nat_eq}
-use Rattle.std.specs.List.{filter}
 use Rattle.std.proofs.lemmas.Bool.{false≢true, true≢false, and_parts}
-use Rattle.std.proofs.lemmas.List.{length-map}
 use Rattle.gcx_base.specs.declared.ids.Role.{Role}
 use Rattle.gcx_model.specs.Tree.{Node, serial_of, within, Tree, Token as Said, End, opening, grow, is_open_at}
 use Rattle.gcx_model.specs.Paths.{any}
 use Rattle.gcx_model.specs.Members.{In, count}
-use Rattle.gcx_model.specs.Core.{PlanTree}
 use Rattle.gcx_model.specs.Run.{Action}
-use Rattle.gcx_model.specs.Held.{live, roles_live, roles_given, is_live, is_held, held}
+use Rattle.gcx_model.specs.Held.{live, roles_live, roles_given, is_live, is_held}
 use Rattle.gcx_model.specs.Growth.{Leads, more, may_come}
 use Rattle.gcx_laws.proofs.Growing.{grows}
-use Rattle.gcx_model.specs.Points.{actions, so_far}
+use Rattle.gcx_model.specs.Points.{actions}
 use Rattle.gcx_model.specs.Past.{Past, IsPast, open_nodes, past_fed}
-use Rattle.gcx_laws.specs.Quiet.{IsQuiet, by_opening, by_closing}
+use Rattle.gcx_laws.specs.Quiet.{by_opening, by_closing}
 use Rattle.gcx_laws.proofs.Unmoved.{quiet_token}
-use Rattle.gcx_laws.proofs.Lists.{In-filter, In-kept, any_in, any_from, filter_none}
+use Rattle.gcx_laws.proofs.Lists.{In-filter, any_in, any_from, filter_none}
 use Rattle.gcx_laws.proofs.Freeze.{within_self}
 use Rattle.gcx_laws.proofs.Changes.{live_by_feed}
 use Rattle.gcx_laws.proofs.RowFacts.{open_behind}
@@ -28,13 +25,11 @@ use Rattle.buf_tree.specs.Purge.{is_gone}
 use Rattle.buf_tree.specs.View.{View}
 use Rattle.buf_tree.specs.Stands.{Seen, StandsFor}
 use Rattle.buf_tree.specs.Calls.{numbers}
-use Rattle.projector.specs.Projector.{Projects, ClosedOne, Changes, DoesBy}
+use Rattle.projector.specs.Projector.{ClosedOne, Changes, DoesBy}
 use Rattle.projector.specs.declared.projector.Fed.{Fed}
 use Rattle.projector.specs.declared.projector.Fed.TheVariants.{Opened, Closed}
 use Rattle.engine.proofs.RowsHeld.{held_row, row_node}
-use Rattle.engine.specs.Engine.{past_at}
-use Rattle.engine.specs.Going.{is_quiet, all_of}
-use Rattle.engine.proofs.Writing.{all_is}
+use Rattle.engine.specs.Going.{is_quiet}
 use Rattle.engine.proofs.Feeding.{shut_comes}
 
 or_false : (a b : Bool) → (a || b) ≡ false → (a ≡ false) × (b ≡ false)

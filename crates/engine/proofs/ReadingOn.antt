@@ -1,5 +1,5 @@
 -- One turn of a run: what waits is written, the source is read once, and what it gave is fed.
-use Rattle.std.proofs.Common.{◌≡◌, ◌⊎◌, ℕ, ◌+◌, ◌-◌, ◌<◌, ◌≤◌, Bool, true, false, List, [], ◌∷◌, ◌++◌, length, take, map, refl, sym, ◌∙◌, ap, subst, arith, append_assoc, Some, None, Option}
+use Rattle.std.proofs.Common.{◌≡◌, ℕ, ◌-◌, ◌≤◌, Bool, true, false, List, [], ◌++◌, length, take, map, refl, sym, ◌∙◌, ap, subst, arith, Some, None, Option}
 use Rattle.std.specs.Prelude.{Result, ⊤}
 use Rattle.std.specs.declared.result.Result.TheVariants.{Ok, Err}
 use Rattle.std.specs.Io.KnownBytes.{Consumes, Keeps, IsAtEnd}
@@ -15,13 +15,13 @@ use Rattle.gcx_model.specs.Core.{PlanTree}
 use Rattle.gcx_model.specs.PlanView.{plan_tree}
 use Rattle.gcx_model.specs.Faults.{FaultIs}
 use Rattle.gcx_model.specs.Seen.{seen_tree}
-use Rattle.doc_reader.specs.Standing.{Answers, answer_by, said_of}
+use Rattle.doc_reader.specs.Standing.{Answers, said_of}
 use Rattle.engine.specs.declared.engine.Engine.{Engine}
 use Rattle.engine.specs.declared.report.Ended.{Ended}
 use Rattle.engine.specs.declared.report.Ended.TheVariants as ends
 use Rattle.engine.specs.Engine.{Balanced, Kept, Lost, OnAnswer, OnFault, Settles, StandsOf, Starts}
 use Rattle.engine.specs.Going.{all_of}
-use Rattle.engine.specs.Runs.{Between, Ends, EndsSo, Gave, Lags, Ran, UnlessMemory}
+use Rattle.engine.specs.Runs.{Between, Ends, EndsSo, Lags, Ran}
 use Rattle.engine.proofs.FeedingOne.{old_balance}
 use Rattle.engine.proofs.Courses.{settled_one}
 use Rattle.engine.proofs.Streaming.{bytes_few, earlier_none, front_none, grows_on, lags, run_ends, stands_written, within_on}

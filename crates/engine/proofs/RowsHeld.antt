@@ -1,7 +1,6 @@
 -- The rows of a buffer and the nodes that are held.
-use Rattle.std.proofs.Common.{◌≡◌, ℕ, ◌<◌, ◌≤◌, ◌||◌, ◌&&◌, Bool, true, false, not, List, [], ◌∷◌, length, map, refl, sym, ◌∙◌, ap, subst, arith, inl, inr, Some, None, Option}
+use Rattle.std.proofs.Common.{◌≡◌, ℕ, ◌<◌, ◌≤◌, ◌||◌, ◌&&◌, Bool, true, false, not, List, [], ◌∷◌, length, map, sym, ◌∙◌, ap, subst, arith, inl, inr, Some, None, Option}
 use Rattle.std.proofs.lemmas.List.{length-map}
-use Rattle.std.proofs.lemmas.Bool.{false≢true}
 use Rattle.gcx_model.specs.Tree.{Node, Root, Under, serial_of, above, within, Tree, is_open_at}
 use Rattle.gcx_model.specs.Paths.{any}
 use Rattle.gcx_model.specs.Members.{In}
@@ -14,7 +13,7 @@ use Rattle.gcx_laws.proofs.Matches.{Rising, Rising-filter}
 use Rattle.run_laws.proofs.Feeds.{open_chain}
 use Rattle.node_store.specs.declared.store.Place.{Place}
 use Rattle.buf_tree.specs.Shape.{Cell, num}
-use Rattle.buf_tree.specs.View.{View, Innermost}
+use Rattle.buf_tree.specs.View.{View}
 use Rattle.buf_tree.specs.Stands.{Seen, seen, told, StandsFor}
 use Rattle.buf_tree.proofs.Standing.{pair_left}
 use Rattle.projector.specs.Projector.{KeepsPlace}

@@ -1,20 +1,19 @@
 -- The tokens that a reader gave and those that wait, as tokens that are seen.
-use Rattle.std.proofs.Common.{◌≡◌, ◌≢◌, ℕ, ◌+◌, ◌≤◌, ◌^◌, Bool, true, false, ◌&&◌, List, [], ◌∷◌, ◌++◌, length, map, refl, sym, ◌∙◌, ap, subst, arith, append_assoc, Some, None, Option}
+use Rattle.std.proofs.Common.{◌≡◌, ℕ, Bool, true, ◌&&◌, List, [], ◌∷◌, ◌++◌, map, refl, sym, ◌∙◌, ap, subst, arith, append_assoc, Some, None, Option}
 use Rattle.std.proofs.lemmas.List.{append-nil, map-append}
 use Rattle.std.proofs.lemmas.Bool.{and_parts}
 use Rattle.gcx_base.specs.declared.limits.Limits.{Limits}
 use Rattle.gcx_model.specs.declared.fault.DocFault.{DocFault}
 use Rattle.gcx_model.specs.declared.fault.DocFault.TheVariants.{Utf8, Syntax, Truncated, Depth, NameLong, TextLong, TooLong, Memory}
-use Rattle.gcx_model.specs.Tree.{Node, Tree, Token as Said, opening, grow, grow_all}
-use Rattle.gcx_model.specs.Growth.{Leads, may_come, may_all, level}
+use Rattle.gcx_model.specs.Tree.{Tree, Token as Said, opening, grow, grow_all}
+use Rattle.gcx_model.specs.Growth.{Leads, may_come, may_all}
 use Rattle.gcx_model.specs.Seen.{SeenIs, seen_tree}
 use Rattle.gcx_laws.proofs.Growing.{grow_all-append, leads}
-use Rattle.doc_laws.specs.Bounds.{IsTreeWithin}
 use Rattle.doc_laws.proofs.TreeBounds.{seen_within}
 use Rattle.doc_laws.proofs.Growing.{seen_comes}
 use Rattle.doc_laws.proofs.LastTag.{seen_one}
 use Rattle.doc_reader.specs.declared.token.Token.{Token}
-use Rattle.doc_reader.specs.Standing.{ReaderView, Stands, Gives, GivesMore, GivesBy, waiting, said_of}
+use Rattle.doc_reader.specs.Standing.{ReaderView, Stands, Gives, GivesBy, waiting, said_of}
 use Rattle.engine.specs.Engine.{MayLimit}
 use Rattle.engine.specs.Going.{ComesWithin}
 

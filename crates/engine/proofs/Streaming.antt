@@ -1,20 +1,19 @@
 -- What a run has read and written, from one read to the next.
-use Rattle.std.proofs.Common.{◌≡◌, ◌⊎◌, ⊎_elim, ℕ, ◌+◌, ◌-◌, ◌≤◌, Bool, true, false, List, [], ◌∷◌, ◌++◌, length, take, drop, map, refl, sym, ◌∙◌, ap, subst, arith, append_assoc, inl, inr, Some, None, Option}
+use Rattle.std.proofs.Common.{◌≡◌, ◌⊎◌, ⊎_elim, ℕ, ◌+◌, ◌-◌, ◌≤◌, Bool, true, false, List, [], ◌++◌, length, take, drop, refl, sym, ◌∙◌, ap, subst, arith, append_assoc, Some, None, Option}
 use Rattle.std.specs.Prelude.{Result, ⊤}
 use Rattle.std.specs.declared.result.Result.TheVariants.{Ok, Err}
-use Rattle.std.specs.Io.KnownBytes.{Consumes, IsAtEnd}
-use Rattle.std.proofs.lemmas.List.{append-nil, length-append, take-append-drop, take-append-le, take_all}
+use Rattle.std.proofs.lemmas.List.{append-nil, length-append, take-append-drop, take-append-le}
 use Rattle.std.proofs.Math.Seq.{take-append-add}
 use Rattle.gcx_io.specs.Bytes.{Grows, GrowsWithin}
 use Rattle.gcx_base.specs.declared.limits.Limits.{Limits}
 use Rattle.gcx_model.specs.declared.fault.DocFault.{DocFault}
 use Rattle.gcx_model.specs.declared.fault.DocFault.TheVariants.{Utf8, Syntax, Truncated, Depth, NameLong, TextLong, TooLong, Memory}
-use Rattle.gcx_model.specs.Tree.{Tree, Token as Said}
+use Rattle.gcx_model.specs.Tree.{Tree}
 use Rattle.gcx_model.specs.Core.{PlanTree}
 use Rattle.gcx_model.specs.PlanView.{plan_tree}
 use Rattle.gcx_model.specs.Faults.{FaultIs}
 use Rattle.gcx_model.specs.Run.{bytes_written}
-use Rattle.gcx_model.specs.Seen.{SeenIs, seen_tree}
+use Rattle.gcx_model.specs.Seen.{seen_tree}
 use Rattle.doc_laws.proofs.Found.{found, found_seen}
 use Rattle.doc_laws.proofs.Pieces.{fault_stays}
 use Rattle.doc_laws.proofs.Unique.{fault_one}
@@ -22,8 +21,8 @@ use Rattle.doc_reader.specs.Standing.{Answers, IsFault}
 use Rattle.engine.specs.declared.engine.Engine.{Engine}
 use Rattle.engine.specs.declared.report.Ended.{Ended}
 use Rattle.engine.specs.declared.report.Ended.TheVariants as ends
-use Rattle.engine.specs.Engine.{GrewBy, GrewWithin, Kept, Lost, OnAnswer, PartsStand, Settles, StandsOf}
-use Rattle.engine.specs.Runs.{Between, Ends, EndsSo, Gave, Lags, Ran, UnlessMemory, WritesAll, ended_by}
+use Rattle.engine.specs.Engine.{Kept, Lost, OnAnswer, Settles, StandsOf}
+use Rattle.engine.specs.Runs.{Ends, EndsSo, Lags, UnlessMemory, WritesAll}
 use Rattle.engine.proofs.Nothing.{none_within}
 use Rattle.engine.proofs.Courses.{settled_one, settles_more}
 

@@ -1,22 +1,20 @@
 -- What the next action makes of the actors.
-use Rattle.std.proofs.Common.{◌≡◌, ℕ, suc, ◌<◌, ◌≤◌, Bool, true, false, List, [], ◌∷◌, ◌++◌, length, take, refl, sym, ◌∙◌, ap, subst, arith, Some, None, Option}
+use Rattle.std.proofs.Common.{◌≡◌, ℕ, suc, ◌<◌, ◌≤◌, Bool, true, false, List, [], ◌∷◌, ◌++◌, length, refl, sym, ◌∙◌, ap, subst, arith}
 use Rattle.std.specs.List.{filter}
 use Rattle.std.proofs.lemmas.List.{append-nil, take-append-le}
-use Rattle.gcx_model.specs.Tree.{Node, Tree, opening}
-use Rattle.gcx_model.specs.Members.{In}
-use Rattle.gcx_model.specs.Core.{OffTree, PlanTree}
-use Rattle.gcx_model.specs.Run.{Action, Wrote, Offed, bytes_of}
-use Rattle.gcx_model.specs.Held.{sum_given, sum_taken}
-use Rattle.gcx_model.specs.Points.{actions, so_far, CoreState}
+use Rattle.gcx_model.specs.Tree.{Tree}
+use Rattle.gcx_model.specs.Core.{PlanTree}
+use Rattle.gcx_model.specs.Run.{Action, Wrote, Offed}
+use Rattle.gcx_model.specs.Held.{sum_given}
+use Rattle.gcx_model.specs.Points.{so_far, CoreState}
 use Rattle.gcx_model.specs.Past.{Past, past_acted, is_ahead, reopened}
 use Rattle.gcx_laws.specs.Moves.{IsNext, NoneLeft}
 use Rattle.gcx_laws.proofs.Keeping.{taken_are_there}
 use Rattle.run_laws.proofs.Summing.{taken_is_given}
 use Rattle.matcher.specs.Matcher.{Stands}
-use Rattle.buf_tree.specs.Shape.{Cell, num}
+use Rattle.buf_tree.specs.Shape.{Cell}
 use Rattle.buf_tree.specs.View.{View, capped}
-use Rattle.buf_tree.specs.Stands.{StandsFor}
-use Rattle.projector.specs.Projector.{Projects, KeepsPlace, ahead_in}
+use Rattle.projector.specs.Projector.{Projects, KeepsPlace}
 use Rattle.projector.specs.declared.projector.Projector.{Projector}
 use Rattle.pull_eval.specs.Acting.{Beside, SamePlaces, Takes}
 use Rattle.pull_eval.specs.declared.machine.Acted.{Acted}

@@ -1,10 +1,10 @@
 -- A turn that feeds the next token, and one that takes the next action.
-use Rattle.std.proofs.Common.{◌≡◌, ℕ, zero, suc, ◌+◌, ◌*◌, ◌<◌, ◌≤◌, ◌^◌, Bool, true, false, List, [], ◌∷◌, ◌++◌, length, take, drop, map, refl, sym, ◌∙◌, ap, subst, arith, Some, None, Option}
+use Rattle.std.proofs.Common.{◌≡◌, ℕ, suc, ◌+◌, ◌*◌, ◌<◌, ◌≤◌, ◌^◌, true, List, [], ◌∷◌, ◌++◌, length, take, drop, map, refl, sym, ◌∙◌, ap, subst, arith, Some, None, Option}
 use Rattle.std.specs.Prelude.{Result, OnOk}
 use Rattle.std.specs.declared.result.Result.TheVariants.{Ok, Err}
 use Rattle.std.proofs.lemmas.List.{append-nil, length-append, map-append, take-append-drop, take_all}
 use Rattle.std.proofs.lemmas.Bool.{false≢true, and_parts}
-use Rattle.gcx_base.specs.declared.kind.Kind.TheVariants.{Document, Element, Text}
+use Rattle.gcx_base.specs.declared.kind.Kind.TheVariants.{Element, Text}
 use Rattle.gcx_model.specs.Tree.{Node, Root, Under, Tree, Token as Said, Start, Chars, End, opening, grow, grow_all}
 use Rattle.gcx_model.specs.Members.{In}
 use Rattle.gcx_model.specs.Core.{PlanTree}
@@ -17,7 +17,7 @@ use Rattle.doc_reader.specs.Standing.{said_of}
 use Rattle.buf_tree.specs.Shape.{Cell}
 use Rattle.buf_tree.specs.View.{View, capped}
 use Rattle.buf_tree.specs.Stands.{StandsFor}
-use Rattle.projector.specs.Projector.{Projects, KeepsPlace, MayBeFed, Places, Changes, DoesBy}
+use Rattle.projector.specs.Projector.{Projects, MayBeFed, Places, Changes, DoesBy}
 use Rattle.projector.specs.declared.projector.Fed.{Fed}
 use Rattle.projector.specs.declared.projector.Projector.{Projector}
 use Rattle.pull_eval.specs.Acting.{Acts}

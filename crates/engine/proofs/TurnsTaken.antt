@@ -1,28 +1,24 @@
 -- One turn more of the two actors.
-use Rattle.std.proofs.Common.{◌≡◌, ℕ, zero, suc, ◌+◌, ◌<◌, ◌≤◌, Bool, true, false, cond, ◌&&◌, List, [], ◌∷◌, ◌++◌, length, take, drop, map, refl, sym, ◌∙◌, ap, subst, arith, append_assoc, ltb, Some, None, Option}
-use Rattle.std.specs.Prelude.{nat_lt, flat_map}
-use Rattle.std.proofs.lemmas.List.{append-nil, length-append, take-append-drop, length-drop}
+use Rattle.std.proofs.Common.{◌≡◌, ℕ, zero, suc, ◌+◌, ◌<◌, ◌≤◌, Bool, true, false, cond, List, [], ◌∷◌, ◌++◌, length, take, drop, map, refl, sym, ◌∙◌, ap, subst, arith, append_assoc, ltb}
+use Rattle.std.specs.Prelude.{flat_map}
+use Rattle.std.proofs.lemmas.List.{append-nil, take-append-drop, length-drop}
 use Rattle.std.proofs.lemmas.Bool.{and_parts, lt-ltb, ltb-true}
-use Rattle.gcx_model.specs.Tree.{Node, Tree, Token as Said, opening, grow, grow_all}
+use Rattle.gcx_model.specs.Tree.{Tree, Token as Said, opening, grow, grow_all}
 use Rattle.gcx_model.specs.Core.{PlanTree}
 use Rattle.gcx_model.specs.Run.{bytes_of}
-use Rattle.gcx_model.specs.Held.{held, sum_given, sum_taken}
-use Rattle.gcx_model.specs.Growth.{Leads, more, stays, may_come, may_all, level}
+use Rattle.gcx_model.specs.Held.{sum_given}
+use Rattle.gcx_model.specs.Growth.{Leads, more, stays, may_come, may_all}
 use Rattle.gcx_model.specs.Points.{actions, so_far, CoreState}
-use Rattle.gcx_model.specs.Past.{Past, past_fed}
-use Rattle.gcx_model.specs.Seen.{seen_tree}
-use Rattle.gcx_model.specs.Turning.{Turn, Feed, Act, Turned, tree_fed, turn, turned_from, turned, one_up_to}
+use Rattle.gcx_model.specs.Turning.{Turn, Feed, Act, Turned, tree_fed, turn, turned, one_up_to}
 use Rattle.gcx_laws.proofs.Growing.{grow_all-append, grows, leads}
 use Rattle.gcx_laws.proofs.Keeping.{taken_are_there}
 use Rattle.gcx_laws.proofs.More.{flat_map-append}
 use Rattle.gcx_laws.proofs.TurnsReached.{one_turn_more, turns_reach}
-use Rattle.doc_reader.specs.declared.token.Token.{Token}
 use Rattle.doc_reader.specs.Standing.{said_of}
-use Rattle.buf_tree.specs.View.{View, capped}
-use Rattle.buf_tree.specs.Stands.{StandsFor}
+use Rattle.buf_tree.specs.View.{capped}
 use Rattle.engine.specs.Engine.{ActorsStand, past_at}
 use Rattle.engine.specs.Going.{ComesWithin, Goes, all_of, bytes_at}
-use Rattle.engine.specs.Turns.{AreWithin, Reaches, Tells, TurnsOn}
+use Rattle.engine.specs.Turns.{Reaches, Tells, TurnsOn}
 use Rattle.engine.specs.declared.turns.Actors.{Actors}
 use Rattle.engine.specs.declared.turns.Reached.{Reached}
 use Rattle.engine.proofs.Seeing.{may_parts}

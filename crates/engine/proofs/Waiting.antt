@@ -1,32 +1,30 @@
 -- All tokens that wait are fed, in groups.
-use Rattle.std.proofs.Common.{◌≡◌, ℕ, ◌+◌, ◌<◌, ◌≤◌, Bool, true, false, List, [], ◌∷◌, ◌++◌, length, map, refl, sym, ◌∙◌, ap, subst, arith, append_assoc, Some, None, Option}
-use Rattle.std.proofs.lemmas.List.{append-nil, length-append}
+use Rattle.std.proofs.Common.{◌≡◌, ℕ, ◌≤◌, Bool, true, List, [], ◌++◌, length, map, refl, sym, ◌∙◌, ap, subst, arith, append_assoc, Some, None, Option}
+use Rattle.std.proofs.lemmas.List.{append-nil}
 use Rattle.std.specs.Prelude.{Result, OnOk, OnErr, ⊤}
 use Rattle.std.specs.declared.result.Result.TheVariants.{Ok, Err}
 use Rattle.gcx_base.specs.declared.limits.Limits.{Limits}
 use Rattle.gcx_base.specs.declared.memory.Memory.{Memory as Lack}
 use Rattle.gcx_model.specs.declared.fault.DocFault.{DocFault}
 use Rattle.gcx_model.specs.declared.fault.DocFault.TheVariants.{Utf8, Syntax, Truncated, Depth, NameLong, TextLong, TooLong, Memory}
-use Rattle.gcx_model.specs.Tree.{Tree, Token as Said, opening}
+use Rattle.gcx_model.specs.Tree.{Tree, opening}
 use Rattle.gcx_model.specs.Core.{PlanTree}
 use Rattle.gcx_model.specs.PlanView.{plan_tree}
-use Rattle.gcx_model.specs.Run.{Action}
 use Rattle.gcx_model.specs.Held.{held, sum_given}
 use Rattle.gcx_model.specs.Placed.{Placed}
 use Rattle.gcx_model.specs.Growth.{Leads}
 use Rattle.gcx_model.specs.Points.{actions, so_far}
-use Rattle.gcx_model.specs.Seen.{SeenIs, seen_tree}
+use Rattle.gcx_model.specs.Seen.{seen_tree}
 use Rattle.doc_reader.specs.declared.token.Token.{Token}
 use Rattle.doc_reader.specs.Standing.{ReaderView, Stands, answer_by, waiting, said_of}
-use Rattle.buf_tree.specs.View.{View, capped}
+use Rattle.buf_tree.specs.View.{capped}
 use Rattle.engine.specs.declared.engine.Engine.{Engine}
-use Rattle.engine.specs.Engine.{Actors, Balanced, CountsOf, OnRefusal, OnFault, PartsStand, past_at}
-use Rattle.engine.specs.Going.{ActsOn, ActsSome, Breaks, FedAll, FeedsOn, FeedsSome, Goes, GoesOn, SomeActors, all_of, bytes_at, lacking, refusal_of}
+use Rattle.engine.specs.Engine.{Actors, Balanced, CountsOf, OnRefusal, PartsStand, past_at}
+use Rattle.engine.specs.Going.{ActsOn, ActsSome, Breaks, FeedsOn, FeedsSome, Goes, GoesOn, SomeActors, all_of, bytes_at, lacking, refusal_of}
 use Rattle.engine.proofs.Writing.{bytes_front, goes_fed, goes_front, goes_on}
 use Rattle.engine.proofs.Seeing.{earlier_leads, given_grew, given_leads}
 use Rattle.engine.proofs.Counting.{counts_acted}
 use Rattle.engine.proofs.RowsHeld.{rows_count}
-use Rattle.engine.proofs.Acting.{there}
 use Rattle.engine.proofs.Taking.{taken_few}
 
 pub on_refusal : (o : Option DocFault) {A B : Type 0} → A → B → OnRefusal o A B

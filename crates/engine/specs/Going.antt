@@ -1,5 +1,5 @@
 -- How the parts of an engine go on from one state to a later one (this project's). This follows the code: no public clause speaks of it.
-use Rattle.std.specs.Prelude.{◌≡◌, ◌≤◌, ◌<◌, ◌+◌, ◌^◌, ℕ, suc, nat_eq, Bool, true, false, not, List, [], ◌∷◌, ◌++◌, length, map, max, flat_map, Option, Some, None, Result, Ok, Err, ⊤}
+use Rattle.std.specs.Prelude.{◌≡◌, ◌≤◌, ◌<◌, ◌+◌, ◌^◌, ℕ, suc, nat_eq, Bool, true, false, not, List, [], ◌++◌, length, map, max, flat_map, Option, Some, None, Result, Ok, Err, ⊤}
 use Rattle.gcx_base.specs.declared.limits.Limits.{Limits}
 use Rattle.gcx_base.specs.declared.memory.Memory.{Memory as Lack}
 use Rattle.gcx_model.specs.declared.fault.DocFault.{DocFault}

@@ -1,5 +1,5 @@
 -- What turns of the two actors reach, as an answer tells it (this project's).
-use Rattle.std.specs.Prelude.{◌≡◌, ◌≤◌, ◌+◌, ◌^◌, true, ℕ, List, [], ◌∷◌, ◌++◌, length, map, drop, Some}
+use Rattle.std.specs.Prelude.{◌≡◌, ◌≤◌, ◌+◌, ◌^◌, true, ℕ, List, ◌++◌, length, map, drop, Some}
 use Rattle.gcx_model.specs.Tree.{Node, Tree, Token as Said, opening}
 use Rattle.gcx_model.specs.Core.{PlanTree}
 use Rattle.gcx_model.specs.Held.{held, sum_given, sum_taken}

@@ -1,4 +1,4 @@
--- How the roles are found that are taken back in advance (this project's).
+-- How the roles are found that are taken back in advance (this project's). This follows the code: private functions alone speak of it.
 use Rattle.std.specs.Prelude.{◌≡◌, ◌-◌, ◌↔◌, ℕ, Bool, true, List, length, Some}
 use Rattle.gcx_model.specs.Core.{RoleKind, Own, First, Whole}
 use Rattle.gcx_model.specs.ItemView.{role_kind}

@@ -1,4 +1,4 @@
--- How a new node is entered (this project's).
+-- How a new node is entered (this project's). This follows the code: private functions alone speak of it.
 use Rattle.std.specs.Prelude.{◌≡◌, ◌<◌, ◌≤◌, ◌-◌, ◌↔◌, ◌⊎◌, ℕ, suc, Bool, true, false, List, [], length, ◌++◌, ◌^◌, Some, slice_get}
 use Rattle.gcx_base.specs.declared.kind.Kind.{Kind}
 use Rattle.gcx_base.specs.declared.steps.Step.{Step}

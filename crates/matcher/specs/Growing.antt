@@ -1,4 +1,4 @@
--- The projection tree while it grows (this project's).
+-- The projection tree while it grows (this project's). This follows the code: private functions alone speak of it.
 use Rattle.std.specs.Prelude.{◌≡◌, ◌<◌, ◌↔◌, ℕ, List, [], ◌∷◌, ◌++◌, length, Some, slice_get, slice_index_or}
 use Rattle.gcx_base.specs.declared.steps.Axis.{Axis}
 use Rattle.gcx_base.specs.declared.steps.Axis.TheVariants.{Child, Descendant}

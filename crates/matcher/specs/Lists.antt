@@ -1,4 +1,4 @@
--- What lists gain (this project's).
+-- What lists gain (this project's). Public clauses speak of `Climbs` alone, inside `Stands`; the rest follows the code.
 use Rattle.std.specs.Prelude.{◌≡◌, ◌<◌, ◌≤◌, ◌⊎◌, ◌↔◌, ℕ, List, [], ◌∷◌, ◌++◌, length, take, drop}
 use Rattle.gcx_model.specs.Members.{In}
 

@@ -1,4 +1,4 @@
--- What a row tells by its parts of the stacks (this project's).
+-- What a row tells by its parts of the stacks (this project's). Public clauses speak of it inside `Stands` alone.
 use Rattle.std.specs.Prelude.{◌≡◌, ℕ, true, List, take, drop}
 use Rattle.gcx_model.specs.Members.{In}
 use Rattle.matcher.specs.declared.row.Part.{Part}

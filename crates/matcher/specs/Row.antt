@@ -1,4 +1,4 @@
--- What is kept of an open node (this project's).
+-- What is kept of an open node (this project's). Public clauses speak of it inside `Stands` alone.
 use Rattle.std.specs.Prelude.{◌≡◌, ◌<◌, ◌↔◌, ℕ, true, List, ◌++◌, length, Option, Some, None}
 use Rattle.gcx_base.specs.declared.steps.Step.{Step}
 use Rattle.gcx_model.specs.Tree.{Node, serial_of, above, Tree}

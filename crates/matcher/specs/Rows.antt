@@ -1,4 +1,4 @@
--- What the rows of open nodes tell together (this project's).
+-- What the rows of open nodes tell together (this project's). This follows the code: private functions alone speak of it.
 use Rattle.std.specs.Prelude.{◌≡◌, ◌<◌, ◌⊎◌, ℕ, suc, true, List, [], Some, None, slice_get}
 use Rattle.gcx_base.specs.declared.kind.Kind.{Kind}
 use Rattle.gcx_base.specs.declared.steps.Axis.{Axis}

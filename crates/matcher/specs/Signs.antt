@@ -1,4 +1,4 @@
--- The statements that are signed at open nodes (this project's).
+-- The statements that are signed at open nodes (this project's). Public clauses speak of `InTurn` alone, inside `Stands`; the rest follows the code.
 use Rattle.std.specs.Prelude.{◌≡◌, ◌≤◌, ℕ, List, [], ◌∷◌}
 use Rattle.gcx_model.specs.Members.{In}
 use Rattle.matcher.specs.declared.signs.Sign.{Sign}

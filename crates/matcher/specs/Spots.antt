@@ -1,4 +1,4 @@
--- The projection tree of a plan, flat: what its spots tell (this project's, after ICDE 2007).
+-- The projection tree of a plan, flat: what its spots tell (this project's, after ICDE 2007). Public clauses speak of it inside `Stands` alone.
 use Rattle.std.specs.Prelude.{◌≡◌, ◌<◌, ◌↔◌, ℕ, false, List, [], ◌∷◌, ◌++◌, length, Some, slice_get}
 use Rattle.gcx_base.specs.declared.steps.Axis.{Axis}
 use Rattle.gcx_base.specs.declared.steps.Axis.TheVariants.{Child, Descendant}

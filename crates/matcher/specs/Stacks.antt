@@ -1,4 +1,4 @@
--- How the parts of rows lie on the stacks (this project's).
+-- How the parts of rows lie on the stacks (this project's). Public clauses speak of `AreStacked` alone, inside `Stands`; the rest follows the code.
 use Rattle.std.specs.Prelude.{◌≡◌, ◌<◌, ◌≤◌, ◌-◌, ℕ, Bool, true, false, List, [], ◌∷◌, ◌++◌, length, take, Option, Some, None, slice_get}
 use Rattle.gcx_model.specs.Members.{In}
 use Rattle.matcher.specs.Lists.{Climbs, Extends, From, Gains}

@@ -39,7 +39,8 @@ use gcx_model::{Given, Off, Plan, RoleKind};
 use smallvec::SmallVec;
 use std::alloc::Global;
 
-/// The roles of new nodes. It stands for an open tree, and for the statements that are signed at open nodes.
+/// The roles of new nodes. It stands for an open tree, and for the statements that are signed at open nodes. `Memory`
+/// is want of memory, and the only error of its calls.
 #[derive(Drop, Debug)]
 pub struct Matcher {
     spots: Spots,
@@ -103,7 +104,7 @@ fn is_of(role: Option<u32>, other: u32) -> bool
 }
 
 impl Matcher {
-    /// A matcher at the open document node.
+    /// A matcher for the plan, at the open document node.
     pub fn new(alloc: Global, plan: &Plan) -> Result<Matcher, Memory>
         ensures { IfOk result (λ m. (core : BodyTree) → Good core → Placed core (plan_tree plan.now) → Stands m (opening_past (plan_tree plan.now)) false) }
     {
@@ -119,7 +120,7 @@ impl Matcher {
         })
     }
 
-    /// The roles of the document node.
+    /// The roles of the document node, by rising number.
     pub fn document(&self, alloc: Global) -> Result<Given, Memory>
         ensures { (past : Past) (text : Bool) → Stands self.now past text → IfOk result (λ given. map (λ r. r.0) given ≡ roles_given past.plan past.tree Root) }
     {
@@ -148,8 +149,8 @@ impl Matcher {
         Ok(given)
     }
 
-    /// Goes to a new node, which is an element or a text, and answers its roles. After `Memory` the matcher is
-    /// unchanged.
+    /// Goes to a new node, which is an element or a text, and answers its roles by rising number. After `Memory` the
+    /// matcher stands for what it stood for.
     pub fn enter(&mut self, alloc: Global, kind: &Kind) -> Result<Given, Memory>
         requires kind { IsNode kind.now }
         ensures stands { OnOk result ((past : Past) → Stands self.old past false → may_come (token_for kind.now) past.tree ≡ true → ((p : Node) → past.tree.at ≡ Some p → level_of p ≤ 1000) → Stands self.new (past_grown (token_for kind.now) past) (is_text kind.now)) }
@@ -254,7 +255,7 @@ impl Matcher {
         Ok(given)
     }
 
-    /// Leaves the innermost node, which isn't the document node. Takes no memory.
+    /// Leaves the innermost node, which isn't the document node, for its parent. Takes no memory.
     pub fn leave(&mut self)
         ensures text { (past : Past) → Stands self.old past true → Stands self.new past false }
         ensures element { (past : Past) (p : Node) (s : ℕ) (k : Kind) → Stands self.old past false → past.tree.at ≡ Some (Under p s k) → Stands self.new (past_grown End past) false }
@@ -269,7 +270,8 @@ impl Matcher {
         }
     }
 
-    /// Notes that the statement is carried out at the open node of the level. After `Memory` the matcher is unchanged.
+    /// Notes that the statement is carried out at the open node of the level, which for the document node is 0. After
+    /// `Memory` the matcher stands for what it stood for.
     pub fn sign(&mut self, level: u32, off: &Off) -> Result<(), Memory>
         ensures stands { OnOk result ((past : Past) (n : Node) → Stands self.old past false → In (off_tree off.now) (offs_in past.plan.body) → In n (open_nodes past.tree) → level_of n ≡ level → In n (matches past.tree 0 (path_of past.plan (off_tree off.now).base)) → Stands self.new (past_acted (Offed (off_tree off.now) (serial_of n)) past) false) }
         ensures err { OnErr result ((past : Past) (text : Bool) → Stands self.old past text → Stands self.new past text) }
@@ -285,7 +287,7 @@ impl Matcher {
         Ok(())
     }
 
-    /// The roles of the innermost node that are taken back already.
+    /// The roles of the innermost node that are taken back already, by rising number.
     pub fn ahead(&self, alloc: Global) -> Result<Given, Memory>
         ensures { IfOk result (λ given. (past : Past) (text : Bool) (n : Node) → Stands self.now past text → Innermost past.tree text n → map (λ r. r.0) given ≡ roles_taken past.plan past.tree past.acts n) }
     {

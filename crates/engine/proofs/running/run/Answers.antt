@@ -1,4 +1,4 @@
-use Rattle.std.proofs.Common.{◌≡◌, ◌≤◌, ◌+◌, [], rules, refl, ◌∙◌, arith}
+use Rattle.std.proofs.Common.{◌≤◌, [], rules, refl, ◌∙◌, arith}
 use Rattle.engine.proofs.CallsOfTurns.{few_bytes}
 use Rattle.engine.proofs.ReadingOn.{between_none}
 use Rattle.engine.proofs.running.run.Goals as goal

@@ -1,4 +1,4 @@
-use Rattle.std.proofs.Common.{◌≡◌, ◌+◌, ◌-◌, ◌≤◌, ℕ, List, length}
+use Rattle.std.proofs.Common.{◌≡◌, ◌-◌, ◌≤◌, ℕ, List, length}
 use Rattle.gcx_base.specs.declared.limits.Limits.{Limits}
 use Rattle.engine.specs.Engine.{IsSilent, Starts}
 use Rattle.engine.specs.Runs.{Between}

@@ -1,14 +1,11 @@
-use Rattle.std.proofs.Common.{◌≡◌, ◌≤◌, ◌++◌, ℕ, List, Bool, true, false, [], None, Some, Option, length, take, rules, refl, sym, ◌∙◌, ap, subst, arith}
+use Rattle.std.proofs.Common.{◌≡◌, ◌≤◌, ◌++◌, ℕ, true, false, [], None, length, take, rules, refl, ◌∙◌, ap, subst, arith}
 use Rattle.std.specs.Prelude.{is_err}
-use Rattle.std.specs.declared.result.Result.TheVariants.{Ok, Err}
+use Rattle.std.specs.declared.result.Result.TheVariants.{Err}
 use Rattle.std.proofs.lemmas.List.{length-append}
 use Rattle.std.proofs.lemmas.Bool.{false≢true}
 use Rattle.std.specs.Io.KnownBytes.{Consumes, Keeps, IsAtEnd}
-use Rattle.gcx_base.specs.declared.limits.Limits.{Limits}
 use Rattle.gcx_io.specs.Bytes.{Grows, GrowsWithin}
-use Rattle.engine.specs.Engine.{Balanced, IsSilent, StandsOf}
-use Rattle.engine.specs.Runs.{WriteFails}
-use Rattle.engine.specs.declared.engine.Engine.{Engine}
+use Rattle.engine.specs.Engine.{IsSilent}
 use Rattle.engine.proofs.CallsOfTurns.{balance_written, err_not_ok, err_of, finish_ends, may_go, ok_none, ok_of}
 use Rattle.engine.proofs.EndingSo.{fails_on}
 use Rattle.engine.proofs.ReadingOn.{call_ends, call_goes, called_balance, read_fails, stand_now, stands_balance, write_fails}

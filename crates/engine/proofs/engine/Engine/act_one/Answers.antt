@@ -1,7 +1,6 @@
 use Rattle.std.proofs.Common.{ℕ, inl, inr, refl}
 use Rattle.gcx_model.specs.PlanView.{plan_tree}
 use Rattle.gcx_model.specs.Tree.{Tree}
-use Rattle.pull_eval.specs.declared.machine.Acted.{Acted}
 use Rattle.engine.specs.declared.engine.Engine.{Engine}
 use Rattle.engine.specs.Engine.{Actors}
 use Rattle.engine.specs.Going.{ActsSome}

@@ -1,5 +1,5 @@
-use Rattle.std.proofs.Common.{◌≡◌, ◌∙◌, ◌≤◌, ◌<◌, ◌^◌, max, ℕ, length, ap, subst, sym, refl, arith, rules}
-use Rattle.gcx_model.specs.Tree.{Root, Tree, opening}
+use Rattle.std.proofs.Common.{◌≡◌, ◌∙◌, ◌<◌, ◌^◌, max, ℕ, length, ap, subst, sym, refl, rules}
+use Rattle.gcx_model.specs.Tree.{Root, opening}
 use Rattle.gcx_model.specs.PlanView.{plan_tree}
 use Rattle.gcx_model.specs.Past.{opening_past}
 use Rattle.gcx_model.specs.Held.{roles_given}

@@ -1,7 +1,6 @@
-use Rattle.std.proofs.Common.{◌≡◌, ◌∙◌, ◌+◌, ◌++◌, ◌≤◌, ℕ, Bool, true, List, length, None, ap, subst, refl, sym, arith}
-use Rattle.gcx_base.specs.declared.limits.Limits.{Limits}
+use Rattle.std.proofs.Common.{◌≡◌, ◌∙◌, ◌++◌, true, None, refl, sym}
 use Rattle.engine.specs.declared.engine.Engine.{Engine}
-use Rattle.engine.specs.Engine.{Kept, Lost, OnRefusal, StandsOf}
+use Rattle.engine.specs.Engine.{Kept, Lost, OnRefusal}
 use Rattle.doc_reader.specs.Standing.{waiting}
 use Rattle.engine.specs.Going.{Breaks, FedAll}
 use Rattle.engine.proofs.Courses.{asked_none, fault_of_answer, fed_to, parts_ended}

@@ -1,4 +1,4 @@
-use Rattle.std.proofs.Common.{◌≡◌, ◌∙◌, ◌++◌, ℕ, false, List, None, ap, subst, refl, sym, rules}
+use Rattle.std.proofs.Common.{◌++◌, false}
 use Rattle.engine.specs.Engine.{Kept, Lost, StandsSome}
 use Rattle.engine.proofs.Courses.{asked_none, exact_by, on_answer, some_none}
 use Rattle.engine.proofs.engine.Engine.feed.Goals as goal

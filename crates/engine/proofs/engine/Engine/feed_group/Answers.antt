@@ -1,4 +1,4 @@
-use Rattle.std.proofs.Common.{◌≡◌, ◌∙◌, ◌≤◌, ℕ, Bool, true, false, List, ◌++◌, ap, subst, sym, refl, rules}
+use Rattle.std.proofs.Common.{ℕ, Bool, List, ◌++◌, ap}
 use Rattle.gcx_base.specs.declared.limits.Limits.{Limits}
 use Rattle.gcx_model.specs.PlanView.{plan_tree}
 use Rattle.gcx_model.specs.Seen.{seen_tree}
@@ -9,7 +9,6 @@ use Rattle.engine.specs.declared.engine.Engine.{Engine}
 use Rattle.engine.specs.Engine.{PartsStand}
 use Rattle.engine.specs.Going.{Breaks, all_of}
 use Rattle.engine.proofs.Acting.{on_err}
-use Rattle.engine.proofs.Forms.{all_acted, all_quiet}
 use Rattle.engine.proofs.Waiting.{acted_breaks, acted_feeds, fed_breaks, quiet_feeds, some_fed}
 use Rattle.engine.proofs.engine.Engine.feed_group.Goals as goal
 

@@ -1,6 +1,5 @@
-use Rattle.std.proofs.Common.{◌≡◌, ◌∙◌, ◌+◌, ◌++◌, ◌≤◌, ℕ, false, [], List, length, None, ap, subst, refl, sym, arith, rules, append_assoc}
-use Rattle.std.proofs.lemmas.List.{append-nil, length-append}
-use Rattle.gcx_base.specs.declared.limits.Limits.{Limits}
+use Rattle.std.proofs.Common.{◌∙◌, ◌+◌, ◌++◌, ℕ, false, [], List, length, ap, subst, refl, arith, append_assoc}
+use Rattle.std.proofs.lemmas.List.{length-append}
 use Rattle.engine.specs.declared.engine.Engine.{Engine}
 use Rattle.engine.specs.Engine.{Kept, Lost, OnRefusal}
 use Rattle.engine.proofs.Courses.{bytes_small, piece_begins, piece_ends, piece_on, piece_some}

@@ -1,7 +1,5 @@
-use Rattle.std.proofs.Common.{◌≡◌, ◌∙◌, ◌+◌, ◌++◌, ◌≤◌, ℕ, false, List, length, ap, subst, refl, sym, arith}
+use Rattle.std.proofs.Common.{◌≡◌, ◌+◌, ◌++◌, false, length, refl, arith}
 use Rattle.std.proofs.lemmas.List.{length-append}
-use Rattle.gcx_base.specs.declared.limits.Limits.{Limits}
-use Rattle.doc_reader.specs.Standing.{Answers}
 use Rattle.engine.specs.declared.engine.Engine.{Engine}
 use Rattle.engine.proofs.Courses.{bytes_small, fault_of_answer, fed_to, parts_read}
 use Rattle.engine.proofs.engine.Engine.feed_slice.Goals as goal

@@ -1,4 +1,4 @@
-use Rattle.std.proofs.Common.{◌≡◌, ◌∙◌, ◌++◌, ℕ, Bool, true, false, List, ap, subst, sym, refl, rules}
+use Rattle.std.proofs.Common.{◌∙◌, ◌++◌, ℕ, Bool, List, ap, refl}
 use Rattle.gcx_base.specs.declared.limits.Limits.{Limits}
 use Rattle.doc_reader.specs.declared.token.Token.{Token}
 use Rattle.engine.specs.declared.engine.Engine.{Engine}

@@ -1,4 +1,4 @@
-use Rattle.std.proofs.Common.{◌≡◌, ◌∙◌, ◌++◌, ℕ, true, List, [], None, ap, subst, refl, sym, rules}
+use Rattle.std.proofs.Common.{◌≡◌, true, []}
 use Rattle.engine.specs.Engine.{Kept, Lost, StandsSome}
 use Rattle.engine.proofs.Courses.{asked_none, exact_by, on_answer, on_ok_none, some_none}
 use Rattle.engine.proofs.engine.Engine.finish.Goals as goal

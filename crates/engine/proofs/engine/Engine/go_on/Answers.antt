@@ -1,4 +1,4 @@
-use Rattle.std.proofs.Common.{◌≡◌, ◌∙◌, ℕ, Bool, List, Option, ap, refl}
+use Rattle.std.proofs.Common.{◌≡◌, ◌∙◌, ℕ, Bool, List, Option, ap}
 use Rattle.gcx_model.specs.declared.fault.DocFault.{DocFault}
 use Rattle.std.specs.Prelude.{OnOk, OnErr}
 use Rattle.engine.specs.declared.engine.Engine.{Engine}
