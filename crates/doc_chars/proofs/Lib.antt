@@ -1,5 +1,6 @@
 pub mod Bytes
 pub mod Fronts
+pub mod Blocks
 pub mod Pieces
 pub mod Streams
 pub mod Digits

@@ -1,4 +1,5 @@
 pub mod Stream
+pub mod Blocks
 pub mod Scan
 pub mod Cut
 pub mod Carried

@@ -10,12 +10,7 @@ use Rattle.doc_chars.specs.declared.scan.Cause.TheVariants.{NotUtf8, NotChar}
 use Rattle.doc_chars.specs.declared.scan.First.{First}
 use Rattle.doc_chars.specs.declared.scan.First.TheVariants.{Whole, Bad, Front}
 use Rattle.doc_chars.specs.Stream.{IsCharFront, IsNotUtf8, IsNotChar}
-
--- the bytes are those of Chars
-pub record AreChars (bs : List ℕ) : Type 0 where
-  pub cs : List ℕ
-  pub chars : list_all is_char cs ≡ true
-  pub bytes : encode_utf8_all cs ≡ bs
+pub use Rattle.doc_chars.specs.Stream.{AreChars}
 
 -- why characters end before these bytes
 abbrev pub Ends : Option Cause → List ℕ → Type 0

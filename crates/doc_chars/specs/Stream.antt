@@ -9,6 +9,12 @@ use Rattle.doc_chars.specs.declared.chars.CharFault.{CharFault}
 use Rattle.doc_chars.specs.declared.chars.CharFault.TheVariants.{Utf8, Char}
 use Rattle.doc_chars.specs.declared.chars.Split.{Split}
 
+-- the bytes are those of Chars
+pub record AreChars (bs : List ℕ) : Type 0 where
+  pub cs : List ℕ
+  pub chars : list_all is_char cs ≡ true
+  pub bytes : encode_utf8_all cs ≡ bs
+
 -- a character begins the bytes that is no Char
 pub record IsNotChar (bs : List ℕ) : Type 0 where
   pub c : ℕ

@@ -1,5 +1,5 @@
 //! The characters of a stream that comes in pieces.
-ghost use Rattle.std.specs.Prelude.{◌≡◌, ◌<◌, ◌≤◌, ◌+◌, ◌-◌, ◌^◌, ◌++◌, [], ℕ, List, length, take, drop, slice_range, IsUtf8, MatchOption, MatchResult, IfNone, OnSome};
+ghost use Rattle.std.specs.Prelude.{◌≡◌, ◌<◌, ◌≤◌, ◌+◌, ◌-◌, ◌^◌, ◌++◌, [], ℕ, List, length, take, drop, slice_range, IsUtf8, MatchOption, MatchResult, IfNone, IfSome, OnSome, true};
 ghost use Rattle.std.specs.Char.{encode_utf8};
 
 use crate::cut::{LONGEST, cut_piece};
@@ -83,7 +83,8 @@ fn keep(bytes: &mut [u8; LONGEST], kept: usize, rest: &[u8]) -> usize
 }
 
 impl Chars {
-    ghost use Rattle.doc_chars.specs.Stream.{StandsFor, GoesOn, EndsAs, given, still_carried};
+    ghost use Rattle.gcx_base.specs.Characters.{is_char};
+    ghost use Rattle.doc_chars.specs.Stream.{AreChars, StandsFor, GoesOn, EndsAs, given, still_carried};
 
     /// Nothing read.
     pub fn new() -> Chars
@@ -103,6 +104,10 @@ impl Chars {
         ensures in_order { result.used ≤ result.whole }
         ensures within { result.whole ≤ length piece.now }
         ensures text { IsUtf8 (slice_range piece.now result.used result.whole) }
+
+        // What is given are Chars.
+        ensures chars { AreChars (slice_range piece.now result.used result.whole) }
+        ensures char { IfSome result.first (λ c. is_char c ≡ true) }
 
         // The carried character is given where its bytes are whole.
         ensures first { MatchOption result.first (result.used ≡ 0) (λ c. (0 < length self.old.bytes)

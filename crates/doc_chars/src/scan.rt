@@ -1,10 +1,11 @@
 //! The characters at the front of bytes.
-ghost use Rattle.std.specs.Prelude.{◌≡◌, ◌<◌, ◌++◌, ℕ, List, MatchOption, length, take, drop, false};
+ghost use Rattle.std.specs.Prelude.{◌≡◌, ◌<◌, ◌≤◌, ◌+◌, ◌++◌, ℕ, List, MatchOption, length, take, drop, false};
+ghost use Rattle.std.specs.List.{list_all};
 ghost use Rattle.std.specs.Char.{IsScalar, encode_utf8};
 ghost use Rattle.gcx_base.specs.Characters.{is_char};
+ghost use Rattle.doc_chars.specs.Blocks.{is_plain_byte, is_other_at, HasNoOther, IsFirstOther};
 ghost use Rattle.doc_chars.specs.Scan.{AreChars, BeginsWith, Scanned};
 
-use gcx_base::is_xml_char;
 use simdutf8::compat;
 
 /// Why a character can't be given.
@@ -23,6 +24,9 @@ pub(crate) struct Scan {
     pub cause: Option<Cause>,
 }
 
+/// How many bytes are looked at in one go.
+const BLOCK: usize = 64;
+
 /// What bytes begin with.
 #[derive(Clone, Copy, Debug)]
 pub(crate) enum First {
@@ -33,17 +37,77 @@ pub(crate) enum First {
     Front,
 }
 
+/// Whether it is none of the bytes with which a character begins that isn't a Char.
+#[inline(always)]
+fn is_plain(b: u8) -> bool
+    ensures { result ≡ is_plain_byte b }
+{
+    (b >= 0x20 || b == b'\t' || b == b'\n' || b == b'\r') && b != 0xEF
+}
+
+/// Whether all bytes are such, in one pass that doesn't stop early.
+fn are_plain(bytes: &[u8]) -> bool
+    ensures { result ≡ list_all is_plain_byte bytes.now }
+{
+    let mut all = true;
+    for b in bytes {
+        all &= is_plain(*b);
+    }
+    all
+}
+
+/// Whether a character that isn't a Char begins at this place of a text: a control, or `EF BF BE` or `EF BF BF`.
+fn begins_other(bytes: &[u8], at: usize) -> bool
+    requires { at < length bytes.now }
+    ensures { result ≡ is_other_at bytes.now at }
+{
+    let b = bytes[at];
+    if b == 0xEF {
+        bytes.len() - at >= 3 && bytes[at + 1] == 0xBF && bytes[at + 2] >= 0xBE
+    } else {
+        !is_plain(b)
+    }
+}
+
+/// The first of these places at which a character begins that isn't a Char.
+fn other_between(bytes: &[u8], from: usize, to: usize) -> Option<usize>
+    requires in_order { from ≤ to }
+    requires within { to ≤ length bytes.now }
+    ensures { MatchOption result (HasNoOther from to bytes.now) (λ at. IsFirstOther from to at bytes.now) }
+{
+    for at in from..to {
+        if begins_other(bytes, at) {
+            return Some(at);
+        }
+    }
+    None
+}
+
+/// The same in the block of bytes from this place on.
+fn other_in_block(bytes: &[u8], at: usize) -> Option<usize>
+    requires { at + BLOCK ≤ length bytes.now }
+    ensures { MatchOption result (HasNoOther at (at + BLOCK) bytes.now) (λ found. IsFirstOther at (at + BLOCK) found bytes.now) }
+{
+    if are_plain(&bytes[at..at + BLOCK]) {
+        return None;
+    }
+    other_between(bytes, at, at + BLOCK)
+}
+
 /// The place of the first character that isn't a Char.
 fn first_other(text: &str) -> Option<usize>
     ensures { MatchOption result (AreChars text.now) (λ at. (at < length text.now) × AreChars (take at text.now)
         × ((c : ℕ) × (after : List ℕ) × (drop at text.now ≡ encode_utf8 c ++ after) × IsScalar c × (is_char c ≡ false))) }
 {
-    for (at, c) in text.char_indices() {
-        if !is_xml_char(c) {
-            return Some(at);
+    let bytes = text.as_bytes();
+    let mut at = 0;
+    while bytes.len() - at >= BLOCK {
+        match other_in_block(bytes, at) {
+            Some(found) => return Some(found),
+            None => at += BLOCK,
         }
     }
-    None
+    other_between(bytes, at, bytes.len())
 }
 
 /// The Chars at the front of the bytes, and why they end.

@@ -1,4 +1,6 @@
 pub mod Lists
+pub mod Queues
+pub mod Sets
 pub mod Ahead
 pub mod Ties
 pub mod Pieces
@@ -10,4 +12,7 @@ pub mod Accepting
 pub mod Sound
 pub mod Reading
 pub mod Names
+pub mod Texts
 pub mod Spans
+pub mod Fronts
+pub mod Wholes

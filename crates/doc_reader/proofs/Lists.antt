@@ -1,5 +1,5 @@
 -- Lists of names and bytes.
-use Rattle.std.proofs.Common.{ℕ, ◌≡◌, ◌+◌, ◌-◌, ◌<◌, ◌≤◌, min, Bool, true, false, cond, not, ◌&&◌, eqb, List, [], ◌∷◌, length, take, drop, get_or, reverse, Some, None, refl, sym, ap, ◌∙◌, inl, inr, arith, length-take}
+use Rattle.std.proofs.Common.{ℕ, ◌≡◌, ◌+◌, ◌-◌, ◌<◌, ◌≤◌, min, Bool, true, false, cond, not, ◌&&◌, eqb, eqb-true, List, [], ◌∷◌, ◌++◌, length, take, drop, get_or, reverse, Some, None, refl, sym, ap, ◌∙◌, inl, inr, arith, length-take}
 use Rattle.std.specs.Prelude.{nat_lt, slice_range, bytes_eq}
 use Rattle.std.specs.Cmp.Lexicographic.{pointwise}
 use Rattle.std.specs.Bool.{Decides}
@@ -104,6 +104,16 @@ is_behind (x ∷ xs) (y ∷ ys) h =
       | true ↦ λ h. is_behind xs ys h
       | false ↦ λ h. absurd (false≢true h)
     ] h
+
+pub begins_is : (xs ys : List ℕ) → pointwise eqb xs (take (length xs) ys) ≡ true → ys ≡ xs ++ drop (length xs) ys
+begins_is [] [] h = refl
+begins_is [] (y ∷ ys) h = refl
+begins_is (x ∷ xs) [] h = absurd (false≢true h)
+begins_is (x ∷ xs) (y ∷ ys) h =
+    elim (eqb x y) as (λ (b : Bool). eqb x y ≡ b → b && pointwise eqb xs (take (length xs) ys) ≡ true → y ∷ ys ≡ x ∷ (xs ++ drop (length xs) ys)) [
+      | true ↦ λ e h. (λ i. sym (eqb-true x y e) i ∷ begins_is xs ys h i)
+      | false ↦ λ e h. absurd (false≢true h)
+    ] refl h
 
 -- inside the innermost element's name
 pub inside_name : (s : State) (left : List ℕ) (c : ℕ) → 0 < length left → on_end s left c ≡ to_end_name s (behind (encode c) left)

@@ -36,11 +36,11 @@ first_is c rest text u e = record {
 
 -- ---- characters one after another
 
-size_append : (xs ys : List ℕ) → size (xs ++ ys) ≡ size xs + size ys
+pub size_append : (xs ys : List ℕ) → size (xs ++ ys) ≡ size xs + size ys
 size_append [] ys = omega arith
 size_append (x ∷ xs) ys = omega (arith, size_append xs ys)
 
-judged_on : (lim : Limits) (place : ℕ) (s t u : State) (a b : List ℕ) → judged_steps lim place s a ≡ Ok t → judged_steps lim (place + size a) t b ≡ Ok u → judged_steps lim place s (a ++ b) ≡ Ok u
+pub judged_on : (lim : Limits) (place : ℕ) (s t u : State) (a b : List ℕ) → judged_steps lim place s a ≡ Ok t → judged_steps lim (place + size a) t b ≡ Ok u → judged_steps lim place s (a ++ b) ≡ Ok u
 judged_on lim place s t u a b e f = judged_append lim place s a b ∙ ap (λ r. on_ok r (λ v. judged_steps lim (place + size a) v b)) e ∙ f
 
 pub reached_start : (lim : Limits) (place : ℕ) (s : State) (text : List ℕ) → IsSound s → Reached lim place s text place s text
@@ -56,7 +56,7 @@ reached_moves lim place old text at s t rest n r m = record {
   sound = m.sound r.sound;
 }
 
-judged_one : (lim : Limits) (place : ℕ) (s t : State) (c : ℕ) → judged lim place s c ≡ Ok t → judged_steps lim place s (c ∷ []) ≡ Ok t
+pub judged_one : (lim : Limits) (place : ℕ) (s t : State) (c : ℕ) → judged lim place s c ≡ Ok t → judged_steps lim place s (c ∷ []) ≡ Ok t
 judged_one lim place s t c e = ap (λ r. on_ok r (λ v. judged_steps lim (place + len_utf8 c) v [])) e
 
 pub reached_first : (lim : Limits) (place : ℕ) (old : State) (text : List ℕ) (at next : ℕ) (s t : State) (c : ℕ) (rest after : List ℕ) → Reached lim place old text at s rest → IsFirst c after rest → judged lim at s c ≡ Ok t → next ≡ at + (length rest - length after) → Reached lim place old text next t after

@@ -1,6 +1,7 @@
 -- What stays true of the machine's states, and which tokens a step leaves.
-use Rattle.std.proofs.Common.{ℕ, ◌≡◌, ◌⊎◌, inl, inr, Bool, true, false, not, ◌&&◌, cond, eqb, List, [], ◌∷◌, ◌++◌, Option, Some, None, Result, Ok, Err, refl, sym, ap, ◌∙◌, subst, append-nil, arith, eqb-true, length}
+use Rattle.std.proofs.Common.{ℕ, ◌≡◌, ◌+◌, ◌⊎◌, inl, inr, Bool, true, false, not, ◌&&◌, cond, eqb, List, [], ◌∷◌, ◌++◌, Option, Some, None, Result, Ok, Err, refl, sym, ap, ◌∙◌, subst, append-nil, arith, eqb-true, length}
 use Rattle.std.specs.Prelude.{nat_lt}
+use Rattle.std.specs.Char.{len_utf8}
 use Rattle.std.specs.List.{list_all}
 use Rattle.std.proofs.lemmas.Bool.{true≢false, false≢true}
 use Rattle.std.proofs.lemmas.Bool.Decides.{nat_tests}
@@ -16,7 +17,7 @@ use Rattle.gcx_model.specs.Grammar.{may_open}
 use Rattle.gcx_model.specs.Fronts.{is_inside}
 use Rattle.gcx_model.specs.Faults.{Refusal, AtDepth, AtName, AtText}
 use Rattle.doc_laws.specs.Machine.{Referred, More, Done, Bad, Referring, Mode, Opening, Between, Less, StartName, StartSpace, AttributeName, AttributeSpace, Equals, InValue, InValueReference, ValueEnd, Slash, EndName, EndSpace, Question, Target, TargetMark, InInstruction, DocWord, DocSpace, Doc, DocLiteral, Bang, BangDash, Comment, CommentDash, CommentEnd, CDSectWord, InCDSect, InReference, State, begun, to_mode, run_on, to_end_name, behind, refer, on_between, on_tag, on_named, on_referred, on_ended, on_end, on_word, on_mode, step}
-use Rattle.doc_laws.specs.Judging.{naming_by, is_deep, deep_place, judged_by, judged}
+use Rattle.doc_laws.specs.Judging.{naming_by, is_deep, deep_place, judged_by, judged, judged_steps, on_ok}
 use Rattle.doc_reader.specs.Sound.{IsSoundIn, IsSound}
 use Rattle.doc_reader.specs.Steps.{Taken}
 use Rattle.doc_reader.specs.Limited.{deep_at, in_depth, limited}
@@ -73,31 +74,31 @@ either s c false x y h k = k
 tag_next : (s : State) (c : ℕ) → s.run ≡ [] → Next s c (on_tag s c)
 tag_next s c e =
     either s c (is_white c) _ _ (e, inl refl)
-    (pick s c (eqb c 62) _ _ (λ h. (tt, inr (eqb-true c 62 h, e, refl)))
+    (pick s c (eqb c 62) _ _ (λ h. (refl, inr (eqb-true c 62 h, e, refl)))
     (λ k. either s c (eqb c 47) _ _ (e, inl refl) tt))
 
 named_next : (s : State) (c : ℕ) → IsNameBytes s.attr → Next s c (on_named s c)
 named_next s c n = either s c (is_white c) _ _ (n, inl refl) (either s c (eqb c 61) _ _ (n, inl refl) tt)
 
-between_next : (s : State) (c : ℕ) → Next s c (on_between s c)
-between_next s c =
-    either s c (is_text_char c && is_inside s.names) _ _ (tt, inl refl)
-    (either s c (is_white c && not (is_inside s.names)) _ _ (tt, inl refl)
-    (either s c (eqb c 60) _ _ (tt, inl refl) (either s c (eqb c 38 && is_inside s.names) _ _ (tt, inl refl) tt)))
+between_next : (s : State) (c : ℕ) → s.pending ≡ [] → Next s c (on_between s c)
+between_next s c h =
+    either s c (is_text_char c && is_inside s.names) _ _ (h, inl refl)
+    (either s c (is_white c && not (is_inside s.names)) _ _ (h, inl refl)
+    (either s c (eqb c 60) _ _ (h, inl refl) (either s c (eqb c 38 && is_inside s.names) _ _ (h, inl refl) tt)))
 
-ended_next : (s : State) (c : ℕ) (ns : List (List ℕ)) → Next s c (on_ended s c ns)
-ended_next s c [] = tt
-ended_next s c (n ∷ rest) =
-    either s c (is_white c) _ _ (tt, inl refl)
-    (pick s c (eqb c 62) _ _ (λ h. (tt, inr (eqb-true c 62 h, refl, refl))) (λ k. tt))
+ended_next : (s : State) (c : ℕ) (ns : List (List ℕ)) → s.pending ≡ [] → Next s c (on_ended s c ns)
+ended_next s c [] h = tt
+ended_next s c (n ∷ rest) h =
+    either s c (is_white c) _ _ (h, inl refl)
+    (pick s c (eqb c 62) _ _ (λ k. (h, inr (eqb-true c 62 k, refl, refl))) (λ k. tt))
 
-end_next : (s : State) (c : ℕ) (left : List ℕ) → Next s c (on_end s left c)
-end_next s c [] = ended_next s c s.names
-end_next s c (x ∷ left) = by (behind (encode c) (x ∷ left))
+end_next : (s : State) (c : ℕ) (left : List ℕ) → s.pending ≡ [] → Next s c (on_end s left c)
+end_next s c [] h = ended_next s c s.names h
+end_next s c (x ∷ left) h = by (behind (encode c) (x ∷ left))
   where
     by : (o : Option (List ℕ)) → Next s c (to_end_name s o)
     by None = tt
-    by (Some l) = (tt, inl refl)
+    by (Some l) = (h, inl refl)
 
 word_next : (s : State) (c : ℕ) (mk : List ℕ → Mode) (left : List ℕ) (after : Option State) → ((l : List ℕ) → Next s c (to_mode s (mk l))) → Next s c after → Next s c (on_word s c mk left after)
 word_next s c mk [] after h k = k
@@ -112,14 +113,14 @@ still : (s t : State) (m : Mode) → s.mode ≡ m → t.mode ≡ s.mode → IsSo
 still s t m e same h = subst (λ n. IsSoundIn n t) (sym (same ∙ e)) h
 
 mode_next : (m : Mode) (s : State) (c : ℕ) → s.mode ≡ m → IsSoundIn m s → Next s c (on_mode s c m)
-mode_next Opening s c e h = either s c (eqb c 65279) _ _ (tt, inl refl) (between_next s c)
-mode_next Between s c e h = between_next s c
+mode_next Opening s c e h = either s c (eqb c 65279) _ _ (h, inl refl) (between_next s c h)
+mode_next Between s c e h = between_next s c h
 mode_next Less s c e h =
-    pick s c (is_start_char c && may_open (is_inside s.names) s.rooted) _ _ (λ k. (one_name c (and_left (is_start_char c) _ k), inl refl))
-    (λ k. either s c (eqb c 47 && is_inside s.names) _ _ (tt, inl refl)
-    (either s c (eqb c 33) _ _ (tt, inl refl) (either s c (eqb c 63) _ _ (tt, inl refl) tt)))
+    pick s c (is_start_char c && may_open (is_inside s.names) s.rooted) _ _ (λ k. ((one_name c (and_left (is_start_char c) _ k), h), inl refl))
+    (λ k. either s c (eqb c 47 && is_inside s.names) _ _ (h, inl refl)
+    (either s c (eqb c 33) _ _ (h, inl refl) (either s c (eqb c 63) _ _ (h, inl refl) tt)))
 mode_next StartName s c e h =
-    pick s c (is_part_char c) _ _ (λ k. (still s (record s { name = s.name ++ encode c }) StartName e refl (more_name s.name c h k), inl refl))
+    pick s c (is_part_char c) _ _ (λ k. (still s (record s { name = s.name ++ encode c }) StartName e refl (more_name s.name c h.0 k, h.1), inl refl))
     (λ k. tag_next (begun s) c refl)
 mode_next StartSpace s c e h =
     pick s c (is_start_char c) _ _ (λ k. (one_name c k, inl refl)) (λ k. tag_next s c h)
@@ -133,31 +134,31 @@ mode_next (InValue q) s c e h =
     (either s c (eqb c q) _ _ (refl, inl refl) (either s c (eqb c 38) _ _ (h, inl refl) tt))
 mode_next (InValueReference q r) s c e h = referred_next s c (InValueReference q) (InValue q) (refer r c) (λ r. (h, inl refl)) (λ b. (h, inl refl))
 mode_next ValueEnd s c e h = tag_next s c h
-mode_next Slash s c e h = pick s c (eqb c 62) _ _ (λ k. (tt, inr (eqb-true c 62 k, h, refl))) (λ k. tt)
-mode_next (EndName left) s c e h = end_next s c left
-mode_next EndSpace s c e h = ended_next s c s.names
-mode_next Question s c e h = either s c (is_start_char c) _ _ (tt, inl refl) tt
+mode_next Slash s c e h = pick s c (eqb c 62) _ _ (λ k. (refl, inr (eqb-true c 62 k, h, refl))) (λ k. tt)
+mode_next (EndName left) s c e h = end_next s c left h
+mode_next EndSpace s c e h = ended_next s c s.names h
+mode_next Question s c e h = either s c (is_start_char c) _ _ (h, inl refl) tt
 mode_next Target s c e h =
-    either s c (is_part_char c) _ _ (tt, inl refl) (either s c (is_white c) _ _ (tt, inl refl) (either s c (eqb c 63) _ _ (tt, inl refl) tt))
-mode_next TargetMark s c e h = either s c (eqb c 62) _ _ (tt, inl refl) tt
-mode_next (InInstruction m) s c e h = either s c (eqb c 62 && eqb m 1) _ _ (tt, inl refl) (either s c (is_char c) _ _ (tt, inl refl) tt)
-mode_next (DocWord left) s c e h = word_next s c DocWord left _ (λ l. (tt, inl refl)) (either s c (is_white c) _ _ (tt, inl refl) tt)
-mode_next DocSpace s c e h = either s c (is_white c) _ _ (tt, inl refl) (either s c (is_start_char c) _ _ (tt, inl refl) tt)
+    either s c (is_part_char c) _ _ (h, inl refl) (either s c (is_white c) _ _ (h, inl refl) (either s c (eqb c 63) _ _ (h, inl refl) tt))
+mode_next TargetMark s c e h = either s c (eqb c 62) _ _ (h, inl refl) tt
+mode_next (InInstruction m) s c e h = either s c (eqb c 62 && eqb m 1) _ _ (h, inl refl) (either s c (is_char c) _ _ (h, inl refl) tt)
+mode_next (DocWord left) s c e h = word_next s c DocWord left _ (λ l. (h, inl refl)) (either s c (is_white c) _ _ (h, inl refl) tt)
+mode_next DocSpace s c e h = either s c (is_white c) _ _ (h, inl refl) (either s c (is_start_char c) _ _ (h, inl refl) tt)
 mode_next Doc s c e h =
-    either s c (is_doc_char c) _ _ (tt, inl refl) (either s c (eqb c 62) _ _ (tt, inl refl) (either s c (is_quote c) _ _ (tt, inl refl) tt))
-mode_next (DocLiteral q) s c e h = either s c (is_literal_char q c) _ _ (tt, inl refl) (either s c (eqb c q) _ _ (tt, inl refl) tt)
+    either s c (is_doc_char c) _ _ (h, inl refl) (either s c (eqb c 62) _ _ (h, inl refl) (either s c (is_quote c) _ _ (h, inl refl) tt))
+mode_next (DocLiteral q) s c e h = either s c (is_literal_char q c) _ _ (h, inl refl) (either s c (eqb c q) _ _ (h, inl refl) tt)
 mode_next Bang s c e h =
-    either s c (eqb c 45) _ _ (tt, inl refl)
-    (either s c (eqb c 91 && is_inside s.names) _ _ (tt, inl refl) (either s c (eqb c 68 && not s.typed) _ _ (tt, inl refl) tt))
-mode_next BangDash s c e h = either s c (eqb c 45) _ _ (tt, inl refl) tt
-mode_next Comment s c e h = either s c (eqb c 45) _ _ (tt, inl refl) (either s c (is_char c) _ _ (tt, inl refl) tt)
-mode_next CommentDash s c e h = either s c (eqb c 45) _ _ (tt, inl refl) (either s c (is_char c) _ _ (tt, inl refl) tt)
-mode_next CommentEnd s c e h = either s c (eqb c 62) _ _ (tt, inl refl) tt
-mode_next (CDSectWord left) s c e h = word_next s c CDSectWord left _ (λ l. (tt, inl refl)) (either s c (eqb c 91) _ _ (tt, inl refl) tt)
+    either s c (eqb c 45) _ _ (h, inl refl)
+    (either s c (eqb c 91 && is_inside s.names) _ _ (h, inl refl) (either s c (eqb c 68 && not s.typed) _ _ (h, inl refl) tt))
+mode_next BangDash s c e h = either s c (eqb c 45) _ _ (h, inl refl) tt
+mode_next Comment s c e h = either s c (eqb c 45) _ _ (h, inl refl) (either s c (is_char c) _ _ (h, inl refl) tt)
+mode_next CommentDash s c e h = either s c (eqb c 45) _ _ (h, inl refl) (either s c (is_char c) _ _ (h, inl refl) tt)
+mode_next CommentEnd s c e h = either s c (eqb c 62) _ _ (h, inl refl) tt
+mode_next (CDSectWord left) s c e h = word_next s c CDSectWord left _ (λ l. (h, inl refl)) (either s c (eqb c 91) _ _ (h, inl refl) tt)
 mode_next (InCDSect n) s c e h =
-    either s c (eqb c 93) _ _ (tt, inl refl)
-    (either s c (eqb c 62 && eqb n 2) _ _ (tt, inl refl) (either s c (is_char c) _ _ (tt, inl refl) tt))
-mode_next (InReference r) s c e h = referred_next s c InReference Between (refer r c) (λ r. (tt, inl refl)) (λ b. (tt, inl refl))
+    either s c (eqb c 93) _ _ (h, inl refl)
+    (either s c (eqb c 62 && eqb n 2) _ _ (h, inl refl) (either s c (is_char c) _ _ (h, inl refl) tt))
+mode_next (InReference r) s c e h = referred_next s c InReference Between (refer r c) (λ r. (h, inl refl)) (λ b. (h, inl refl))
 
 pub step_next : (s : State) (c : ℕ) → IsSound s → Next s c (step s c)
 step_next s c h = mode_next s.mode s c refl h
@@ -225,3 +226,14 @@ judged_step lim place s t c e = by (step s c) e
 
 pub judged_sound : (lim : Limits) (place : ℕ) (s t : State) (c : ℕ) → IsSound s → judged lim place s c ≡ Ok t → IsSound t
 judged_sound lim place s t c h e = (step_good s t c h (judged_step lim place s t c e)).0
+
+pub err_not : (f : Refusal) (t : State) → Err f ≡ Ok t → ⊥
+err_not f t e = cc
+
+pub steps_sound : (lim : Limits) (place : ℕ) (s t : State) (cs : List ℕ) → IsSound s → judged_steps lim place s cs ≡ Ok t → IsSound t
+steps_sound lim place s t [] h e = let same : s ≡ t = cc in subst IsSound same h
+steps_sound lim place s t (c ∷ cs) h e =
+    elim (judged lim place s c) as (λ (r : Result State Refusal). judged lim place s c ≡ r → on_ok r (λ u. judged_steps lim (place + len_utf8 c) u cs) ≡ Ok t → IsSound t) [
+      | Ok u ↦ λ f g. steps_sound lim (place + len_utf8 c) u t cs (judged_sound lim place s u c h f) g
+      | Err f ↦ λ k g. absurd (err_not f t g)
+    ] refl e

@@ -1,4 +1,6 @@
 pub mod OpenNames
+pub mod AttrNames
+pub mod Tokens
 pub mod Machine
 pub mod Steps
 pub mod Sound
@@ -9,3 +11,4 @@ pub mod Piece
 pub mod Limited
 pub mod Spans
 pub mod Reading
+pub mod Wholes

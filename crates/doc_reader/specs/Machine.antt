@@ -1,26 +1,20 @@
 -- These definitions follow the code; no public clause speaks of them.
 -- What the fields of the code stand for in the machine's definition (this project's).
-use Rattle.std.specs.Prelude.{ℕ, List, [], ◌∷◌, map, drop}
+use Rattle.std.specs.Prelude.{ℕ, List, [], ◌∷◌, drop}
 use Rattle.gcx_model.specs.Markup.{cdata_word, doc_word}
-use Rattle.gcx_model.specs.Tree.{Token, Start, Chars, End}
 use Rattle.doc_laws.specs.Machine as laws
 use Rattle.doc_laws.specs.Machine.{State, innermost}
-use Rattle.doc_reader.specs.declared.event.Event as event
-use Rattle.doc_reader.specs.declared.event.Event.TheVariants as events
 use Rattle.doc_reader.specs.declared.referring.Letters.{Letters}
 use Rattle.doc_reader.specs.declared.referring.Letters.TheVariants as letters
 use Rattle.doc_reader.specs.declared.referring.Referring.{Referring}
 use Rattle.doc_reader.specs.declared.referring.Referring.TheVariants as referring
 use Rattle.doc_reader.specs.declared.mode.Brackets.{Brackets}
 use Rattle.doc_reader.specs.declared.mode.Brackets.TheVariants as brackets
+use Rattle.doc_reader.specs.declared.mode.Quote.{Quote}
+use Rattle.doc_reader.specs.declared.mode.Quote.TheVariants as quotes
 use Rattle.doc_reader.specs.declared.mode.Mode.{Mode}
 use Rattle.doc_reader.specs.declared.mode.Mode.TheVariants as mode
 use Rattle.doc_reader.specs.declared.machine.Scan.{Scan}
-
-abbrev pub event_token : event.Event → Token
-event_token (events.Start name) = Start name
-event_token (events.Text bytes) = Chars bytes
-event_token events.End = End
 
 abbrev pub letters_of : Letters → List ℕ
 letters_of letters.None = []
@@ -50,6 +44,10 @@ brackets_of brackets.None = 0
 brackets_of brackets.One = 1
 brackets_of brackets.Two = 2
 
+abbrev pub quote_of : Quote → ℕ
+quote_of quotes.Single = 39
+quote_of quotes.Double = 34
+
 -- the place in the grammar, given the names of the open elements
 abbrev pub mode_of : List (List ℕ) → Mode → laws.Mode
 mode_of ns mode.Opening = laws.Opening
@@ -60,8 +58,8 @@ mode_of ns mode.StartSpace = laws.StartSpace
 mode_of ns mode.AttributeName = laws.AttributeName
 mode_of ns mode.AttributeSpace = laws.AttributeSpace
 mode_of ns mode.Equals = laws.Equals
-mode_of ns (mode.InValue q) = laws.InValue q
-mode_of ns (mode.InValueReference q r) = laws.InValueReference q (referring_of r)
+mode_of ns (mode.InValue q) = laws.InValue (quote_of q)
+mode_of ns (mode.InValueReference q r) = laws.InValueReference (quote_of q) (referring_of r)
 mode_of ns mode.ValueEnd = laws.ValueEnd
 mode_of ns mode.Slash = laws.Slash
 mode_of ns (mode.EndName i) = laws.EndName (drop i (innermost ns))
@@ -85,4 +83,4 @@ mode_of ns (mode.CDSect n) = laws.InCDSect (brackets_of n)
 mode_of ns (mode.InReference r) = laws.InReference (referring_of r)
 
 abbrev pub scan_state : Scan → State
-scan_state m = record { mode = mode_of m.names m.mode; names = m.names; rooted = m.rooted; typed = m.typed; run = m.run; name = m.name.items; attrs = m.attrs; attr = m.attr.items; pending = map event_token m.pending.items; tokens = map event_token m.events.items }
+scan_state m = record { mode = mode_of m.names m.mode; names = m.names; rooted = m.rooted; typed = m.typed; run = m.run; name = m.name.items; attrs = m.attrs; attr = m.attr.items; pending = m.tokens.pending; tokens = m.tokens.tokens }

@@ -5,6 +5,7 @@ use Rattle.std.specs.Char.{len_utf8}
 use Rattle.std.specs.Str.{chars, IsUtf8, IsCharBoundary}
 use Rattle.gcx_base.specs.declared.limits.Limits.{Limits}
 use Rattle.gcx_model.specs.Faults.{size}
+use Rattle.gcx_model.specs.Tree.{Token}
 use Rattle.doc_laws.specs.Machine.{State}
 use Rattle.doc_laws.specs.Judging.{judged_steps}
 use Rattle.doc_reader.specs.Sound.{IsSound}
@@ -23,6 +24,13 @@ pub record Moves (lim : Limits) (old : State) (text : List ℕ) (n : ℕ) (new :
   pub boundary : IsCharBoundary text n
   pub read : (place : ℕ) → judged_steps lim place old front ≡ Ok new
   pub sound : IsSound old → IsSound new
+
+-- Some characters at the front are read, and the tokens of the whole tags in them wait.
+pub record Stops (lim : Limits) (old : State) (text : List ℕ) (waiting : List Token) : Type 0 where
+  pub n : ℕ
+  pub state : State
+  pub moves : Moves lim old text n state
+  pub waits : waiting ≡ state.tokens
 
 -- The characters of a text before the rest are read.
 pub record Reached (lim : Limits) (place : ℕ) (old : State) (text : List ℕ) (at : ℕ) (now : State) (rest : List ℕ) : Type 0 where

@@ -2,7 +2,7 @@
 -- What the parts of a step answer (this project's).
 use Rattle.std.specs.Prelude.{ℕ, ◌≡◌, ◌≤◌, Bool, true, false, List, Option, Some, None, Result, Ok, Err, drop, length, [], ◌∷◌, ◌++◌, ◌==◌, if◌then◌else◌}
 use Rattle.gcx_model.specs.Markup.{one_more}
-use Rattle.doc_laws.specs.Machine.{State, InCDSect, Referred, More, Done, Bad, closed, behind}
+use Rattle.doc_laws.specs.Machine.{State, Between, InCDSect, Referred, More, Done, Bad, closed, behind}
 use Rattle.doc_reader.specs.declared.mode.Mode.{Mode}
 use Rattle.doc_reader.specs.declared.referring.Referred.{Referred as Answer}
 use Rattle.doc_reader.specs.declared.referring.Referred.TheVariants as answer
@@ -51,3 +51,7 @@ IsBehind (Some n) bytes left = (n ≤ length left) × (behind bytes left ≡ Som
 -- behind one bracket more in a CDATA section
 abbrev pub bracketed : State → ℕ → State
 bracketed s n = record s { mode = InCDSect (one_more n); run = if n == 2 then s.run ++ (93 ∷ []) else s.run }
+
+-- behind a whole tag, whose tokens wait
+abbrev pub behind_tag : State → State
+behind_tag s = record s { mode = Between; rooted = true; typed = true; name = []; attrs = []; pending = []; tokens = s.tokens ++ s.pending }

@@ -1,5 +1,5 @@
 //! Characters as bytes.
-ghost use Rattle.std.specs.Prelude.{◌≡◌, ◌++◌, OnOk};
+ghost use Rattle.std.specs.Prelude.{◌≡◌, ◌++◌, ℕ, List, IsTrue, OnOk};
 ghost use Rattle.std.specs.Char.{encode_utf8};
 ghost use Rattle.doc_reader.specs.Steps.{IsBehind};
 
@@ -13,6 +13,14 @@ pub(crate) fn push_char(bytes: &mut Vec<u8>, c: char) -> Result<(), Memory>
     let mut room = [0; 4];
     bytes.extend_from_slice(c.encode_utf8(&mut room).as_bytes())?;
     Ok(())
+}
+
+/// Whether the bytes begin with these.
+#[inline(always)]
+pub(crate) fn begins(bytes: &[u8], front: &[u8]) -> bool
+    ensures { IsTrue result → (after : List ℕ) × (bytes.now ≡ front.now ++ after) }
+{
+    bytes.starts_with(front)
 }
 
 /// How many bytes the character takes at the front of these, if they begin with it.

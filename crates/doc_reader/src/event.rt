@@ -1,7 +1,7 @@
 //! The tokens of tags.
 ghost use Rattle.std.specs.Prelude.{◌≡◌};
 ghost use Rattle.doc_reader.specs.Standing.{given_token};
-ghost use Rattle.doc_reader.specs.Machine.{event_token};
+ghost use Rattle.doc_reader.specs.Tokens.{event_token};
 
 use crate::token::Token;
 use gcx_base::{Name, Text};

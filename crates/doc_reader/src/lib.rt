@@ -1,6 +1,7 @@
 //! The reader of documents: bytes in pieces of any size in, tokens out.
 #![tactic(auto)]
 
+mod attr_names;
 mod bytes;
 mod event;
 mod machine;
@@ -12,6 +13,7 @@ mod referring;
 mod run;
 mod stop;
 mod token;
+mod tokens;
 
 pub use reader::Reader;
 pub use token::Token;

@@ -1,6 +1,7 @@
 //! The machine that reads characters.
 ghost use Rattle.std.specs.Prelude.{◌≡◌, ◌+◌, ◌<◌, ◌^◌, length};
 ghost use Rattle.std.specs.Str.{chars};
+ghost use Rattle.doc_chars.specs.Stream.{AreChars};
 ghost use Rattle.doc_laws.specs.Machine.{start, is_whole};
 ghost use Rattle.doc_reader.specs.Judged.{Judged, TakesWhole};
 ghost use Rattle.doc_reader.specs.Machine.{scan_state};
@@ -8,22 +9,26 @@ ghost use Rattle.doc_reader.specs.Machine.{scan_state};
 mod end_tag;
 mod judge;
 mod markup;
+mod name;
 mod read;
+mod reference;
 mod span;
 mod step;
 mod tag;
 mod text;
+mod whole;
+mod whole_tag;
 
 use self::read::read;
-use crate::event::{Event, token_of};
+use crate::attr_names::AttrNames;
 use crate::mode::Mode;
 use crate::open_names::OpenNames;
 use crate::run::Run;
 use crate::stop::Stop;
 use crate::token::Token;
+use crate::tokens::Tokens;
 use gcx_base::Limits;
 use std::alloc::Global;
-use std::collections::VecDeque;
 use std::marker::Model;
 
 /// What was read.
@@ -41,13 +46,10 @@ pub(crate) struct Scan {
     /// The name of the tag that is being read.
     pub(crate) name: Vec<u8>,
     /// The names of its attributes.
-    pub(crate) attrs: OpenNames,
+    pub(crate) attrs: AttrNames,
     /// The name of the attribute that is being read.
     pub(crate) attr: Vec<u8>,
-    /// The tokens of the tag that is being read.
-    pub(crate) pending: VecDeque<Event>,
-    /// The tokens of the whole tags.
-    pub(crate) events: VecDeque<Event>,
+    pub(crate) tokens: Tokens,
 }
 
 /// The machine, seen as the state of its definition.
@@ -81,10 +83,9 @@ pub(crate) fn new_machine(alloc: Global) -> Machine
             typed: false,
             run: Run::new(alloc),
             name: Vec::new(alloc),
-            attrs: OpenNames::new(alloc),
+            attrs: AttrNames::new(alloc),
             attr: Vec::new(alloc),
-            pending: VecDeque::new(alloc),
-            events: VecDeque::new(alloc),
+            tokens: Tokens::new(alloc),
         },
     }
 }
@@ -103,21 +104,20 @@ pub(crate) fn has_whole(m: &Machine) -> bool
 pub(crate) fn next_whole(m: &mut Machine) -> Option<Token>
     ensures { TakesWhole result m.old m.new }
 {
-    match m.scan.events.pop_front() {
-        Some(event) => Some(token_of(event)),
-        None => None,
-    }
+    m.scan.tokens.next()
 }
 
 /// Reads characters, the first of which stands at byte `place` of the document.
 pub(crate) fn read_text(m: &mut Machine, limits: Limits, place: u64, text: &str) -> Result<(), Stop>
-    requires { place + length text.now < 2 ^ 64 }
+    requires room { place + length text.now < 2 ^ 64 }
+    requires chars { AreChars text.now }
     ensures { Judged result limits place m.old (chars text.now) m.new }
 {
     match read(&mut m.scan, limits, place, text) {
         Ok(()) => Ok(()),
         Err(stop) => {
-            // Only the tokens are wanted of it then.
+            // Only the tokens of the whole tags are wanted of it then.
+            m.scan.tokens.forget_pending();
             m.scan.mode = Mode::Between;
             Err(stop)
         }

@@ -1,5 +1,7 @@
 //! Where in the grammar the machine stands.
-ghost use Rattle.std.specs.Prelude.{◌≡◌};
+ghost use Rattle.std.specs.Prelude.{◌≡◌, true, false, MatchOption};
+ghost use Rattle.gcx_model.specs.Attributes.{is_quote};
+ghost use Rattle.doc_reader.specs.Machine.{quote_of};
 
 use crate::referring::Referring;
 
@@ -20,8 +22,8 @@ pub(crate) enum Mode {
     /// Behind `=`.
     Equals,
     /// In a value between quotes of this kind.
-    InValue(char),
-    InValueReference(char, Referring),
+    InValue(Quote),
+    InValueReference(Quote, Referring),
     ValueEnd,
     /// Behind the `/` of an empty-element tag.
     Slash,
@@ -64,4 +66,35 @@ pub(crate) enum Brackets {
     One,
     /// At least two.
     Two,
+}
+
+/// A quote of either kind.
+#[derive(Clone, Copy, Debug)]
+pub(crate) enum Quote {
+    Single,
+    Double,
+}
+
+impl Quote {
+    /// The quote that is this character.
+    #[inline(always)]
+    pub(crate) fn of(c: char) -> Option<Quote>
+        ensures { MatchOption result (is_quote c ≡ false) (λ q. (is_quote c ≡ true) × (quote_of q ≡ c)) }
+    {
+        match c {
+            '\'' => Some(Quote::Single),
+            '"' => Some(Quote::Double),
+            _ => None,
+        }
+    }
+
+    #[inline(always)]
+    pub(crate) fn byte(self) -> u8
+        ensures { result ≡ quote_of self }
+    {
+        match self {
+            Quote::Single => b'\'',
+            Quote::Double => b'"',
+        }
+    }
 }

@@ -1,6 +1,7 @@
 //! The characters of a piece, read by the machine.
-ghost use Rattle.std.specs.Prelude.{◌≡◌, ◌+◌, ◌<◌, ◌≤◌, ◌^◌, ◌∷◌, [], length, slice_range, IsUtf8, IfOk};
-ghost use Rattle.doc_chars.specs.Stream.{given, optional};
+ghost use Rattle.std.specs.Prelude.{◌≡◌, ◌+◌, ◌<◌, ◌≤◌, ◌^◌, ◌∷◌, [], length, slice_range, true, IfOk, IfSome};
+ghost use Rattle.gcx_base.specs.Characters.{is_char};
+ghost use Rattle.doc_chars.specs.Stream.{given, optional, AreChars};
 ghost use Rattle.doc_reader.specs.Judged.{Judged};
 ghost use Rattle.doc_reader.specs.Piece.{ReadTo};
 
@@ -12,7 +13,8 @@ use std::str;
 
 /// Reads one character.
 fn read_char(m: &mut Machine, limits: Limits, place: u64, c: char) -> Result<(), Stop>
-    requires { place + 4 < 2 ^ 64 }
+    requires room { place + 4 < 2 ^ 64 }
+    requires char { is_char c ≡ true }
     ensures { Judged result limits place m.old (c ∷ []) m.new }
 {
     let mut bytes = [0; 4];
@@ -21,7 +23,8 @@ fn read_char(m: &mut Machine, limits: Limits, place: u64, c: char) -> Result<(),
 
 /// Reads the character that earlier pieces began, and says where it ends.
 fn read_first(m: &mut Machine, limits: Limits, place: u64, first: Option<char>) -> Result<u64, Stop>
-    requires { place + 4 < 2 ^ 64 }
+    requires room { place + 4 < 2 ^ 64 }
+    requires char { IfSome first (λ c. is_char c ≡ true) }
     ensures read { ReadTo result limits place m.old (optional first) m.new }
     ensures near { IfOk result (λ at. at ≤ place + 4) }
 {
@@ -45,7 +48,8 @@ pub(crate) fn read_split(
     requires room { place + (4 + length piece.now) < 2 ^ 64 }
     requires in_order { split.used ≤ split.whole }
     requires within { split.whole ≤ length piece.now }
-    requires text { IsUtf8 (slice_range piece.now split.used split.whole) }
+    requires chars { AreChars (slice_range piece.now split.used split.whole) }
+    requires char { IfSome split.first (λ c. is_char c ≡ true) }
     ensures { ReadTo result limits place m.old (given split piece.now) m.new }
 {
     let behind = read_first(m, limits, place, split.first)?;

@@ -482,3 +482,4 @@ fn an_end_inside_each_construct_is_too_soon(rt: HostRuntime) -> Result<(), Fail>
 
 mod forms;
 mod limits;
+mod parts;

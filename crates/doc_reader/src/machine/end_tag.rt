@@ -1,25 +1,23 @@
 //! End tags.
-ghost use Rattle.std.specs.Prelude.{◌≡◌, ◌<◌, length, drop};
+ghost use Rattle.std.specs.Prelude.{◌≡◌, ◌<◌, [], length, drop};
 ghost use Rattle.std.specs.Char.{encode_utf8};
 ghost use Rattle.doc_laws.specs.Machine.{State, innermost, behind, to_end_name, on_end, on_ended};
 ghost use Rattle.doc_reader.specs.Machine.{scan_state};
 ghost use Rattle.doc_reader.specs.Steps.{Stepped, Closes, turned};
 
 use super::Scan;
-use super::tag::end_run;
 use super::text::turn;
 use crate::bytes::front_char;
-use crate::event::Event;
 use crate::mode::Mode;
 use gcx_base::{Memory, is_space};
 
 /// Closes the innermost element.
-fn close_element(m: &mut Scan) -> Result<(), Memory>
+pub(crate) fn close_element(m: &mut Scan) -> Result<(), Memory>
+    requires { (scan_state m.old).pending ≡ [] }
     ensures { Closes result (scan_state m.old) (scan_state m.new) }
 {
-    m.events.reserve(2)?;
-    end_run(&mut m.run, &mut m.events);
-    m.events.push_back(Event::End).unwrap();
+    m.tokens.add_end(&mut m.run)?;
+    m.tokens.end_tag();
     m.names.pop();
     m.mode = Mode::Between;
     Ok(())
@@ -28,6 +26,7 @@ fn close_element(m: &mut Scan) -> Result<(), Memory>
 /// Behind the name of an end tag.
 #[inline(always)]
 pub(crate) fn ended(m: &mut Scan, c: char) -> Result<bool, Memory>
+    requires { (scan_state m.old).pending ≡ [] }
     ensures { Stepped result (scan_state m.old) (on_ended (scan_state m.old) c (scan_state m.old).names) (scan_state m.new) }
 {
     if !m.names.has_open() {
@@ -54,6 +53,7 @@ fn name_goes_on(name: &[u8], i: usize, c: char) -> Option<Mode>
 
 /// Behind so many bytes of the innermost element's name.
 pub(crate) fn end_name(m: &mut Scan, i: usize, c: char) -> Result<bool, Memory>
+    requires { (scan_state m.old).pending ≡ [] }
     ensures { Stepped result (scan_state m.old) (on_end (scan_state m.old) (drop i (innermost (scan_state m.old).names)) c) (scan_state m.new) }
 {
     let name = m.names.innermost();

@@ -1,25 +1,25 @@
-//! Characters that are read as a whole, as long as they are ASCII.
-ghost use Rattle.std.specs.Prelude.{◌≡◌, ◌≤◌, length, take, true, MatchOption, ⊤};
-ghost use Rattle.std.specs.List.{list_all};
+//! Characters that are read as a whole.
+ghost use Rattle.std.specs.Prelude.{◌≡◌, ◌≤◌, ◌||◌, length, MatchOption, ⊤};
+ghost use Rattle.std.specs.List.{list_any};
+ghost use Rattle.std.specs.Str.{IsCharBoundary};
+ghost use Rattle.memchr.specs.Find.{IsFirstByte, Nowhere, Passes, is_byte, is_byte3};
+ghost use Rattle.doc_chars.specs.Stream.{AreChars};
 ghost use Rattle.doc_reader.specs.Machine.{scan_state};
-ghost use Rattle.doc_reader.specs.Spans.{is_short_part, in_span, IsSpanFront, IsSameFront, Allows, spread};
+ghost use Rattle.doc_reader.specs.Spans.{is_name_span, IsStop, IsSpanFront, IsSameFront, Allows, spread};
 ghost use Rattle.doc_reader.specs.Steps.{Becomes};
 
 use super::Scan;
-use super::text::is_text;
-use crate::mode::{Brackets, Mode};
-use gcx_base::{Limits, Memory, is_xml_char};
-use memchr::memchr2;
-
-/// How many bytes are looked at in one go for text.
-const WINDOW: usize = 256;
+use super::name::part_front;
+use crate::mode::{Brackets, Mode, Quote};
+use gcx_base::{Limits, Memory};
+use memchr::{memchr, memchr3};
 
 /// Where characters are read as a whole.
 #[derive(Clone, Copy, Debug)]
 pub(crate) enum Span {
     Text,
     /// Between quotes of this kind.
-    Value(char),
+    Value(Quote),
     TagName,
     AttributeName,
     Comment,
@@ -27,105 +27,139 @@ pub(crate) enum Span {
     CDSect,
 }
 
-impl Span {
-    /// Whether a byte is a character that stands there, and after which more may stand.
-    #[inline(always)]
-    #[tactic(auto, using(crate::proofs::Names::short_part))]
-    fn holds(self, b: u8) -> bool
-        ensures { result ≡ in_span self b }
-    {
-        let c = char::from(b);
-        let stands = match self {
-            Span::Text => is_text(c),
-            Span::Value(quote) => is_text(c) && c != quote,
-            Span::TagName | Span::AttributeName => is_short_name_char(b),
-            Span::Comment => is_xml_char(c) && c != '-',
-            Span::Instruction => is_xml_char(c) && c != '?',
-            Span::CDSect => is_xml_char(c) && c != ']',
-        };
-        b.is_ascii() && stands
-    }
-
-    /// How many such bytes stand at the front, at most so many.
-    pub(crate) fn front(self, bytes: &[u8], most: usize) -> usize
-        ensures { IsSpanFront result most self bytes.now }
-    {
-        let end = most.min(bytes.len());
-        match self {
-            Span::Text => {
-                let n = text_front(&bytes[..end.min(WINDOW)]);
-                if n > 0 {
-                    n
-                } else {
-                    self.first_other(bytes, end)
-                }
-            }
-            Span::TagName | Span::AttributeName => name_front(bytes, end),
-            _ => self.first_other(bytes, end),
-        }
-    }
-
-    /// Where the first of so many bytes stands that isn't such, or the end.
-    fn first_other(self, bytes: &[u8], end: usize) -> usize
-        requires { end ≤ length bytes.now }
-        ensures { IsSpanFront result end self bytes.now }
-    {
-        for i in 0..end {
-            if !self.holds(bytes[i]) {
-                return i;
-            }
-        }
-        end
-    }
-}
-
-/// How many characters of a name stand in front among so many bytes.
-fn name_front(bytes: &[u8], end: usize) -> usize
-    requires { end ≤ length bytes.now }
-    ensures { IsSpanFront result end Span.TagName bytes.now }
+/// A place between two characters, the last one behind at most so many bytes.
+fn boundary_within(text: &str, most: usize) -> usize
+    ensures few { result ≤ most }
+    ensures boundary { IsCharBoundary text.now result }
 {
-    for i in 0..end {
-        if !Span::TagName.holds(bytes[i]) {
-            return i;
-        }
+    if text.len() <= most {
+        return text.len();
+    }
+    let mut end = most;
+    while !text.is_char_boundary(end) {
+        end -= 1;
     }
     end
 }
 
-/// Whether all bytes are text, in one pass that doesn't stop early.
-fn are_text(bytes: &[u8]) -> bool
-    ensures { result ≡ list_all (in_span Span.Text) bytes.now }
-{
-    let mut all = true;
-    for b in bytes {
-        all &= Span::Text.holds(*b);
-    }
-    all
-}
+/// How many bytes are looked at in one go.
+const BLOCK: usize = 16;
 
-/// How many bytes stand before the first markup, if all of them are text; else none.
-fn text_front(bytes: &[u8]) -> usize
-    ensures within { result ≤ length bytes.now }
-    ensures text { list_all (in_span Span.Text) (take result bytes.now) ≡ true }
-{
-    let end = match memchr2(b'<', b'&', bytes) {
-        Some(k) => k,
-        None => bytes.len(),
-    };
-    if are_text(&bytes[..end]) { end } else { 0 }
-}
+/// From how many bytes on they are searched many at a time.
+const FAR: usize = 1024;
 
-/// Whether an ASCII byte is a NameChar.
+/// Whether one of the bytes is this one, in one pass that doesn't stop early.
 #[inline(always)]
-fn is_short_name_char(b: u8) -> bool
-    ensures { result ≡ is_short_part b }
+fn has_byte(a: u8, bytes: &[u8]) -> bool
+    ensures { result ≡ list_any (is_byte a) bytes.now }
 {
-    matches!(b, b'a'..=b'z' | b'A'..=b'Z' | b'0'..=b'9' | b'-' | b'.' | b'_' | b':')
+    let mut found = false;
+    for x in bytes {
+        found |= *x == a;
+    }
+    found
+}
+
+/// Whether one of the bytes is among these.
+#[inline(always)]
+fn has_one_of(a: u8, b: u8, c: u8, bytes: &[u8]) -> bool
+    ensures { result ≡ (list_any (is_byte a) bytes.now || list_any (is_byte b) bytes.now) || list_any (is_byte c) bytes.now }
+{
+    let first = has_byte(a, bytes);
+    let second = has_byte(b, bytes);
+    let third = has_byte(c, bytes);
+    first || second || third
+}
+
+/// How many bytes stand in the blocks at the front without one of these, up to `FAR`.
+#[inline(always)]
+fn blocks_without(a: u8, b: u8, c: u8, bytes: &[u8]) -> usize
+    ensures within { result ≤ length bytes.now }
+    ensures none { Nowhere (Passes (is_byte3 a b c) bytes.now) 0 result }
+{
+    let mut at = 0;
+    while at < FAR && bytes.len() - at >= BLOCK {
+        if has_one_of(a, b, c, &bytes[at..at + BLOCK]) {
+            return at;
+        }
+        at += BLOCK;
+    }
+    at
+}
+
+/// The first place from this one on that has one of these bytes.
+#[inline(always)]
+fn first_from(a: u8, b: u8, c: u8, bytes: &[u8], from: usize) -> Option<usize>
+    requires within { from ≤ length bytes.now }
+    requires none { Nowhere (Passes (is_byte3 a b c) bytes.now) 0 from }
+    ensures { IsFirstByte (is_byte3 a b c) bytes.now result }
+{
+    for i in from..bytes.len() {
+        if bytes[i] == a || bytes[i] == b || bytes[i] == c {
+            return Some(i);
+        }
+    }
+    None
+}
+
+/// The first place that has one of these bytes.
+#[inline(always)]
+fn first_of(a: u8, b: u8, c: u8, bytes: &[u8]) -> Option<usize>
+    ensures { IsFirstByte (is_byte3 a b c) bytes.now result }
+{
+    let near = blocks_without(a, b, c, bytes);
+    if near >= FAR {
+        memchr3(a, b, c, bytes)
+    } else {
+        first_from(a, b, c, bytes, near)
+    }
+}
+
+impl Span {
+    #[inline(always)]
+    fn is_name(self) -> bool
+        ensures { result ≡ is_name_span self }
+    {
+        matches!(self, Span::TagName | Span::AttributeName)
+    }
+
+    /// Where the first byte stands at which the span may end, or the end. Names end elsewhere.
+    #[inline(always)]
+    fn stop(self, bytes: &[u8]) -> usize
+        ensures { IsStop result self bytes.now }
+    {
+        let found = match self {
+            Span::Text => first_of(b'<', b'&', b'&', bytes),
+            Span::Value(quote) => first_of(b'<', b'&', quote.byte(), bytes),
+            Span::TagName | Span::AttributeName => None,
+            Span::Comment => memchr(b'-', bytes),
+            Span::Instruction => memchr(b'?', bytes),
+            Span::CDSect => memchr(b']', bytes),
+        };
+        match found {
+            Some(k) => k,
+            None => bytes.len(),
+        }
+    }
+
+    /// How many bytes the characters of the span take at the front, at most so many.
+    #[inline(always)]
+    pub(crate) fn front(self, text: &str, most: usize) -> usize
+        requires { AreChars text.now }
+        ensures { IsSpanFront result most self text.now }
+    {
+        let (front, _) = text.split_at(boundary_within(text, most));
+        if self.is_name() {
+            part_front(front)
+        } else {
+            self.stop(front.as_bytes())
+        }
+    }
 }
 
 /// Where the machine stands in a span, and how many bytes it has room for.
-pub(crate) fn span_at(m: &Scan, limits: Limits) -> Option<(Span, usize)>
-    ensures { MatchOption result ⊤ (λ p. Allows limits p.1 p.0 (scan_state m.now)) }
+pub(crate) fn span_at(m: &Scan, limits: &Limits) -> Option<(Span, usize)>
+    ensures { MatchOption result ⊤ (λ p. Allows limits.now p.1 p.0 (scan_state m.now)) }
 {
     let most = limits.text as usize;
     let run = m.run.len();

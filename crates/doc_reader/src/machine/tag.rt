@@ -1,39 +1,16 @@
 //! Start tags.
-ghost use Rattle.std.specs.Prelude.{◌≡◌, ◌+◌, ◌≤◌, ◌++◌, [], map};
-ghost use Rattle.std.specs.VecDeque.{deque_len, deque_capacity};
+ghost use Rattle.std.specs.Prelude.{◌≡◌};
 ghost use Rattle.gcx_base.specs.Name.{IsNameBytes};
-ghost use Rattle.gcx_model.specs.Fronts.{text_of};
 ghost use Rattle.doc_laws.specs.Machine.{InValue, InValueReference, begun, opened, emptied, valued, on_less, on_start, on_tag, on_start_space, on_attribute_name, on_named, on_equals, on_value, on_slash, on_referred, refer};
-ghost use Rattle.doc_reader.specs.Machine.{scan_state, event_token, referring_of};
-ghost use Rattle.doc_reader.specs.Steps.{Taken, Stepped, Becomes};
+ghost use Rattle.doc_reader.specs.Machine.{scan_state, referring_of, quote_of};
+ghost use Rattle.doc_reader.specs.Steps.{Taken, Stepped, Becomes, behind_tag};
 
 use super::Scan;
-use super::markup::is_quote;
 use super::text::is_text;
 use crate::bytes::push_char;
-use crate::event::Event;
-use crate::mode::Mode;
+use crate::mode::{Mode, Quote};
 use crate::referring::{Letters, Referred, Referring};
-use crate::run::Run;
-use gcx_base::{Memory, Name, is_name_char, is_name_start, is_space};
-use std::collections::VecDeque;
-
-/// Empties the run, and puts it as a token behind the others, unless it is blank.
-#[inline(always)]
-pub(crate) fn end_run(run: &mut Run, events: &mut VecDeque<Event>)
-    requires { deque_len events.old + 1 ≤ deque_capacity events.old }
-    ensures run { run.new ≡ [] }
-    ensures events { map event_token events.new.items ≡ map event_token events.old.items ++ text_of run.old }
-    ensures len { deque_len events.new ≤ deque_len events.old + 1 }
-    ensures capacity { deque_capacity events.old ≤ deque_capacity events.new }
-{
-    if run.is_blank() {
-        run.clear();
-    } else {
-        let text = run.take();
-        events.push_back(Event::Text(text)).unwrap();
-    }
-}
+use gcx_base::{Memory, is_name_char, is_name_start, is_space};
 
 /// Behind `<`.
 pub(crate) fn less(m: &mut Scan, c: char) -> Result<bool, Memory>
@@ -64,39 +41,37 @@ fn begin_tag(m: &mut Scan) -> Result<(), Memory>
     requires { IsNameBytes m.old.name.items }
     ensures { Becomes result (scan_state m.old) (begun (scan_state m.old)) (scan_state m.new) }
 {
-    let name = Name::of_name(m.alloc, &m.name)?;
-    m.pending.clear();
-    m.pending.reserve(2)?;
-    end_run(&mut m.run, &mut m.pending);
-    m.pending.push_back(Event::Start(name)).unwrap();
-    Ok(())
+    m.tokens.begin_tag(m.alloc, &mut m.run, &m.name)
 }
 
-/// The tag is whole, and its element is open.
-fn open_element(m: &mut Scan) -> Result<(), Memory>
-    ensures { Becomes result (scan_state m.old) (opened (scan_state m.old)) (scan_state m.new) }
+/// Behind a whole tag.
+#[inline(always)]
+pub(crate) fn behind_tag(m: &mut Scan)
+    ensures { scan_state m.new ≡ behind_tag (scan_state m.old) }
 {
-    m.names.push(&m.name)?;
-    m.events.append(&mut m.pending)?;
+    m.tokens.end_tag();
     m.name.clear();
     m.attrs.clear();
     m.rooted = true;
     m.typed = true;
     m.mode = Mode::Between;
+}
+
+/// The tag is whole, and its element is open.
+pub(crate) fn open_element(m: &mut Scan) -> Result<(), Memory>
+    ensures { Becomes result (scan_state m.old) (opened (scan_state m.old)) (scan_state m.new) }
+{
+    m.names.push(&m.name)?;
+    behind_tag(m);
     Ok(())
 }
 
 /// The tag is whole, and its element is empty.
-fn empty_element(m: &mut Scan) -> Result<(), Memory>
+pub(crate) fn empty_element(m: &mut Scan) -> Result<(), Memory>
     ensures { Becomes result (scan_state m.old) (emptied (scan_state m.old)) (scan_state m.new) }
 {
-    m.pending.push_back(Event::End)?;
-    m.events.append(&mut m.pending)?;
-    m.name.clear();
-    m.attrs.clear();
-    m.rooted = true;
-    m.typed = true;
-    m.mode = Mode::Between;
+    m.tokens.add_empty_end()?;
+    behind_tag(m);
     Ok(())
 }
 
@@ -191,40 +166,40 @@ pub(crate) fn equals(m: &mut Scan, c: char) -> bool
     if is_space(c) {
         m.mode = Mode::Equals;
         true
-    } else if is_quote(c) {
-        m.mode = Mode::InValue(c);
-        true
     } else {
-        false
+        match Quote::of(c) {
+            Some(quote) => {
+                m.mode = Mode::InValue(quote);
+                true
+            }
+            None => false,
+        }
     }
 }
 
 /// The attribute is whole.
-fn end_value(m: &mut Scan) -> Result<(), Memory>
+pub(crate) fn end_value(m: &mut Scan) -> Result<(), Memory>
     requires { IsNameBytes m.old.attr.items }
     ensures { Becomes result (scan_state m.old) (valued (scan_state m.old)) (scan_state m.new) }
 {
-    let name = Name::of_name(m.alloc, &m.attr)?;
     m.attrs.push(&m.attr)?;
+    m.tokens.add_attribute(m.alloc, &mut m.run, &m.attr)?;
     m.attr.clear();
-    m.pending.reserve(3)?;
-    m.pending.push_back(Event::Start(name)).unwrap();
-    end_run(&mut m.run, &mut m.pending);
-    m.pending.push_back(Event::End).unwrap();
     m.mode = Mode::ValueEnd;
     Ok(())
 }
 
 /// In a value between quotes of this kind.
-pub(crate) fn in_value(m: &mut Scan, quote: char, c: char) -> Result<bool, Memory>
+pub(crate) fn in_value(m: &mut Scan, quote: Quote, c: char) -> Result<bool, Memory>
     requires { IsNameBytes m.old.attr.items }
-    ensures { Stepped result (scan_state m.old) (on_value (scan_state m.old) quote c) (scan_state m.new) }
+    ensures { Stepped result (scan_state m.old) (on_value (scan_state m.old) (quote_of quote) c) (scan_state m.new) }
 {
-    if c != quote && is_text(c) {
+    let end = char::from(quote.byte());
+    if c != end && is_text(c) {
         m.run.push(c)?;
         m.mode = Mode::InValue(quote);
         Ok(true)
-    } else if c == quote {
+    } else if c == end {
         end_value(m)?;
         Ok(true)
     } else if c == '&' {
@@ -238,11 +213,11 @@ pub(crate) fn in_value(m: &mut Scan, quote: char, c: char) -> Result<bool, Memor
 /// In a reference in a value.
 pub(crate) fn in_value_reference(
     m: &mut Scan,
-    quote: char,
+    quote: Quote,
     referring: Referring,
     c: char,
 ) -> Result<bool, Memory>
-    ensures { Stepped result (scan_state m.old) (on_referred (scan_state m.old) (InValueReference quote) (InValue quote) (refer (referring_of referring) c)) (scan_state m.new) }
+    ensures { Stepped result (scan_state m.old) (on_referred (scan_state m.old) (InValueReference (quote_of quote)) (InValue (quote_of quote)) (refer (referring_of referring) c)) (scan_state m.new) }
 {
     match referring.and(c) {
         Referred::More(more) => {

@@ -1,6 +1,9 @@
-use Rattle.std.proofs.Common.{◌≡◌, ◌++◌, ℕ, List, length}
-use Rattle.doc_chars.specs.Scan.{AreChars}
+use Rattle.std.proofs.Common.{◌≤◌, ◌-◌, length}
+use Rattle.doc_chars.specs.Blocks.{HasNoOther}
 use Rattle.doc_chars.proofs.scan.first_other.Given as goal
 
 abbrev pub invariant-loop-at : goal.invariant-loop-at
-invariant-loop-at l = (front : List ℕ) × AreChars front × (l.text ≡ front ++ l.at-iterator.rest.now) × (length front ≡ l.at-iterator.at)
+invariant-loop-at l = (l.at ≤ length l.bytes) × HasNoOther 0 l.at l.bytes
+
+abbrev pub decreases-loop-at : goal.decreases-loop-at
+decreases-loop-at l = length l.bytes - l.at

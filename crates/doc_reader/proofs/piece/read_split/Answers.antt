@@ -4,11 +4,15 @@ use Rattle.std.proofs.lemmas.Result.{err_from_is_err_and}
 use Rattle.gcx_model.specs.Faults.{size}
 use Rattle.doc_laws.specs.Judging.{judged_steps}
 use Rattle.doc_chars.specs.Stream.{given, optional}
+use Rattle.doc_chars.proofs.Streams.{are_text}
 use Rattle.doc_reader.specs.Piece.{ReadTo}
 use Rattle.doc_reader.specs.declared.stop.Stop.{Stop}
 use Rattle.doc_reader.proofs.Judgings.{text_size, reads_both, stops_before, stops_behind}
 use Rattle.doc_reader.proofs.Ties.{size_append}
 use Rattle.doc_reader.proofs.piece.read_split.Goals as goal
+
+pub from_utf8_unchecked-text-requires : goal.from_utf8_unchecked-text-requires
+from_utf8_unchecked-text-requires c = are_text (slice_range c.args.piece.now c.args.split.used c.args.split.whole) c.requires.chars
 
 pub returns-in_err-behind : goal.returns-in_err-behind
 returns-in_err-behind c =
