@@ -5,7 +5,24 @@ use node_store::SlabNodes;
 use raw_nodes::RawNodes;
 use std::alloc::Global;
 use std::fmt::Write;
+use std::process::Abort;
 use std::test::Fail;
+
+/// The script tells that, over both stores.
+fn is_told(
+    rt: &impl Abort,
+    alloc: Global,
+    query: &[u8],
+    document: &[u8],
+    script: &str,
+    want: &str,
+) -> Result<(), Fail> {
+    let got = told(alloc, SlabNodes::new(alloc), query, document, script)?;
+    assert_eq!(rt; got.as_str(), want);
+    let got = told(alloc, RawNodes::new(alloc), query, document, script)?;
+    assert_eq!(rt; got.as_str(), want, "raw");
+    Ok(())
+}
 
 /// 999 elements `a` inside one another and a `b` in the innermost one, which each of them reaches. Behind the end of `b`
 /// all but the last statement leave it its role.
@@ -27,15 +44,7 @@ fn a_thousand_levels(rt: HostRuntime) -> Result<(), Fail> {
     }
     want.push_str(" o ~1 x1000 most 1001")?;
     let query = b"for $x in //a return for $y in $x//b return <h/>";
-    let got = told(
-        alloc,
-        RawNodes::new(alloc),
-        query,
-        &document,
-        script.as_str(),
-    )?;
-    assert_eq!(rt; got.as_str(), want.as_str());
-    Ok(())
+    is_told(&rt, alloc, query, &document, script.as_str(), want.as_str())
 }
 
 /// `for $x in /a return if (C) then <y/> else ()`, where C asks 1,998 times for a `b`, so that the plan has 2,000 roles.
@@ -66,13 +75,13 @@ fn two_thousand_roles(rt: HostRuntime) -> Result<(), Fail> {
     }
     script.push_str(" 1 o1@1 2 ?")?;
     want.push_str(" -2 x2 o ~1 -1 x1 -0 ( 0 h1 n3 t1999 w0 ) most 3")?;
-    let got = told(
+    let query = asking(alloc)?;
+    is_told(
+        &rt,
         alloc,
-        SlabNodes::new(alloc),
-        &asking(alloc)?,
+        &query,
         b"<a><b/></a>",
         script.as_str(),
-    )?;
-    assert_eq!(rt; got.as_str(), want.as_str());
-    Ok(())
+        want.as_str(),
+    )
 }
