@@ -1,5 +1,5 @@
 -- An engine before any byte.
-use Rattle.std.proofs.Common.{◌≡◌, ℕ, ◌<◌, ◌≤◌, ◌^◌, false, List, [], ◌++◌, length, sym, ◌∙◌, ap, subst, arith, None}
+use Rattle.std.proofs.Common.{◌≡◌, ℕ, ◌<◌, ◌≤◌, ◌^◌, true, false, List, [], ◌++◌, length, sym, ◌∙◌, ap, subst, arith, None}
 use Rattle.std.proofs.lemmas.List.{length-map}
 use Rattle.gcx_base.specs.declared.limits.Limits.{Limits}
 use Rattle.gcx_base.specs.declared.ids.Role.{Role}
@@ -18,7 +18,7 @@ use Rattle.projector.specs.declared.projector.Projector.{Projector}
 use Rattle.pull_eval.specs.Acting.{Beside}
 use Rattle.pull_eval.specs.declared.position.Position.{Position}
 use Rattle.engine.specs.declared.engine.Engine.{Engine}
-use Rattle.engine.specs.Engine.{Actors, ActorsStand, CountsOf, Starts, past_at}
+use Rattle.engine.specs.Engine.{Actors, ActorsStand, CountsOf, IsTrace, Starts, past_at}
 use Rattle.engine.specs.Going.{ActsOn, Begins, SomeActors, all_of, bytes_at}
 use Rattle.engine.proofs.Counting.{counts_acted, counts_opened}
 use Rattle.engine.proofs.Courses.{settled_by}
@@ -42,8 +42,9 @@ module _ {N C : Type 0} (stands : C → Tree → Type 0) (lim : Limits) where
 
   -- with every action taken it stands for no bytes
   pub starts : (e d : Engine N C) → Begins stands lim e → 1 ≤ e.ahead → d.plan ≡ e.plan → d.reader ≡ e.reader → d.ahead ≡ e.ahead → d.counts ≡ e.counts → d.refused ≡ e.refused → d.buffer.most ≡ e.buffer.most
-      → ActsOn stands e d opening 0 → Starts stands lim d
-  starts e d h one plan reader ahead counts refused most a =
+      → ActsOn stands e d opening 0
+      → (d.tracing ≡ true → IsTrace (plan_tree d.plan.now) lim [] false d.trace.items) → Starts stands lim d
+  starts e d h one plan reader ahead counts refused most a traced =
       let is = h.actors.beside.buffer.is_past in
       let pl = plan_tree e.plan.now in
       let plan' : plan_tree d.plan.now ≡ pl = ap (λ z. plan_tree z.now) plan in
@@ -70,4 +71,5 @@ module _ {N C : Type 0} (stands : C → Tree → Type 0) (lim : Limits) where
         };
         fresh = fresh;
         settled = settled_by (plan_tree d.plan.now) lim [] false [] d.out.items (nothing_seen lim) (ap (λ (z : PlanTree). bytes_at z opening (all_of z opening)) plan' ∙ sym out);
+        traced = traced;
       }

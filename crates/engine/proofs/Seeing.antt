@@ -102,7 +102,7 @@ earlier_leads r lim b ended given more s =
     )
 
 -- where none waits and memory didn't run out, all that are seen were given
-all_by : (o : Option DocFault) (lim : Limits) (b : List ℕ) (ended : Bool) (ts : List Token) → (o ≡ Some Memory → ⊥) → GivesBy o lim b ended ts → SeenIs lim b ended (map said_of ts)
+pub all_by : (o : Option DocFault) (lim : Limits) (b : List ℕ) (ended : Bool) (ts : List Token) → (o ≡ Some Memory → ⊥) → GivesBy o lim b ended ts → SeenIs lim b ended (map said_of ts)
 all_by None lim b ended ts m g = g.seen
 all_by (Some Memory) lim b ended ts m g = absurd (m refl)
 all_by (Some (Utf8 n)) lim b ended ts m g = g.seen

@@ -1,5 +1,5 @@
 -- One turn more of the two actors.
-use Rattle.std.proofs.Common.{◌≡◌, ℕ, zero, suc, ◌+◌, ◌<◌, ◌≤◌, Bool, true, false, cond, List, [], ◌∷◌, ◌++◌, length, take, drop, map, refl, sym, ◌∙◌, ap, subst, arith, append_assoc, ltb}
+use Rattle.std.proofs.Common.{◌≡◌, ℕ, zero, suc, ◌+◌, ◌<◌, ◌≤◌, ◌^◌, Bool, true, false, cond, List, [], ◌∷◌, ◌++◌, length, take, drop, map, refl, sym, ◌∙◌, ap, subst, arith, append_assoc, ltb}
 use Rattle.std.specs.Prelude.{flat_map}
 use Rattle.std.proofs.lemmas.List.{append-nil, take-append-drop, length-drop}
 use Rattle.std.proofs.lemmas.Bool.{and_parts, lt-ltb, ltb-true}
@@ -25,6 +25,7 @@ use Rattle.engine.proofs.Seeing.{may_parts}
 use Rattle.engine.proofs.Acting.{there}
 use Rattle.engine.proofs.Writing.{bytes_stay, goes_fed, goes_none, goes_on}
 use Rattle.engine.proofs.RowsHeld.{rows_count}
+use Rattle.engine.proofs.Reporting.{given_exact, taken_exact}
 
 cons_parts : {X : Type 0} (k : ℕ) (xs : List X) (x : X) (rest : List X) → drop k xs ≡ x ∷ rest → (k < length xs) × (take (suc k) xs ≡ take k xs ++ x ∷ []) × (drop (suc k) xs ≡ rest)
 cons_parts zero [] x rest e = absurd (cc)
@@ -145,15 +146,17 @@ module _ {N C : Type 0} (stands : C → Tree → Type 0) (plan : PlanTree) (ts :
       TurnsAt z = Reaches stands plan ts z d × Goes plan P s.acted (tree_fed ts z) z.acted u v
 
   -- the numbers
-  pub tells : (r : Reached) → r.fed ≡ a.fed → r.acted ≡ a.acted → r.held ≡ length a.buffer.rows → r.nodes ≡ a.buffer.nodes → r.given ≡ a.given → r.taken ≡ a.buffer.taken → Tells plan ts s r
-  tells r f k held_is nodes g t = record {
-    fed_is = f ∙ h.fed_is;
-    acted_is = k ∙ h.acted_is;
-    held_is = held_is ∙ rows_count a.buffer (past_at plan P s.acted h.actors.fed) h.actors.beside.buffer;
-    nodes_is = nodes ∙ h.actors.beside.buffer.nodes;
-    given_is = g ∙ h.given_is;
-    taken_is = t ∙ h.actors.beside.taken;
-  }
+  pub tells : length plan.roles < 2 ^ 64 → (r : Reached) → r.fed ≡ a.fed → r.acted ≡ a.acted → r.held ≡ length a.buffer.rows → r.nodes ≡ a.buffer.nodes → r.given ≡ a.given → r.taken ≡ a.buffer.taken → Tells plan ts s r
+  tells roles r f k held_is nodes g t =
+      let few : length P.nodes ≤ 2 ^ 40 + 1 = (h.within (take s.fed ts) (drop s.fed ts) (sym (take-append-drop s.fed ts))).0 in
+      record {
+        fed_is = f ∙ h.fed_is;
+        acted_is = k ∙ h.acted_is;
+        held_is = held_is ∙ rows_count a.buffer (past_at plan P s.acted h.actors.fed) h.actors.beside.buffer;
+        nodes_is = nodes ∙ h.actors.beside.buffer.nodes;
+        given_is = g ∙ (h.given_is ∙ given_exact plan P roles few);
+        taken_is = t ∙ (h.actors.beside.taken ∙ taken_exact plan P roles few (so_far plan P s.acted));
+      }
 
 -- ---- some turns, one after the other
 

@@ -1,5 +1,5 @@
 -- What an engine stands for, and what its calls write (this project's).
-use Rattle.std.specs.Prelude.{◌≡◌, ◌≤◌, ◌<◌, ◌+◌, ℕ, Bool, false, List, [], ◌++◌, length, map, Option, Some, None, Result, Ok, Err, ⊤}
+use Rattle.std.specs.Prelude.{◌≡◌, ◌≤◌, ◌<◌, ◌+◌, ℕ, Bool, true, false, List, [], ◌++◌, length, map, Option, Some, None, Result, Ok, Err, ⊤}
 use Rattle.gcx_base.specs.declared.limits.Limits.{Limits}
 use Rattle.gcx_model.specs.declared.fault.DocFault.{DocFault}
 use Rattle.gcx_model.specs.declared.fault.DocFault.TheVariants.{Memory}
@@ -10,7 +10,7 @@ use Rattle.gcx_model.specs.Run.{bytes_written}
 use Rattle.gcx_model.specs.Held.{sum_given}
 use Rattle.gcx_model.specs.Points.{actions, so_far}
 use Rattle.gcx_model.specs.Past.{Past}
-use Rattle.gcx_model.specs.Demand.{peak_of}
+use Rattle.gcx_model.specs.Demand.{peak_of, text_of_lines, trace_lines}
 use Rattle.gcx_model.specs.Seen.{SeenIs, seen_tree}
 use Rattle.doc_reader.specs.declared.token.Token.{Token}
 use Rattle.doc_reader.specs.Standing.{Stands, IsFault, waiting, said_of}
@@ -129,11 +129,38 @@ pub record GrewWithin (plan : PlanTree) (lim : Limits) (b : List ℕ) (was : Boo
 abbrev pub Balanced : {N C : Type 0} → Engine N C → Type 0
 Balanced e = e.buffer.taken ≤ e.counts.given
 
--- An engine before any byte, as `new` makes it: what the plan's run writes before any token waits.
+-- the text of the lines of the demand run over the tokens seen in these bytes
+abbrev pub IsTrace : PlanTree → Limits → List ℕ → (ended : Bool) → List ℕ → Type 0
+IsTrace plan lim b ended t = (ts : List Said) × SeenIs lim b ended ts × (t ≡ text_of_lines (trace_lines plan ts))
+
+-- The trace grew by the lines that the second bytes have beyond those of the first ones.
+pub record TraceGrewBy (plan : PlanTree) (lim : Limits) (b : List ℕ) (was : Bool) (c : List ℕ) (ended : Bool) (before after : List ℕ) : Type 0 where
+  pub old : List ℕ
+  pub more : List ℕ
+  pub traced : IsTrace plan lim b was old
+  pub traces : IsTrace plan lim c ended (old ++ more)
+  pub grew : after ≡ before ++ more
+
+-- It grew by a front of them.
+pub record TraceGrewWithin (plan : PlanTree) (lim : Limits) (b : List ℕ) (was : Bool) (c : List ℕ) (ended : Bool) (before after : List ℕ) : Type 0 where
+  pub old : List ℕ
+  pub part : List ℕ
+  pub rest : List ℕ
+  pub traced : IsTrace plan lim b was old
+  pub traces : IsTrace plan lim c ended (old ++ (part ++ rest))
+  pub grew : after ≡ before ++ part
+
+-- A trace is wanted, and behind each token every possible action is taken.
+pub record IsTold {N C : Type 0} (e : Engine N C) : Type 0 where
+  pub tracing : e.tracing ≡ true
+  pub alone : e.ahead ≡ 1
+
+-- An engine before any byte, as `new` makes it: what the plan's run writes before any token waits, and so does its trace.
 pub record Starts {N C : Type 0} (stands : C → Tree → Type 0) (lim : Limits) (e : Engine N C) : Type 0 where
   pub of : StandsOf stands lim e [] false
   pub fresh : e.refused ≡ None
   pub settled : Settles (plan_tree e.plan.now) lim [] false e.out.items
+  pub traced : e.tracing ≡ true → IsTrace (plan_tree e.plan.now) lim [] false e.trace.items
 
 -- No trace is wanted, and none waits.
 pub record IsSilent {N C : Type 0} (e : Engine N C) : Type 0 where

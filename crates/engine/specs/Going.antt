@@ -1,13 +1,14 @@
 -- How the parts of an engine go on from one state to a later one (this project's). This follows the code: no public clause speaks of it.
-use Rattle.std.specs.Prelude.{◌≡◌, ◌≤◌, ◌<◌, ◌+◌, ◌^◌, ℕ, suc, nat_eq, Bool, true, false, not, List, [], ◌++◌, length, map, max, flat_map, Option, Some, None, Result, Ok, Err, ⊤}
+use Rattle.std.specs.Prelude.{◌≡◌, ◌≤◌, ◌<◌, ◌+◌, ◌^◌, ℕ, suc, nat_eq, Bool, true, false, not, List, [], ◌∷◌, ◌++◌, length, map, max, flat_map, Option, Some, None, Result, Ok, Err, ⊤}
 use Rattle.gcx_base.specs.declared.limits.Limits.{Limits}
 use Rattle.gcx_base.specs.declared.memory.Memory.{Memory as Lack}
 use Rattle.gcx_model.specs.declared.fault.DocFault.{DocFault}
 use Rattle.gcx_model.specs.declared.fault.DocFault.TheVariants.{Memory}
-use Rattle.gcx_model.specs.Tree.{Node, Tree, Token as Said, grow, opening}
+use Rattle.gcx_model.specs.Tree.{Node, Root, Tree, Token as Said, grow, opening}
 use Rattle.gcx_model.specs.Core.{PlanTree}
 use Rattle.gcx_model.specs.PlanView.{plan_tree}
 use Rattle.gcx_model.specs.Run.{bytes_of}
+use Rattle.gcx_model.specs.Demand.{opened_line, text_of_lines}
 use Rattle.gcx_model.specs.Held.{held, sum_given}
 use Rattle.gcx_model.specs.Growth.{may_come, level}
 use Rattle.gcx_model.specs.Points.{actions, so_far}
@@ -42,6 +43,7 @@ pub record Begins {N C : Type 0} (stands : C → Tree → Type 0) (lim : Limits)
   pub none : waiting e.reader ≡ []
   pub actors : Actors stands e opening 0
   pub out : e.out.items ≡ []
+  pub trace : e.tracing ≡ true → e.trace.items ≡ text_of_lines (opened_line (plan_tree e.plan.now) opening Root ∷ [])
   pub bytes : e.counts.bytes ≡ 0
   pub peak : e.counts.peak ≡ 1
   pub given : e.counts.given ≡ capped (sum_given (plan_tree e.plan.now) opening)

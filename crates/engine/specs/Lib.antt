@@ -1,4 +1,5 @@
 pub mod Engine
 pub mod Going
 pub mod Runs
+pub mod Telling
 pub mod Turns

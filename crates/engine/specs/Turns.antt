@@ -36,8 +36,8 @@ pub record Tells (plan : PlanTree) (ts : List Said) (s : Turned) (r : Reached) :
   pub acted_is : r.acted ≡ s.acted
   pub held_is : r.held ≡ length (held plan (tree_fed ts s) (so_far plan (tree_fed ts s) s.acted))
   pub nodes_is : r.nodes ≡ length (tree_fed ts s).nodes
-  pub given_is : r.given ≡ capped (sum_given plan (tree_fed ts s))
-  pub taken_is : r.taken ≡ capped (sum_taken plan (tree_fed ts s) (so_far plan (tree_fed ts s) s.acted))
+  pub given_is : r.given ≡ sum_given plan (tree_fed ts s)
+  pub taken_is : r.taken ≡ sum_taken plan (tree_fed ts s) (so_far plan (tree_fed ts s) s.acted)
 
 -- what the actions write that the turns take
 abbrev pub written : PlanTree → List Said → List CodeTurn → List ℕ

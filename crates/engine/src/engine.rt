@@ -1,23 +1,25 @@
 //! The engine.
-ghost use Rattle.std.specs.Prelude.{◌≡◌, ◌≤◌, ◌<◌, ◌+◌, ◌^◌, ◌++◌, ◌&&◌, ℕ, Bool, true, false, [], List, length, None, Some, Err, IfOk, OnOk, OnErr};
+ghost use Rattle.std.specs.Prelude.{◌≡◌, ◌≤◌, ◌<◌, ◌+◌, ◌^◌, ◌++◌, ◌&&◌, ℕ, Bool, true, false, [], List, length, map as mapped, None, Some, Err, IfOk, OnOk, OnErr};
 ghost use Rattle.std.specs.FinMap as map;
 ghost use Rattle.gcx_base.specs.declared.limits.Limits.{Limits};
 ghost use Rattle.gcx_model.specs.Core.{BodyTree};
 ghost use Rattle.gcx_model.specs.Cores.{Good};
 ghost use Rattle.gcx_model.specs.Placed.{Placed};
 ghost use Rattle.gcx_model.specs.PlanView.{plan_tree};
-ghost use Rattle.gcx_model.specs.Points.{actions};
+ghost use Rattle.gcx_model.specs.Demand.{Left as departure, text_of_lines};
+ghost use Rattle.gcx_model.specs.Points.{actions, so_far};
 ghost use Rattle.gcx_model.specs.Tree.{Tree, Token as Said, grow, opening};
 ghost use Rattle.gcx_model.specs.Held.{sum_given};
-ghost use Rattle.gcx_model.specs.Seen.{SeenIs};
+ghost use Rattle.gcx_model.specs.Seen.{SeenIs, seen_tree};
 ghost use Rattle.gcx_model.specs.declared.fault.DocFault.{DocFault};
 ghost use Rattle.gcx_model.specs.declared.fault.DocFault.TheVariants.{Memory as Lack};
 ghost use Rattle.doc_reader.specs.Standing.{Answers, Keeps, answer_by, answer_of, said_of, waiting};
 ghost use Rattle.doc_reader.specs.declared.token.Token.{Token};
 ghost use Rattle.buf_tree.specs.Shape.{Shape, cells};
 ghost use Rattle.buf_tree.specs.View.{View, capped};
-ghost use Rattle.engine.specs.Engine.{Actors, Balanced, IsSilent, Kept, Lost, MayGoOn, OnAnswer, OnRefusal, PartsStand, Starts, StandsOf, StandsSome};
-ghost use Rattle.engine.specs.Going.{ActsOn, ActsOne, ActsSome, Begins, Breaks, counted, FeedsSome, is_quiet, lacking, refusal_of, roles_in, ComesWithin, FeedsOn, FeedsOne, GoesOn, MayFeed, SomeActors, SomeParts};
+ghost use Rattle.engine.specs.Engine.{Actors, Balanced, IsSilent, Kept, Lost, MayGoOn, OnAnswer, OnRefusal, PartsStand, Starts, StandsOf, StandsSome, IsTold, TraceGrewBy, TraceGrewWithin};
+ghost use Rattle.engine.specs.Going.{ActsOn, ActsOne, ActsSome, Begins, Breaks, counted, FeedsSome, is_quiet, lacking, refusal_of, roles_in, ComesWithin, FeedsOn, FeedsOne, GoesOn, MayFeed, SomeActors, SomeParts, all_of};
+ghost use Rattle.engine.specs.Telling.{GrewPart, ToldOne, ToldSome, acted_lines, fed_lines, lines_to, more_lines, next_lines, told_lines};
 
 use crate::lines::{opening_trace, put_action, put_fed, put_gone, wanted_kind};
 use buf_trace::LineKind;
@@ -173,6 +175,7 @@ impl<'p, N: NodeStore<Row>, C: Conds> Engine<'p, N, C> {
         requires { MayGoOn C.stands self.old false }
         ensures fed { (lim : Limits) (b : List ℕ) → StandsOf C.stands lim self.old b false → self.old.refused ≡ None → OnAnswer result (Lost lim self.old self.new b false (b ++ piece.now) false) (Kept C.stands lim self.old self.new b false (b ++ piece.now) false) }
         ensures exact { (lim : Limits) (b : List ℕ) → StandsOf C.stands lim self.old b false → self.old.refused ≡ None → Answers result lim (b ++ piece.now) false }
+        ensures traced { (lim : Limits) (b : List ℕ) → StandsOf C.stands lim self.old b false → self.old.refused ≡ None → IsTold self.old → OnAnswer result (TraceGrewWithin (plan_tree self.old.plan.now) lim b false (b ++ piece.now) false self.old.trace.items self.new.trace.items) (TraceGrewBy (plan_tree self.old.plan.now) lim b false (b ++ piece.now) false self.old.trace.items self.new.trace.items) }
         ensures answer { result ≡ answer_by self.new.refused }
         ensures again { (f : DocFault) → self.old.refused ≡ Some f → self.new ≡ self.old }
         ensures bytes { self.old.refused ≡ None → self.new.counts.bytes ≡ self.old.counts.bytes + length piece.now }
@@ -194,6 +197,7 @@ impl<'p, N: NodeStore<Row>, C: Conds> Engine<'p, N, C> {
         requires stands { StandsSome C.stands self.old false }
         requires fresh { self.old.refused ≡ None }
         ensures fed { (lim : Limits) (b : List ℕ) → StandsOf C.stands lim self.old b false → OnRefusal self.new.refused (Lost lim self.old self.new b false (b ++ piece.now) false) (Kept C.stands lim self.old self.new b false (b ++ piece.now) false) }
+        ensures traced { (lim : Limits) (b : List ℕ) → StandsOf C.stands lim self.old b false → IsTold self.old → OnRefusal self.new.refused (TraceGrewWithin (plan_tree self.old.plan.now) lim b false (b ++ piece.now) false self.old.trace.items self.new.trace.items) (TraceGrewBy (plan_tree self.old.plan.now) lim b false (b ++ piece.now) false self.old.trace.items self.new.trace.items) }
         ensures bytes { self.new.counts.bytes ≡ self.old.counts.bytes + length piece.now }
         ensures same { (self.new.plan ≡ self.old.plan) × (self.new.ahead ≡ self.old.ahead) × (self.new.tracing ≡ self.old.tracing) }
         ensures silent { IsSilent self.old → IsSilent self.new }
@@ -213,6 +217,7 @@ impl<'p, N: NodeStore<Row>, C: Conds> Engine<'p, N, C> {
         requires { (ended : Bool) × MayGoOn C.stands self.old ended }
         ensures ended { (lim : Limits) (b : List ℕ) (ended : Bool) → StandsOf C.stands lim self.old b ended → self.old.refused ≡ None → OnAnswer result (Lost lim self.old self.new b ended b true) (Kept C.stands lim self.old self.new b ended b true) }
         ensures exact { (lim : Limits) (b : List ℕ) (ended : Bool) → StandsOf C.stands lim self.old b ended → self.old.refused ≡ None → Answers result lim b true }
+        ensures traced { (lim : Limits) (b : List ℕ) (ended : Bool) → StandsOf C.stands lim self.old b ended → self.old.refused ≡ None → IsTold self.old → OnAnswer result (TraceGrewWithin (plan_tree self.old.plan.now) lim b ended b true self.old.trace.items self.new.trace.items) (TraceGrewBy (plan_tree self.old.plan.now) lim b ended b true self.old.trace.items self.new.trace.items) }
         ensures empty { OnOk result (self.new.buffer.rows ≡ []) }
         ensures balance { OnOk result (self.new.counts.given ≡ self.new.buffer.taken) }
         ensures answer { result ≡ answer_by self.new.refused }
@@ -236,6 +241,7 @@ impl<'p, N: NodeStore<Row>, C: Conds> Engine<'p, N, C> {
         requires stands { (ended : Bool) × StandsSome C.stands self.old ended }
         requires fresh { self.old.refused ≡ None }
         ensures ended { (lim : Limits) (b : List ℕ) (ended : Bool) → StandsOf C.stands lim self.old b ended → OnRefusal self.new.refused (Lost lim self.old self.new b ended b true) (Kept C.stands lim self.old self.new b ended b true) }
+        ensures traced { (lim : Limits) (b : List ℕ) (ended : Bool) → StandsOf C.stands lim self.old b ended → IsTold self.old → OnRefusal self.new.refused (TraceGrewWithin (plan_tree self.old.plan.now) lim b ended b true self.old.trace.items self.new.trace.items) (TraceGrewBy (plan_tree self.old.plan.now) lim b ended b true self.old.trace.items self.new.trace.items) }
         ensures empty { self.new.refused ≡ None → self.new.buffer.rows ≡ [] }
         ensures balance { self.new.refused ≡ None → self.new.counts.given ≡ self.new.buffer.taken }
         ensures bytes { self.new.counts.bytes ≡ self.old.counts.bytes }
@@ -261,6 +267,7 @@ impl<'p, N: NodeStore<Row>, C: Conds> Engine<'p, N, C> {
         requires stands { StandsSome C.stands self.old false }
         requires fresh { self.old.refused ≡ None }
         ensures fed { (lim : Limits) (b : List ℕ) → StandsOf C.stands lim self.old b false → OnRefusal self.new.refused (Lost lim self.old self.new b false (b ++ slice.now) false) (Kept C.stands lim self.old self.new b false (b ++ slice.now) false) }
+        ensures traced { (lim : Limits) (b : List ℕ) → StandsOf C.stands lim self.old b false → IsTold self.old → OnRefusal self.new.refused (TraceGrewWithin (plan_tree self.old.plan.now) lim b false (b ++ slice.now) false self.old.trace.items self.new.trace.items) (TraceGrewBy (plan_tree self.old.plan.now) lim b false (b ++ slice.now) false self.old.trace.items self.new.trace.items) }
         ensures bytes { self.new.counts.bytes ≡ self.old.counts.bytes + length slice.now }
         ensures same { (self.new.plan ≡ self.old.plan) × (self.new.ahead ≡ self.old.ahead) × (self.new.tracing ≡ self.old.tracing) }
         ensures silent { IsSilent self.old → IsSilent self.new }
@@ -277,6 +284,7 @@ impl<'p, N: NodeStore<Row>, C: Conds> Engine<'p, N, C> {
         requires read { read ≡ answer_of self.old.reader }
         requires parts { SomeParts C.stands self.old }
         ensures goes { (lim : Limits) (b : List ℕ) (ended : Bool) (given : List Token) → PartsStand C.stands lim self.old b ended given → GoesOn C.stands lim self.old self.new b ended given }
+        ensures told { IsTold self.old → (lim : Limits) (b : List ℕ) (ended : Bool) (given : List Token) → PartsStand C.stands lim self.old b ended given → OnRefusal self.new.refused (GrewPart self.old.trace.items self.new.trace.items (text_of_lines (more_lines (plan_tree self.old.plan.now) (seen_tree (mapped said_of given)) (waiting self.old.reader)))) (self.new.trace.items ≡ self.old.trace.items ++ text_of_lines (more_lines (plan_tree self.old.plan.now) (seen_tree (mapped said_of given)) (waiting self.old.reader))) }
         ensures keeps { Keeps self.old.reader self.new.reader }
         ensures bytes { self.new.counts.bytes ≡ self.old.counts.bytes }
         ensures same { (self.new.plan ≡ self.old.plan) × (self.new.ahead ≡ self.old.ahead) × (self.new.tracing ≡ self.old.tracing) }
@@ -294,6 +302,8 @@ impl<'p, N: NodeStore<Row>, C: Conds> Engine<'p, N, C> {
         ensures feeds { OnOk result ((lim : Limits) (b : List ℕ) (ended : Bool) (given : List Token) → PartsStand C.stands lim self.old b ended given → FeedsOn C.stands lim self.old self.new b ended given) }
         ensures none { OnOk result (waiting self.new.reader ≡ []) }
         ensures breaks { OnErr result ((lim : Limits) (b : List ℕ) (ended : Bool) (given : List Token) → PartsStand C.stands lim self.old b ended given → Breaks lim self.old self.new b ended given) }
+        ensures told { OnOk result (IsTold self.old → (lim : Limits) (b : List ℕ) (ended : Bool) (given : List Token) → PartsStand C.stands lim self.old b ended given → ToldSome (plan_tree self.old.plan.now) (seen_tree (mapped said_of given)) (waiting self.old.reader) (waiting self.new.reader) self.old.trace.items self.new.trace.items) }
+        ensures part { OnErr result (IsTold self.old → (lim : Limits) (b : List ℕ) (ended : Bool) (given : List Token) → PartsStand C.stands lim self.old b ended given → GrewPart self.old.trace.items self.new.trace.items (text_of_lines (more_lines (plan_tree self.old.plan.now) (seen_tree (mapped said_of given)) (waiting self.old.reader)))) }
         ensures keeps { Keeps self.old.reader self.new.reader }
         ensures rest { self.new ≡ record self.old { reader = self.new.reader; projector = self.new.projector; buffer = self.new.buffer; machine = self.new.machine; out = self.new.out; trace = self.new.trace; counts = self.new.counts } }
         ensures bytes { self.new.counts.bytes ≡ self.old.counts.bytes }
@@ -313,6 +323,8 @@ impl<'p, N: NodeStore<Row>, C: Conds> Engine<'p, N, C> {
         ensures none { IfOk result (λ any. any ≡ false → waiting self.new.reader ≡ []) }
         ensures fewer { IfOk result (λ any. any ≡ true → length (waiting self.new.reader) < length (waiting self.old.reader)) }
         ensures breaks { OnErr result ((lim : Limits) (b : List ℕ) (ended : Bool) (given : List Token) → PartsStand C.stands lim self.old b ended given → Breaks lim self.old self.new b ended given) }
+        ensures told { OnOk result (IsTold self.old → (lim : Limits) (b : List ℕ) (ended : Bool) (given : List Token) → PartsStand C.stands lim self.old b ended given → ToldSome (plan_tree self.old.plan.now) (seen_tree (mapped said_of given)) (waiting self.old.reader) (waiting self.new.reader) self.old.trace.items self.new.trace.items) }
+        ensures part { OnErr result (IsTold self.old → (lim : Limits) (b : List ℕ) (ended : Bool) (given : List Token) → PartsStand C.stands lim self.old b ended given → GrewPart self.old.trace.items self.new.trace.items (text_of_lines (more_lines (plan_tree self.old.plan.now) (seen_tree (mapped said_of given)) (waiting self.old.reader)))) }
         ensures keeps { Keeps self.old.reader self.new.reader }
         ensures rest { self.new ≡ record self.old { reader = self.new.reader; projector = self.new.projector; buffer = self.new.buffer; machine = self.new.machine; out = self.new.out; trace = self.new.trace; counts = self.new.counts } }
         ensures bytes { self.new.counts.bytes ≡ self.old.counts.bytes }
@@ -336,6 +348,8 @@ impl<'p, N: NodeStore<Row>, C: Conds> Engine<'p, N, C> {
         ensures none { IfOk result (λ r. r.0 ≡ false → waiting self.new.reader ≡ []) }
         ensures fewer { IfOk result (λ r. r.0 ≡ true → length (waiting self.new.reader) < length (waiting self.old.reader)) }
         ensures balance { OnErr result ((lim : Limits) (b : List ℕ) (ended : Bool) (given : List Token) → PartsStand C.stands lim self.old b ended given → Balanced self.new) }
+        ensures told { IfOk result (λ r. IsTold self.old → (lim : Limits) (b : List ℕ) (ended : Bool) (given : List Token) → PartsStand C.stands lim self.old b ended given → ToldOne (plan_tree self.old.plan.now) (seen_tree (mapped said_of given)) (actions (plan_tree self.old.plan.now) (seen_tree (mapped said_of given))) (waiting self.old.reader) (waiting self.new.reader) self.old.trace.items self.new.trace.items r.0) }
+        ensures part { OnErr result (IsTold self.old → (lim : Limits) (b : List ℕ) (ended : Bool) (given : List Token) → PartsStand C.stands lim self.old b ended given → GrewPart self.old.trace.items self.new.trace.items (text_of_lines (more_lines (plan_tree self.old.plan.now) (seen_tree (mapped said_of given)) (waiting self.old.reader)))) }
         ensures keeps { Keeps self.old.reader self.new.reader }
         ensures rest { self.new ≡ record self.old { reader = self.new.reader; projector = self.new.projector; buffer = self.new.buffer; trace = self.new.trace; counts = self.new.counts } }
         ensures bytes { self.new.counts.bytes ≡ self.old.counts.bytes }
@@ -362,6 +376,8 @@ impl<'p, N: NodeStore<Row>, C: Conds> Engine<'p, N, C> {
         ensures feeds { OnOk result ((P : Tree) (k : ℕ) → Actors C.stands self.old P k → ComesWithin (said_of token) P → FeedsOne C.stands self.old self.new (said_of token) P k) }
         ensures quiet { IfOk result (λ q. q ≡ true → (P : Tree) → Actors C.stands self.old P (length (actions (plan_tree self.old.plan.now) P)) → ComesWithin (said_of token) P → actions (plan_tree self.old.plan.now) (grow (said_of token) P) ≡ actions (plan_tree self.old.plan.now) P) }
         ensures balance { OnErr result ((P : Tree) (k : ℕ) → Actors C.stands self.old P k → ComesWithin (said_of token) P → self.old.counts.given ≡ capped (sum_given (plan_tree self.old.plan.now) P) → Balanced self.new) }
+        ensures told { OnOk result (self.old.tracing ≡ true → (P : Tree) (k : ℕ) → Actors C.stands self.old P k → ComesWithin (said_of token) P → self.new.trace.items ≡ self.old.trace.items ++ text_of_lines (fed_lines (plan_tree self.old.plan.now) (said_of token) P (so_far (plan_tree self.old.plan.now) P k))) }
+        ensures part { OnErr result (self.old.tracing ≡ true → (P : Tree) (k : ℕ) → Actors C.stands self.old P k → ComesWithin (said_of token) P → GrewPart self.old.trace.items self.new.trace.items (text_of_lines (fed_lines (plan_tree self.old.plan.now) (said_of token) P (so_far (plan_tree self.old.plan.now) P k)))) }
         ensures rest { self.new ≡ record self.old { projector = self.new.projector; buffer = self.new.buffer; trace = self.new.trace; counts = self.new.counts } }
         ensures bytes { self.new.counts.bytes ≡ self.old.counts.bytes }
         ensures silent { IsSilent self.old → IsSilent self.new }
@@ -380,6 +396,8 @@ impl<'p, N: NodeStore<Row>, C: Conds> Engine<'p, N, C> {
     fn tell(&mut self, fed: Fed, kind: Option<LineKind>) -> Result<(), Memory>
         ensures rest { self.new ≡ record self.old { trace = self.new.trace } }
         ensures none { kind ≡ None → self.new ≡ self.old }
+        ensures told { OnOk result (self.new.trace.items ≡ self.old.trace.items ++ text_of_lines (told_lines fed kind self.old.buffer.gone)) }
+        ensures part { OnErr result (GrewPart self.old.trace.items self.new.trace.items (text_of_lines (told_lines fed kind self.old.buffer.gone))) }
     {
         if let Some(kind) = kind {
             put_fed(&mut self.trace, fed, kind)?;
@@ -393,6 +411,8 @@ impl<'p, N: NodeStore<Row>, C: Conds> Engine<'p, N, C> {
         requires { SomeActors C.stands self.old }
         ensures acts { OnOk result ((P : Tree) (k : ℕ) → Actors C.stands self.old P k → ActsOn C.stands self.old self.new P k) }
         ensures some { OnErr result ((P : Tree) (k : ℕ) → Actors C.stands self.old P k → ActsSome self.old self.new P k) }
+        ensures told { OnOk result (self.old.tracing ≡ true → (P : Tree) (k : ℕ) → Actors C.stands self.old P k → self.new.trace.items ≡ self.old.trace.items ++ text_of_lines (lines_to (plan_tree self.old.plan.now) P k (all_of (plan_tree self.old.plan.now) P))) }
+        ensures part { OnErr result (self.old.tracing ≡ true → (P : Tree) (k : ℕ) → Actors C.stands self.old P k → GrewPart self.old.trace.items self.new.trace.items (text_of_lines (lines_to (plan_tree self.old.plan.now) P k (all_of (plan_tree self.old.plan.now) P)))) }
         ensures most { self.new.buffer.most ≡ self.old.buffer.most }
         ensures rest { self.new ≡ record self.old { buffer = self.new.buffer; machine = self.new.machine; out = self.new.out; trace = self.new.trace } }
         ensures silent { IsSilent self.old → IsSilent self.new }
@@ -412,6 +432,8 @@ impl<'p, N: NodeStore<Row>, C: Conds> Engine<'p, N, C> {
         requires { SomeActors C.stands self.old }
         ensures acts { IfOk result (λ more. (P : Tree) (k : ℕ) → Actors C.stands self.old P k → ActsOne C.stands self.old self.new P k more) }
         ensures some { OnErr result ((P : Tree) (k : ℕ) → Actors C.stands self.old P k → ActsSome self.old self.new P k) }
+        ensures told { IfOk result (λ more. self.old.tracing ≡ true → (P : Tree) (k : ℕ) → Actors C.stands self.old P k → self.new.trace.items ≡ self.old.trace.items ++ text_of_lines (next_lines (plan_tree self.old.plan.now) P k more)) }
+        ensures part { OnErr result (self.old.tracing ≡ true → (P : Tree) (k : ℕ) → Actors C.stands self.old P k → GrewPart self.old.trace.items self.new.trace.items (text_of_lines (lines_to (plan_tree self.old.plan.now) P k (all_of (plan_tree self.old.plan.now) P)))) }
         ensures most { self.new.buffer.most ≡ self.old.buffer.most }
         ensures rest { self.new ≡ record self.old { buffer = self.new.buffer; machine = self.new.machine; out = self.new.out; trace = self.new.trace } }
         ensures silent { IsSilent self.old → IsSilent self.new }
@@ -431,6 +453,8 @@ impl<'p, N: NodeStore<Row>, C: Conds> Engine<'p, N, C> {
     fn note(&mut self, acted: Acted) -> Result<(), Memory>
         ensures noted { OnOk result (self.new ≡ record self.old { trace = self.new.trace; buffer = record self.old.buffer { gone = [] } }) }
         ensures lost { OnErr result (self.new ≡ record self.old { trace = self.new.trace }) }
+        ensures told { OnOk result (self.old.tracing ≡ true → self.new.trace.items ≡ self.old.trace.items ++ text_of_lines (acted_lines acted ++ mapped departure self.old.buffer.gone)) }
+        ensures part { OnErr result (GrewPart self.old.trace.items self.new.trace.items (text_of_lines (acted_lines acted ++ mapped departure self.old.buffer.gone))) }
         ensures silent { IsSilent self.old → IsSilent self.new }
     {
         if self.tracing {

@@ -1,5 +1,12 @@
 //! The lines of a trace, of tokens and of actions.
-ghost use Rattle.std.specs.Prelude.{◌≡◌, [], true, false, None, IfOk};
+ghost use Rattle.std.specs.Prelude.{◌≡◌, ◌∷◌, ◌++◌, [], true, false, None, map, IfOk, OnOk, OnErr};
+ghost use Rattle.gcx_model.specs.Demand as demand;
+ghost use Rattle.gcx_model.specs.Demand.{text_of_lines};
+ghost use Rattle.doc_reader.specs.Standing.{said_of};
+ghost use Rattle.buf_trace.specs.Lines.{kind_tree};
+ghost use Rattle.buf_tree.specs.Calls.{numbers};
+ghost use Rattle.buf_tree.specs.Rows.{serials};
+ghost use Rattle.engine.specs.Telling.{GrewPart, IsWanted, acted_lines, fed_line, kind_said};
 
 use buf_trace::{Line, LineKind, put_line};
 use doc_reader::Token;
@@ -11,7 +18,8 @@ use std::alloc::Global;
 
 /// The line of the document node, where it is wanted.
 pub(crate) fn opening_trace(alloc: Global, tracing: bool, given: &Given) -> Result<Vec<u8>, Memory>
-    ensures { IfOk result (λ trace. tracing ≡ false → trace.items ≡ []) }
+    ensures silent { IfOk result (λ trace. tracing ≡ false → trace.items ≡ []) }
+    ensures opened { IfOk result (λ trace. tracing ≡ true → trace.items ≡ text_of_lines (demand.Opened 0 demand.DocumentNode (numbers given.now) ∷ [])) }
 {
     let mut trace = Vec::new(alloc);
     if tracing {
@@ -31,7 +39,8 @@ pub(crate) fn wanted_kind(
     tracing: bool,
     token: &Token,
 ) -> Result<Option<LineKind>, Memory>
-    ensures { IfOk result (λ kind. tracing ≡ false → kind ≡ None) }
+    ensures silent { IfOk result (λ kind. tracing ≡ false → kind ≡ None) }
+    ensures wanted { IfOk result (λ kind. tracing ≡ true → IsWanted (said_of token.now) kind) }
 {
     if tracing {
         Ok(Some(kind_of(alloc, token)?))
@@ -41,7 +50,9 @@ pub(crate) fn wanted_kind(
 }
 
 /// What a line tells of the node that the token opens.
-fn kind_of(alloc: Global, token: &Token) -> Result<LineKind, Memory> {
+fn kind_of(alloc: Global, token: &Token) -> Result<LineKind, Memory>
+    ensures { IfOk result (λ kind. kind_tree kind ≡ kind_said (said_of token.now)) }
+{
     Ok(match token {
         Token::Start(name) => LineKind::Element(name.copy(alloc)?),
         Token::Text(_) => LineKind::Text,
@@ -55,7 +66,10 @@ fn put_opened(
     serial: Serial,
     kind: LineKind,
     given: Given,
-) -> Result<(), Memory> {
+) -> Result<(), Memory>
+    ensures ok { OnOk result (trace.new.items ≡ trace.old.items ++ text_of_lines (demand.Opened serial.0 (kind_tree kind) (numbers given) ∷ [])) }
+    ensures err { OnErr result (trace.new.items ≡ trace.old.items) }
+{
     let line = Line::Opened {
         serial,
         kind,
@@ -64,16 +78,22 @@ fn put_opened(
     put_line(trace, &line)
 }
 
-/// Appends the line of a token. A node that it opened is of this kind.
-pub(crate) fn put_fed(trace: &mut Vec<u8>, fed: Fed, kind: LineKind) -> Result<(), Memory> {
+/// Appends the line of a token. A node that it opened is of this kind. After `Memory` the trace is as before.
+pub(crate) fn put_fed(trace: &mut Vec<u8>, fed: Fed, kind: LineKind) -> Result<(), Memory>
+    ensures ok { OnOk result (trace.new.items ≡ trace.old.items ++ text_of_lines (fed_line fed (kind_tree kind) ∷ [])) }
+    ensures err { OnErr result (trace.new.items ≡ trace.old.items) }
+{
     match fed {
         Fed::Opened(serial, given) => put_opened(trace, serial, kind, given),
         Fed::Closed(serial) => put_line(trace, &Line::Closed(serial)),
     }
 }
 
-/// Appends the line of an action.
-pub(crate) fn put_action(trace: &mut Vec<u8>, acted: Acted) -> Result<(), Memory> {
+/// Appends the line of an action. After `Memory` the trace is as before.
+pub(crate) fn put_action(trace: &mut Vec<u8>, acted: Acted) -> Result<(), Memory>
+    ensures ok { OnOk result (trace.new.items ≡ trace.old.items ++ text_of_lines (acted_lines acted)) }
+    ensures err { OnErr result (trace.new.items ≡ trace.old.items) }
+{
     match acted {
         Acted::Wrote(count) => put_line(trace, &Line::Wrote(count)),
         Acted::SignedOff(serial, role) => put_line(trace, &Line::SignedOff { serial, role }),
@@ -82,8 +102,11 @@ pub(crate) fn put_action(trace: &mut Vec<u8>, acted: Acted) -> Result<(), Memory
     }
 }
 
-/// Appends a line for each node that left.
-pub(crate) fn put_gone(trace: &mut Vec<u8>, gone: &[Serial]) -> Result<(), Memory> {
+/// Appends a line for each node that left. After `Memory` a front of the lines stands there.
+pub(crate) fn put_gone(trace: &mut Vec<u8>, gone: &[Serial]) -> Result<(), Memory>
+    ensures ok { OnOk result (trace.new.items ≡ trace.old.items ++ text_of_lines (map demand.Left (serials gone.now))) }
+    ensures part { OnErr result (GrewPart trace.old.items trace.new.items (text_of_lines (map demand.Left (serials gone.now)))) }
+{
     for serial in gone {
         put_line(trace, &Line::Gone(*serial))?;
     }

@@ -1,5 +1,7 @@
 //! How a run ended, and its numbers.
-use gcx_model::DocFault;
+ghost use Rattle.std.specs.Prelude.{◌<◌, ◌^◌, length};
+
+use gcx_model::{DocFault, Plan};
 
 /// How a run ended. `Refused` never carries want of memory.
 #[derive(Clone, Copy, Debug, PartialEq, Eq)]
@@ -21,4 +23,11 @@ pub struct Report {
     pub given: u128,
     pub taken: u128,
     pub held: u64,
+}
+
+/// A plan's roles lie in memory, so no sum of them over the nodes of a document comes to the end of its type.
+pub(crate) fn few_roles(plan: &Plan)
+    ensures { length plan.now.roles < 2 ^ 64 }
+{
+    prove!(plan.roles.items().len() <= usize::MAX);
 }

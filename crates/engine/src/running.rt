@@ -1,5 +1,5 @@
 //! A whole run, from a source to a sink.
-ghost use Rattle.std.specs.Prelude.{◌≡◌, ◌⊎◌, ◌≤◌, ◌<◌, ◌+◌, ◌++◌, ℕ, List, Option, [], None, Some, Ok, Err, false, true, length, take, OnOk, OnErr, IfSome};
+ghost use Rattle.std.specs.Prelude.{◌≡◌, ◌⊎◌, ◌≤◌, ◌<◌, ◌+◌, ◌++◌, ℕ, List, Option, [], Bool, None, Some, Ok, Err, false, true, length, take, OnOk, OnErr, IfSome};
 ghost use Rattle.gcx_base.specs.declared.limits.Limits.{Limits};
 ghost use Rattle.gcx_io.specs.Bytes.{Grows, GrowsWithin};
 ghost use Rattle.gcx_io.specs.Causes.{Rose};
@@ -7,11 +7,11 @@ ghost use Rattle.gcx_model.specs.PlanView.{plan_tree};
 ghost use Rattle.gcx_model.specs.Faults.{FaultIs};
 ghost use Rattle.gcx_model.specs.declared.fault.DocFault.{DocFault};
 ghost use Rattle.gcx_model.specs.declared.fault.DocFault.TheVariants.{Memory as Lack};
-ghost use Rattle.engine.specs.Engine.{Balanced, IsSilent, Settles, Starts, StandsOf};
-ghost use Rattle.engine.specs.Runs.{Between, EndsSo, Ran, Reports, TurnsTo, WriteFails, ended_by};
+ghost use Rattle.engine.specs.Engine.{Balanced, IsSilent, IsTold, Settles, Starts, StandsOf};
+ghost use Rattle.engine.specs.Runs.{Between, EndsSo, Numbers, Ran, Reports, TraceBetween, Traced, TraceTurnsTo, TurnsTo, WriteFails, ended_by};
 
 use crate::engine::Engine;
-use crate::report::{Ended, Report};
+use crate::report::{Ended, Report, few_roles};
 use buf_tree::Row;
 use gcx_io::{Failed, Sink, Source, write_all};
 use gcx_model::DocFault;
@@ -30,6 +30,8 @@ fn write_waiting<N: NodeStore<Row>, C: Conds, O: Sink, E: Sink>(
 ) -> Result<(), Failed>
     ensures all { OnOk result (Grows (O.taken out.old) (O.taken out.new) engine.old.out.items × (engine.new.out.items ≡ [])) }
     ensures part { OnErr result (GrowsWithin (O.taken out.old) (O.taken out.new) engine.old.out.items) }
+    ensures traced { OnOk result (Grows (E.taken err.old) (E.taken err.new) engine.old.trace.items × (engine.new.trace.items ≡ [])) }
+    ensures trace_part { OnErr result (GrowsWithin (E.taken err.old) (E.taken err.new) engine.old.trace.items) }
     ensures rest { engine.new ≡ record engine.old { out = engine.new.out; trace = engine.new.trace } }
     ensures cause { OnErr result (WriteFails (IsSilent engine.old) (O.faults out.old) (O.faults out.new) (E.faults err.old) (E.faults err.new)) }
     ensures write_count { O.faults out.old ≤ O.faults out.new }
@@ -53,6 +55,7 @@ fn end_with<N: NodeStore<Row>, C: Conds, O: Sink, E: Sink>(
     answer: Result<(), DocFault>,
 ) -> Ended
     ensures ends { EndsSo answer result (O.taken out.old) (O.taken out.new) engine.old.out.items }
+    ensures traced { EndsSo answer result (E.taken err.old) (E.taken err.new) engine.old.trace.items }
     ensures rest { engine.new ≡ record engine.old { out = engine.new.out; trace = engine.new.trace } }
     ensures write { result ≡ Ended.WriteFault → WriteFails (IsSilent engine.old) (O.faults out.old) (O.faults out.new) (E.faults err.old) (E.faults err.new) }
     ensures write_count { O.faults out.old ≤ O.faults out.new }
@@ -93,6 +96,9 @@ fn turn<N: NodeStore<Row>, C: Conds, D: Source, O: Sink, E: Sink>(
     requires size { length buf.old ≡ 65536 }
     ensures size { length buf.new ≡ 65536 }
     ensures goes { (lim : Limits) (b : List ℕ) (left taken : Option (List ℕ)) → Between C.stands lim engine.old b left (D.left doc.old) taken (O.taken out.old) → TurnsTo C.stands lim engine.new result left (D.left doc.new) taken (O.taken out.new) }
+    ensures traced { IsTold engine.old → (lim : Limits) (b : List ℕ) (left taken told : Option (List ℕ)) → Between C.stands lim engine.old b left (D.left doc.old) taken (O.taken out.old) → TraceBetween (plan_tree engine.old.plan.now) lim b engine.old.trace.items told (E.taken err.old) → TraceTurnsTo C.stands lim engine.new result left (D.left doc.new) taken (O.taken out.new) told (E.taken err.new) }
+    ensures tracing { engine.new.tracing ≡ engine.old.tracing }
+    ensures balanced { result ≡ Some Ended.Ok → engine.new.counts.given ≡ engine.new.buffer.taken }
     ensures fewer { result ≡ None → engine.old.counts.bytes < engine.new.counts.bytes }
     ensures plan { engine.new.plan ≡ engine.old.plan }
     ensures ahead { engine.new.ahead ≡ engine.old.ahead }
@@ -132,6 +138,8 @@ fn run<N: NodeStore<Row>, C: Conds, D: Source, O: Sink, E: Sink>(
 ) -> Ended
     requires starts { (lim : Limits) × Starts C.stands lim engine.old }
     ensures ran { (lim : Limits) → Starts C.stands lim engine.old → Ran C.stands lim engine.new result (D.left doc.old) (D.left doc.new) (O.taken out.old) (O.taken out.new) }
+    ensures traced { (lim : Limits) → Starts C.stands lim engine.old → IsTold engine.old → Traced (plan_tree engine.old.plan.now) lim result (D.left doc.old) (D.left doc.new) (E.taken err.old) (E.taken err.new) }
+    ensures balanced { result ≡ Ended.Ok → engine.new.counts.given ≡ engine.new.buffer.taken }
     ensures plan { engine.new.plan ≡ engine.old.plan }
     ensures ahead { engine.new.ahead ≡ engine.old.ahead }
     ensures balance { Balanced engine.new }
@@ -163,7 +171,10 @@ pub fn run_query<N: NodeStore<Row>, C: Conds, D: Source, O: Sink, E: Sink>(
 ) -> Report
     requires starts { (lim : Limits) × Starts C.stands lim engine.old }
     ensures ran { (lim : Limits) → Starts C.stands lim engine.old → Ran C.stands lim engine.new result.ended (D.left doc.old) (D.left doc.new) (O.taken out.old) (O.taken out.new) }
+    ensures traced { (lim : Limits) → Starts C.stands lim engine.old → IsTold engine.old → Traced (plan_tree engine.old.plan.now) lim result.ended (D.left doc.old) (D.left doc.new) (E.taken err.old) (E.taken err.new) }
+    ensures balanced { result.ended ≡ Ended.Ok → result.given ≡ result.taken }
     ensures report { Reports result engine.new }
+    ensures numbers { (lim : Limits) (b : List ℕ) (ended : Bool) → StandsOf C.stands lim engine.new b ended → Numbers (plan_tree engine.new.plan.now) lim b ended engine.new.ahead result }
     ensures plan { engine.new.plan ≡ engine.old.plan }
     ensures ahead { engine.new.ahead ≡ engine.old.ahead }
     ensures balance { result.taken ≤ result.given }
@@ -177,6 +188,7 @@ pub fn run_query<N: NodeStore<Row>, C: Conds, D: Source, O: Sink, E: Sink>(
     ensures loans { engine.new.buffer.loans ≡ engine.old.buffer.loans }
 {
     let ended = run(engine, alloc, doc, out, err);
+    few_roles(engine.plan);
     let counts = engine.counts();
     Report {
         ended,

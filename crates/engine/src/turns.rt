@@ -12,6 +12,7 @@ ghost use Rattle.doc_reader.specs.Standing.{said_of};
 ghost use Rattle.engine.specs.Turns.{AreWithin, Reaches, SomeTurns, Tells, TurnsOn, actions_in, turn_of, turns_of, written};
 
 use crate::engine::roles_of;
+use crate::report::few_roles;
 use buf_tree::{Buffer, Row};
 use doc_reader::Token;
 use gcx_base::Memory;
@@ -97,7 +98,7 @@ impl<'p, N: NodeStore<Row>, C: Conds> Actors<'p, N, C> {
     }
 
     fn reached(&self) -> Reached
-        ensures { (plan : PlanTree) (ts : List Said) (s : Turned) → Reaches C.stands plan ts s self.now → Tells plan ts s result }
+        ensures { (plan : PlanTree) (ts : List Said) (s : Turned) → length plan.roles < 2 ^ 64 → Reaches C.stands plan ts s self.now → Tells plan ts s result }
     {
         Reached {
             fed: self.fed,
@@ -175,5 +176,6 @@ pub fn interleave<N: NodeStore<Row> + Drop, C: Conds + Drop>(
     for turn in turns {
         actors.turn(alloc, *turn, out)?;
     }
+    few_roles(plan);
     Ok(actors.reached())
 }

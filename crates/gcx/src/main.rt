@@ -1,12 +1,15 @@
 //! The program: it makes the real shelf, the standard streams and the store of nodes, takes its words and ends with the exit status.
 #![tactic(auto)]
 
+mod help;
+
 use gcx_base::Text;
 use gcx_cmd::{Status, gcx_main};
 use gcx_io::{FileShelf, StdErr, StdOut};
+use help::{HELP, asks_for_help};
 use raw_nodes::RawNodes;
 use std::env;
-use std::io::ErrorKind;
+use std::io::{ErrorKind, Write};
 use std::process::ExitCode;
 
 /// The words after the program's name, or the code to end with.
@@ -25,23 +28,31 @@ fn words(rt: HostRuntime) -> Result<Vec<Text>, u8> {
     Ok(words)
 }
 
+/// Runs the command line that the words are.
+fn run(rt: HostRuntime, words: &[Text]) -> Status {
+    let mut files = FileShelf::new(rt);
+    let mut out = StdOut::new(rt);
+    let mut err = StdErr::new(rt);
+    let mut nodes = RawNodes::new(rt.alloc());
+    gcx_main(
+        rt.alloc(),
+        words,
+        &mut files,
+        &mut out,
+        &mut err,
+        &mut nodes,
+    )
+}
+
 fn main(rt: HostRuntime) -> ExitCode {
-    match words(rt) {
-        Ok(words) => {
-            let mut files = FileShelf::new(rt);
-            let mut out = StdOut::new(rt);
-            let mut err = StdErr::new(rt);
-            let mut nodes = RawNodes::new(rt.alloc());
-            let status = gcx_main(
-                rt.alloc(),
-                &words,
-                &mut files,
-                &mut out,
-                &mut err,
-                &mut nodes,
-            );
-            ExitCode::from(status.code())
-        }
-        Err(code) => ExitCode::from(code),
+    let words = match words(rt) {
+        Ok(words) => words,
+        Err(code) => return ExitCode::from(code),
+    };
+    let status = run(rt, &words);
+    if matches!(status, Status::Usage) && asks_for_help(&words) {
+        // A fault of standard output changes nothing: the words are no command line.
+        let _ = rt.stdout().write_all(HELP.as_bytes());
     }
+    ExitCode::from(status.code())
 }

@@ -11,12 +11,12 @@ use Rattle.gcx_model.specs.Query.{ExprTree}
 use Rattle.signoff_place.specs.Refused.{refusal_of}
 use Rattle.doc_laws.proofs.Unique.{fault_one}
 use Rattle.gcx_io.specs.Shelf.{Names, content_of, IsMissing}
-use Rattle.gcx_cmd.specs.Main.{IsRun, IsQuery, IsOneQuery, IsDocument, SaysOfQuery, SaysOfDocument, AttachesQuery, AttachesDocument, QueryFaultOf}
+use Rattle.gcx_cmd.specs.Main.{IsQuery, IsOneQuery, IsDocument, SaysOfQuery, SaysOfDocument, AttachesQuery, AttachesDocument, QueryFaultOf}
 use Rattle.gcx_cmd.proofs.Handles.{at_most_one}
 use Rattle.gcx_cmd.specs.declared.status.Status.{Status}
 use Rattle.gcx_cmd.specs.declared.status.Status.TheVariants.{Ok, Usage, QueryRefused, DocumentRefused, ReadFault, WriteFault, Memory}
 
-there : (names : Names) (name bytes : List ℕ) → content_of names name ≡ o.Some bytes → IsMissing names name → ⊥
+pub there : (names : Names) (name bytes : List ℕ) → content_of names name ≡ o.Some bytes → IsMissing names name → ⊥
 there o.None name bytes told missing = missing
 there (o.Some holds) name bytes told missing = cc
 
@@ -61,7 +61,7 @@ query_stops T status names name query f before after rose told says attaches rea
   at_most_one T status before after attaches,
 )
 
-complete_from : (status : Status) (query document : List ℕ) → SaysOfQuery status query → SaysOfDocument status document → IsQuery query → IsDocument document
+pub complete_from : (status : Status) (query document : List ℕ) → SaysOfQuery status query → SaysOfDocument status document → IsQuery query → IsDocument document
     → (status ≡ ReadFault → ⊥) → (status ≡ WriteFault → ⊥) → (status ≡ Ok) ⊎ (status ≡ Memory)
 complete_from Ok q d says_q says_d good_q good_d not_read not_write = inl refl
 complete_from Usage q d says_q says_d good_q good_d not_read not_write = absurd says_q
@@ -72,7 +72,7 @@ complete_from WriteFault q d says_q says_d good_q good_d not_read not_write = ab
 complete_from Memory q d says_q says_d good_q good_d not_read not_write = inr refl
 
 -- the document is refused, and the query isn't
-document_refused_from : (status : Status) (query document : List ℕ) (f : DocFault) → SaysOfQuery status query → SaysOfDocument status document → IsQuery query → FaultIs full_limits document true (o.Some f)
+pub document_refused_from : (status : Status) (query document : List ℕ) (f : DocFault) → SaysOfQuery status query → SaysOfDocument status document → IsQuery query → FaultIs full_limits document true (o.Some f)
     → (status ≡ ReadFault → ⊥) → (status ≡ WriteFault → ⊥) → (status ≡ DocumentRefused f) ⊎ (status ≡ Memory)
 document_refused_from Ok q d f says_q says_d good_q bad_d not_read not_write = absurd (no_some f (fault_one full_limits d true o.None (o.Some f) says_d bad_d))
 document_refused_from Usage q d f says_q says_d good_q bad_d not_read not_write = absurd says_q
@@ -94,32 +94,3 @@ says_of_query (DocumentRefused f) q before after came good = good
 says_of_query ReadFault q before after came good = tt
 says_of_query WriteFault q before after came good = good
 says_of_query Memory q before after came good = tt
-
-pub same_run : (words : List (List ℕ)) (q d q' d' : List ℕ) → IsRun words q d → IsRun words q' d' → (q ≡ q') × (d ≡ d')
-same_run words q d q' d' a b = (cc, cc)
-
-pub complete_run : (status : Status) (names : Names) (words : List (List ℕ)) (cq cd q d query document : List ℕ) (rose_read rose_write : Type 0)
-    → IsRun words cq cd → IsRun words q d → content_of names q ≡ o.Some query → content_of names d ≡ o.Some document → IsQuery query → IsDocument document
-    → ((q : List ℕ) → content_of names cq ≡ o.Some q → SaysOfQuery status q) → ((d : List ℕ) → content_of names cd ≡ o.Some d → SaysOfDocument status d)
-    → (status ≡ ReadFault → rose_read ⊎ (IsMissing names cq ⊎ IsMissing names cd)) → (status ≡ WriteFault → rose_write) → (rose_read → ⊥) → (rose_write → ⊥)
-    → (status ≡ Ok) ⊎ (status ≡ Memory)
-complete_run status names words cq cd q d query document rose_read rose_write run run' told_q told_d good_q good_d says_q says_d read write not_read not_write =
-    let same = same_run words q d cq cd run' run in
-    let at_q : content_of names cq ≡ o.Some query = subst (λ (n : List ℕ). content_of names n ≡ o.Some query) same.0 told_q in
-    let at_d : content_of names cd ≡ o.Some document = subst (λ (n : List ℕ). content_of names n ≡ o.Some document) same.1 told_d in
-    complete_from status query document (says_q query at_q) (says_d document at_d) good_q good_d
-    (λ is. ⊎_elim not_read (⊎_elim (there names cq query at_q) (there names cd document at_d)) (read is))
-    (λ is. not_write (write is))
-
-pub document_refused_run : (status : Status) (names : Names) (words : List (List ℕ)) (cq cd q d query document : List ℕ) (f : DocFault) (rose_read rose_write : Type 0)
-    → IsRun words cq cd → IsRun words q d → content_of names q ≡ o.Some query → content_of names d ≡ o.Some document → IsQuery query → FaultIs full_limits document true (o.Some f)
-    → ((q : List ℕ) → content_of names cq ≡ o.Some q → SaysOfQuery status q) → ((d : List ℕ) → content_of names cd ≡ o.Some d → SaysOfDocument status d)
-    → (status ≡ ReadFault → rose_read ⊎ (IsMissing names cq ⊎ IsMissing names cd)) → (status ≡ WriteFault → rose_write) → (rose_read → ⊥) → (rose_write → ⊥)
-    → (status ≡ DocumentRefused f) ⊎ (status ≡ Memory)
-document_refused_run status names words cq cd q d query document f rose_read rose_write run run' told_q told_d good_q bad_d says_q says_d read write not_read not_write =
-    let same = same_run words q d cq cd run' run in
-    let at_q : content_of names cq ≡ o.Some query = subst (λ (n : List ℕ). content_of names n ≡ o.Some query) same.0 told_q in
-    let at_d : content_of names cd ≡ o.Some document = subst (λ (n : List ℕ). content_of names n ≡ o.Some document) same.1 told_d in
-    document_refused_from status query document f (says_q query at_q) (says_d document at_d) good_q bad_d
-    (λ is. ⊎_elim not_read (⊎_elim (there names cq query at_q) (there names cd document at_d)) (read is))
-    (λ is. not_write (write is))

@@ -21,7 +21,7 @@ use Rattle.doc_laws.proofs.LastTag.{longest_so_far, seen_whole, seen_one}
 use Rattle.doc_laws.proofs.Pieces.{Stands as Kept}
 use Rattle.doc_laws.proofs.Theorems.{whole_spells, not_whole, spells_one}
 use Rattle.doc_laws.proofs.Unique.{clean_reads}
-use Rattle.gcx_cmd.specs.Document.{BytesSpell}
+use Rattle.tree_read.specs.Document.{BytesSpell}
 
 -- ---- want of memory is no fault of bytes
 

@@ -1,5 +1,5 @@
 -- What a sink has taken after several pieces.
-use Rattle.std.proofs.Common.{◌≡◌, ℕ, zero, suc, ◌+◌, List, [], ◌∷◌, ◌++◌, length, take, Option, Some, None, refl, sym, ap, subst, ◌∙◌, arith, append-nil, inl, inr}
+use Rattle.std.proofs.Common.{◌≡◌, ℕ, zero, suc, ◌+◌, List, [], ◌∷◌, ◌++◌, length, take, Option, Some, None, refl, sym, ap, subst, ◌∙◌, arith, append-nil, append_assoc, inl, inr}
 use Rattle.std.specs.Prelude.{Result, Ok, Err, OnOk, OnErr}
 use Rattle.gcx_io.specs.Bytes.{Grows, GrowsWithin}
 use Rattle.gcx_io.specs.Causes.{HasCause}
@@ -46,3 +46,7 @@ on_err (Err e) P Q f h = f h
 pub line_taken : {T E : Type 0} (r : Result T E) (a b : Option (List ℕ)) (before now : ℕ) (line said : List ℕ) → OnOk r (Grows a b line) → OnErr r (GrowsWithin a b line) → HasCause before now r → line ≡ said → TakesLine a b before now said
 line_taken (Ok x) a b before now line said all part cause e = subst (λ (l : List ℕ). TakesLine a b before now l) e (record { part = grows_whole a b line all; whole = inl all; later = cause.later })
 line_taken (Err x) a b before now line said all part cause e = subst (λ (l : List ℕ). TakesLine a b before now l) e (record { part = part; whole = inr cause.failed; later = cause.later })
+
+-- what stands behind a piece, behind the piece too
+pub behind : (a b e x rest : List ℕ) → b ≡ a ++ x → e ≡ b ++ rest → e ≡ a ++ (x ++ rest)
+behind a b e x rest first all = all ∙ ap (λ (l : List ℕ). l ++ rest) first ∙ append_assoc a x rest

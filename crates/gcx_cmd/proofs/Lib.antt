@@ -1,4 +1,3 @@
-pub mod Lists
 pub mod Complete
 pub mod Growing
 pub mod Documents
@@ -8,3 +7,12 @@ pub mod Runs
 pub mod Left
 pub mod Stopping
 pub mod Handles
+pub mod Ends
+pub mod Answered
+mod Texts
+pub mod Measured
+pub mod Traces
+pub mod Peaking
+pub mod Obeyed
+pub mod Finished
+pub mod Selfrun

@@ -3,7 +3,6 @@ use Rattle.std.proofs.Common.{◌≡◌, ℕ, ◌+◌, ◌-◌, ◌≤◌, Bool,
 use Rattle.std.specs.FinMap.{empty}
 use Rattle.gcx_base.specs.Limits.{full_limits}
 use Rattle.gcx_io.specs.Bytes.{Grows, GrowsWithin}
-use Rattle.gcx_io.specs.Shelf.{Names, content_of}
 use Rattle.gcx_model.specs.Answer.{answer}
 use Rattle.gcx_model.specs.Core.{PlanTree}
 use Rattle.gcx_model.specs.Demand.{peak_of}
@@ -34,9 +33,10 @@ use Rattle.engine.specs.declared.report.Ended.{Ended}
 use Rattle.engine.specs.declared.report.Ended.TheVariants as end
 use Rattle.gcx_cmd.specs.declared.status.Status.{Status}
 use Rattle.gcx_cmd.specs.declared.status.Status.TheVariants.{Ok, Memory}
-use Rattle.gcx_cmd.specs.Document.{BytesSpell}
+use Rattle.tree_read.specs.Document.{BytesSpell}
 use Rattle.gcx_cmd.specs.Main.{HasNoMemory}
-use Rattle.gcx_cmd.specs.Running.{Gave, Settles, WritesAll, Lags, Ends, RowsAre, held_by, Holds, Ran, IsPlanOf, IsPlaced}
+use Rattle.gcx_cmd.specs.Running.{Settles, WritesAll, Lags, Ends, RowsAre, held_by, Holds, Ran, IsPlanOf, IsPlaced}
+use Rattle.tree_read.specs.Reading.{Gave}
 use Rattle.gcx_cmd.specs.Status.{ended_status}
 use Rattle.gcx_cmd.specs.Stopping.{SaysOfGiven}
 use Rattle.gcx_cmd.proofs.Documents.{no_memory, none_at_start, seen_document, one_spelled, all_closed}
@@ -108,14 +108,14 @@ module _ (plan : PlanTree) (ts : List Token) (v : View) (fed : ℕ) (st : Stands
       (rows_are m v.rows s (past_at plan (seen_tree ts) (length (actions plan (seen_tree ts))) fed) (held plan (seen_tree ts) (so_far plan (seen_tree ts) (length (actions plan (seen_tree ts))))) st.rows)
 
   -- what the store holds
-  pub holds_on : (q : List ExprTree) (m : Store) (most : ℕ) → plan ≡ plan_of (normal q) → Shape m v.rows → Peaks (peak_of plan ts) 1 v.most → most ≡ v.most → Holds q ts m most
-  holds_on q m most is s p e =
+  pub holds_on : (q : List ExprTree) (ahead : ℕ) (m : Store) (most : ℕ) → plan ≡ plan_of (normal q) → Shape m v.rows → Peaks (peak_of plan ts) ahead v.most → most ≡ v.most → Holds q ahead ts m most
+  holds_on q ahead m most is s p e =
       let least : peak_of plan ts ≤ most = let a = p.least in let b = e in omega arith in
-      let near : most ≤ peak_of plan ts + 1 = let a = p.near in let b = e in omega arith in
+      let near : most ≤ peak_of plan ts + ahead = let a = p.near in let b = e in omega arith in
       record {
         rows_are = subst (λ (x : PlanTree). RowsAre m (seen_tree ts) (held_by x (seen_tree ts))) is (rows_on m s);
         least = subst (λ (x : PlanTree). peak_of x ts ≤ most) is least;
-        most_is = subst (λ (x : PlanTree). most ≤ peak_of x ts + 1) is near;
+        most_is = subst (λ (x : PlanTree). most ≤ peak_of x ts + ahead) is near;
       }
 
   -- behind a whole document none is left
@@ -134,8 +134,8 @@ within_none a w = record { count = 0; taken = grows_none a }
 settles_none : (q : List ExprTree) → (w : List ℕ) × Settles q [] false w
 settles_none q = let s = found_seen full_limits [] false in (known q (seen_tree s.0), (s.0, s.1, refl))
 
-pub ran_nothing : (q : List ExprTree) (left taken : Option (List ℕ)) (rows : Store) (most : ℕ) → Ran q Memory left left taken taken rows most
-ran_nothing q left taken rows most =
+pub ran_nothing : (q : List ExprTree) (ahead : ℕ) (left taken : Option (List ℕ)) (rows : Store) (most : ℕ) → Ran q ahead Memory left left taken taken rows most
+ran_nothing q ahead left taken rows most =
     let w = settles_none q in
     record {
       bytes = [];
@@ -149,9 +149,9 @@ ran_nothing q left taken rows most =
 
 -- ---- at Ok the answer is written
 
-pub answer_written : (q : List ExprTree) (bytes : List ℕ) (d : Nodes) (left_after taken_before taken_after : Option (List ℕ)) (rows : Store) (most : ℕ) → is_sound q ≡ true → BytesSpell bytes d
-    → Ran q Ok (Some bytes) left_after taken_before taken_after rows most → Grows taken_before taken_after (answer q d)
-answer_written q bytes d left_after taken_before taken_after rows most sound spelled ran =
+pub answer_written : (q : List ExprTree) (ahead : ℕ) (bytes : List ℕ) (d : Nodes) (left_after taken_before taken_after : Option (List ℕ)) (rows : Store) (most : ℕ) → is_sound q ≡ true → BytesSpell bytes d
+    → Ran q ahead Ok (Some bytes) left_after taken_before taken_after rows most → Grows taken_before taken_after (answer q d)
+answer_written q ahead bytes d left_after taken_before taken_after rows most sound spelled ran =
     let all : bytes ≡ ran.bytes = given_all bytes ran.bytes left_after ran.gave.moved (ran.gave.at_end ran.end.0) in
     let written : WritesAll q ran.bytes true taken_before taken_after = ran.end.2 in
     let w = seen_document full_limits ran.bytes written.1.0 ran.end.1 written.1.1 in
@@ -159,12 +159,13 @@ answer_written q bytes d left_after taken_before taken_after rows most sound spe
     let is : written.0 ≡ answer q d = written.1.2 ∙ ap (known q) (w.tree_is ∙ ap tree_of (sym same)) ∙ normal_law q sound d in
     subst (λ (l : List ℕ). Grows taken_before taken_after l) is written.2
 
-pub answer_told : (q : List ExprTree) (status : Status) (told_before : Option (List ℕ)) (bytes : List ℕ) (d : Nodes) (left_after taken_before taken_after : Option (List ℕ)) (rows : Store) (most : ℕ) → status ≡ Ok → told_before ≡ Some bytes → is_sound q ≡ true → BytesSpell bytes d
-    → Ran q status told_before left_after taken_before taken_after rows most → Grows taken_before taken_after (answer q d)
-answer_told q status told_before bytes d left_after taken_before taken_after rows most ok told sound spelled ran =
-    answer_written q bytes d left_after taken_before taken_after rows most sound spelled
-    (subst (λ (o : Option (List ℕ)). Ran q Ok o left_after taken_before taken_after rows most) told
-    (subst (λ (s : Status). Ran q s told_before left_after taken_before taken_after rows most) ok ran))
+pub answer_told : (q : List ExprTree) (ahead : ℕ) (status : Status) (told_before : Option (List ℕ)) (bytes : List ℕ) (d : Nodes) (left_after taken_before taken_after : Option (List ℕ)) (rows : Store) (most : ℕ) → status ≡ Ok → told_before ≡ Some bytes → is_sound q ≡ true → BytesSpell bytes d
+    → Ran q ahead status told_before left_after taken_before taken_after rows most → Grows taken_before taken_after (answer q d)
+answer_told q ahead status told_before bytes d left_after taken_before taken_after rows most ok told sound spelled ran =
+    answer_written q ahead bytes d left_after taken_before taken_after rows most sound spelled
+    (subst (λ (o : Option (List ℕ)). Ran q ahead Ok o left_after taken_before taken_after rows most) told
+    (subst (λ (s : Status). Ran q ahead s told_before left_after taken_before taken_after rows most) ok ran))
 
-pub ran_named : (names : Names) (d e : List ℕ) (q : List ExprTree) (status : Status) (left_after taken_before taken_after : Option (List ℕ)) (rows : Store) (most : ℕ) → d ≡ e → Ran q status (content_of names e) left_after taken_before taken_after rows most → Ran q status (content_of names d) left_after taken_before taken_after rows most
-ran_named names d e q status left_after taken_before taken_after rows most same ran = subst (λ (n : List ℕ). Ran q status (content_of names n) left_after taken_before taken_after rows most) (sym same) ran
+-- the same of a run that ended so
+pub ran_lost : (q : List ExprTree) (ahead : ℕ) (x : Ended) (left taken : Option (List ℕ)) (rows : Store) (most : ℕ) → x ≡ end.Memory → Ran q ahead (ended_status x) left left taken taken rows most
+ran_lost q ahead x left taken rows most is = subst (λ (y : Ended). Ran q ahead (ended_status y) left left taken taken rows most) (sym is) (ran_nothing q ahead left taken rows most)

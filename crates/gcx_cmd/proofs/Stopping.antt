@@ -10,8 +10,15 @@ use Rattle.doc_laws.proofs.Pieces.{fault_stays}
 use Rattle.gcx_cmd.specs.declared.status.Status.{Status}
 use Rattle.gcx_cmd.specs.declared.status.Status.TheVariants.{Ok, Usage, QueryRefused, DocumentRefused, ReadFault, WriteFault, Memory}
 use Rattle.gcx_cmd.specs.Main.{SaysOfDocument, AttachesDocument}
-use Rattle.gcx_cmd.specs.Running.{Gave}
-use Rattle.gcx_cmd.specs.Stopping.{DocumentGave, SaysOfGiven}
+use Rattle.tree_read.specs.Reading.{Gave}
+use Rattle.gcx_cmd.specs.Stopping.{SaysOfGiven, SaysOfRead}
+use Rattle.tree_read.specs.Reading.{DocumentGave}
+use Rattle.gcx_cmd.specs.ReadEnd.{document_status}
+use Rattle.std.specs.declared.result.Result.TheVariants as r
+use Rattle.gcx_model.specs.Tree.{Tree}
+use Rattle.tree_read.specs.Document.{Finds}
+use Rattle.tree_read.specs.declared.reading.DocumentEnd.{DocumentEnd}
+use Rattle.tree_read.specs.declared.reading.DocumentEnd.TheVariants as end
 use Rattle.gcx_cmd.proofs.Documents.{none_at_start, consumes_none}
 
 -- ---- nothing was read
@@ -68,3 +75,22 @@ run_gave names behind name n m left P same next g =
 -- where two handles were given, DOC's is the second
 pub behind_one : (before between after : ℕ) → between ≡ before + 1 → after ≡ before + 2 → after ≡ between + 1
 behind_one before between after one two = let a = one in let b = two in omega arith
+
+-- ---- DOC as a tree
+
+-- what is said of the bytes that were given leads to something else
+pub gave_so : (a c : Option (List ℕ)) (P Q : List ℕ → Bool → Type 0) → ((b : List ℕ) (ended : Bool) → P b ended → Q b ended) → DocumentGave a c P → DocumentGave a c Q
+gave_so a c P Q f g = record { bytes = g.bytes; ended = g.ended; gave = g.gave; earlier = g.earlier; bound = g.bound; says = f g.bytes g.ended g.says }
+
+pub tree_says : (tree : Tree) (a c : Option (List ℕ)) → DocumentGave a c (Finds (r.Ok tree)) → DocumentGave a c (SaysOfRead (r.Ok tree))
+tree_says tree a c g = gave_so a c (Finds (r.Ok tree)) (SaysOfRead (r.Ok tree)) (λ b ended h. (h.0, h.1.no_fault)) g
+
+pub end_says : (T : Type 0) (e : DocumentEnd) (a c : Option (List ℕ)) → DocumentGave a c (Finds (r.Err e)) → DocumentGave a c (SaysOfRead {T = T} (r.Err (document_status e)))
+end_says T (end.Refused f) a c g = gave_so a c (Finds (r.Err (end.Refused f))) (SaysOfRead {T = T} (r.Err (document_status (end.Refused f)))) (λ b ended h. h) g
+end_says T end.Fault a c g = gave_so a c (Finds (r.Err end.Fault)) (SaysOfRead {T = T} (r.Err (document_status end.Fault))) (λ b ended h. h) g
+end_says T end.Memory a c g = gave_so a c (Finds (r.Err end.Memory)) (SaysOfRead {T = T} (r.Err (document_status end.Memory))) (λ b ended h. h) g
+
+pub end_given : (e : DocumentEnd) (bytes : List ℕ) (left : Option (List ℕ)) → DocumentGave (Some bytes) left (Finds (r.Err e)) → SaysOfDocument (document_status e) bytes
+end_given (end.Refused f) bytes left g = fault_given bytes g.bytes g.ended f left g.gave g.says
+end_given end.Fault bytes left g = tt
+end_given end.Memory bytes left g = tt

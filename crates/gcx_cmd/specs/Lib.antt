@@ -1,9 +1,13 @@
 pub mod Main
+pub mod Commands
+pub mod Accepted
 pub mod Running
 pub mod Stopping
 pub mod Status
 pub mod ReadEnd
 pub mod Reading
-pub mod Document
 pub mod Diagnosis
 pub mod Lines
+pub mod Texts
+pub mod Tracing
+pub mod Measuring

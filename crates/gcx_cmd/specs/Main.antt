@@ -1,12 +1,10 @@
--- The words of the command line, and how a run ends (this project's).
-use Rattle.std.specs.Prelude.{◌≡◌, ◌≢◌, ◌⊎◌, ◌≤◌, ◌<◌, ℕ, ◌+◌, List, [], ◌∷◌, codes, true, ⊤}
+-- The files of a command, and how it ends (this project's).
+use Rattle.std.specs.Prelude.{◌≡◌, ◌≢◌, ◌⊎◌, ◌≤◌, ◌<◌, ℕ, ◌+◌, List, true, ⊤}
 use Rattle.std.specs.declared.option.Option.{Option}
 use Rattle.std.specs.declared.option.Option.TheVariants as option
 use Rattle.std.specs.declared.result.Result.{Result}
 use Rattle.std.specs.declared.result.Result.TheVariants as result
 use Rattle.gcx_base.specs.Limits.{full_limits}
-use Rattle.gcx_io.specs.Shelf.{Names, IsMissing}
-use Rattle.gcx_model.specs.Core.{PlanTree}
 use Rattle.gcx_model.specs.Query.{ExprTree}
 use Rattle.gcx_model.specs.Sound.{is_sound}
 use Rattle.gcx_model.specs.Normal.{normal}
@@ -17,19 +15,20 @@ use Rattle.gcx_model.specs.declared.fault.QueryFault.TheVariants as query_fault
 use Rattle.xq_parse.specs.Spelling.{QuerySpells}
 use Rattle.xq_parse.specs.Faults.{TextFaultOf, HasOnlyQuery, HasOnlyRefusal}
 use Rattle.signoff_place.specs.Refused.{refusal_of}
-use Rattle.gcx_cmd.specs.Running.{IsPlanOf}
 use Rattle.gcx_cmd.specs.declared.status.Status.{Status}
 use Rattle.gcx_cmd.specs.declared.status.Status.TheVariants.{Ok, Usage, QueryRefused, DocumentRefused, ReadFault, WriteFault, Memory}
-
--- the words are `run` and these two
-abbrev pub IsRun : List (List ℕ) → List ℕ → List ℕ → Type 0
-IsRun words query document = words ≡ codes "run" ∷ query ∷ document ∷ []
 
 -- The bytes spell the query, which is sound, and its core passes no limit.
 pub record Accepts (bytes : List ℕ) (q : List ExprTree) : Type 0 where
   pub spells : QuerySpells bytes q
   pub sound : is_sound q ≡ true
   pub within : refusal_of (normal q) ≡ option.None
+
+-- The bytes spell this query and no other one, and it is sound.
+pub record SpellsOne (bytes : List ℕ) (q : List ExprTree) : Type 0 where
+  pub spells : QuerySpells bytes q
+  pub sound : is_sound q ≡ true
+  pub only : HasOnlyQuery bytes q
 
 -- the bytes are an accepted query
 abbrev pub IsQuery : List ℕ → Type 0
@@ -38,10 +37,6 @@ IsQuery bytes = (q : List ExprTree) × Accepts bytes q
 -- The bytes are an accepted query, they spell no other one, and nothing is wrong with them.
 abbrev pub IsOneQuery : List ℕ → Type 0
 IsOneQuery bytes = (q : List ExprTree) × Accepts bytes q × HasOnlyQuery bytes q
-
--- the plan is that of the one query that the bytes spell
-abbrev pub IsPlanOfBytes : List ℕ → PlanTree → Type 0
-IsPlanOfBytes bytes plan = (q : List ExprTree) × Accepts bytes q × HasOnlyQuery bytes q × IsPlanOf q plan
 
 -- Something is wrong with the text: this, and nothing else.
 abbrev pub HasTextFault : List ℕ → QueryFault → Type 0
@@ -97,15 +92,15 @@ GivesAtMost most before after = (before ≤ after) × (after ≤ before + most)
 abbrev pub KeepsGiven : ℕ → (before after : ℕ → Option (List ℕ)) → Type 0
 KeepsGiven count before after = (k : ℕ) → k < count → after k ≡ before k
 
--- how many handles are given more: DOC is attached behind QUERY
-abbrev pub Attaches : Status → ℕ → ℕ → Type 0
-Attaches Ok before after = after ≡ before + 2
-Attaches Usage before after = after ≡ before
-Attaches (QueryRefused f) before after = after ≡ before + 1
-Attaches (DocumentRefused f) before after = after ≡ before + 2
-Attaches ReadFault before after = GivesAtMost 2 before after
-Attaches WriteFault before after = after ≡ before + 2
-Attaches Memory before after = GivesAtMost 2 before after
+-- how many handles are given more, where the command reads so many files: DOC is attached behind QUERY
+abbrev pub Attaches : (files : ℕ) → Status → ℕ → ℕ → Type 0
+Attaches files Ok before after = after ≡ before + files
+Attaches files Usage before after = after ≡ before
+Attaches files (QueryRefused f) before after = after ≡ before + 1
+Attaches files (DocumentRefused f) before after = after ≡ before + files
+Attaches files ReadFault before after = GivesAtMost files before after
+Attaches files WriteFault before after = after ≡ before + files
+Attaches files Memory before after = GivesAtMost files before after
 
 -- QUERY is attached, where it was read
 abbrev pub AttachesQuery : {T : Type 0} → Result T Status → ℕ → ℕ → Type 0
@@ -125,9 +120,10 @@ AttachesDocument ReadFault before after = GivesAtMost 1 before after
 AttachesDocument WriteFault before after = after ≡ before + 1
 AttachesDocument Memory before after = GivesAtMost 1 before after
 
--- the words are `run` and two names, and the shelf tells its names and one of these isn't there
-pub record LacksFile (words : List (List ℕ)) (names : Names) : Type 0 where
-  pub query_name : List ℕ
-  pub document_name : List ℕ
-  pub run : IsRun words query_name document_name
-  pub missing : IsMissing names query_name ⊎ IsMissing names document_name
+-- DOC is attached, where it was read
+abbrev pub StopsDocument : {T : Type 0} → Result T Status → ℕ → ℕ → Type 0
+StopsDocument (result.Ok x) before after = after ≡ before + 1
+StopsDocument (result.Err (DocumentRefused f)) before after = after ≡ before + 1
+StopsDocument (result.Err ReadFault) before after = GivesAtMost 1 before after
+StopsDocument (result.Err Memory) before after = GivesAtMost 1 before after
+StopsDocument (result.Err status) before after = ⊥

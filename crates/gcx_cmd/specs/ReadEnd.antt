@@ -1,6 +1,8 @@
 -- How a run ends where a file isn't read (this project's).
 use Rattle.gcx_model.specs.declared.fault.QueryFault.{QueryFault}
 use Rattle.gcx_model.specs.declared.fault.QueryFault.TheVariants as query
+use Rattle.tree_read.specs.declared.reading.DocumentEnd.{DocumentEnd}
+use Rattle.tree_read.specs.declared.reading.DocumentEnd.TheVariants as document
 use Rattle.gcx_cmd.specs.declared.reading.ReadEnd.{ReadEnd}
 use Rattle.gcx_cmd.specs.declared.reading.ReadEnd.TheVariants as end
 use Rattle.gcx_cmd.specs.declared.status.Status.{Status}
@@ -9,6 +11,11 @@ use Rattle.gcx_cmd.specs.declared.status.Status.TheVariants as status
 abbrev pub status_of : ReadEnd → Status
 status_of end.Fault = status.ReadFault
 status_of end.Memory = status.Memory
+
+abbrev pub document_status : DocumentEnd → Status
+document_status (document.Refused f) = status.DocumentRefused f
+document_status document.Fault = status.ReadFault
+document_status document.Memory = status.Memory
 
 -- the status of a query that isn't accepted
 abbrev pub query_status : QueryFault → Status

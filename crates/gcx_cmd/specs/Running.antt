@@ -1,8 +1,8 @@
 -- What a run reads, writes and leaves in the lent store (this project's).
 use Rattle.std.specs.Prelude.{◌≡◌, ◌≤◌, ◌<◌, ℕ, ◌+◌, ◌-◌, Bool, true, false, List, [], ◌∷◌, ◌++◌, length, flat_map, take, Option, Some, None, option_map, option_and_then, ⊤}
 use Rattle.std.specs.FinMap as store
-use Rattle.std.specs.Io.KnownBytes.{Consumes, IsAtEnd}
 use Rattle.gcx_base.specs.Limits.{full_limits}
+use Rattle.tree_read.specs.Reading.{Gave}
 use Rattle.gcx_io.specs.Bytes.{Grows, GrowsWithin}
 use Rattle.gcx_model.specs.Tree.{Node, serial_of, kind_of, Tree, Token, is_open_at}
 use Rattle.gcx_model.specs.Members.{In}
@@ -21,11 +21,6 @@ use Rattle.node_store.specs.Rows.{Entry, Rows}
 use Rattle.buf_tree.specs.declared.row.Row.{Row}
 use Rattle.gcx_cmd.specs.declared.status.Status.{Status}
 use Rattle.gcx_cmd.specs.declared.status.Status.TheVariants.{Ok, Usage, QueryRefused, DocumentRefused, ReadFault, WriteFault, Memory}
-
--- What a source gave: these bytes, and where `ended` the end. Where it doesn't tell, they are some bytes.
-pub record Gave (before after : Option (List ℕ)) (bytes : List ℕ) (ended : Bool) : Type 0 where
-  pub moved : Consumes before after bytes
-  pub at_end : ended ≡ true → IsAtEnd after
 
 -- w is what the query's meaning settles from the tags read in the bytes
 abbrev pub Settles : List ExprTree → List ℕ → (ended : Bool) → List ℕ → Type 0
@@ -91,19 +86,19 @@ abbrev pub held_by : PlanTree → Tree → List Node
 held_by plan P = held plan P (actions plan P)
 
 -- The store has the rows of the nodes that are open or have an untaken role in their subtree, and never had more than that
--- in the state behind a token, but for one.
-pub record Holds (q : List ExprTree) (ts : List Token) (rows : Rows Row) (most : ℕ) : Type 0 where
+-- in the state behind a token, but for as many as are fed at once.
+pub record Holds (q : List ExprTree) (ahead : ℕ) (ts : List Token) (rows : Rows Row) (most : ℕ) : Type 0 where
   pub rows_are : RowsAre rows (seen_tree ts) (held_by (plan_of (normal q)) (seen_tree ts))
   pub least : peak_of (plan_of (normal q)) ts ≤ most
-  pub most_is : most ≤ peak_of (plan_of (normal q)) ts + 1
+  pub most_is : most ≤ peak_of (plan_of (normal q)) ts + ahead
 
 abbrev pub UnlessMemory : Status → Type 0 → Type 0
 UnlessMemory Memory X = ⊤
 UnlessMemory status X = X
 
--- A run of the query: what DOC gave, how the status speaks of it and of what was written, and what the store holds by the
--- tags read.
-pub record Ran (q : List ExprTree) (status : Status) (left_before left_after taken_before taken_after : Option (List ℕ)) (rows : Rows Row) (most : ℕ) : Type 0 where
+-- A run of the query, `ahead` tokens at once: what DOC gave, how the status speaks of it and of what was written, and what the
+-- store holds by the tags read.
+pub record Ran (q : List ExprTree) (ahead : ℕ) (status : Status) (left_before left_after taken_before taken_after : Option (List ℕ)) (rows : Rows Row) (most : ℕ) : Type 0 where
   pub bytes : List ℕ
   pub ended : Bool
   pub gave : Gave left_before left_after bytes ended
@@ -111,7 +106,7 @@ pub record Ran (q : List ExprTree) (status : Status) (left_before left_after tak
   pub earlier : FaultIs full_limits (take (length bytes - 65536) bytes) false None
   pub bound : length bytes ≤ full_limits.bytes + 65536
   pub end : Ends q status bytes ended taken_before taken_after
-  pub holds : UnlessMemory status ((ts : List Token) × SeenIs full_limits bytes ended ts × Holds q ts rows most)
+  pub holds : UnlessMemory status ((ts : List Token) × SeenIs full_limits bytes ended ts × Holds q ahead ts rows most)
 
 -- The plan is that of the query.
 pub record IsPlanOf (q : List ExprTree) (plan : PlanTree) : Type 0 where

@@ -4,10 +4,12 @@
 mod command;
 mod diagnosis;
 mod files;
+mod lines;
+mod measuring;
 mod reading;
 mod running;
 mod status;
-mod words;
+mod whole;
 
 pub use command::gcx_main;
 pub use status::Status;

@@ -1,5 +1,7 @@
+mod Caused
 pub mod Grown
 pub mod Moved
-pub mod Found
-pub mod Rests
-pub mod Caused
+mod Places
+mod Mapped
+mod Handles
+mod Shelves

@@ -1,13 +1,14 @@
 -- Files in memory: names and what they hold, and what each handle has left (this project's).
-use Rattle.std.specs.Prelude.{ℕ, List, [], ◌∷◌, slice_get, unwrap_or, if◌then◌else◌}
+use Rattle.std.specs.Prelude.{ℕ, zero, suc, List, [], ◌∷◌, drop, unwrap_or, if◌then◌else◌}
 use Rattle.std.specs.Str.{bytes_eq}
 use Rattle.std.specs.declared.option.Option.{Option}
 use Rattle.std.specs.declared.option.Option.TheVariants.{Some, None}
 
--- a name and what it holds
+-- a name and what it holds, and how many more bytes there is surely room for
 pub record File : Type 0 where
   pub name : List ℕ
   pub bytes : List ℕ
+  pub room : ℕ
 
 -- what a name holds: the bytes of the first file of that name, None where there is none
 abbrev pub held : List File → List ℕ → Option (List ℕ)
@@ -18,10 +19,39 @@ held (file ∷ files) name = if bytes_eq file.name name then Some file.bytes els
 abbrev pub held_or_none : List File → List ℕ → List ℕ
 held_or_none files name = unwrap_or (held files name) []
 
+-- the room of the first file of that name, none where there is none
+abbrev pub room_of : List File → List ℕ → ℕ
+room_of [] name = 0
+room_of (file ∷ files) name = if bytes_eq file.name name then file.room else room_of files name
+
 -- the name holds these bytes now, whatever it held, and the others hold what they held
-abbrev pub mapped : List ℕ → List ℕ → List File → List File
-mapped name bytes files = record { name = name; bytes = bytes } ∷ files
+abbrev pub mapped : List ℕ → List ℕ → (room : ℕ) → List File → List File
+mapped name bytes room files = record { name = name; bytes = bytes; room = room } ∷ files
+
+-- the same, in the place of the first file of that name, or behind the others
+abbrev pub with_file : File → List File → List File
+with_file file [] = file ∷ []
+with_file file (f ∷ fs) = if bytes_eq f.name file.name then file ∷ fs else f ∷ with_file file fs
+
+-- a handle: its name, and what it has left
+pub record Opening : Type 0 where
+  pub name : List ℕ
+  pub rest : List ℕ
 
 -- what the handle of this number has left, [] where there is no such handle
-abbrev pub rest_at : List (List ℕ) → ℕ → List ℕ
-rest_at rests handle = unwrap_or (slice_get rests handle) []
+abbrev pub rest_at : List Opening → ℕ → List ℕ
+rest_at [] handle = []
+rest_at (o ∷ os) zero = o.rest
+rest_at (o ∷ os) (suc handle) = rest_at os handle
+
+-- the name of the handle of this number, [] where there is no such handle
+abbrev pub name_at : List Opening → ℕ → List ℕ
+name_at [] handle = []
+name_at (o ∷ os) zero = o.name
+name_at (o ∷ os) (suc handle) = name_at os handle
+
+-- n bytes more were read of the handle of this number
+abbrev pub read_at : List Opening → ℕ → (n : ℕ) → List Opening
+read_at [] handle n = []
+read_at (o ∷ os) zero n = record { name = o.name; rest = drop n o.rest } ∷ os
+read_at (o ∷ os) (suc handle) n = o ∷ read_at os handle n

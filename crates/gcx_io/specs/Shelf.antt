@@ -1,5 +1,5 @@
--- How a shelf is seen: what each name holds, and what each handle has left (this project's).
-use Rattle.std.specs.Prelude.{◌≡◌, ◌≢◌, ℕ, ◌+◌, ◌<◌, List}
+-- How a shelf is seen: what each name holds, and the name of each handle and what it has left (this project's).
+use Rattle.std.specs.Prelude.{◌≡◌, ◌≢◌, ◌⊎◌, ℕ, ◌+◌, ◌<◌, List, [], ◌++◌, unwrap_or, ⊤}
 use Rattle.std.specs.declared.option.Option.{Option}
 use Rattle.std.specs.declared.option.Option.TheVariants.{Some, None}
 
@@ -17,6 +17,11 @@ abbrev pub IsMissing : Names → List ℕ → Type 0
 IsMissing None name = ⊥
 IsMissing (Some holds) name = holds name ≡ None
 
+-- the shelf tells its names
+abbrev pub IsTelling : Names → Type 0
+IsTelling None = ⊥
+IsTelling (Some holds) = ⊤
+
 -- a handle is added, behind those that were given, with all of these bytes left
 pub record Adds (before after : ℕ) (left_before left_after : ℕ → Option (List ℕ)) (content : Option (List ℕ)) (handle : ℕ) : Type 0 where
   pub number : handle ≡ before
@@ -24,6 +29,33 @@ pub record Adds (before after : ℕ) (left_before left_after : ℕ → Option (L
   pub bytes : left_after handle ≡ content
   pub others : (k : ℕ) → k < before → left_after k ≡ left_before k
 
+-- the handle behind those that were given has this name, and they have theirs
+pub record AddsName (names : Names) (before after : ℕ → Option (List ℕ)) (name : List ℕ) (handle : ℕ) : Type 0 where
+  pub owner : IsTelling names → after handle ≡ Some name
+  pub others : (k : ℕ) → k < handle → after k ≡ before k
+
 -- no other handle has anything else left
 abbrev pub LeavesOthers : (ℕ → Option (List ℕ)) → (ℕ → Option (List ℕ)) → ℕ → Type 0
 LeavesOthers before after handle = (k : ℕ) → k ≢ handle → after k ≡ before k
+
+-- the name holds these bytes, and every other name what it held
+abbrev pub Maps : (before after : Names) → (name bytes : List ℕ) → Type 0
+Maps None None name bytes = ⊤
+Maps None (Some after) name bytes = ⊥
+Maps (Some before) None name bytes = ⊥
+Maps (Some before) (Some after) name bytes = (after name ≡ Some bytes) × ((other : List ℕ) → other ≢ name → after other ≡ before other)
+
+-- The bytes stand behind what the name of a handle held, and every other name holds what it held. The shelf may stop telling.
+abbrev pub Appends : (before after : Names) → (owner : Option (List ℕ)) → (bytes : List ℕ) → Type 0
+Appends None None owner bytes = ⊤
+Appends None (Some after) owner bytes = ⊥
+Appends (Some before) None owner bytes = ⊤
+Appends (Some before) (Some after) owner bytes = (name : List ℕ) → owner ≡ Some name → Maps (Some before) (Some after) name (unwrap_or (before name) [] ++ bytes)
+
+-- It is as before, or isn't told any more.
+abbrev pub Stays : (before after : Option (List ℕ)) → Type 0
+Stays before after = (after ≡ before) ⊎ (after ≡ None)
+
+-- the handles of other names have left what they had
+abbrev pub LeavesOtherNames : (owners before after : ℕ → Option (List ℕ)) → (count : ℕ) → (owner : Option (List ℕ)) → Type 0
+LeavesOtherNames owners before after count owner = (k : ℕ) → k < count → owners k ≢ owner → Stays (before k) (after k)

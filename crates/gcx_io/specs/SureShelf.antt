@@ -1,25 +1,25 @@
 -- How a shelf is seen that never fails and holds every name (this project's).
-use Rattle.std.specs.Prelude.{ℕ, List, Bool, length, slice_get}
+use Rattle.std.specs.Prelude.{ℕ, List}
 use Rattle.std.specs.declared.option.Option.{Option}
-use Rattle.std.specs.declared.option.Option.TheVariants.{Some}
-use Rattle.gcx_io.specs.Held.{File, held_or_none}
+use Rattle.gcx_io.specs.Files.{OpenFiles, all_names, rests, owners, handle_count}
 use Rattle.gcx_io.specs.Shelf.{Names}
 
--- the files that it was given, what each handle has left, whether all that was taken is kept, and the room of
--- a file that is made
+-- the files that it was given and the handles, and the room of a file that is made
 pub record SureShelfState : Type 0 where
-  pub files : List File
-  pub rests : List (List ℕ)
-  pub whole : Bool
+  pub kept : OpenFiles
   pub room : ℕ
 
 -- what each name holds: one that the shelf wasn't given holds no bytes
 abbrev pub sure_names : SureShelfState → Names
-sure_names s = Some (λ name. Some (held_or_none s.files name))
+sure_names s = all_names s.kept
 
 -- what each handle has left
 abbrev pub sure_left : SureShelfState → ℕ → Option (List ℕ)
-sure_left s = slice_get s.rests
+sure_left s = rests s.kept
+
+-- the name of each handle
+abbrev pub sure_named : SureShelfState → ℕ → Option (List ℕ)
+sure_named s = owners s.kept
 
 abbrev pub sure_handles : SureShelfState → ℕ
-sure_handles s = length s.rests
+sure_handles s = handle_count s.kept

@@ -38,6 +38,24 @@ impl Calls {
         self.made = self.made.saturating_add(1);
     }
 
+    /// Counts a call that fails whatever its number is.
+    pub fn fail(&mut self)
+        ensures calls { self.new ≡ failed self.old }
+        ensures later { self.old.faults ≤ self.new.faults }
+    {
+        self.made = self.made.saturating_add(1);
+        self.faults = self.faults.saturating_add(1);
+    }
+
+    /// Counts a call, and says whether it is to fail. Its fault is counted elsewhere.
+    pub fn is_due(&mut self) -> bool
+        ensures which { IsTrue result ↔ IsToFail self.old }
+        ensures calls { self.new ≡ passed self.old }
+    {
+        self.made = self.made.saturating_add(1);
+        self.fails.contains(&self.made)
+    }
+
     /// Counts a call, and a fault where it is to fail, and says whether it is.
     pub fn is_failing(&mut self) -> bool
         ensures which { IsTrue result ↔ IsToFail self.old }

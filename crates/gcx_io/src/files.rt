@@ -1,10 +1,9 @@
-ghost use Rattle.std.specs.Prelude.{◌≡◌, ◌<◌, ◌+◌, ◌^◌, ◌++◌, ◌∷◌, [], length, take, drop, min, slice_get, slice_set, IfNone, IfSome, IfOk, OnOk, OnErr, option_copied};
-ghost use Rattle.gcx_io.specs.Held.{held, mapped, rest_at};
-ghost use Rattle.gcx_io.specs.Files.{bytes_of, bytes_at, rest_of};
+ghost use Rattle.std.specs.Prelude.{◌≡◌, ◌<◌, ◌≤◌, ◌+◌, ◌++◌, ◌∷◌, ℕ, [], true, false, length, take, drop, min, vec_len, vec_capacity, ◌-◌, IfOk, OnOk, OnErr, MatchOption, option_copied};
+ghost use Rattle.gcx_io.specs.Held.{held, held_or_none, mapped, with_file, rest_at, name_at, read_at};
+ghost use Rattle.gcx_io.specs.Files.{opened, Sets, Keeps, IsPlaceOf, IsNewTo};
 
 use crate::Handle;
-use crate::moving::move_front;
-use crate::place::Place;
+use crate::opening::Opening;
 use gcx_base::{Memory, Text};
 use std::alloc::Global;
 use std::marker::Model;
@@ -17,18 +16,28 @@ struct Entry {
 }
 
 impl Model for Entry {
+    ghost use Rattle.std.specs.Prelude.{vec_len, vec_capacity, ◌-◌};
     ghost use Rattle.gcx_io.specs.Held.{File};
 
     ghost Value = { File };
 
-    ghost view = { λ e. record { name = e.name; bytes = e.bytes.items } };
+    ghost view = { λ e. record { name = e.name; bytes = e.bytes.items; room = vec_capacity e.bytes - vec_len e.bytes } };
 }
 
-/// The number of the file of this name.
+impl Entry {
+    /// Adds the piece, where memory is found for it.
+    fn append(&mut self, piece: &[u8]) -> bool
+        ensures name { self.new.name ≡ self.old.name }
+        ensures kept { result ≡ true → (self.new.bytes ≡ self.old.bytes ++ piece.now) × (self.old.room ≤ self.new.room + length piece.now) }
+        ensures lost { result ≡ false → (self.new.bytes ≡ self.old.bytes) × (self.old.room < length piece.now) }
+    {
+        self.bytes.extend_from_slice(piece).is_ok()
+    }
+}
+
+/// The number of the first file of this name.
 fn find(entries: &[Entry], name: &[u8]) -> Option<usize>
-    ensures none { IfNone result (held entries.now name.now ≡ None) }
-    ensures some { IfSome result (λ i. held entries.now name.now ≡ Some (bytes_of (slice_get entries.now i))) }
-    ensures within { IfSome result (λ i. i < length entries.now) }
+    ensures { MatchOption result (IsNewTo name.now entries.now) (IsPlaceOf name.now entries.now) }
 {
     for (i, entry) in entries.iter().enumerate() {
         if entry.name.as_bytes() == name {
@@ -38,55 +47,90 @@ fn find(entries: &[Entry], name: &[u8]) -> Option<usize>
     None
 }
 
-/// What is left from a place on.
-fn rest_from<'a>(entries: &'a [Entry], place: Place) -> &'a [u8]
-    ensures rest { result.now ≡ rest_of entries.now place }
-    ensures fits { place.at + length result.now < 2 ^ 64 }
+/// Puts an entry in the place of the first one of its name, or behind the others.
+fn place(entries: &mut Vec<Entry>, entry: Entry) -> Result<(), Memory>
+    ensures ok { OnOk result (entries.new.items ≡ with_file entry entries.old.items) }
+    ensures err { OnErr result (entries.new.items ≡ entries.old.items) }
 {
-    let Some(file) = place.file else {
-        return &[];
-    };
-    match entries.get(file) {
-        Some(entry) if place.at <= entry.bytes.len() => &entry.bytes[place.at..],
-        _ => &[],
+    match find(entries, entry.name.as_bytes()) {
+        Some(i) => {
+            entries[i] = entry;
+            Ok(())
+        }
+        None => {
+            entries.push(entry)?;
+            Ok(())
+        }
     }
 }
 
-/// Files in memory, and how far each handle was read.
+/// Puts an entry of this name and piece behind the others.
+fn add(alloc: Global, entries: &mut Vec<Entry>, name: &Text, piece: &[u8]) -> Result<(), Memory>
+    ensures ok { OnOk result ((room : ℕ) × (entries.new.items ≡ entries.old.items ++ record { name = name.now; bytes = piece.now; room = room } ∷ [])) }
+    ensures err { OnErr result (entries.new.items ≡ entries.old.items) }
+{
+    let mut bytes = Vec::new(alloc);
+    bytes.extend_from_slice(piece)?;
+    let name = name.copy(alloc)?;
+    entries.push(Entry { name, bytes })?;
+    Ok(())
+}
+
+/// Adds the piece to what the name holds, where memory is found for it.
+fn append(alloc: Global, entries: &mut Vec<Entry>, name: &Text, piece: &[u8]) -> bool
+    requires { 0 < length piece.now }
+    ensures { Keeps result entries.old.items entries.new.items name.now piece.now }
+{
+    match find(entries, name.as_bytes()) {
+        Some(i) => entries[i].append(piece),
+        None => add(alloc, entries, name, piece).is_ok(),
+    }
+}
+
+/// Files in memory, and the handles that were given.
 #[derive(Drop)]
 pub(crate) struct Files {
+    alloc: Global,
     entries: Vec<Entry>,
-    places: Vec<Place>,
+    openings: Vec<Opening>,
+    whole: bool,
 }
 
 impl Model for Files {
-    ghost use Rattle.gcx_io.specs.Files.{OpenFiles, rests_of};
+    ghost use Rattle.gcx_io.specs.Files.{OpenFiles};
 
     ghost Value = { OpenFiles };
 
-    ghost view = { λ f. record { files = f.entries.items; rests = rests_of f.entries.items f.places.items } };
+    ghost view = { λ f. record { files = f.entries.items; openings = f.openings.items; whole = f.whole } };
 }
 
 impl Files {
     /// No file, and no handle.
     pub fn new(alloc: Global) -> Files
-        ensures { result ≡ record { files = []; rests = [] } }
+        ensures { result ≡ record { files = []; openings = []; whole = true } }
     {
         Files {
+            alloc,
             entries: Vec::new(alloc),
-            places: Vec::new(alloc),
+            openings: Vec::new(alloc),
+            whole: true,
         }
     }
 
     /// Maps the name to these bytes, whatever it held.
     pub fn put(&mut self, name: Text, bytes: Vec<u8>) -> Result<(), Memory>
-        requires { self.old.rests ≡ [] }
-        ensures ok { OnOk result (self.new.files ≡ mapped name bytes.items self.old.files) }
-        ensures err { OnErr result (self.new.files ≡ self.old.files) }
-        ensures handles { self.new.rests ≡ [] }
+        ensures ok { OnOk result (self.new ≡ record self.old { files = mapped name bytes.items (vec_capacity bytes - vec_len bytes) self.old.files }) }
+        ensures err { OnErr result (self.new ≡ self.old) }
     {
         self.entries.insert(0, Entry { name, bytes })?;
         Ok(())
+    }
+
+    /// Whether all the bytes that were taken are kept.
+    pub fn is_whole(&self) -> bool
+        ensures { result ≡ self.now.whole }
+    {
+        self.whole
     }
 
     /// What the name holds.
@@ -98,40 +142,75 @@ impl Files {
         Some(&entry.bytes)
     }
 
-    /// The number of the file of this name.
-    pub fn number_of(&self, name: &Text) -> Option<usize>
-        ensures none { IfNone result (held self.now.files name.now ≡ None) }
-        ensures some { IfSome result (λ i. held self.now.files name.now ≡ Some (bytes_at self.now.files (Some i))) }
+    /// Adds a handle of this name, which has these bytes left.
+    fn open(&mut self, name: Text, bytes: Vec<u8>) -> Result<Handle, Memory>
+        ensures number { IfOk result (λ handle. handle.0 ≡ length self.old.openings) }
+        ensures ok { OnOk result (self.new ≡ record self.old { openings = opened name bytes.items self.old.openings }) }
+        ensures err { OnErr result (self.new ≡ self.old) }
     {
-        find(&self.entries, name.as_bytes())
+        let handle = Handle(self.openings.len());
+        self.openings.push(Opening::new(name, bytes))?;
+        Ok(handle)
     }
 
-    /// Adds a handle at the start of a file, or of no bytes where there is none.
-    pub fn open(&mut self, file: Option<usize>) -> Result<Handle, Memory>
-        ensures number { IfOk result (λ handle. handle.0 ≡ length self.old.rests) }
-        ensures rests { OnOk result (self.new.rests ≡ self.old.rests ++ bytes_at self.old.files file ∷ []) }
-        ensures err { OnErr result (self.new.rests ≡ self.old.rests) }
-        ensures files { self.new.files ≡ self.old.files }
+    /// Adds a handle that has left what the name holds, no bytes where it isn't mapped.
+    pub fn attach(&mut self, name: &Text) -> Result<Handle, Memory>
+        ensures number { IfOk result (λ handle. handle.0 ≡ length self.old.openings) }
+        ensures ok { OnOk result (self.new ≡ record self.old { openings = opened name.now (held_or_none self.old.files name.now) self.old.openings }) }
+        ensures err { OnErr result (self.new ≡ self.old) }
     {
-        let handle = Handle(self.places.len());
-        self.places.push(Place { file, at: 0 })?;
-        Ok(handle)
+        let mut bytes = Vec::new(self.alloc);
+        if let Some(held) = self.bytes(name) {
+            bytes.extend_from_slice(held)?;
+        }
+        let owner = name.copy(self.alloc)?;
+        self.open(owner, bytes)
+    }
+
+    /// Maps the name to no bytes, whatever it held, with room for so many, and adds a handle of it.
+    pub fn create(&mut self, name: &Text, room: usize) -> Result<Handle, Memory>
+        ensures number { IfOk result (λ handle. handle.0 ≡ length self.old.openings) }
+        ensures files { OnOk result (Sets self.old.files self.new.files name.now [] room) }
+        ensures openings { OnOk result (self.new.openings ≡ opened name.now [] self.old.openings) }
+        ensures whole { self.new.whole ≡ self.old.whole }
+        ensures err { OnErr result (self.new ≡ self.old) }
+    {
+        let entry = Entry {
+            name: name.copy(self.alloc)?,
+            bytes: Vec::with_capacity(self.alloc, room)?,
+        };
+        let owner = name.copy(self.alloc)?;
+        let handle = self.open(owner, Vec::new(self.alloc))?;
+        match place(&mut self.entries, entry) {
+            Ok(()) => Ok(handle),
+            Err(memory) => {
+                let _ = self.openings.pop();
+                Err(memory)
+            }
+        }
     }
 
     /// Moves the first bytes that a handle has left, at most so many.
     pub fn read(&mut self, handle: Handle, buf: &mut [u8], most: usize) -> usize
-        requires given { handle.0 < length self.old.rests }
-        ensures count { result ≡ min (min (length (rest_at self.old.rests handle.0)) (length buf.old)) most }
-        ensures moved { buf.new ≡ take result (rest_at self.old.rests handle.0) ++ drop result buf.old }
-        ensures rests { self.new.rests ≡ slice_set self.old.rests handle.0 (drop result (rest_at self.old.rests handle.0)) }
-        ensures files { self.new.files ≡ self.old.files }
+        requires given { handle.0 < length self.old.openings }
+        ensures count { result ≡ min (min (length (rest_at self.old.openings handle.0)) (length buf.old)) most }
+        ensures moved { buf.new ≡ take result (rest_at self.old.openings handle.0) ++ drop result buf.old }
+        ensures rest { self.new ≡ record self.old { openings = read_at self.old.openings handle.0 result } }
     {
-        let place = self.places[handle.0];
-        let count = move_front(rest_from(&self.entries, place), buf, most);
-        self.places[handle.0] = Place {
-            file: place.file,
-            at: place.at + count,
-        };
-        count
+        self.openings[handle.0].read(buf, most)
+    }
+
+    /// Adds the piece to what the name of a handle holds, or from then on keeps nothing more.
+    pub fn write(&mut self, handle: Handle, piece: &[u8])
+        requires given { handle.0 < length self.old.openings }
+        requires some { 0 < length piece.now }
+        ensures keeps { self.old.whole ≡ true → Keeps self.new.whole self.old.files self.new.files (name_at self.old.openings handle.0) piece.now }
+        ensures lost { self.old.whole ≡ false → self.new ≡ self.old }
+        ensures openings { self.new.openings ≡ self.old.openings }
+    {
+        if self.whole {
+            let opening = &self.openings[handle.0];
+            self.whole = append(self.alloc, &mut self.entries, opening.name(), piece);
+        }
     }
 }

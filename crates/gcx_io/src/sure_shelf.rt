@@ -1,4 +1,4 @@
-ghost use Rattle.std.specs.Prelude.{◌≡◌, ◌↔◌, true, IsTrue, OnOk, OnErr, [], option_copied};
+ghost use Rattle.std.specs.Prelude.{◌≡◌, ◌-◌, true, IsTrue, OnOk, OnErr, [], option_copied, vec_len, vec_capacity};
 ghost use Rattle.gcx_io.specs.Held.{held, mapped};
 
 use crate::files::Files;
@@ -11,7 +11,6 @@ use std::marker::Model;
 #[derive(Drop)]
 pub struct SureShelf {
     files: Files,
-    whole: bool,
     room: usize,
 }
 
@@ -20,74 +19,82 @@ impl Model for SureShelf {
 
     ghost Value = { SureShelfState };
 
-    ghost view = { λ s. record { files = s.files.files; rests = s.files.rests; whole = s.whole; room = s.room } };
+    ghost view = { λ s. record { kept = s.files; room = s.room } };
 }
 
 impl SureShelf {
     /// No name is mapped. `room` is the room for the bytes of a file that is made.
     pub fn new(alloc: Global, room: usize) -> SureShelf
-        ensures { result ≡ record { files = []; rests = []; whole = true; room = room } }
+        ensures { result ≡ record { kept = record { files = []; openings = []; whole = true }; room = room } }
     {
         SureShelf {
             files: Files::new(alloc),
-            whole: true,
             room,
         }
     }
 
     /// Maps the name to these bytes, whatever it held. After `Memory` the shelf is as before.
     pub fn put(&mut self, name: Text, bytes: Vec<u8>) -> Result<(), Memory>
-        requires { self.old.rests ≡ [] }
-        ensures ok { OnOk result (self.new ≡ record self.old { files = mapped name bytes.items self.old.files }) }
+        requires { self.old.kept.openings ≡ [] }
+        ensures ok { OnOk result (self.new ≡ record self.old { kept = record self.old.kept { files = mapped name bytes.items (vec_capacity bytes - vec_len bytes) self.old.kept.files } }) }
         ensures err { OnErr result (self.new ≡ self.old) }
     {
         self.files.put(name, bytes)
     }
 
-    /// Whether all the bytes that were taken are kept.
+    /// Whether all the bytes that were taken are kept: false from the first piece on for which no memory was found.
     pub fn is_whole(&self) -> bool
-        ensures { result ≡ self.now.whole }
+        ensures { result ≡ self.now.kept.whole }
     {
-        self.whole
+        self.files.is_whole()
     }
 
     /// What the name holds, None where the shelf wasn't given it.
     pub fn bytes(&self, name: &Text) -> Option<&[u8]>
-        requires { IsTrue self.now.whole }
-        ensures { option_copied result ≡ held self.now.files name.now }
+        requires { IsTrue self.now.kept.whole }
+        ensures { option_copied result ≡ held self.now.kept.files name.now }
     {
         self.files.bytes(name)
     }
 }
 
 impl Shelf for SureShelf {
-    ghost use Rattle.std.specs.Prelude.{◌≡◌, ◌⊎◌, ◌≤◌, ◌<◌, ◌++◌, ◌∷◌, [], Ok, Some, IfOk, OnOk, OnErr, IsErrOf, length, take, drop, min, slice_set};
+    ghost use Rattle.std.specs.Prelude.{◌≡◌, ◌≢◌, ◌⊎◌, ◌≤◌, ◌<◌, ◌+◌, ◌++◌, ◌∷◌, true, false, [], Ok, Some, IfOk, OnOk, OnErr, IsErrOf, length, take, drop, min};
     ghost use Rattle.std.specs.Io.{ReadsAtMost};
     ghost use Rattle.std.specs.Io.KnownBytes.{ReadConsumes};
+    ghost use Rattle.gcx_io.specs.Bytes.{Moves};
     ghost use Rattle.gcx_io.specs.Causes.{Rose, HasCause};
-    ghost use Rattle.gcx_io.specs.Shelf.{Adds, LeavesOthers};
-    ghost use Rattle.gcx_io.specs.Held.{held_or_none, rest_at};
-    ghost use Rattle.gcx_io.specs.SureShelf.{sure_names, sure_left, sure_handles};
+    ghost use Rattle.gcx_io.specs.Shelf.{content_of, Adds, AddsName, Appends, LeavesOthers, LeavesOtherNames, Maps};
+    ghost use Rattle.gcx_io.specs.Held.{held_or_none, rest_at, name_at, read_at};
+    ghost use Rattle.gcx_io.specs.Files.{opened, Sets, Keeps};
+    ghost use Rattle.gcx_io.specs.SureShelf.{sure_names, sure_left, sure_named, sure_handles};
+    ghost use Rattle.gcx_io.specs.Files.{owner_told};
 
     ghost names = { sure_names };
 
     ghost left = { sure_left };
 
+    ghost named = { sure_named };
+
     ghost handles = { sure_handles };
 
     ghost faults = { λ _. 0 };
 
+    ghost write_faults = { λ _. 0 };
+
+    ghost tells_owners = { λ s k given telling. owner_told s.kept.openings k given };
+
     fn attach(&mut self, name: &Text) -> Result<Handle, AttachFault>
         ensures given { IfOk result (λ handle.
-            Adds (sure_handles self.old) (sure_handles self.new) (sure_left self.old) (sure_left self.new) (Some (held_or_none self.old.files name.now)) handle.0) }
+            Adds (sure_handles self.old) (sure_handles self.new) (sure_left self.old) (sure_left self.new) (content_of (sure_names self.old) name.now) handle.0) }
+        ensures named { IfOk result (λ handle. AddsName (sure_names self.old) (sure_named self.old) (sure_named self.new) name.now handle.0) }
         ensures names { sure_names self.new ≡ sure_names self.old }
         ensures refused { OnErr result ((sure_handles self.new ≡ sure_handles self.old) × (sure_left self.new ≡ sure_left self.old)) }
         ensures never { IsErrOf result AttachFault.Failed → ⊥ }
-        ensures ok { OnOk result (self.new ≡ record self.old { rests = self.old.rests ++ held_or_none self.old.files name.now ∷ [] }) }
+        ensures ok { OnOk result (self.new ≡ record self.old { kept = record self.old.kept { openings = opened name.now (held_or_none self.old.kept.files name.now) self.old.kept.openings } }) }
         ensures err { OnErr result (self.new ≡ self.old) }
     {
-        let file = self.files.number_of(name);
-        Ok(self.files.open(file)?)
+        Ok(self.files.attach(name)?)
     }
 
     fn read(&mut self, handle: Handle, buf: &mut [u8]) -> Result<usize, Failed>
@@ -97,12 +104,48 @@ impl Shelf for SureShelf {
         ensures bytes { ReadConsumes (sure_left self.old handle.0) (sure_left self.new handle.0) result buf.new }
         ensures others { LeavesOthers (sure_left self.old) (sure_left self.new) handle.0 }
         ensures names { sure_names self.new ≡ sure_names self.old }
+        ensures named { sure_named self.new ≡ sure_named self.old }
         ensures handles { sure_handles self.new ≡ sure_handles self.old }
         ensures cause { HasCause 0 0 result }
-        ensures count { result ≡ Ok (min (length (rest_at self.old.rests handle.0)) (length buf.old)) }
-        ensures moved { IfOk result (λ n. buf.new ≡ take n (rest_at self.old.rests handle.0) ++ drop n buf.old) }
-        ensures ok { IfOk result (λ n. self.new ≡ record self.old { rests = slice_set self.old.rests handle.0 (drop n (rest_at self.old.rests handle.0)) }) }
+        ensures count { result ≡ Ok (min (length (rest_at self.old.kept.openings handle.0)) (length buf.old)) }
+        ensures moved { IfOk result (λ n. buf.new ≡ take n (rest_at self.old.kept.openings handle.0) ++ drop n buf.old) }
+        ensures ok { IfOk result (λ n. self.new ≡ record self.old { kept = record self.old.kept { openings = read_at self.old.kept.openings handle.0 n } }) }
     {
         Ok(self.files.read(handle, buf, usize::MAX))
+    }
+
+    fn create(&mut self, name: &Text) -> Result<Handle, AttachFault>
+        ensures given { IfOk result (λ handle.
+            Adds (sure_handles self.old) (sure_handles self.new) (sure_left self.old) (sure_left self.new) (content_of (sure_names self.new) name.now) handle.0) }
+        ensures named { IfOk result (λ handle. AddsName (sure_names self.old) (sure_named self.old) (sure_named self.new) name.now handle.0) }
+        ensures maps { OnOk result (Maps (sure_names self.old) (sure_names self.new) name.now []) }
+        ensures refused { OnErr result ((sure_names self.new ≡ sure_names self.old) × (sure_handles self.new ≡ sure_handles self.old) × (sure_left self.new ≡ sure_left self.old) × (sure_named self.new ≡ sure_named self.old)) }
+        ensures never { IsErrOf result AttachFault.Failed → ⊥ }
+        ensures files { OnOk result (Sets self.old.kept.files self.new.kept.files name.now [] self.old.room) }
+        ensures openings { OnOk result (self.new.kept.openings ≡ opened name.now [] self.old.kept.openings) }
+        ensures whole { self.new.kept.whole ≡ self.old.kept.whole }
+        ensures room { self.new.room ≡ self.old.room }
+        ensures err { OnErr result (self.new ≡ self.old) }
+    {
+        Ok(self.files.create(name, self.room)?)
+    }
+
+    fn write(&mut self, handle: Handle, piece: &[u8]) -> Result<usize, Failed>
+        requires given { handle.0 < sure_handles self.old }
+        requires some { 0 < length piece.now }
+        ensures bound { Moves result piece.now }
+        ensures bytes { IfOk result (λ n. Appends (sure_names self.old) (sure_names self.new) (sure_named self.old handle.0) (take n piece.now)) }
+        ensures others { OnOk result (LeavesOtherNames (sure_named self.old) (sure_left self.old) (sure_left self.new) (sure_handles self.old) (sure_named self.old handle.0)) }
+        ensures handles { sure_handles self.new ≡ sure_handles self.old }
+        ensures named { sure_named self.new ≡ sure_named self.old }
+        ensures cause { HasCause 0 0 result }
+        ensures ok { result ≡ Ok (length piece.now) }
+        ensures keeps { self.old.kept.whole ≡ true → Keeps self.new.kept.whole self.old.kept.files self.new.kept.files (name_at self.old.kept.openings handle.0) piece.now }
+        ensures lost { self.old.kept.whole ≡ false → self.new ≡ self.old }
+        ensures openings { self.new.kept.openings ≡ self.old.kept.openings }
+        ensures room { self.new.room ≡ self.old.room }
+    {
+        self.files.write(handle, piece);
+        Ok(piece.len())
     }
 }

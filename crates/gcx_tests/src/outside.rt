@@ -3,8 +3,8 @@ ghost use Rattle.std.specs.Prelude.{IfOk, IsTrue};
 
 use gcx_base::Text;
 use gcx_io::{
-    AttachFault, Failed, FileShelf, MemShelf, MemSink, MemSource, Opened, Shelf, Source, StdErr,
-    StdOut, SureShelf, SureSink, SureSource, write_all,
+    AttachFault, Failed, FileShelf, MemShelf, MemSink, MemSource, NullSink, Opened, Shelf, Source,
+    StdErr, StdOut, SureShelf, SureSink, SureSource, write_all,
 };
 use std::process::Abort;
 use std::test::Fail;
@@ -60,6 +60,7 @@ fn sinks(rt: &(impl Abort + AllocGlobal)) -> Result<(), Fail> {
     assert_eq!(rt; write_all(&mut sink, b"abc"), Ok(()));
     assert!(rt; sink.is_whole());
     assert_eq!(rt; sink.bytes(), b"abc".as_slice());
+    assert_eq!(rt; write_all(&mut NullSink, b"abc"), Ok(()));
     Ok(())
 }
 
@@ -93,7 +94,7 @@ fn assert_same(rt: &impl Abort, held: Option<&[u8]>, want: Option<&[u8]>) {
 
 /// A shelf on which a name was put twice, and whose calls 2 and 5 fail.
 fn failing_shelf(rt: &impl AllocGlobal) -> Result<MemShelf, Fail>
-    ensures { IfOk result (λ shelf. IsTrue shelf.whole) }
+    ensures { IfOk result (λ shelf. IsTrue shelf.kept.whole) }
 {
     let mut shelf = MemShelf::new(rt.alloc(), 0, 1, vec![in rt.alloc(); 2u64, 5]?);
     shelf.put(text(rt, b"a")?, vec![in rt.alloc(); 1u8]?)?;
@@ -103,7 +104,7 @@ fn failing_shelf(rt: &impl AllocGlobal) -> Result<MemShelf, Fail>
 }
 
 fn sure_shelf(rt: &impl AllocGlobal) -> Result<SureShelf, Fail>
-    ensures { IfOk result (λ shelf. IsTrue shelf.whole) }
+    ensures { IfOk result (λ shelf. IsTrue shelf.kept.whole) }
 {
     let mut shelf = SureShelf::new(rt.alloc(), 0);
     shelf.put(text(rt, b"a")?, vec![in rt.alloc(); 7u8, 8]?)?;
@@ -116,7 +117,7 @@ fn assert_held(
     name: &[u8],
     want: Option<&[u8]>,
 ) -> Result<(), Fail>
-    requires { IsTrue shelf.now.whole }
+    requires { IsTrue shelf.now.kept.whole }
 {
     let name = text(rt, name)?;
     assert_same(rt, shelf.bytes(&name), want);
@@ -129,7 +130,7 @@ fn assert_surely_held(
     name: &[u8],
     want: Option<&[u8]>,
 ) -> Result<(), Fail>
-    requires { IsTrue shelf.now.whole }
+    requires { IsTrue shelf.now.kept.whole }
 {
     let name = text(rt, name)?;
     assert_same(rt, shelf.bytes(&name), want);
@@ -169,6 +170,48 @@ fn without_failing_calls(rt: &(impl Abort + AllocGlobal)) -> Result<(), Fail> {
     assert_surely_held(rt, &shelf, b"c", None)?;
     assert_file(rt, &mut shelf, b"c", &[(Some(0), &[])])?;
     assert_file(rt, &mut shelf, b"a", &[(Some(2), &[7, 8]), (Some(0), &[])])
+}
+
+/// Makes the file, or makes it anew, and writes three bytes.
+fn make<F: Shelf>(rt: &(impl Abort + AllocGlobal), files: &mut F, name: &[u8]) -> Result<(), Fail> {
+    let name = text(rt, name)?;
+    let handle = files.create(&name)?;
+    assert_eq!(rt; files.write(handle, b"abc"), Ok(3));
+    Ok(())
+}
+
+fn made_anew(rt: &(impl Abort + AllocGlobal)) -> Result<(), Fail> {
+    let mut shelf = failing_shelf(rt)?;
+    let name = text(rt, b"o")?;
+    let handle = shelf.create(&name)?;
+    assert_eq!(rt; shelf.write(handle, b"abc"), Err(Failed));
+    assert_eq!(rt; shelf.write(handle, b"abc"), Ok(1));
+    assert!(rt; shelf.is_whole());
+    assert_held(rt, &shelf, b"o", Some(b"a"))?;
+    assert_held(rt, &shelf, b"b", Some(&[9]))?;
+    let mut shelf = sure_shelf(rt)?;
+    make(rt, &mut shelf, b"a")?;
+    make(rt, &mut shelf, b"a")?;
+    assert!(rt; shelf.is_whole());
+    assert_surely_held(rt, &shelf, b"a", Some(b"abc"))
+}
+
+#[test]
+fn files_that_are_made_hold_what_is_written(rt: HostRuntime) -> Result<(), Fail> {
+    made_anew(&rt)?;
+    let mut shelf = MemShelf::new(rt.alloc(), 3, 3, Vec::new(rt.alloc()));
+    make(&rt, &mut shelf, b"o")?;
+    assert!(rt; shelf.is_whole());
+    assert_held(&rt, &shelf, b"o", Some(b"abc"))?;
+    let path = "gcx_io_made";
+    let mut shelf = FileShelf::new(rt);
+    make(&rt, &mut shelf, path.as_bytes())?;
+    let bytes = fs::read(&rt, path)?;
+    fs::remove_file(&rt, path)?;
+    assert_eq!(rt; bytes.as_slice(), b"abc".as_slice());
+    let dash = text(&rt, b"-")?;
+    assert_eq!(rt; shelf.create(&dash).err(), Some(AttachFault::Failed));
+    Ok(())
 }
 
 #[test]

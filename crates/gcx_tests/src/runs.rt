@@ -1,4 +1,5 @@
 //! Runs of the top call over files in memory.
+mod commands;
 mod failing;
 mod limits;
 

@@ -1,13 +1,18 @@
 use Rattle.std.proofs.Common.{◌≡◌, ◌-◌, ◌≤◌, ℕ, List, length}
 use Rattle.gcx_base.specs.declared.limits.Limits.{Limits}
-use Rattle.engine.specs.Engine.{IsSilent, Starts}
-use Rattle.engine.specs.Runs.{Between}
+use Rattle.gcx_model.specs.PlanView.{plan_tree}
+use Rattle.engine.specs.Engine.{IsSilent, IsTold, Starts}
+use Rattle.engine.specs.Runs.{Between, TraceBetween}
 use Rattle.engine.proofs.running.run.Given as goal
 
 abbrev pub invariant-reading : goal.invariant-reading
 invariant-reading g l = record {
   between : (lim : Limits) → Starts g.C.Conds.stands lim l.fn.engine
       → (b : List ℕ) × Between g.C.Conds.stands lim l.engine b (g.D.Source.left l.fn.doc) (g.D.Source.left l.doc) (g.O.Sink.taken l.fn.out) (g.O.Sink.taken l.out);
+  traced : (lim : Limits) → Starts g.C.Conds.stands lim l.fn.engine → IsTold l.fn.engine
+      → (b : List ℕ) × Between g.C.Conds.stands lim l.engine b (g.D.Source.left l.fn.doc) (g.D.Source.left l.doc) (g.O.Sink.taken l.fn.out) (g.O.Sink.taken l.out)
+      × TraceBetween (plan_tree l.engine.plan.now) lim b l.engine.trace.items (g.E.Sink.taken l.fn.err) (g.E.Sink.taken l.err);
+  tracing : l.engine.tracing ≡ l.fn.engine.tracing;
   size : length l.buf ≡ 65536;
   plan : l.engine.plan ≡ l.fn.engine.plan;
   ahead : l.engine.ahead ≡ l.fn.engine.ahead;

@@ -7,6 +7,7 @@ use Rattle.engine.specs.Turns.{turns_of, written}
 use Rattle.engine.specs.declared.turns.Turn.{Turn as CodeTurn}
 use Rattle.engine.specs.declared.turns.Turn.TheVariants as code
 use Rattle.engine.proofs.CallsOfTurns.{on_err_any}
+use Rattle.engine.proofs.Reporting.{few_in_tree}
 use Rattle.engine.proofs.TurnsFed.{turns_on, turns_reach, turns_within}
 use Rattle.engine.proofs.turns.interleave.Goals as goal
 
@@ -43,4 +44,5 @@ returns-clause-reached g c =
     let h = c.loop-turn.invariant.turned in
     let l : length c.args.turns.now ≤ c.loop-turn.turn-index = search rules in
     c.reached.ensures (plan_tree c.args.plan.now) (map said_of c.args.tokens.items) (turned (plan_tree c.args.plan.now) (map said_of c.args.tokens.items) (turns_of c.args.turns.now))
+    (few_in_tree c.args.plan.now c.few_roles.ensures)
     (turns_reach (plan_tree c.args.plan.now) (map said_of c.args.tokens.items) c.requires.tokens c.args.turns.now c.loop-turn.turn-index g.C.Conds.stands c.loop-turn.actors l h.reaches)

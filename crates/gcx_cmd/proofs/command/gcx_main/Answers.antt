@@ -1,68 +1,72 @@
-use Rattle.std.proofs.Common.{refl, sym, ◌∙◌, ◌≡◌, ℕ, List, Some, subst}
-use Rattle.gcx_io.specs.Shelf.{content_of}
-use Rattle.gcx_cmd.proofs.Complete.{complete_run, document_refused_run, same_run}
-use Rattle.gcx_cmd.proofs.Runs.{ran_named}
+use Rattle.std.proofs.Common.{refl, inl, inr}
+use Rattle.gcx_words.specs.Words.{command_of}
+use Rattle.gcx_words.specs.declared.command.Command.TheVariants as it
+use Rattle.gcx_cmd.specs.Commands.{IsTraced, LacksFile}
+use Rattle.gcx_io.specs.Causes.{Rose}
+use Rattle.gcx_cmd.proofs.Complete.{complete_from, document_refused_from}
+use Rattle.gcx_cmd.proofs.Finished.{Because, rose_later, no_cause, lacks_neither, lacks_no_query, plan_end, printed_end}
 use Rattle.gcx_cmd.proofs.command.gcx_main.Goals as goal
-use Rattle.gcx_cmd.proofs.command.gcx_main.Goals.{in-Some, in-None}
 
-pub returns-clause-ran : goal.returns-clause-ran
-returns-clause-ran g c = elim c.match-command_of.branch [
-  | in-Some w ↦ λ q d bytes x run told accepted two.
-      let names = g.F.Shelf.names c.args.files.now in
-      let same = same_run c.args.words.now q d _ _ run w.in-Some.ensures.some in
-      rw (w.status-is, w.files-is, w.out-is, w.nodes-is)
-      (ran_named names d _ x w.run-status.result _ _ _ _ _ same.1
-      (w.run-status.ensures.ran bytes x (subst (λ (n : List ℕ). content_of names n ≡ Some bytes) same.0 told) accepted (rw w.files-is at two)))
-  | in-None w ↦ λ q d bytes x run told accepted two. absurd (w.in-None.ensures.none refl q d run)
-]
-
-pub returns-clause-written : goal.returns-clause-written
-returns-clause-written g c = elim c.match-command_of.branch [
-  | in-Some w ↦ λ query document query_bytes document_bytes q d run told_q told_d accepted spelled is.
-      let names = g.F.Shelf.names c.args.files.now in
-      let same = same_run c.args.words.now query document _ _ run w.in-Some.ensures.some in
-      rw w.out-is
-      (w.run-status.ensures.written query_bytes document_bytes q d
-      (subst (λ (n : List ℕ). content_of names n ≡ Some query_bytes) same.0 told_q)
-      (subst (λ (n : List ℕ). content_of names n ≡ Some document_bytes) same.1 told_d) accepted spelled (sym w.status-is ∙ is))
-  | in-None w ↦ λ query document query_bytes document_bytes q d run told_q told_d accepted spelled is. absurd (w.in-None.ensures.none refl query document run)
-]
+pub returns-clause-write : goal.returns-clause-write
+returns-clause-write g c = λ is.
+    let cause = c.perform-status.ensures.write is in (
+      cause.0,
+      cause.1,
+      elim cause.2 [
+        | inl rose ↦ inl rose
+        | inr trace ↦ inr (trace.0, rose_later (g.E.Sink.faults c.args.err.now) (g.E.Sink.faults c.perform-status.new.err) (g.E.Sink.faults c.diagnose.new.err) trace.1 c.diagnose.ensures.line.later)
+      ],
+    )
 
 pub returns-clause-complete : goal.returns-clause-complete
-returns-clause-complete g c = elim c.match-command_of.branch [
-  | in-Some w ↦ λ q d query document run told_q told_d good_q good_d not_read not_write.
-      rw w.status-is
-      (complete_run w.run-status.result (g.F.Shelf.names c.args.files.now) c.args.words.now _ _ q d query document _ _
-      w.in-Some.ensures.some run told_q told_d good_q good_d w.run-status.ensures.query w.run-status.ensures.document w.run-status.ensures.read w.run-status.ensures.write
-      (rw w.files-is at not_read) (rw w.out-is at not_write))
-  | in-None w ↦ λ q d query document run told_q told_d good_q good_d not_read not_write. absurd (w.in-None.ensures.none refl q d run)
-]
-
-pub returns-clause-refused : goal.returns-clause-refused
-returns-clause-refused g c = elim c.match-command_of.branch [
-  | in-Some w ↦ λ q d bytes f run told refused not_rose.
-      let names = g.F.Shelf.names c.args.files.now in
-      let same = same_run c.args.words.now q d _ _ run w.in-Some.ensures.some in
-      rw (w.status-is, w.files-is)
-      (w.run-status.ensures.refused bytes f (subst (λ (n : List ℕ). content_of names n ≡ Some bytes) same.0 told) refused (rw w.files-is at not_rose))
-  | in-None w ↦ λ q d bytes f run told refused not_rose. absurd (w.in-None.ensures.none refl q d run)
-]
-
-pub returns-clause-accepted : goal.returns-clause-accepted
-returns-clause-accepted g c = elim c.match-command_of.branch [
-  | in-Some w ↦ λ q d bytes run told two.
-      let names = g.F.Shelf.names c.args.files.now in
-      let same = same_run c.args.words.now q d _ _ run w.in-Some.ensures.some in
-      w.run-status.ensures.accepted bytes (subst (λ (n : List ℕ). content_of names n ≡ Some bytes) same.0 told) (rw w.files-is at two)
-  | in-None w ↦ λ q d bytes run told two. absurd (w.in-None.ensures.none refl q d run)
-]
+returns-clause-complete g c = λ k q d query document is is_q is_d told_q told_d good_q good_d not_read not_write not_trace.
+    let status = c.perform-status.result in
+    let names = g.F.Shelf.names c.args.files.now in
+    let later = rose_later (g.E.Sink.faults c.args.err.now) (g.E.Sink.faults c.perform-status.new.err) (g.E.Sink.faults c.diagnose.new.err) in
+    complete_from status query document (c.perform-status.ensures.query k q query is is_q told_q) (c.perform-status.ensures.document k d document is is_d told_d) good_q good_d
+    (λ e. no_cause (command_of c.args.words.now) k _ (λ j. LacksFile j names) is not_read (lacks_neither names k q d query document is_q is_d told_q told_d) (c.perform-status.ensures.read e))
+    (λ e. no_cause (command_of c.args.words.now) k _ (λ j. IsTraced j × Rose (g.E.Sink.faults c.args.err.now) (g.E.Sink.faults c.perform-status.new.err)) is not_write (λ t. not_trace t.0 (later t.1 c.diagnose.ensures.line.later)) (c.perform-status.ensures.write e))
 
 pub returns-clause-refused_document : goal.returns-clause-refused_document
-returns-clause-refused_document g c = elim c.match-command_of.branch [
-  | in-Some w ↦ λ q d query document f run told_q told_d good_q bad_d not_read not_write.
-      rw w.status-is
-      (document_refused_run w.run-status.result (g.F.Shelf.names c.args.files.now) c.args.words.now _ _ q d query document f _ _
-      w.in-Some.ensures.some run told_q told_d good_q bad_d w.run-status.ensures.query w.run-status.ensures.document w.run-status.ensures.read w.run-status.ensures.write
-      (rw w.files-is at not_read) (rw w.out-is at not_write))
-  | in-None w ↦ λ q d query document f run told_q told_d good_q bad_d not_read not_write. absurd (w.in-None.ensures.none refl q d run)
-]
+returns-clause-refused_document g c = λ k q d query document f is is_q is_d told_q told_d good_q bad_d not_read not_write not_trace.
+    let status = c.perform-status.result in
+    let names = g.F.Shelf.names c.args.files.now in
+    let later = rose_later (g.E.Sink.faults c.args.err.now) (g.E.Sink.faults c.perform-status.new.err) (g.E.Sink.faults c.diagnose.new.err) in
+    document_refused_from status query document f (c.perform-status.ensures.query k q query is is_q told_q) (c.perform-status.ensures.document k d document is is_d told_d) good_q bad_d
+    (λ e. no_cause (command_of c.args.words.now) k _ (λ j. LacksFile j names) is not_read (lacks_neither names k q d query document is_q is_d told_q told_d) (c.perform-status.ensures.read e))
+    (λ e. no_cause (command_of c.args.words.now) k _ (λ j. IsTraced j × Rose (g.E.Sink.faults c.args.err.now) (g.E.Sink.faults c.perform-status.new.err)) is not_write (λ t. not_trace t.0 (later t.1 c.diagnose.ensures.line.later)) (c.perform-status.ensures.write e))
+
+pub returns-clause-complete_plan : goal.returns-clause-complete_plan
+returns-clause-complete_plan g c = λ q bytes is told good not_read not_write.
+    let names = g.F.Shelf.names c.args.files.now in
+    let k = it.Explain q in
+    plan_end c.perform-status.result bytes (c.perform-status.ensures.query k q bytes is refl told) good (λ f e. c.perform-status.ensures.no_document k f is refl e)
+    (λ e. no_cause (command_of c.args.words.now) k _ (λ j. LacksFile j names) is not_read (lacks_no_query names k q bytes refl refl told) (c.perform-status.ensures.read e))
+    (λ e. no_cause (command_of c.args.words.now) k _ (λ j. IsTraced j × Rose (g.E.Sink.faults c.args.err.now) (g.E.Sink.faults c.perform-status.new.err)) is not_write (λ t. t.0) (c.perform-status.ensures.write e))
+
+pub returns-clause-complete_made : goal.returns-clause-complete_made
+returns-clause-complete_made g c = λ seed count is not_write.
+    let k = it.Gen seed count in
+    printed_end c.perform-status.result (c.perform-status.ensures.no_files k is refl)
+    (λ e. no_cause (command_of c.args.words.now) k _ (λ j. IsTraced j × Rose (g.E.Sink.faults c.args.err.now) (g.E.Sink.faults c.perform-status.new.err)) is not_write (λ t. t.0) (c.perform-status.ensures.write e))
+
+pub returns-clause-complete_selfrun : goal.returns-clause-complete_selfrun
+returns-clause-complete_selfrun g c = λ seed count is not_write.
+    let k = it.Selfrun seed count in
+    printed_end c.perform-status.result (c.perform-status.ensures.no_files k is refl)
+    (λ e. no_cause (command_of c.args.words.now) k _ (λ j. IsTraced j × Rose (g.E.Sink.faults c.args.err.now) (g.E.Sink.faults c.perform-status.new.err)) is not_write (λ t. t.0) (c.perform-status.ensures.write e))
+
+pub returns-clause-diagnosis : goal.returns-clause-diagnosis
+returns-clause-diagnosis g c = λ untraced. rw (c.perform-status.ensures.silent untraced) at c.diagnose.ensures.line
+
+pub returns-clause-untraced : goal.returns-clause-untraced
+returns-clause-untraced g c = λ k is not_two. rw (c.perform-status.ensures.untraced k is not_two) at c.diagnose.ensures.line
+
+pub returns-clause-traced : goal.returns-clause-traced
+returns-clause-traced g c = λ q d bytes x is told accepted two. record {
+  between = g.E.Sink.taken c.perform-status.new.err;
+  faults_between = g.E.Sink.faults c.perform-status.new.err;
+  later = c.perform-status.ensures.trace_count;
+  text = c.perform-status.ensures.traced q d bytes x is told accepted two;
+  rest = c.diagnose.ensures.line;
+}

@@ -1,10 +1,14 @@
-use Rattle.std.proofs.Common.{◌≡◌, ◌∙◌, ℕ, Bool, true, false, ap, rules, subst}
+use Rattle.std.proofs.Common.{◌≡◌, ◌++◌, ◌∙◌, ℕ, Bool, true, false, ap, refl, rules, subst}
 use Rattle.gcx_model.specs.Tree.{Tree}
 use Rattle.engine.specs.declared.engine.Engine.{Engine}
 use Rattle.engine.specs.Engine.{Actors}
-use Rattle.engine.specs.Going.{ActsOne, ActsSome}
-use Rattle.engine.proofs.Acting.{on_err, reached_end, reached_on, reached_some, some_now, some_reached}
+use Rattle.gcx_model.specs.Demand.{text_of_lines}
+use Rattle.gcx_model.specs.PlanView.{plan_tree}
+use Rattle.engine.specs.Going.{ActsOne, ActsSome, all_of}
+use Rattle.engine.specs.Telling.{GrewPart, lines_to, next_lines}
+use Rattle.engine.proofs.Acting.{on_err, reached_end, reached_none, reached_on, reached_some, some_now, some_reached}
 use Rattle.engine.proofs.Forms.{acts_on}
+use Rattle.engine.proofs.TellingActs.{told_end, told_none, told_on, told_part, told_some, told_there}
 use Rattle.engine.proofs.engine.Engine.act_all.Goals as goal
 
 pub act_one-requires : goal.act_one-requires
@@ -37,6 +41,14 @@ actions-preserved g c =
           let r = c.actions.invariant.reached P k a in
           reached_on g.C.Conds.stands c.args.self.now c.actions.self c.act_one.new.self P k same r
           (subst (λ (z : Bool). ActsOne g.C.Conds.stands c.actions.self c.act_one.new.self P r.taken z) t (c.in_ok-act_one.ensures.acts P r.taken r.actors));
+      told = λ tr P k a.
+          let r = c.actions.invariant.told tr P k a in
+          let e = c.actions.self in
+          let d = c.act_one.new.self in
+          let tr' : e.tracing ≡ true = ap (λ (z : Engine g.row.N.Denot g.row.C.Denot). z.tracing) c.actions.invariant.rest ∙ tr in
+          told_on g.C.Conds.stands c.args.self.now e d P k same r
+          (subst (λ (z : Bool). ActsOne g.C.Conds.stands e d P r.reached.taken z) t (c.in_ok-act_one.ensures.acts P r.reached.taken r.reached.actors))
+          (subst (λ (z : Bool). d.trace.items ≡ e.trace.items ++ text_of_lines (next_lines (plan_tree e.plan.now) P r.reached.taken z)) t (c.in_ok-act_one.ensures.told tr' P r.reached.taken r.reached.actors));
       rest = acts_on c.args.self.now c.actions.self c.act_one.new.self c.actions.invariant.rest c.act_one.ensures.rest;
       most = c.act_one.ensures.most ∙ c.actions.invariant.most;
       silent = λ s. c.act_one.ensures.silent (c.actions.invariant.silent s);
@@ -48,3 +60,42 @@ returns-clause-some g c = λ P k a.
     let same = ap (λ (z : Engine g.row.N.Denot g.row.C.Denot). z.plan) c.actions.invariant.rest in
     let r = c.actions.invariant.reached P k a in
     some_now g.C.Conds.stands c.args.self.now c.actions.self P k r.taken same r.actors r.goes
+
+pub actions-init : goal.actions-init
+actions-init g c = record {
+  reached = λ P k a. reached_none g.C.Conds.stands c.args.self.now P k a;
+  told = λ tr P k a. told_none g.C.Conds.stands c.args.self.now P k a;
+  rest = refl;
+  most = refl;
+  silent = λ s. s;
+  loans = refl;
+}
+
+pub returns-then-not-branch-clause-told : goal.returns-then-not-branch-clause-told
+returns-then-not-branch-clause-told g c = λ tr P k a.
+    let e = c.actions.self in
+    let d = c.act_one.new.self in
+    let same = ap (λ (z : Engine g.row.N.Denot g.row.C.Denot). z.plan) c.actions.invariant.rest in
+    let tr' : e.tracing ≡ true = ap (λ (z : Engine g.row.N.Denot g.row.C.Denot). z.tracing) c.actions.invariant.rest ∙ tr in
+    let r = c.actions.invariant.told tr P k a in
+    let f : c.in_ok-act_one.field-0 ≡ false = search rules in
+    told_end g.C.Conds.stands c.args.self.now e d P k same r
+    (subst (λ (z : Bool). ActsOne g.C.Conds.stands e d P r.reached.taken z) f (c.in_ok-act_one.ensures.acts P r.reached.taken r.reached.actors))
+    (subst (λ (z : Bool). d.trace.items ≡ e.trace.items ++ text_of_lines (next_lines (plan_tree e.plan.now) P r.reached.taken z)) f (c.in_ok-act_one.ensures.told tr' P r.reached.taken r.reached.actors))
+
+pub returns-in_err-act_one-clause-part : goal.returns-in_err-act_one-clause-part
+returns-in_err-act_one-clause-part g c =
+    let old = c.args.self.now in
+    let e = c.actions.self in
+    let d = c.act_one.new.self in
+    let same = ap (λ (z : Engine g.row.N.Denot g.row.C.Denot). z.plan) c.actions.invariant.rest in
+    let h : old.tracing ≡ true → (P : Tree) (k : ℕ) → Actors g.C.Conds.stands old P k → GrewPart old.trace.items d.trace.items (text_of_lines (lines_to (plan_tree old.plan.now) P k (all_of (plan_tree old.plan.now) P))) = λ tr P k a.
+    let tr' : e.tracing ≡ true = ap (λ (z : Engine g.row.N.Denot g.row.C.Denot). z.tracing) c.actions.invariant.rest ∙ tr in
+    let r = c.actions.invariant.told tr P k a in
+    told_part g.C.Conds.stands old e d P k same r (told_there g.C.Conds.stands old e P k same r) (c.in_err-act_one.ensures.part tr' P r.reached.taken r.reached.actors) in
+    on_err _ _ h
+
+pub returns-clause-part : goal.returns-clause-part
+returns-clause-part g c = λ tr P k a.
+    let same = ap (λ (z : Engine g.row.N.Denot g.row.C.Denot). z.plan) c.actions.invariant.rest in
+    told_some g.C.Conds.stands c.args.self.now c.actions.self P k same (c.actions.invariant.told tr P k a)

@@ -1,8 +1,9 @@
-use Rattle.std.proofs.Common.{◌≡◌, ◌∙◌, ◌<◌, ◌^◌, max, ℕ, length, ap, subst, sym, refl, rules}
+use Rattle.std.proofs.Common.{◌≡◌, ◌∙◌, ◌<◌, ◌^◌, ◌∷◌, [], List, max, ℕ, length, ap, subst, sym, refl, rules}
 use Rattle.gcx_model.specs.Tree.{Root, opening}
 use Rattle.gcx_model.specs.PlanView.{plan_tree}
 use Rattle.gcx_model.specs.Past.{opening_past}
 use Rattle.gcx_model.specs.Held.{roles_given}
+use Rattle.gcx_model.specs.Demand.{DocumentNode, Opened, text_of_lines}
 use Rattle.buf_tree.specs.Calls.{numbers}
 use Rattle.engine.proofs.Making.{actors_begin, given_begin}
 use Rattle.engine.proofs.engine.Engine.begin.Goals as goal
@@ -30,6 +31,7 @@ returns-clause-begins g c =
       none = c.new-reader.ensures.nothing;
       actors = actors_begin plan (g.C.Conds.stands m.conds) p m.position v given projects (c.in_ok-projector.ensures.place v given started) started stands beside on;
       out = search rules;
+      trace = λ tr. c.in_ok-trace.ensures.opened tr ∙ ap (λ (z : List ℕ). text_of_lines (Opened 0 DocumentNode z ∷ [])) roles;
       bytes = refl;
       peak = refl;
       given = ap length c.items.ensures.same ∙ given_begin plan given few roles;

@@ -4,6 +4,8 @@ use Rattle.engine.specs.Engine.{Kept, Lost, OnRefusal}
 use Rattle.doc_reader.specs.Standing.{waiting}
 use Rattle.engine.specs.Going.{Breaks, FedAll}
 use Rattle.engine.proofs.Courses.{asked_none, fault_of_answer, fed_to, parts_ended}
+use Rattle.engine.specs.Engine.{IsTold}
+use Rattle.engine.proofs.TellingCalls.{told_to}
 use Rattle.engine.proofs.Ending.{accepted_at, end_balance, end_empty}
 use Rattle.engine.proofs.engine.Engine.end_input.Goals as goal
 
@@ -59,3 +61,15 @@ returns-clause-balance g c = λ fresh.
 
 pub returns-clause-silent : goal.returns-clause-silent
 returns-clause-silent g c = λ s. c.go_on.ensures.silent (record { untold = s.untold; empty = s.empty })
+
+pub returns-clause-traced : goal.returns-clause-traced
+returns-clause-traced g c = λ lim b was s told.
+    let old = c.args.self.now in
+    let r = c.finish-ended.new.self in
+    let o = c.finish-ended.ensures in
+    let d = c.go_on.new.self in
+    let e : Engine g.row.N.Denot g.row.C.Denot = record old { reader = r } in
+    let told' : IsTold e = record { tracing = told.tracing; alone = told.alone } in
+    let reads = o.stands lim b was s.given s.parts.reader in
+    let parts = parts_ended g.C.Conds.stands lim old b was b true s r reads in
+    told_to g.C.Conds.stands lim b was b true old e d s refl refl reads (c.go_on.ensures.goes lim b true s.given parts) (c.go_on.ensures.told told' lim b true s.given parts)

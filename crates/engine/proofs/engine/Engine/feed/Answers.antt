@@ -1,5 +1,6 @@
 use Rattle.std.proofs.Common.{◌++◌, false}
-use Rattle.engine.specs.Engine.{Kept, Lost, StandsSome}
+use Rattle.gcx_model.specs.PlanView.{plan_tree}
+use Rattle.engine.specs.Engine.{Kept, Lost, StandsSome, TraceGrewBy, TraceGrewWithin}
 use Rattle.engine.proofs.Courses.{asked_none, exact_by, on_answer, some_none}
 use Rattle.engine.proofs.engine.Engine.feed.Goals as goal
 
@@ -30,3 +31,13 @@ returns-in-None-clause-exact g c = λ lim b s fresh.
 
 pub returns-in-None-clause-again : goal.returns-in-None-clause-again
 returns-in-None-clause-again g c = λ f e. some_none c.args.self.now.refused f _ e c.in-None.is
+
+pub returns-in-Some-clause-traced : goal.returns-in-Some-clause-traced
+returns-in-Some-clause-traced g c = λ lim b s fresh told. some_none c.args.self.now.refused c.in-Some.fault _ c.in-Some.is fresh
+
+pub returns-in-None-clause-traced : goal.returns-in-None-clause-traced
+returns-in-None-clause-traced g c = λ lim b s fresh told.
+    let old = c.args.self.now in
+    let d = c.feed_piece.new.self in
+    let w = b ++ c.args.piece.now in
+    on_answer d.refused c.answer.result (TraceGrewWithin (plan_tree old.plan.now) lim b false w false old.trace.items d.trace.items) (TraceGrewBy (plan_tree old.plan.now) lim b false w false old.trace.items d.trace.items) c.answer.ensures (c.feed_piece.ensures.traced lim b s told)

@@ -1,16 +1,21 @@
-use Rattle.std.proofs.Common.{◌≡◌, ◌≤◌, ◌∙◌, ℕ, length, ap, subst, sym}
+use Rattle.std.proofs.Common.{◌≡◌, ◌≤◌, ◌++◌, ◌∙◌, ℕ, List, true, length, ap, refl, subst, sym}
 use Rattle.gcx_model.specs.Tree.{Tree}
 use Rattle.gcx_model.specs.PlanView.{plan_tree}
 use Rattle.gcx_model.specs.Held.{sum_given}
+use Rattle.gcx_model.specs.Demand.{Line, text_of_lines}
+use Rattle.gcx_model.specs.Points.{so_far}
 use Rattle.doc_reader.specs.Standing.{said_of}
 use Rattle.buf_tree.specs.View.{View, capped}
 use Rattle.engine.specs.declared.engine.Counts.{Counts}
 use Rattle.engine.specs.declared.engine.Engine.{Engine}
 use Rattle.engine.specs.Engine.{Actors, Balanced}
 use Rattle.engine.specs.Going.{ComesWithin, counted}
+use Rattle.engine.specs.Telling.{GrewPart, fed_lines}
 use Rattle.engine.proofs.Acting.{on_err}
 use Rattle.engine.proofs.FeedingOne.{fed_balance, fed_depth, feeds_one, feeds_quietly, old_balance, told_form}
 use Rattle.engine.proofs.Taking.{told_all}
+use Rattle.engine.proofs.Telling.{part_none}
+use Rattle.engine.proofs.TellingFed.{one_told}
 use Rattle.engine.proofs.engine.Engine.feed_one.Goals as goal
 
 pub returns-in_err-kind-clause-balance : goal.returns-in_err-kind-clause-balance
@@ -62,3 +67,37 @@ pub returns-clause-quiet : goal.returns-clause-quiet
 returns-clause-quiet g c =
     let o = c.in_ok-fed.ensures in
     λ y P a m. feeds_quietly g.C.Conds.stands g.met.C.Conds.stands_on c.args.self.now (said_of c.args.token) c.feed_token.new.self c.feed_token.new.buffer c.in_ok-fed.fed o.stands o.place o.fed o.changes (sym c.is_quiet-quiet.ensures ∙ y) P a m
+
+pub returns-in_err-kind-clause-part : goal.returns-in_err-kind-clause-part
+returns-in_err-kind-clause-part g c =
+    let old = c.args.self.now in
+    let h : old.tracing ≡ true → (P : Tree) (k : ℕ) → Actors g.C.Conds.stands old P k → ComesWithin (said_of c.args.token) P → GrewPart old.trace.items old.trace.items (text_of_lines (fed_lines (plan_tree old.plan.now) (said_of c.args.token) P (so_far (plan_tree old.plan.now) P k)))
+    = λ tr P k a m. part_none old.trace.items old.trace.items (text_of_lines (fed_lines (plan_tree old.plan.now) (said_of c.args.token) P (so_far (plan_tree old.plan.now) P k))) refl in
+    on_err _ _ h
+
+pub returns-in_err-fed-clause-part : goal.returns-in_err-fed-clause-part
+returns-in_err-fed-clause-part g c =
+    let old = c.args.self.now in
+    let h : old.tracing ≡ true → (P : Tree) (k : ℕ) → Actors g.C.Conds.stands old P k → ComesWithin (said_of c.args.token) P → GrewPart old.trace.items old.trace.items (text_of_lines (fed_lines (plan_tree old.plan.now) (said_of c.args.token) P (so_far (plan_tree old.plan.now) P k)))
+    = λ tr P k a m. part_none old.trace.items old.trace.items (text_of_lines (fed_lines (plan_tree old.plan.now) (said_of c.args.token) P (so_far (plan_tree old.plan.now) P k))) refl in
+    on_err _ _ h
+
+pub returns-in_err-tell-clause-part : goal.returns-in_err-tell-clause-part
+returns-in_err-tell-clause-part g c =
+    let old = c.args.self.now in
+    let w = c.feed_token.new.buffer in
+    let f = c.in_ok-fed.fed in
+    let o = c.in_ok-fed.ensures in
+    let h : old.tracing ≡ true → (P : Tree) (k : ℕ) → Actors g.C.Conds.stands old P k → ComesWithin (said_of c.args.token) P → GrewPart old.trace.items c.tell.new.self.trace.items (text_of_lines (fed_lines (plan_tree old.plan.now) (said_of c.args.token) P (so_far (plan_tree old.plan.now) P k)))
+    = λ tr P k a m. subst (λ (z : List Line). GrewPart old.trace.items c.tell.new.self.trace.items (text_of_lines z))
+    (one_told g.C.Conds.stands old (said_of c.args.token) c.feed_token.new.self w f c.in_ok-kind.kind (c.in_ok-kind.ensures.wanted tr) o.stands o.fed o.changes P k a m) c.in_err-tell.ensures.part in
+    on_err _ _ h
+
+pub returns-clause-told : goal.returns-clause-told
+returns-clause-told g c = λ tr P k a m.
+    let old = c.args.self.now in
+    let w = c.feed_token.new.buffer in
+    let f = c.in_ok-fed.fed in
+    let o = c.in_ok-fed.ensures in
+    c.in_ok-tell.ensures.told ∙ ap (λ (z : List Line). old.trace.items ++ text_of_lines z)
+    (one_told g.C.Conds.stands old (said_of c.args.token) c.feed_token.new.self w f c.in_ok-kind.kind (c.in_ok-kind.ensures.wanted tr) o.stands o.fed o.changes P k a m)

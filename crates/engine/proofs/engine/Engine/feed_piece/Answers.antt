@@ -1,8 +1,11 @@
 use Rattle.std.proofs.Common.{◌∙◌, ◌+◌, ◌++◌, ℕ, false, [], List, length, ap, subst, refl, arith, append_assoc}
 use Rattle.std.proofs.lemmas.List.{length-append}
 use Rattle.engine.specs.declared.engine.Engine.{Engine}
-use Rattle.engine.specs.Engine.{Kept, Lost, OnRefusal}
+use Rattle.gcx_model.specs.PlanView.{plan_tree}
+use Rattle.engine.specs.Engine.{IsTold, Kept, Lost, OnRefusal, TraceGrewBy, TraceGrewWithin}
 use Rattle.engine.proofs.Courses.{bytes_small, piece_begins, piece_ends, piece_on, piece_some}
+use Rattle.engine.proofs.TellingCalls.{trace_begins, trace_ends, trace_goes}
+use Rattle.engine.proofs.Waiting.{from_none}
 use Rattle.engine.proofs.engine.Engine.feed_piece.Goals as goal
 
 pub slices-init : goal.slices-init
@@ -10,6 +13,7 @@ slices-init g c = record {
   done = [];
   parts = refl;
   fed = λ lim b s. piece_begins g.C.Conds.stands lim b c.args.self.now c.requires.fresh s;
+  traced = λ lim b s told. trace_begins g.C.Conds.stands lim b c.args.self.now c.requires.fresh s;
   bytes = omega arith;
   same = (refl, refl, refl);
   silent = λ s. s;
@@ -42,6 +46,10 @@ slices-preserved g c =
       done = inv.done ++ slice;
       parts = append_assoc inv.done slice c.cut.result.1.now ∙ (ap (λ (z : List ℕ). inv.done ++ z) c.cut.ensures.parts ∙ inv.parts);
       fed = λ lim b s. piece_on g.C.Conds.stands lim b old e d inv.done slice inv.same.0 fresh (inv.fed lim b s) (λ x y. o.fed lim x y);
+      traced = λ lim b s told.
+          let k : Kept g.C.Conds.stands lim old e b false (b ++ inv.done) false = from_none e.refused (Lost lim old e b false (b ++ inv.done) false) (Kept g.C.Conds.stands lim old e b false (b ++ inv.done) false) fresh (inv.fed lim b s) in
+          let told' : IsTold e = record { tracing = inv.same.2 ∙ told.tracing; alone = inv.same.1 ∙ told.alone } in
+          trace_goes g.C.Conds.stands lim b old e d inv.done slice inv.same.0 fresh (inv.traced lim b s told) (o.traced lim (b ++ inv.done) k.of told');
       bytes = omega arith;
       same = (o.same.0 ∙ inv.same.0, o.same.1 ∙ inv.same.1, o.same.2 ∙ inv.same.2);
       silent = λ s. o.silent (inv.silent s);
@@ -81,3 +89,13 @@ returns-clause-bytes g c =
 
 pub returns-clause-silent : goal.returns-clause-silent
 returns-clause-silent g c = λ s. let t = c.slices.invariant.silent s in record { untold = t.untold; empty = t.empty }
+
+pub returns-clause-traced : goal.returns-clause-traced
+returns-clause-traced g c = λ lim b s told.
+    let inv = c.slices.invariant in
+    let old = c.args.self.now in
+    let e = c.slices.self in
+    let rest = c.slices.rest.now in
+    let pl = plan_tree old.plan.now in
+    subst (λ (z : List ℕ). OnRefusal e.refused (TraceGrewWithin pl lim b false (b ++ z) false old.trace.items e.trace.items) (TraceGrewBy pl lim b false (b ++ z) false old.trace.items e.trace.items)) inv.parts
+    (trace_ends g.C.Conds.stands lim b old e inv.done rest (c.is_left.ensures.over c.slices-test.false) (inv.fed lim b s) (inv.traced lim b s told))

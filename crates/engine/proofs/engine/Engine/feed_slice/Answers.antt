@@ -2,6 +2,8 @@ use Rattle.std.proofs.Common.{◌≡◌, ◌+◌, ◌++◌, false, length, refl,
 use Rattle.std.proofs.lemmas.List.{length-append}
 use Rattle.engine.specs.declared.engine.Engine.{Engine}
 use Rattle.engine.proofs.Courses.{bytes_small, fault_of_answer, fed_to, parts_read}
+use Rattle.engine.specs.Engine.{IsTold}
+use Rattle.engine.proofs.TellingCalls.{told_to}
 use Rattle.engine.proofs.engine.Engine.feed_slice.Goals as goal
 
 pub overflow_add-self : goal.overflow_add-self
@@ -34,3 +36,17 @@ returns-clause-fed g c = λ lim b s.
 
 pub returns-clause-silent : goal.returns-clause-silent
 returns-clause-silent g c = λ s. c.go_on.ensures.silent (record { untold = s.untold; empty = s.empty })
+
+pub returns-clause-traced : goal.returns-clause-traced
+returns-clause-traced g c = λ lim b s told.
+    let old = c.args.self.now in
+    let r = c.feed-read.new.self in
+    let o = c.feed-read.ensures in
+    let d = c.go_on.new.self in
+    let w = b ++ c.args.slice.now in
+    let n = old.counts.bytes + length c.args.slice.now in
+    let e : Engine g.row.N.Denot g.row.C.Denot = record old { reader = r; counts = record old.counts { bytes = n } } in
+    let told' : IsTold e = record { tracing = told.tracing; alone = told.alone } in
+    let reads = o.stands lim b s.given s.parts.reader in
+    let parts = parts_read g.C.Conds.stands lim old b false w false s r n reads in
+    told_to g.C.Conds.stands lim b false w false old e d s refl refl reads (c.go_on.ensures.goes lim w false s.given parts) (c.go_on.ensures.told told' lim w false s.given parts)

@@ -7,8 +7,12 @@ use Rattle.doc_reader.specs.Standing.{Keeps, ReaderView, Stands, said_of, waitin
 use Rattle.std.specs.Prelude.{map}
 use Rattle.std.proofs.lemmas.Bool.{false≢true, true≢false}
 use Rattle.engine.specs.declared.engine.Engine.{Engine}
-use Rattle.engine.specs.Engine.{Balanced, PartsStand}
+use Rattle.gcx_model.specs.Points.{actions, so_far}
+use Rattle.gcx_model.specs.Demand.{Line, text_of_lines}
+use Rattle.engine.specs.Engine.{Balanced, IsTold, PartsStand}
 use Rattle.engine.specs.Going.{FeedsSome, all_of}
+use Rattle.engine.specs.Telling.{GrewPart, ToldOne, fed_lines, more_lines}
+use Rattle.engine.proofs.TellingGroups.{nil_of, one_part, one_text}
 use Rattle.engine.proofs.Acting.{on_err}
 use Rattle.engine.proofs.Forms.{fed_on, keeps_none, keeps_on, read_on}
 use Rattle.engine.proofs.Grouping.{comes_next, group_begins, group_given, group_on, group_stops, may_next, some_ahead}
@@ -20,6 +24,8 @@ tokens-init g c = record {
   fewer = omega arith;
   some = λ y. absurd (false≢true y);
   none = λ y. refl;
+  first = λ y. refl;
+  told = λ s lim b ended given p. (refl, refl);
   keeps = keeps_none c.args.self.now.reader;
   rest = refl;
   bytes = refl;
@@ -80,6 +86,30 @@ tokens-preserved g c =
       fewer = omega arith;
       some = λ y. less;
       none = λ y. absurd (true≢false y);
+      first = λ y. absurd (omega arith);
+      told = λ s lim b ended given p.
+          let plan' = plan_tree old.plan.now in
+          let P = seen_tree (map said_of given) in
+          let k = all_of plan' P in
+          let x = inv.group lim b ended given p in
+          let f = x.0 in
+          let few = x.1 in
+          let alone = s.alone in
+          let l = c.tokens-test.true in
+          let zero : c.tokens._index ≡ 0 = omega arith in
+          let none : f.more ≡ [] = nil_of f.more (omega arith) in
+          let Q = seen_tree (map said_of (given ++ f.more)) in
+          let was : (waiting old.reader ≡ waiting e.reader) × (e.trace.items ≡ old.trace.items) = subst (λ (z : Bool). ToldOne plan' P (actions plan' P) (waiting old.reader) (waiting e.reader) old.trace.items e.trace.items z) (inv.first zero) (inv.told s lim b ended given p) in
+          let tr : e.tracing ≡ true = ap (λ (z : Engine g.row.N.Denot g.row.C.Denot). z.tracing) inv.rest ∙ s.tracing in
+          let pe = ap (λ (z : Engine g.row.N.Denot g.row.C.Denot). plan_tree z.plan.now) inv.rest in
+          let text = one_text plan' (plan_tree e.plan.now) pe given f.more none t in
+          let reads = c.in-Some.ensures.stands lim b ended (given ++ f.more) f.reader in
+          let comes = comes_next g.C.Conds.stands lim b ended given old e d r t c.tokens.quiet c.in_ok-still.still f plan takes reads in
+          let one : d.trace.items ≡ e.trace.items ++ text_of_lines (fed_lines (plan_tree e.plan.now) (said_of t) Q (so_far (plan_tree e.plan.now) Q k)) = o.told tr Q k f.actors comes in (
+            t,
+            was.0 ∙ (takes ∙ ap (λ (z : ReaderView). t ∷ waiting z) (sym same)),
+            one ∙ (ap (λ (z : List Line). e.trace.items ++ text_of_lines z) text ∙ ap (λ (z : List ℕ). z ++ text_of_lines (fed_lines plan' (said_of t) P (actions plan' P))) was.1),
+          );
       keeps = keeps_on old.reader e.reader d.reader inv.keeps (subst (λ (z : ReaderView). Keeps e.reader z) (sym same) c.in-Some.ensures.keeps);
       rest = fed_on old e d r inv.rest c.feed_one.ensures.rest;
       bytes = c.feed_one.ensures.bytes ∙ inv.bytes;
@@ -140,3 +170,50 @@ returns-clause-none g c = λ y.
 
 pub returns-clause-fewer : goal.returns-clause-fewer
 returns-clause-fewer g c = c.tokens.invariant.some
+
+pub returns-in_err-still-clause-part : goal.returns-in_err-still-clause-part
+returns-in_err-still-clause-part g c =
+    let inv = c.tokens.invariant in
+    let old = c.args.self.now in
+    let e = c.tokens.self in
+    let r = c.next.new.self in
+    let t = c.in-Some.token in
+    let d = c.feed_one.new.self in
+    let plan = ap (λ (z : Engine g.row.N.Denot g.row.C.Denot). z.plan) inv.rest in
+    let takes : waiting e.reader ≡ t ∷ waiting r = c.in-Some.ensures.takes in
+    let h : IsTold old → (lim : Limits) (b : List ℕ) (ended : Bool) (given : List Token) → PartsStand g.C.Conds.stands lim old b ended given
+    → GrewPart old.trace.items d.trace.items (text_of_lines (more_lines (plan_tree old.plan.now) (seen_tree (map said_of given)) (waiting old.reader))) = λ s lim b ended given p.
+    let plan' = plan_tree old.plan.now in
+    let P = seen_tree (map said_of given) in
+    let k = all_of plan' P in
+    let x = inv.group lim b ended given p in
+    let f = x.0 in
+    let few = x.1 in
+    let alone = s.alone in
+    let l = c.tokens-test.true in
+    let zero : c.tokens._index ≡ 0 = omega arith in
+    let none : f.more ≡ [] = nil_of f.more (omega arith) in
+    let Q = seen_tree (map said_of (given ++ f.more)) in
+    let was : (waiting old.reader ≡ waiting e.reader) × (e.trace.items ≡ old.trace.items) = subst (λ (z : Bool). ToldOne plan' P (actions plan' P) (waiting old.reader) (waiting e.reader) old.trace.items e.trace.items z) (inv.first zero) (inv.told s lim b ended given p) in
+    let tr : e.tracing ≡ true = ap (λ (z : Engine g.row.N.Denot g.row.C.Denot). z.tracing) inv.rest ∙ s.tracing in
+    let pe = ap (λ (z : Engine g.row.N.Denot g.row.C.Denot). plan_tree z.plan.now) inv.rest in
+    let text = one_text plan' (plan_tree e.plan.now) pe given f.more none t in
+    let reads = c.in-Some.ensures.stands lim b ended (given ++ f.more) f.reader in
+    let comes = comes_next g.C.Conds.stands lim b ended given old e e r t c.tokens.quiet true f plan takes reads in
+    let one : GrewPart e.trace.items d.trace.items (text_of_lines (fed_lines (plan_tree e.plan.now) (said_of t) Q (so_far (plan_tree e.plan.now) Q k))) = c.in_err-still.ensures.part tr Q k f.actors comes in
+    one_part plan' P t (waiting r) (waiting old.reader) old.trace.items d.trace.items (was.0 ∙ takes)
+    (subst (λ (z : List ℕ). GrewPart z d.trace.items (text_of_lines (fed_lines plan' (said_of t) P (actions plan' P)))) was.1
+    (subst (λ (z : List Line). GrewPart e.trace.items d.trace.items (text_of_lines z)) text one)) in
+    on_err _ _ h
+
+pub returns-in_default-clause-told : goal.returns-in_default-clause-told
+returns-in_default-clause-told g c = λ s lim b ended given p.
+    let old = c.args.self.now in
+    let e = c.tokens.self in
+    let plan = plan_tree old.plan.now in
+    let P = seen_tree (map said_of given) in
+    let t : (waiting e.reader ≡ []) × (waiting c.next.new.self ≡ []) = c.in_default.ensures.takes in
+    subst (λ (z : List Token). ToldOne plan P (actions plan P) (waiting old.reader) z old.trace.items e.trace.items c.tokens.any) (t.0 ∙ sym t.1) (c.tokens.invariant.told s lim b ended given p)
+
+pub returns-clause-told : goal.returns-clause-told
+returns-clause-told g c = λ s lim b ended given p. c.tokens.invariant.told s lim b ended given p

@@ -1,9 +1,17 @@
-use Rattle.std.proofs.Common.{◌∙◌, ◌++◌, ℕ, Bool, List, ap, refl}
+use Rattle.std.proofs.Common.{◌∙◌, ◌++◌, [], ℕ, Bool, List, ap, map, refl, subst, sym}
+use Rattle.std.proofs.lemmas.List.{append-nil}
 use Rattle.gcx_base.specs.declared.limits.Limits.{Limits}
 use Rattle.doc_reader.specs.declared.token.Token.{Token}
 use Rattle.engine.specs.declared.engine.Engine.{Engine}
-use Rattle.engine.specs.Engine.{PartsStand}
+use Rattle.gcx_model.specs.PlanView.{plan_tree}
+use Rattle.gcx_model.specs.Seen.{seen_tree}
+use Rattle.gcx_model.specs.Core.{PlanTree}
+use Rattle.gcx_model.specs.Demand.{text_of_lines}
+use Rattle.doc_reader.specs.Standing.{said_of, waiting}
+use Rattle.engine.specs.Engine.{IsTold, PartsStand}
 use Rattle.engine.specs.Going.{Breaks}
+use Rattle.engine.specs.Telling.{GrewPart, ToldSome, more_lines}
+use Rattle.engine.proofs.TellingGroups.{part_on, some_on}
 use Rattle.engine.proofs.Acting.{on_err}
 use Rattle.engine.proofs.Forms.{all_on, keeps_none, keeps_on}
 use Rattle.engine.proofs.Waiting.{breaks_on, feeds_none, feeds_on}
@@ -12,6 +20,7 @@ use Rattle.engine.proofs.engine.Engine.feed_waiting.Goals as goal
 pub groups-init : goal.groups-init
 groups-init g c = record {
   feeds = λ lim b ended given p. feeds_none g.C.Conds.stands lim b ended given c.args.self.now p;
+  told = λ s lim b ended given p. record { more = []; waited = refl; told = sym (append-nil c.args.self.now.trace.items) };
   keeps = keeps_none c.args.self.now.reader;
   rest = refl;
   bytes = refl;
@@ -34,6 +43,13 @@ groups-preserved g c =
     let plan = ap (λ (z : Engine g.row.N.Denot g.row.C.Denot). z.plan) inv.rest in
     record {
       feeds = λ lim b ended given p. let f = inv.feeds lim b ended given p in feeds_on g.C.Conds.stands lim b ended given old e d plan f (c.in_ok-feed_group.ensures.feeds lim b ended (given ++ f.more) f.parts);
+      told = λ s lim b ended given p.
+          let f = inv.feeds lim b ended given p in
+          let pl = plan_tree old.plan.now in
+          let s' : IsTold e = record { tracing = ap (λ (z : Engine g.row.N.Denot g.row.C.Denot). z.tracing) inv.rest ∙ s.tracing; alone = ap (λ (z : Engine g.row.N.Denot g.row.C.Denot). z.ahead) inv.rest ∙ s.alone } in
+          let pe = ap (λ (z : Engine g.row.N.Denot g.row.C.Denot). plan_tree z.plan.now) inv.rest in
+          some_on pl given f.more (waiting old.reader) (waiting e.reader) (waiting d.reader) old.trace.items e.trace.items d.trace.items f.waited (inv.told s lim b ended given p)
+          (subst (λ (z : PlanTree). ToldSome z (seen_tree (map said_of (given ++ f.more))) (waiting e.reader) (waiting d.reader) e.trace.items d.trace.items) pe (c.in_ok-feed_group.ensures.told s' lim b ended (given ++ f.more) f.parts));
       keeps = keeps_on old.reader e.reader d.reader inv.keeps c.feed_group.ensures.keeps;
       rest = all_on old e d inv.rest c.feed_group.ensures.rest;
       bytes = c.feed_group.ensures.bytes ∙ inv.bytes;
@@ -61,3 +77,32 @@ returns-clause-feeds g c = λ lim b ended given p.
     let plan = ap (λ (z : Engine g.row.N.Denot g.row.C.Denot). z.plan) inv.rest in
     let f = inv.feeds lim b ended given p in
     feeds_on g.C.Conds.stands lim b ended given old e d plan f (c.in_ok-feed_group.ensures.feeds lim b ended (given ++ f.more) f.parts)
+
+pub returns-in_err-feed_group-clause-part : goal.returns-in_err-feed_group-clause-part
+returns-in_err-feed_group-clause-part g c =
+    let inv = c.groups.invariant in
+    let old = c.args.self.now in
+    let e = c.groups.self in
+    let d = c.feed_group.new.self in
+    let h : IsTold old → (lim : Limits) (b : List ℕ) (ended : Bool) (given : List Token) → PartsStand g.C.Conds.stands lim old b ended given
+    → GrewPart old.trace.items d.trace.items (text_of_lines (more_lines (plan_tree old.plan.now) (seen_tree (map said_of given)) (waiting old.reader))) = λ s lim b ended given p.
+    let f = inv.feeds lim b ended given p in
+    let pl = plan_tree old.plan.now in
+    let s' : IsTold e = record { tracing = ap (λ (z : Engine g.row.N.Denot g.row.C.Denot). z.tracing) inv.rest ∙ s.tracing; alone = ap (λ (z : Engine g.row.N.Denot g.row.C.Denot). z.ahead) inv.rest ∙ s.alone } in
+    let pe = ap (λ (z : Engine g.row.N.Denot g.row.C.Denot). plan_tree z.plan.now) inv.rest in
+    part_on pl given f.more (waiting old.reader) (waiting e.reader) old.trace.items e.trace.items d.trace.items f.waited (inv.told s lim b ended given p)
+    (subst (λ (z : PlanTree). GrewPart e.trace.items d.trace.items (text_of_lines (more_lines z (seen_tree (map said_of (given ++ f.more))) (waiting e.reader)))) pe (c.in_err-feed_group.ensures.part s' lim b ended (given ++ f.more) f.parts)) in
+    on_err _ _ h
+
+pub returns-clause-told : goal.returns-clause-told
+returns-clause-told g c = λ s lim b ended given p.
+    let inv = c.groups.invariant in
+    let old = c.args.self.now in
+    let e = c.groups.self in
+    let d = c.feed_group.new.self in
+    let f = inv.feeds lim b ended given p in
+    let pl = plan_tree old.plan.now in
+    let s' : IsTold e = record { tracing = ap (λ (z : Engine g.row.N.Denot g.row.C.Denot). z.tracing) inv.rest ∙ s.tracing; alone = ap (λ (z : Engine g.row.N.Denot g.row.C.Denot). z.ahead) inv.rest ∙ s.alone } in
+    let pe = ap (λ (z : Engine g.row.N.Denot g.row.C.Denot). plan_tree z.plan.now) inv.rest in
+    some_on pl given f.more (waiting old.reader) (waiting e.reader) (waiting d.reader) old.trace.items e.trace.items d.trace.items f.waited (inv.told s lim b ended given p)
+    (subst (λ (z : PlanTree). ToldSome z (seen_tree (map said_of (given ++ f.more))) (waiting e.reader) (waiting d.reader) e.trace.items d.trace.items) pe (c.in_ok-feed_group.ensures.told s' lim b ended (given ++ f.more) f.parts))

@@ -1,5 +1,6 @@
 use Rattle.std.proofs.Common.{◌≡◌, true, []}
-use Rattle.engine.specs.Engine.{Kept, Lost, StandsSome}
+use Rattle.gcx_model.specs.PlanView.{plan_tree}
+use Rattle.engine.specs.Engine.{Kept, Lost, StandsSome, TraceGrewBy, TraceGrewWithin}
 use Rattle.engine.proofs.Courses.{asked_none, exact_by, on_answer, on_ok_none, some_none}
 use Rattle.engine.proofs.engine.Engine.finish.Goals as goal
 
@@ -32,3 +33,12 @@ returns-in-None-clause-balance g c = on_ok_none c.end_input.new.self.refused c.a
 
 pub returns-in-None-clause-again : goal.returns-in-None-clause-again
 returns-in-None-clause-again g c = λ f e. some_none c.args.self.now.refused f _ e c.in-None.is
+
+pub returns-in-Some-clause-traced : goal.returns-in-Some-clause-traced
+returns-in-Some-clause-traced g c = λ lim b was s fresh told. some_none c.args.self.now.refused c.in-Some.fault _ c.in-Some.is fresh
+
+pub returns-in-None-clause-traced : goal.returns-in-None-clause-traced
+returns-in-None-clause-traced g c = λ lim b was s fresh told.
+    let old = c.args.self.now in
+    let d = c.end_input.new.self in
+    on_answer d.refused c.answer.result (TraceGrewWithin (plan_tree old.plan.now) lim b was b true old.trace.items d.trace.items) (TraceGrewBy (plan_tree old.plan.now) lim b was b true old.trace.items d.trace.items) c.answer.ensures (c.end_input.ensures.traced lim b was s told)

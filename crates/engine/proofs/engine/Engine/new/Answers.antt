@@ -1,7 +1,8 @@
-use Rattle.std.proofs.Common.{◌∙◌, ◌≤◌, ap, arith}
+use Rattle.std.proofs.Common.{◌≡◌, ◌∙◌, ◌≤◌, true, ap, arith, sym}
 use Rattle.gcx_model.specs.Tree.{opening}
 use Rattle.engine.specs.declared.engine.Engine.{Engine}
 use Rattle.engine.proofs.Making.{some_begin, starts}
+use Rattle.engine.proofs.TellingStarts.{traced_begin}
 use Rattle.engine.proofs.engine.Engine.new.Goals as goal
 
 pub act_all-requires : goal.act_all-requires
@@ -18,6 +19,9 @@ returns-clause-starts g c =
     let one : 1 ≤ e.ahead = omega arith in
     starts g.C.Conds.stands c.args.limits e d h one (ap (λ (z : Engine g.row.N.Denot g.row.C.Denot). z.plan) r) (ap (λ (z : Engine g.row.N.Denot g.row.C.Denot). z.reader) r) (ap (λ (z : Engine g.row.N.Denot g.row.C.Denot). z.ahead) r)
     (ap (λ (z : Engine g.row.N.Denot g.row.C.Denot). z.counts) r) (ap (λ (z : Engine g.row.N.Denot g.row.C.Denot). z.refused) r) c.act_all.ensures.most (c.in_ok-act_all.ensures.acts opening 0 h.actors)
+    (λ tr.
+    let tr' : e.tracing ≡ true = sym (ap (λ (z : Engine g.row.N.Denot g.row.C.Denot). z.tracing) r) ∙ tr in
+    traced_begin c.args.limits e.plan.now d.plan.now (ap (λ (z : Engine g.row.N.Denot g.row.C.Denot). z.plan.now) r) e.trace.items d.trace.items (h.trace tr') (c.in_ok-act_all.ensures.told tr' opening 0 h.actors))
 
 pub returns-clause-silent : goal.returns-clause-silent
 returns-clause-silent g c = λ h. c.act_all.ensures.silent (record { untold = c.in_ok-engine.ensures.tracing ∙ h; empty = c.in_ok-engine.ensures.silent h })

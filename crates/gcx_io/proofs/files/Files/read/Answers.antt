@@ -1,26 +1,30 @@
-use Rattle.std.proofs.Common.{◌≡◌, sym, ap, arith}
+use Rattle.std.proofs.Common.{◌≡◌, ◌<◌, List, length, slice_set, sym, ◌∙◌, ap, subst}
+use Rattle.gcx_io.specs.Held.{Opening, rest_at, read_at}
 use Rattle.gcx_io.specs.Files.{OpenFiles}
-use Rattle.gcx_io.specs.Held.{rest_at}
-use Rattle.gcx_io.proofs.Rests.{rest_is, rests_move}
+use Rattle.gcx_io.proofs.Handles.{rest_is, read_set}
 use Rattle.gcx_io.proofs.files.Files.read.Goals as goal
-
-pub overflow_add-place : goal.overflow_add-place
-overflow_add-place c = omega (arith, c.rest_from.ensures.fits, c.move_front-count.ensures.count)
 
 pub returns-clause-count : goal.returns-clause-count
 returns-clause-count c =
-    let rest : rest_at c.args.self.now.rests c.args.handle.0 ≡ c.rest_from.result.now =
-    rest_is c.self.inside.entries.items c.self.inside.places.items _ _ c.index-place.result.now _ (ap (λ (h : OpenFiles). h.rests) (sym c.self.view_is)) c.requires.given c.index-place.ensures
-    (rw c.deref.ensures.value at c.rest_from.ensures.rest) in
-    rw rest c.move_front-count.ensures.count
+    let os : c.args.self.now.openings ≡ c.self.inside.openings.items = ap (λ (f : OpenFiles). f.openings) (sym c.self.view_is) in
+    let given : c.args.handle.0 < length c.self.inside.openings.items = subst (λ (l : List Opening). c.args.handle.0 < length l) os c.requires.given in
+    let rest : rest_at c.args.self.now.openings c.args.handle.0 ≡ c.index_mut.result.now.rest =
+    ap (λ (l : List Opening). rest_at l c.args.handle.0) os ∙ rest_is c.self.inside.openings.items c.args.handle.0 c.index_mut.result.now given c.index_mut.ensures.value in
+    rw rest c.read.ensures.count
 
 pub returns-clause-moved : goal.returns-clause-moved
 returns-clause-moved c =
-    let rest : rest_at c.args.self.now.rests c.args.handle.0 ≡ c.rest_from.result.now =
-    rest_is c.self.inside.entries.items c.self.inside.places.items _ _ c.index-place.result.now _ (ap (λ (h : OpenFiles). h.rests) (sym c.self.view_is)) c.requires.given c.index-place.ensures
-    (rw c.deref.ensures.value at c.rest_from.ensures.rest) in
-    rw rest c.move_front-count.ensures.moved
+    let os : c.args.self.now.openings ≡ c.self.inside.openings.items = ap (λ (f : OpenFiles). f.openings) (sym c.self.view_is) in
+    let given : c.args.handle.0 < length c.self.inside.openings.items = subst (λ (l : List Opening). c.args.handle.0 < length l) os c.requires.given in
+    let rest : rest_at c.args.self.now.openings c.args.handle.0 ≡ c.index_mut.result.now.rest =
+    ap (λ (l : List Opening). rest_at l c.args.handle.0) os ∙ rest_is c.self.inside.openings.items c.args.handle.0 c.index_mut.result.now given c.index_mut.ensures.value in
+    rw rest c.read.ensures.moved
 
-pub returns-clause-rests : goal.returns-clause-rests
-returns-clause-rests c =
-    rests_move c.self.inside.entries.items c.self.inside.places.items _ _ _ c.index-place.result.now (ap (λ (h : OpenFiles). h.rests) (sym c.self.view_is)) c.requires.given c.index-place.ensures
+pub returns-clause-rest : goal.returns-clause-rest
+returns-clause-rest c =
+    let os : c.args.self.now.openings ≡ c.self.inside.openings.items = ap (λ (f : OpenFiles). f.openings) (sym c.self.view_is) in
+    let given : c.args.handle.0 < length c.self.inside.openings.items = subst (λ (l : List Opening). c.args.handle.0 < length l) os c.requires.given in
+    let set : slice_set c.self.inside.openings.items c.args.handle.0 c.read.new.self ≡ read_at c.self.inside.openings.items c.args.handle.0 c.read.result =
+    ap (λ (o : Opening). slice_set c.self.inside.openings.items c.args.handle.0 o) c.read.ensures.rest
+    ∙ read_set c.self.inside.openings.items c.args.handle.0 c.read.result c.index_mut.result.now given c.index_mut.ensures.value in
+    rw (← c.self.view_is) (ap (λ (l : List Opening). record { files = c.self.inside.entries.items; openings = l; whole = c.self.inside.whole }) set)

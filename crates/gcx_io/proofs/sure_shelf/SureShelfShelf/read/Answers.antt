@@ -1,10 +1,16 @@
 use Rattle.std.proofs.Common.{arith}
-use Rattle.gcx_io.proofs.Rests.{rest_moves, others_stay}
+use Rattle.gcx_io.proofs.Shelves.{read_moves, read_others, read_names, read_count}
 use Rattle.gcx_io.proofs.sure_shelf.SureShelfShelf.read.Goals as goal
 
 pub returns-clause-bytes : goal.returns-clause-bytes
-returns-clause-bytes c = rw (← c.self.view_is) (rest_moves c.self.inside.files.rests c.read.new.self.rests c.args.handle.0 _ 18446744073709551615 c.args.buf.now _ (rw (← c.self.view_is) at c.requires.given) (omega arith) c.requires.room
-    c.read.ensures.count c.read.ensures.moved c.read.ensures.rests)
+returns-clause-bytes c = rw (← c.self.view_is) (read_moves c.self.inside.files c.read.new.self c.args.handle.0 _ 18446744073709551615 c.args.buf.now _ c.read.ensures.rest (rw (← c.self.view_is) at c.requires.given) (omega arith) c.requires.room
+    c.read.ensures.count c.read.ensures.moved)
 
 pub returns-clause-others : goal.returns-clause-others
-returns-clause-others c = rw (← c.self.view_is) (others_stay c.self.inside.files.rests c.read.new.self.rests c.args.handle.0 _ c.read.ensures.rests)
+returns-clause-others c = rw (← c.self.view_is) (read_others c.self.inside.files c.read.new.self c.args.handle.0 _ c.read.ensures.rest)
+
+pub returns-clause-named : goal.returns-clause-named
+returns-clause-named c = rw (← c.self.view_is) (read_names c.self.inside.files c.read.new.self c.args.handle.0 _ c.read.ensures.rest)
+
+pub returns-clause-handles : goal.returns-clause-handles
+returns-clause-handles c = rw (← c.self.view_is) (read_count c.self.inside.files c.read.new.self c.args.handle.0 _ c.read.ensures.rest)

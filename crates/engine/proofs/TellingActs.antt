@@ -1,0 +1,196 @@
+-- What a trace tells of actions.
+use Rattle.std.proofs.Common.{◌≡◌, ℕ, zero, suc, ◌<◌, ◌≤◌, true, false, List, [], ◌∷◌, ◌++◌, length, map, take, drop, refl, sym, ◌∙◌, ap, subst, arith, append_assoc}
+use Rattle.std.proofs.lemmas.List.{append-nil, length-take-le}
+use Rattle.std.proofs.Math.Seq.{drop-append_seam}
+use Rattle.gcx_base.specs.declared.ids.Role.{Role}
+use Rattle.gcx_base.specs.declared.ids.Serial.{Serial}
+use Rattle.gcx_model.specs.Tree.{Tree}
+use Rattle.gcx_model.specs.Core.{PlanTree}
+use Rattle.gcx_model.specs.PlanView.{plan_tree}
+use Rattle.gcx_model.specs.Run.{Action, Wrote, Offed}
+use Rattle.gcx_model.specs.Held.{held, departed}
+use Rattle.gcx_model.specs.Points.{actions, so_far}
+use Rattle.gcx_model.specs.Past.{Past, past_acted}
+use Rattle.gcx_model.specs.Demand.{Line, left, action_line, act_lines, text_of_lines}
+use Rattle.gcx_model.specs.Demand as tree
+use Rattle.gcx_laws.specs.Moves.{IsNext}
+use Rattle.buf_tree.specs.View.{View}
+use Rattle.buf_tree.specs.Calls.{left_out}
+use Rattle.buf_tree.specs.Stands.{StandsFor}
+use Rattle.projector.specs.declared.projector.Projector.{Projector}
+use Rattle.pull_eval.specs.Acting.{Takes}
+use Rattle.pull_eval.specs.declared.machine.Acted.{Acted}
+use Rattle.pull_eval.specs.declared.machine.Acted.TheVariants as acted
+use Rattle.pull_eval.specs.declared.position.Position.{Position}
+use Rattle.engine.specs.declared.engine.Engine.{Engine}
+use Rattle.engine.specs.Engine.{Actors, ActorsStand, past_at}
+use Rattle.engine.specs.Going.{ActsOne, Goes, all_of}
+use Rattle.engine.specs.Telling.{GrewPart, acted_lines, lines_to, next_lines}
+use Rattle.engine.proofs.Acting.{Reached, there}
+use Rattle.engine.proofs.Departing.{departed_rows, none_out}
+use Rattle.engine.proofs.Writing.{goes_none, goes_on}
+use Rattle.engine.proofs.Telling.{lines_behind, lines_first, lines_on, part_all}
+
+-- ---- fronts of lists
+
+take_split : (k j : ℕ) (A : List Action) → k ≤ j → take k A ++ drop k (take j A) ≡ take j A
+take_split zero j A l = refl
+take_split (suc k) zero A l = absurd (omega arith)
+take_split (suc k) (suc j) [] l = refl
+take_split (suc k) (suc j) (x ∷ A) l = ap (λ (z : List Action). x ∷ z) (take_split k j A (omega arith))
+
+drop_split : (k j i : ℕ) (A : List Action) → k ≤ j → j ≤ i → drop k (take i A) ≡ drop k (take j A) ++ drop j (take i A)
+drop_split zero j i A l m = sym (take_split j i A m)
+drop_split (suc k) zero i A l m = absurd (omega arith)
+drop_split (suc k) (suc j) zero A l m = absurd (omega arith)
+drop_split (suc k) (suc j) (suc i) [] l m = refl
+drop_split (suc k) (suc j) (suc i) (x ∷ A) l m = drop_split k j i A (omega arith) (omega arith)
+
+drop_none : (k : ℕ) (A : List Action) → drop k (take k A) ≡ []
+drop_none zero A = refl
+drop_none (suc k) [] = refl
+drop_none (suc k) (x ∷ A) = drop_none k A
+
+module _ (plan : PlanTree) (P : Tree) where
+  pub act_append : (A xs ys : List Action) → act_lines plan P A (xs ++ ys) ≡ act_lines plan P A xs ++ act_lines plan P (A ++ xs) ys
+  act_append A [] ys = ap (λ (z : List Action). act_lines plan P z ys) (sym (append-nil A))
+  act_append A (a ∷ xs) ys =
+      let L = left (held plan P A) (held plan P (A ++ a ∷ [])) in
+      let X = act_lines plan P (A ++ a ∷ []) xs in
+      let Y = act_lines plan P ((A ++ a ∷ []) ++ xs) ys in
+      ap (λ (z : List Line). action_line a ∷ (L ++ z)) (act_append (A ++ a ∷ []) xs ys)
+      ∙ (ap (λ (z : List Line). action_line a ∷ z) (sym (append_assoc L X Y))
+      ∙ ap (λ (z : List Action). action_line a ∷ ((L ++ X) ++ act_lines plan P z ys)) (append_assoc A (a ∷ []) xs))
+
+  pub lines_split : (k j i : ℕ) → k ≤ j → j ≤ i → lines_to plan P k i ≡ lines_to plan P k j ++ lines_to plan P j i
+  lines_split k j i l m =
+      ap (act_lines plan P (so_far plan P k)) (drop_split k j i (actions plan P) l m)
+      ∙ (act_append (so_far plan P k) (drop k (so_far plan P j)) (drop j (so_far plan P i))
+      ∙ ap (λ (z : List Action). lines_to plan P k j ++ act_lines plan P z (drop j (so_far plan P i))) (take_split k j (actions plan P) l))
+
+  pub lines_none : (k : ℕ) → lines_to plan P k k ≡ []
+  lines_none k = ap (act_lines plan P (so_far plan P k)) (drop_none k (actions plan P))
+
+  next_is : (k : ℕ) (a : Action) → IsNext plan P k a → drop k (so_far plan P (suc k)) ≡ a ∷ []
+  next_is k a n =
+      let l = n.left in
+      let few : k ≤ length (actions plan P) = omega arith in
+      ap (drop k) n.taken ∙ (ap (λ z. drop z (so_far plan P k ++ a ∷ [])) (sym (length-take-le k (actions plan P) few)) ∙ drop-append_seam (so_far plan P k) (a ∷ []))
+
+  pub lines_next : (k : ℕ) (a : Action) → IsNext plan P k a → lines_to plan P k (suc k) ≡ action_line a ∷ left (held plan P (so_far plan P k)) (held plan P (so_far plan P k ++ a ∷ []))
+  lines_next k a n =
+      ap (act_lines plan P (so_far plan P k)) (next_is k a n)
+      ∙ ap (λ (z : List Line). action_line a ∷ z) (append-nil (left (held plan P (so_far plan P k)) (held plan P (so_far plan P k ++ a ∷ []))))
+
+-- What was done, told, is the line of the next action and of its departures.
+module _ (plan : PlanTree) (before : Tree → Type 0) (p : Projector) (w m : Position) (v u : View) (P : Tree) (k : ℕ) (s : ActorsStand plan before p w v P k) (out new : List ℕ) where
+  abbrev TellsOne : Acted → Type 0
+  TellsOne a = (k < all_of plan P) × (acted_lines a ++ map tree.Left u.gone ≡ lines_to plan P k (suc k))
+
+  abbrev TellsBy : Acted → Type 0
+  TellsBy (acted.Wrote n) = TellsOne (acted.Wrote n)
+  TellsBy (acted.SignedOff x r) = TellsOne (acted.SignedOff x r)
+  TellsBy acted.Blocked = Unit {0}
+  TellsBy acted.Finished = Unit {0}
+
+  abbrev past : Past
+  past = past_at plan P k s.fed
+
+  tells : (a : Acted) → Takes past k m v u out new a → TellsBy a
+  tells (acted.Wrote n) t =
+      let b = t.0 in
+      let stands : StandsFor v past = s.beside.buffer in
+      let next : StandsFor u (past_acted (Wrote b) past) = t.5.buffer in
+      let gone : u.gone ≡ [] = ap (λ (z : View). z.gone) t.4 ∙ s.gone in
+      let rows : u.rows ≡ v.rows = ap (λ (z : View). z.rows) t.4 in
+      let none : departed (held plan P (so_far plan P k)) (held plan P (so_far plan P k ++ Wrote b ∷ [])) ≡ []
+      = sym (departed_rows v u past (past_acted (Wrote b) past) stands next) ∙ (ap (left_out v.rows) (rows ∙ sym (append-nil v.rows)) ∙ none_out v.rows []) in (
+        t.1.left,
+        ap (λ (z : List ℕ). tree.Written n ∷ map tree.Left z) gone
+            ∙ (ap (λ z. tree.Written z ∷ []) t.2
+            ∙ sym (lines_next plan P k (Wrote b) t.1 ∙ ap (λ (z : List ℕ). tree.Written (length b) ∷ map tree.Left z) none)),
+      )
+  tells (acted.SignedOff x r) t =
+      let o = t.0 in
+      let gone : u.gone ≡ departed (held plan P (so_far plan P k)) (held plan P (so_far plan P k ++ Offed o x.0 ∷ [])) = t.4 ∙ ap (λ (z : List ℕ). z ++ departed (held plan P (so_far plan P k)) (held plan P (so_far plan P k ++ Offed o x.0 ∷ []))) s.gone in (
+        t.1.left,
+        ap (λ (z : List ℕ). tree.SignedOff x.0 r.0 ∷ map tree.Left z) gone
+            ∙ (ap (λ z. tree.SignedOff x.0 z ∷ left (held plan P (so_far plan P k)) (held plan P (so_far plan P k ++ Offed o x.0 ∷ []))) (sym t.2)
+            ∙ sym (lines_next plan P k (Offed o x.0) t.1)),
+      )
+  tells acted.Blocked t = tt
+  tells acted.Finished t = tt
+
+  pub tells_wrote : (a : Acted) (n : ℕ) → a ≡ acted.Wrote n → Takes past k m v u out new a → TellsOne a
+  tells_wrote a n e t = subst TellsOne (sym e) (subst TellsBy e (tells a t))
+
+  pub tells_signed : (a : Acted) (x : Serial) (r : Role) → a ≡ acted.SignedOff x r → Takes past k m v u out new a → TellsOne a
+  tells_signed a x r e t = subst TellsOne (sym e) (subst TellsBy e (tells a t))
+
+-- the lines of one action are the first of those left
+pub part_next : (plan : PlanTree) (P : Tree) (k : ℕ) (before after : List ℕ) → k < all_of plan P → GrewPart before after (text_of_lines (lines_to plan P k (suc k))) → GrewPart before after (text_of_lines (lines_to plan P k (all_of plan P)))
+part_next plan P k before after l h =
+    subst (λ (z : List Line). GrewPart before after (text_of_lines z)) (sym (lines_split plan P k (suc k) (all_of plan P) (omega arith) (omega arith))) (lines_first before after (lines_to plan P k (suc k)) (lines_to plan P (suc k) (all_of plan P)) h)
+
+-- ---- many actions
+
+module _ {N C : Type 0} (stands : C → Tree → Type 0) where
+  -- the state that a loop has reached, and what it told
+  pub record ToldReached (old e : Engine N C) (P : Tree) (k : ℕ) : Type 0 where
+    pub reached : Reached stands old e P k
+    pub behind : k ≤ reached.taken
+    pub told : e.trace.items ≡ old.trace.items ++ text_of_lines (lines_to (plan_tree old.plan.now) P k reached.taken)
+
+  pub told_none : (old : Engine N C) (P : Tree) (k : ℕ) → Actors stands old P k → ToldReached old old P k
+  told_none old P k a = record {
+    reached = record { taken = k; actors = a; goes = goes_none (plan_tree old.plan.now) P k old.out.items };
+    behind = omega arith;
+    told = sym (ap (λ (z : List Line). old.trace.items ++ text_of_lines z) (lines_none (plan_tree old.plan.now) P k) ∙ append-nil old.trace.items);
+  }
+
+  pub told_on : (old e d : Engine N C) (P : Tree) (k : ℕ) → e.plan ≡ old.plan → (r : ToldReached old e P k) → ActsOne stands e d P r.reached.taken true
+      → d.trace.items ≡ e.trace.items ++ text_of_lines (next_lines (plan_tree e.plan.now) P r.reached.taken true) → ToldReached old d P k
+  told_on old e d P k same r o t =
+      let plan = plan_tree old.plan.now in
+      let j = r.reached.taken in
+      let t' : d.trace.items ≡ e.trace.items ++ text_of_lines (lines_to plan P j (suc j)) = subst (λ z. d.trace.items ≡ e.trace.items ++ text_of_lines (lines_to (plan_tree z.now) P j (suc j))) same t in
+      record {
+        reached = record {
+          taken = suc j;
+          actors = o.1;
+          goes = goes_on plan P k P j P (suc j) old.out.items e.out.items d.out.items r.reached.goes (subst (λ z. Goes (plan_tree z.now) P j P (suc j) e.out.items d.out.items) same o.2);
+        };
+        behind = let l = r.behind in omega arith;
+        told = lines_on old.trace.items e.trace.items d.trace.items (lines_to plan P k j) (lines_to plan P j (suc j)) r.told t'
+            ∙ ap (λ (z : List Line). old.trace.items ++ text_of_lines z) (sym (lines_split plan P k j (suc j) r.behind (omega arith)));
+      }
+
+  pub told_end : (old e d : Engine N C) (P : Tree) (k : ℕ) → e.plan ≡ old.plan → (r : ToldReached old e P k) → ActsOne stands e d P r.reached.taken false
+      → d.trace.items ≡ e.trace.items ++ text_of_lines (next_lines (plan_tree e.plan.now) P r.reached.taken false) → d.trace.items ≡ old.trace.items ++ text_of_lines (lines_to (plan_tree old.plan.now) P k (all_of (plan_tree old.plan.now) P))
+  told_end old e d P k same r o t =
+      let plan = plan_tree old.plan.now in
+      let n : r.reached.taken ≡ all_of plan P = subst (λ z. r.reached.taken ≡ all_of (plan_tree z.now) P) same o.0 in
+      t ∙ (append-nil e.trace.items ∙ (r.told ∙ ap (λ z. old.trace.items ++ text_of_lines (lines_to plan P k z)) n))
+
+  pub told_part : (old e d : Engine N C) (P : Tree) (k : ℕ) → e.plan ≡ old.plan → (r : ToldReached old e P k) → r.reached.taken ≤ all_of (plan_tree old.plan.now) P
+      → GrewPart e.trace.items d.trace.items (text_of_lines (lines_to (plan_tree e.plan.now) P r.reached.taken (all_of (plan_tree e.plan.now) P))) → GrewPart old.trace.items d.trace.items (text_of_lines (lines_to (plan_tree old.plan.now) P k (all_of (plan_tree old.plan.now) P)))
+  told_part old e d P k same r there h =
+      let plan = plan_tree old.plan.now in
+      let j = r.reached.taken in
+      let n = all_of plan P in
+      let h' : GrewPart e.trace.items d.trace.items (text_of_lines (lines_to plan P j n)) = subst (λ z. GrewPart e.trace.items d.trace.items (text_of_lines (lines_to (plan_tree z.now) P j (all_of (plan_tree z.now) P)))) same h in
+      subst (λ (z : List Line). GrewPart old.trace.items d.trace.items (text_of_lines z)) (sym (lines_split plan P k j n r.behind there)) (lines_behind old.trace.items e.trace.items d.trace.items (lines_to plan P k j) (lines_to plan P j n) r.told h')
+
+  -- no more were taken than there are
+  pub told_there : (old e : Engine N C) (P : Tree) (k : ℕ) → e.plan ≡ old.plan → (r : ToldReached old e P k) → r.reached.taken ≤ all_of (plan_tree old.plan.now) P
+  told_there old e P k same r =
+      subst (λ z. r.reached.taken ≤ all_of (plan_tree z.now) P) same (there (plan_tree e.plan.now) (stands e.machine.conds) e.projector e.machine.position e.buffer P r.reached.taken r.reached.actors)
+
+  -- so what was told is a front of what is to be told
+  pub told_some : (old e : Engine N C) (P : Tree) (k : ℕ) → e.plan ≡ old.plan → (r : ToldReached old e P k) → GrewPart old.trace.items e.trace.items (text_of_lines (lines_to (plan_tree old.plan.now) P k (all_of (plan_tree old.plan.now) P)))
+  told_some old e P k same r =
+      let plan = plan_tree old.plan.now in
+      let j = r.reached.taken in
+      let n = all_of plan P in
+      subst (λ (z : List Line). GrewPart old.trace.items e.trace.items (text_of_lines z)) (sym (lines_split plan P k j n r.behind (told_there old e P k same r)))
+      (lines_first old.trace.items e.trace.items (lines_to plan P k j) (lines_to plan P j n) (part_all old.trace.items e.trace.items (text_of_lines (lines_to plan P k j)) r.told))

@@ -1,0 +1,78 @@
+-- How the trace of an engine goes on from one state to a later one (this project's). This follows the code: no public clause speaks of it.
+use Rattle.std.specs.Prelude.{◌≡◌, ℕ, suc, Bool, true, false, List, [], ◌∷◌, ◌++◌, length, map, drop, Option, Some, None}
+use Rattle.gcx_model.specs.Tree.{Tree, Token as Said, Start, Chars, End, grow}
+use Rattle.gcx_model.specs.Core.{PlanTree}
+use Rattle.gcx_model.specs.Run.{Action}
+use Rattle.gcx_model.specs.Held.{held}
+use Rattle.gcx_model.specs.Points.{so_far}
+use Rattle.gcx_model.specs.Demand.{LineKind, DocumentNode, ElementNode, TextNode, Line, Written, left, act_lines, feed_line, demand, text_of_lines}
+use Rattle.gcx_model.specs.Demand as tree
+use Rattle.doc_reader.specs.declared.token.Token.{Token}
+use Rattle.doc_reader.specs.Standing.{said_of}
+use Rattle.buf_trace.specs.declared.line.LineKind.{LineKind as CodeKind}
+use Rattle.buf_trace.specs.Lines.{kind_tree}
+use Rattle.buf_tree.specs.Calls.{numbers}
+use Rattle.projector.specs.declared.projector.Fed.{Fed}
+use Rattle.projector.specs.declared.projector.Fed.TheVariants.{Opened, Closed}
+use Rattle.pull_eval.specs.declared.machine.Acted.{Acted}
+use Rattle.pull_eval.specs.declared.machine.Acted.TheVariants as acted
+
+-- it grew by a front of the text
+abbrev pub GrewPart : (before after text : List ℕ) → Type 0
+GrewPart before after text = (part : List ℕ) × (rest : List ℕ) × (text ≡ part ++ rest) × (after ≡ before ++ part)
+
+-- what a line tells of the node that the token opens
+abbrev pub kind_said : Said → LineKind
+kind_said (Start name) = ElementNode name
+kind_said (Chars b) = TextNode
+kind_said End = DocumentNode
+
+-- there is a kind, and it is that of the token's node
+abbrev pub IsWanted : Said → Option CodeKind → Type 0
+IsWanted t None = ⊥
+IsWanted t (Some k) = kind_tree k ≡ kind_said t
+
+-- the line of what a token did, where a node that it opened is of this kind
+abbrev pub fed_line : Fed → LineKind → Line
+fed_line (Opened s given) k = tree.Opened s.0 k (numbers given)
+fed_line (Closed s) k = tree.Closed s.0
+
+-- the same where there is a kind, and a line for each of these departures
+abbrev pub told_lines : Fed → Option CodeKind → (gone : List ℕ) → List Line
+told_lines fed None gone = []
+told_lines fed (Some k) gone = fed_line fed (kind_tree k) ∷ map tree.Left gone
+
+-- the line of an action, if there was one
+abbrev pub acted_lines : Acted → List Line
+acted_lines (acted.Wrote n) = Written n ∷ []
+acted_lines (acted.SignedOff s r) = tree.SignedOff s.0 r.0 ∷ []
+acted_lines acted.Blocked = []
+acted_lines acted.Finished = []
+
+-- the lines of a token, fed to P behind the actions A
+abbrev pub fed_lines : PlanTree → Said → Tree → List Action → List Line
+fed_lines plan t P A = feed_line plan t P.at P (grow t P) ++ left (held plan P A ++ drop (length P.nodes) (grow t P).nodes) (held plan (grow t P) A)
+
+-- the lines of the actions over P from the first k to the first j
+abbrev pub lines_to : PlanTree → Tree → (k j : ℕ) → List Line
+lines_to plan P k j = act_lines plan P (so_far plan P k) (drop k (so_far plan P j))
+
+-- those of the next one, where there was one
+abbrev pub next_lines : PlanTree → Tree → (k : ℕ) → (more : Bool) → List Line
+next_lines plan P k true = lines_to plan P k (suc k)
+next_lines plan P k false = []
+
+-- the lines of tokens fed to P, each with every action that is possible behind it
+abbrev pub more_lines : PlanTree → Tree → List Token → List Line
+more_lines plan P ts = demand plan (map said_of ts) P
+
+-- Of the tokens that waited at most one was fed to P, behind the actions A, and told.
+abbrev pub ToldOne : PlanTree → Tree → List Action → (was now : List Token) → (before after : List ℕ) → (any : Bool) → Type 0
+ToldOne plan P A was now before after false = (was ≡ now) × (after ≡ before)
+ToldOne plan P A was now before after true = (t : Token) × (was ≡ t ∷ now) × (after ≡ before ++ text_of_lines (fed_lines plan (said_of t) P A))
+
+-- Of the tokens that waited the first ones were fed to P, and told.
+pub record ToldSome (plan : PlanTree) (P : Tree) (was now : List Token) (before after : List ℕ) : Type 0 where
+  pub more : List Token
+  pub waited : was ≡ more ++ now
+  pub told : after ≡ before ++ text_of_lines (more_lines plan P more)

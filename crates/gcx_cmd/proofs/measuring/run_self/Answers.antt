@@ -1,0 +1,23 @@
+use Rattle.std.proofs.Common.{rules, ◌≡◌, refl, ◌∙◌, ap}
+use Rattle.engine.specs.declared.report.Ended.TheVariants as end
+use Rattle.gcx_model.specs.Query.{query_trees}
+use Rattle.gcx_cmd.specs.Status.{ended_status}
+use Rattle.gcx_cmd.proofs.Queries.{plan_placed}
+use Rattle.gcx_cmd.proofs.Selfrun.{self_runs}
+use Rattle.gcx_cmd.proofs.measuring.run_self.Goals as goal
+use Rattle.gcx_cmd.proofs.measuring.run_self.Goals.{in-Ok-matches, in_default-matches}
+
+pub run_plan-report-requires-clause-placed : goal.run_plan-report-requires-clause-placed
+run_plan-report-requires-clause-placed c = plan_placed _ c.in-Ok.accepted c.in-Ok.ensures.told
+
+pub returns : goal.returns
+returns c =
+    let told = c.in-Ok.ensures.told in
+    let q = query_trees c.in-Ok.accepted.query in
+    let report = c.run_plan-report.result in
+    let ok : report.ended ≡ end.Ok = elim c.match-matches.branch [
+      | in-Ok-matches w ↦ w.in-Ok-matches.is
+      | in_default-matches w ↦ let no : ⊥ = let a = c.if-not-matches.false in let b = w.matches-is in cc in absurd no
+    ] in
+    self_runs c.args.seed c.args.count c.new-source.result q report (ended_status report.ended) _ _ _ c.bytes.result.now _ _ told.accepts (c.new-source.ensures ∙ c.in_ok-bytes.ensures)
+    c.in_ok-answer.ensures.empty c.bytes.ensures (ap ended_status ok) (c.run_plan-report.ensures.numbers q told.plan_is refl ok) (c.run_plan-report.ensures.ran q told.plan_is)

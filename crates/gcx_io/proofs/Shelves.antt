@@ -1,0 +1,82 @@
+-- What shelves in memory tell behind their calls.
+use Rattle.std.proofs.Common.{◌≡◌, ℕ, ◌<◌, min, Bool, true, false, List, [], ◌++◌, length, take, drop, slice_get, Some, None, sym, ◌∙◌, ap, subst, refl}
+use Rattle.std.specs.Prelude.{unwrap_or}
+use Rattle.std.specs.declared.option.Option.{Option}
+use Rattle.gcx_io.specs.Held.{Opening, held, held_or_none, rest_at, name_at, read_at}
+use Rattle.gcx_io.specs.Files.{OpenFiles, while_whole, rests, owners, handle_count, names_of, opened, Sets, Keeps}
+use Rattle.gcx_io.specs.Shelf.{Names, content_of, Adds, AddsName, Appends, LeavesOthers, Maps}
+use Rattle.gcx_io.proofs.Handles.{told_rest, name_there, count_read, names_read, others_stay, Consumed, rest_moves, opened_adds, opened_names}
+use Rattle.gcx_io.proofs.Mapped.{Told, sets_maps, keeps_append}
+
+-- ---- attach
+
+pub attach_adds : (old new : OpenFiles) (name rest : List ℕ) (handle : ℕ) (content : Option (List ℕ)) → new ≡ record old { openings = opened name rest old.openings } → handle ≡ length old.openings
+    → content ≡ while_whole old.whole (Some rest) → Adds (handle_count old) (handle_count new) (rests old) (rests new) content handle
+attach_adds old new name rest handle content is number told =
+    subst (λ (f : OpenFiles). Adds (handle_count old) (handle_count f) (rests old) (rests f) content handle) (sym is)
+    (subst (λ (o : Option (List ℕ)). Adds (length old.openings) (length (opened name rest old.openings)) (told_rest old.whole old.openings) (told_rest old.whole (opened name rest old.openings)) o handle) (sym told)
+    (opened_adds old.whole old.openings name rest handle number))
+
+pub attach_names : (names : Names) (old new : OpenFiles) (name rest : List ℕ) (handle : ℕ) → new ≡ record old { openings = opened name rest old.openings } → handle ≡ length old.openings
+    → AddsName names (owners old) (owners new) name handle
+attach_names names old new name rest handle is number =
+    subst (λ (f : OpenFiles). AddsName names (owners old) (owners f) name handle) (sym is) (opened_names names old.openings name rest handle number)
+
+some_is : (o : Option (List ℕ)) → (o ≡ None → ⊥) → o ≡ Some (unwrap_or o [])
+some_is None some = absurd (some refl)
+some_is (Some x) some = refl
+
+-- what a name that is there holds
+pub held_content : (whole : Bool) (old : OpenFiles) (name : List ℕ) → (held old.files name ≡ None → ⊥) → content_of (while_whole whole (Some (held old.files))) name ≡ while_whole whole (Some (held_or_none old.files name))
+held_content true old name there = some_is (held old.files name) there
+held_content false old name there = refl
+
+-- ---- create
+
+set_content : (all whole : Bool) (before after : OpenFiles) (name : List ℕ) (least : ℕ) → Sets before.files after.files name [] least
+    → content_of (while_whole whole (Some (Told all after.files))) name ≡ while_whole whole (Some [])
+set_content all false before after name least s = refl
+set_content all true before after name least s = (sets_maps all true before.files after.files name [] least s).0
+
+pub create_adds : (all : Bool) (old new : OpenFiles) (name : List ℕ) (least handle : ℕ) → Sets old.files new.files name [] least → new.openings ≡ opened name [] old.openings → new.whole ≡ old.whole
+    → handle ≡ length old.openings → Adds (handle_count old) (handle_count new) (rests old) (rests new) (content_of (while_whole new.whole (Some (Told all new.files))) name) handle
+create_adds all old new name least handle sets openings whole number =
+    let content : content_of (while_whole new.whole (Some (Told all new.files))) name ≡ while_whole old.whole (Some []) =
+    ap (λ (w : Bool). content_of (while_whole w (Some (Told all new.files))) name) whole ∙ set_content all old.whole old new name least sets in
+    subst (λ (o : Option (List ℕ)). Adds (length old.openings) (length new.openings) (told_rest old.whole old.openings) (told_rest new.whole new.openings) o handle) (sym content)
+    (subst (λ (w : Bool). Adds (length old.openings) (length new.openings) (told_rest old.whole old.openings) (told_rest w new.openings) (while_whole old.whole (Some [])) handle) (sym whole)
+    (subst (λ (os : List Opening). Adds (length old.openings) (length os) (told_rest old.whole old.openings) (told_rest old.whole os) (while_whole old.whole (Some [])) handle) (sym openings)
+    (opened_adds old.whole old.openings name [] handle number)))
+
+pub create_names : (names : Names) (old new : OpenFiles) (name : List ℕ) (handle : ℕ) → new.openings ≡ opened name [] old.openings → handle ≡ length old.openings → AddsName names (owners old) (owners new) name handle
+create_names names old new name handle openings number =
+    subst (λ (os : List Opening). AddsName names (slice_get (names_of old.openings)) (slice_get (names_of os)) name handle) (sym openings) (opened_names names old.openings name [] handle number)
+
+pub create_maps : (all : Bool) (old new : OpenFiles) (name : List ℕ) (least : ℕ) → Sets old.files new.files name [] least → new.whole ≡ old.whole
+    → Maps (while_whole old.whole (Some (Told all old.files))) (while_whole new.whole (Some (Told all new.files))) name []
+create_maps all old new name least sets whole =
+    subst (λ (w : Bool). Maps (while_whole old.whole (Some (Told all old.files))) (while_whole w (Some (Told all new.files))) name []) (sym whole) (sets_maps all old.whole old.files new.files name [] least sets)
+
+-- ---- write
+
+pub write_appends : (all : Bool) (old new : OpenFiles) (handle : ℕ) (piece : List ℕ) → handle < length old.openings
+    → (old.whole ≡ true → Keeps new.whole old.files new.files (name_at old.openings handle) piece) → (old.whole ≡ false → new ≡ old)
+    → Appends (while_whole old.whole (Some (Told all old.files))) (while_whole new.whole (Some (Told all new.files))) (owners old handle) piece
+write_appends all old new handle piece given keeps lost =
+    keeps_append all old.whole new.whole old.files new.files (name_at old.openings handle) piece keeps (λ e. ap (λ (f : OpenFiles). f.whole) (lost e) ∙ e) (owners old handle) (name_there old.openings handle given)
+
+-- ---- read
+
+pub read_moves : (old new : OpenFiles) (handle n most : ℕ) (buf now : List ℕ) → new ≡ record old { openings = read_at old.openings handle n } → handle < length old.openings → 0 < most → 0 < length buf
+    → n ≡ min (min (length (rest_at old.openings handle)) (length buf)) most → now ≡ take n (rest_at old.openings handle) ++ drop n buf → Consumed (rests old handle) (rests new handle) n now
+read_moves old new handle n most buf now is given some room count moved =
+    subst (λ (f : OpenFiles). Consumed (rests old handle) (rests f handle) n now) (sym is) (rest_moves old.whole old.openings handle n most buf now given some room count moved)
+
+pub read_others : (old new : OpenFiles) (handle n : ℕ) → new ≡ record old { openings = read_at old.openings handle n } → LeavesOthers (rests old) (rests new) handle
+read_others old new handle n is = subst (λ (f : OpenFiles). LeavesOthers (rests old) (rests f) handle) (sym is) (others_stay old.whole old.openings handle n)
+
+pub read_names : (old new : OpenFiles) (handle n : ℕ) → new ≡ record old { openings = read_at old.openings handle n } → owners new ≡ owners old
+read_names old new handle n is = ap (λ (f : OpenFiles). owners f) is ∙ ap (λ (l : List (List ℕ)). slice_get l) (names_read old.openings handle n)
+
+pub read_count : (old new : OpenFiles) (handle n : ℕ) → new ≡ record old { openings = read_at old.openings handle n } → handle_count new ≡ handle_count old
+read_count old new handle n is = ap (λ (f : OpenFiles). handle_count f) is ∙ count_read old.openings handle n

@@ -1,0 +1,48 @@
+use gcx_base::Text;
+
+/// The commands by their names.
+#[derive(Clone, Copy, Debug, PartialEq, Eq)]
+pub enum Name {
+    Run,
+    Whole,
+    Explain,
+    Peak,
+    Gen,
+    Selfrun,
+}
+
+/// A command, with its arguments.
+#[derive(Drop, Debug)]
+pub enum Command {
+    /// The answer of QUERY over DOC, written while DOC is read: with a trace, or in groups of at most `ahead` tokens.
+    Run {
+        trace: bool,
+        ahead: u32,
+        query: Text,
+        document: Text,
+    },
+    /// The same answer from the whole tree of DOC.
+    Whole {
+        query: Text,
+        document: Text,
+    },
+    /// The plan of QUERY.
+    Explain {
+        query: Text,
+    },
+    /// The numbers of a run.
+    Peak {
+        query: Text,
+        document: Text,
+    },
+    /// A document made from a number.
+    Gen {
+        seed: u32,
+        count: u32,
+    },
+    /// The numbers of a run over such a document.
+    Selfrun {
+        seed: u32,
+        count: u32,
+    },
+}

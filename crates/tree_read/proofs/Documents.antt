@@ -1,0 +1,186 @@
+-- A document's tree from the tokens of its reader.
+use Rattle.std.proofs.Common.{◌≡◌, ◌⊎◌, ℕ, ◌+◌, ◌≤◌, ◌<◌, Bool, true, false, List, [], ◌∷◌, ◌++◌, length, map, Option, Some, None, refl, sym, ◌∙◌, ap, subst, arith, length-append, append-nil, append_assoc}
+use Rattle.std.specs.Prelude.{Result}
+use Rattle.std.specs.declared.result.Result.TheVariants.{Ok, Err}
+use Rattle.std.proofs.lemmas.List.{map-append}
+use Rattle.std.specs.Io.KnownBytes.{Consumes}
+use Rattle.std.proofs.KnownBytes.{Consumes-trans}
+use lib.Utf8.{encode}
+use Rattle.gcx_base.specs.declared.limits.Limits.{Limits}
+use Rattle.gcx_base.specs.Limits.{full_limits}
+use Rattle.gcx_base.specs.Utf8.{IsCharFront}
+use Rattle.gcx_model.specs.Document.{Nodes, tokens, tree_of}
+use Rattle.gcx_model.specs.Tree.{Tree, Token as Said, Start, Chars, End, opening, grow, grow_all}
+use Rattle.gcx_model.specs.Faults.{FaultIs, none_yet, within_limit, before_limit, past_limit}
+use Rattle.gcx_model.specs.declared.fault.DocFault.{DocFault}
+use Rattle.gcx_model.specs.declared.fault.DocFault.TheVariants as fault
+use Rattle.doc_reader.specs.Standing.{ReaderView, Stands, Keeps, Accepted, Answers, Takes, taken, waiting, reader_tokens, given_token}
+use Rattle.doc_reader.specs.declared.token.Token.{Token}
+use Rattle.doc_reader.specs.declared.token.Token.TheVariants.{EndOfDocument}
+use Rattle.tree_eval.specs.Tokens.{token_of}
+use Rattle.tree_read.specs.declared.reading.DocumentEnd.{DocumentEnd}
+use Rattle.tree_read.specs.declared.reading.DocumentEnd.TheVariants as end
+use Rattle.tree_read.specs.Document.{BytesSpell, IsWhole, HasGrown, HasRead, EndsBy, SaysWhy, end_of}
+
+-- ---- tokens taken one after another
+
+-- These tokens were taken of a reader, and grew the tree.
+pub record HasTaken (old new : ReaderView) (before after : Tree) : Type 0 where
+  pub tokens : List Token
+  pub waits : waiting old ≡ tokens ++ waiting new
+  pub tree_is : after ≡ grow_all (map token_of tokens) before
+  pub stands : (lim : Limits) (b : List ℕ) (ended : Bool) (given : List Token) → Stands old lim b ended given → Stands new lim b ended (given ++ tokens)
+  pub keeps : Keeps old new
+
+pub taken_none : (h : ReaderView) (t : Tree) → HasTaken h h t t
+taken_none h t = record {
+  tokens = [];
+  waits = refl;
+  tree_is = refl;
+  stands = λ lim b ended given s. subst (λ (l : List Token). Stands h lim b ended l) (sym (append-nil given)) s;
+  keeps = record { finished = refl; answer = refl };
+}
+
+grow_more : (ts us : List Said) (P : Tree) → grow_all (ts ++ us) P ≡ grow_all us (grow_all ts P)
+grow_more [] us P = refl
+grow_more (t ∷ ts) us P = grow_more ts us (grow t P)
+
+grown_on : (xs ys : List Token) (P Q R : Tree) → Q ≡ grow_all (map token_of xs) P → R ≡ grow_all (map token_of ys) Q → R ≡ grow_all (map token_of (xs ++ ys)) P
+grown_on xs ys P Q R h k = k ∙ ap (grow_all (map token_of ys)) h ∙ sym (grow_more (map token_of xs) (map token_of ys) P) ∙ ap (λ (l : List Said). grow_all l P) (sym (map-append token_of xs ys))
+
+pub taken_on : (a b c : ReaderView) (s t u : Tree) (x : Token) → HasTaken a b s t → waiting b ≡ x ∷ waiting c
+    → ((lim : Limits) (bs : List ℕ) (ended : Bool) (given : List Token) → Stands b lim bs ended given → Stands c lim bs ended (given ++ (x ∷ [])))
+    → Keeps b c → u ≡ grow (token_of x) t → HasTaken a c s u
+taken_on a b c s t u x h waits on keeps tree = record {
+  tokens = h.tokens ++ (x ∷ []);
+  waits = h.waits ∙ ap (λ (l : List Token). h.tokens ++ l) waits ∙ sym (append_assoc h.tokens (x ∷ []) (waiting c));
+  tree_is = grown_on h.tokens (x ∷ []) s t u h.tree_is tree;
+  stands = λ lim bs ended given st. subst (λ (l : List Token). Stands c lim bs ended l) (append_assoc given h.tokens (x ∷ [])) (on lim bs ended (given ++ h.tokens) (h.stands lim bs ended given st));
+  keeps = record { finished = keeps.finished ∙ h.keeps.finished; answer = keeps.answer ∙ h.keeps.answer };
+}
+
+-- all that waited were taken
+pub taken_all : (a b : ReaderView) (s t : Tree) → (h : HasTaken a b s t) → waiting b ≡ [] → h.tokens ≡ waiting a
+taken_all a b s t h none = sym (h.waits ∙ ap (λ (l : List Token). h.tokens ++ l) none ∙ append-nil h.tokens)
+
+pub taken_tree : (a b : ReaderView) (s t : Tree) → HasTaken a b s t → waiting b ≡ [] → t ≡ grow_all (map token_of (waiting a)) s
+taken_tree a b s t h none = h.tree_is ∙ ap (λ (l : List Token). grow_all (map token_of l) s) (taken_all a b s t h none)
+
+pub taken_stands : (a b : ReaderView) (s t : Tree) → HasTaken a b s t → waiting b ≡ [] → (lim : Limits) (bs : List ℕ) (ended : Bool) (given : List Token) → Stands a lim bs ended given → Stands b lim bs ended (given ++ waiting a)
+taken_stands a b s t h none lim bs ended given st = subst (λ (l : List Token). Stands b lim bs ended (given ++ l)) (taken_all a b s t h none) (h.stands lim bs ended given st)
+
+-- ---- refusals
+
+pub says_why : (f : DocFault) → SaysWhy (end_of f)
+says_why (fault.Utf8 k) = tt
+says_why (fault.Syntax k) = tt
+says_why (fault.Truncated k) = tt
+says_why (fault.Depth k) = tt
+says_why (fault.NameLong k) = tt
+says_why (fault.TextLong k) = tt
+says_why (fault.TooLong k) = tt
+says_why fault.Memory = tt
+
+pub no_read_fault : (f : DocFault) → end_of f ≡ end.Fault → ⊥
+no_read_fault (fault.Utf8 k) e = cc
+no_read_fault (fault.Syntax k) e = cc
+no_read_fault (fault.Truncated k) e = cc
+no_read_fault (fault.Depth k) e = cc
+no_read_fault (fault.NameLong k) e = cc
+no_read_fault (fault.TextLong k) e = cc
+no_read_fault (fault.TooLong k) e = cc
+no_read_fault fault.Memory e = cc
+
+-- what the reader answers of the bytes is what the call ends by
+pub ends_by : (T U : Type 0) (f : DocFault) (b : List ℕ) (ended : Bool) (P : Type 0) → Answers {T = T} (Err f) full_limits b ended → EndsBy {T = U} ended b (Err (end_of f)) P
+ends_by T U (fault.Utf8 k) b ended P h = h
+ends_by T U (fault.Syntax k) b ended P h = h
+ends_by T U (fault.Truncated k) b ended P h = h
+ends_by T U (fault.Depth k) b ended P h = h
+ends_by T U (fault.NameLong k) b ended P h = h
+ends_by T U (fault.TextLong k) b ended P h = h
+ends_by T U (fault.TooLong k) b ended P h = h
+ends_by T U fault.Memory b ended P h = tt
+
+-- bytes without a fault are no more than may be
+pub none_within : (lim : Limits) (b : List ℕ) (ended : Bool) → FaultIs lim b ended None → length b ≤ lim.bytes
+none_within lim b ended (within_limit h w) = h
+none_within lim b ended (before_limit f h w e) = absurd (no_some f e)
+  where
+    no_some : (f : DocFault) → None ≡ Some f → ⊥
+    no_some f e = cc
+none_within lim b ended (past_limit h w e) = absurd (no_some (fault.TooLong lim.bytes) e)
+  where
+    no_some : (f : DocFault) → None ≡ Some f → ⊥
+    no_some f e = cc
+
+-- ---- a piece, and the end
+
+-- no bytes have no fault
+no_character : IsCharFront []
+unfolding encode
+no_character = record { c = 97; rest = 97 ∷ []; scalar = refl; bytes = refl; more = omega arith }
+
+nowhere : (front rest : List ℕ) (c : ℕ) → [] ≡ front ++ (c ∷ rest) → ⊥
+nowhere [] rest c e = cc
+nowhere (x ∷ front) rest c e = cc
+
+pub none_at_start : (lim : Limits) → FaultIs lim [] false None
+none_at_start lim = within_limit (omega arith) (none_yet [] [] (record { chars = refl; parts = refl; part = no_character }) (λ front c rest f e comes. nowhere front rest c e) refl refl)
+
+pub grown_none : (h : ReaderView) → Stands h full_limits [] false [] → waiting h ≡ [] → HasGrown h opening []
+grown_none h s none = record { given = []; stands = s; nothing_waits = none; tree_is = refl; no_fault = none_at_start full_limits }
+
+pub piece_grown : (r0 r1 r2 : ReaderView) (s t : Tree) (b piece : List ℕ) → HasGrown r0 s b
+    → ((lim : Limits) (b : List ℕ) (given : List Token) → Stands r0 lim b false given → Stands r1 lim (b ++ piece) false given)
+    → ((lim : Limits) (b : List ℕ) (given : List Token) → Stands r0 lim b false given → FaultIs lim (b ++ piece) false None)
+    → ((lim : Limits) (b : List ℕ) (ended : Bool) (given : List Token) → Stands r1 lim b ended given → Stands r2 lim b ended (given ++ waiting r1))
+    → waiting r2 ≡ [] → t ≡ grow_all (map token_of (waiting r1)) s → HasGrown r2 t (b ++ piece)
+piece_grown r0 r1 r2 s t b piece h fed clean took none tree = record {
+  given = h.given ++ waiting r1;
+  stands = took full_limits (b ++ piece) false h.given (fed full_limits b h.given h.stands);
+  nothing_waits = none;
+  tree_is = grown_on h.given (waiting r1) opening s t h.tree_is tree;
+  no_fault = clean full_limits b h.given h.stands;
+}
+
+tokens_back : (ts : List Said) → map token_of (map given_token ts) ≡ ts
+tokens_back [] = refl
+tokens_back (Start n ∷ ts) = ap (λ (l : List Said). Start n ∷ l) (tokens_back ts)
+tokens_back (Chars t ∷ ts) = ap (λ (l : List Said). Chars t ∷ l) (tokens_back ts)
+tokens_back (End ∷ ts) = ap (λ (l : List Said). End ∷ l) (tokens_back ts)
+
+document_tree : (d : Nodes) → grow_all (map token_of (reader_tokens d)) opening ≡ tree_of d
+document_tree d = ap (λ (l : List Said). grow_all l opening) (map-append token_of (map given_token (tokens d)) (EndOfDocument ∷ []) ∙ ap (λ (l : List Said). l ++ (End ∷ [])) (tokens_back (tokens d)))
+
+pub whole_grown : (r0 r1 : ReaderView) (s t : Tree) (b : List ℕ) → (h : HasGrown r0 s b) → Accepted b (h.given ++ waiting r1) → FaultIs full_limits b true None
+    → t ≡ grow_all (map token_of (waiting r1)) s → IsWhole b t
+whole_grown r0 r1 s t b h a clean tree = record {
+  document = a.document;
+  spells = record { chars = a.chars; characters = a.scalars_are; encoded = a.bytes; spells = a.spells };
+  only = λ d sp. a.only sp.chars d sp.characters sp.encoded sp.spells;
+  tree_is = grown_on h.given (waiting r1) opening s t h.tree_is tree ∙ ap (λ (l : List Token). grow_all (map token_of l) opening) a.tokens_are ∙ document_tree a.document;
+  no_fault = clean;
+}
+
+-- ---- a source
+
+pub read_none : (r : ReaderView) (t : Tree) (a : Option (List ℕ)) → Consumes a a [] → HasGrown r t [] → HasRead r t a a 0
+read_none r t a same h = record { bytes = []; moved = same; grown = h; counted = omega arith }
+
+pub read_on : (r0 r1 : ReaderView) (s t : Tree) (a b c : Option (List ℕ)) (count more n : ℕ) (piece : List ℕ) → (h : HasRead r0 s a b count) → Consumes b c piece
+    → HasGrown r1 t (h.bytes ++ piece) → n ≤ length piece → more ≤ count + n → HasRead r1 t a c more
+read_on r0 r1 s t a b c count more n piece h moved grown some counted = record {
+  bytes = h.bytes ++ piece;
+  moved = Consumes-trans a b c h.bytes piece h.moved moved;
+  grown = grown;
+  counted = let e = length-append h.bytes piece in let g = h.counted in omega arith;
+}
+
+pub consumes_none : (a : Option (List ℕ)) → Consumes a a []
+consumes_none None = tt
+consumes_none (Some xs) = refl
+
+-- not so many bytes are read
+pub never_past : (r : ReaderView) (t : Tree) (a b : Option (List ℕ)) (count : ℕ) → HasRead r t a b count → full_limits.bytes < count → ⊥
+never_past r t a b count h past = let c = h.counted in let w = none_within full_limits h.bytes false h.grown.no_fault in omega arith
