@@ -15,6 +15,3 @@ mod upward;
 pub use ahead::Ahead;
 pub use buffer::Buffer;
 pub use row::Row;
-
-#[cfg(test)]
-mod tests;

@@ -151,6 +151,13 @@ fn put_opened(out: &mut String, serial: Serial, given: &Given) -> Result<(), Fai
     Ok(())
 }
 
+fn put_fed(out: &mut String, fed: &Fed) -> Result<(), Fail> {
+    match fed {
+        Fed::Opened(serial, given) => put_opened(out, *serial, given),
+        Fed::Closed(serial) => Ok(write!(out, "-{}", serial.0)?),
+    }
+}
+
 /// Feeds one token.
 fn feed_one<N: NodeStore<Row>>(
     alloc: Global,
@@ -170,10 +177,8 @@ fn feed_one<N: NodeStore<Row>>(
         return Err("no token")?;
     };
     out.push(' ')?;
-    match projector.feed_token(alloc, buffer, token)? {
-        Fed::Opened(serial, given) => put_opened(out, serial, &given)?,
-        Fed::Closed(serial) => write!(out, "-{}", serial.0)?,
-    }
+    let fed = projector.feed_token(alloc, buffer, token)?;
+    put_fed(out, &fed)?;
     put_changes(out, buffer, taken)
 }
 
@@ -228,6 +233,12 @@ fn carry_out<N: NodeStore<Row>>(
     Ok(())
 }
 
+/// The role and the node of a word `R@S`.
+fn role_and_node(word: &str) -> Result<(u32, u64), Fail> {
+    let (role, serial) = word.split_once('@').ok_or("no node")?;
+    Ok((role.parse::<u32>()?, serial.parse::<u64>()?))
+}
+
 /// Carries out the statement of a word `R@S`.
 fn sign<N: NodeStore<Row>>(
     alloc: Global,
@@ -239,9 +250,7 @@ fn sign<N: NodeStore<Row>>(
     requires { (reader : ReaderView) × (projector : Projector) × IsFed (plan_tree plan.now) reader projector buffer.old }
     ensures { OnOk result ((reader : ReaderView) (projector : Projector) → IsFed (plan_tree plan.now) reader projector buffer.old → IsFed (plan_tree plan.now) reader projector buffer.new) }
 {
-    let (role, serial) = word.split_once('@').ok_or("no node")?;
-    let role = role.parse::<u32>()?;
-    let serial = serial.parse::<u64>()?;
+    let (role, serial) = role_and_node(word)?;
     let Some(off) = off_of(&plan.body, role) else {
         return Err("no statement")?;
     };
@@ -283,9 +292,8 @@ fn put_row<N: NodeStore<Row>>(
     Ok(())
 }
 
-/// Tells the rows and the numbers.
-fn put_all<N: NodeStore<Row>>(out: &mut String, buffer: &Buffer<N>) -> Result<(), Fail> {
-    out.push_str(" (")?;
+/// Tells the rows.
+fn put_rows<N: NodeStore<Row>>(out: &mut String, buffer: &Buffer<N>) -> Result<(), Fail> {
     let mut at = first_row(buffer);
     for _ in 0..buffer.held() {
         let Some(place) = at else {
@@ -297,6 +305,13 @@ fn put_all<N: NodeStore<Row>>(out: &mut String, buffer: &Buffer<N>) -> Result<()
     if at.is_some() {
         Err("more rows than are held")?;
     }
+    Ok(())
+}
+
+/// Tells the rows and the numbers.
+fn put_all<N: NodeStore<Row>>(out: &mut String, buffer: &Buffer<N>) -> Result<(), Fail> {
+    out.push_str(" (")?;
+    put_rows(out, buffer)?;
     write!(out, " h{} n{}", buffer.held(), buffer.nodes())?;
     write!(out, " t{} w{} )", buffer.taken(), buffer.waiting().len())?;
     Ok(())
@@ -343,6 +358,83 @@ fn follow<N: NodeStore<Row>>(
     }
 }
 
+/// Does what the words of a script say.
+fn follow_all<N: NodeStore<Row>>(
+    alloc: Global,
+    out: &mut String,
+    reader: &mut Reader,
+    projector: &mut Projector,
+    buffer: &mut Buffer<N>,
+    plan: &Plan,
+    script: &str,
+) -> Result<(), Fail>
+    requires { IsFed (plan_tree plan.now) reader.old projector.old buffer.old }
+{
+    for word in script.split_ascii_whitespace() {
+        follow(alloc, out, reader, projector, buffer, plan, word)?;
+    }
+    Ok(())
+}
+
+/// The buffer at the end of the script, with the tokens of this reader.
+fn followed_from<N: NodeStore<Row> + Drop>(
+    alloc: Global,
+    out: &mut String,
+    nodes: N,
+    plan: &Plan,
+    reader: &mut Reader,
+    script: &str,
+) -> Result<Buffer<N>, Fail>
+    requires empty { N.rows nodes ≡ map.empty }
+    requires placed { (core : BodyTree) × Good core × Placed core (plan_tree plan.now) }
+    requires read { (document : List ℕ) × Stands reader.old full_limits document true [] }
+{
+    let (mut projector, mut buffer) = begin(alloc, out, nodes, plan)?;
+    follow_all(
+        alloc,
+        out,
+        reader,
+        &mut projector,
+        &mut buffer,
+        plan,
+        script,
+    )?;
+    Ok(buffer)
+}
+
+/// The buffer at the end of the script.
+fn followed<N: NodeStore<Row> + Drop>(
+    alloc: Global,
+    out: &mut String,
+    nodes: N,
+    plan: &Plan,
+    document: &[u8],
+    script: &str,
+) -> Result<Buffer<N>, Fail>
+    requires empty { N.rows nodes ≡ map.empty }
+    requires placed { (core : BodyTree) × Good core × Placed core (plan_tree plan.now) }
+{
+    let mut reader = read(alloc, document)?;
+    followed_from(alloc, out, nodes, plan, &mut reader, script)
+}
+
+/// What the script tells by the plan.
+fn told_by<N: NodeStore<Row> + Drop>(
+    alloc: Global,
+    nodes: N,
+    plan: &Plan,
+    document: &[u8],
+    script: &str,
+) -> Result<String, Fail>
+    requires empty { N.rows nodes ≡ map.empty }
+    requires placed { (core : BodyTree) × Good core × Placed core (plan_tree plan.now) }
+{
+    let mut out = String::new(alloc);
+    let buffer = followed(alloc, &mut out, nodes, plan, document, script)?;
+    write!(out, " most {}", buffer.into_nodes().most())?;
+    Ok(out)
+}
+
 /// What the script tells.
 fn told<N: NodeStore<Row> + Drop>(
     alloc: Global,
@@ -354,32 +446,30 @@ fn told<N: NodeStore<Row> + Drop>(
     requires { N.rows nodes ≡ map.empty }
 {
     let plan = plan_of(alloc, query)?;
-    let mut reader = read(alloc, document)?;
-    let mut out = String::new(alloc);
-    let (mut projector, mut buffer) = begin(alloc, &mut out, nodes, &plan)?;
-    for word in script.split_ascii_whitespace() {
-        follow(
-            alloc,
-            &mut out,
-            &mut reader,
-            &mut projector,
-            &mut buffer,
-            &plan,
-            word,
-        )?;
-    }
-    write!(out, " most {}", buffer.into_nodes().most())?;
-    Ok(out)
+    told_by(alloc, nodes, &plan, document, script)
+}
+
+/// The script tells that over this store.
+fn is_told_over<N: NodeStore<Row> + Drop>(
+    rt: &impl Abort,
+    alloc: Global,
+    nodes: N,
+    store: &str,
+    case: Case,
+) -> Result<(), Fail>
+    requires { N.rows nodes ≡ map.empty }
+{
+    let (query, document, script, want) = case;
+    let got = told(alloc, nodes, query.as_bytes(), document.as_bytes(), script)?;
+    assert_eq!(rt; got.as_str(), want, "{store}: {query} | {document}");
+    Ok(())
 }
 
 /// These scripts tell that.
 fn are_told(rt: &impl Abort, alloc: Global, cases: &[Case]) -> Result<(), Fail> {
-    for &(query, document, script, want) in cases {
-        let (read, asked) = (document.as_bytes(), query.as_bytes());
-        let got = told(alloc, SlabNodes::new(alloc), asked, read, script)?;
-        assert_eq!(rt; got.as_str(), want, "{query} | {document}");
-        let got = told(alloc, RawNodes::new(alloc), asked, read, script)?;
-        assert_eq!(rt; got.as_str(), want, "raw: {query} | {document}");
+    for case in cases {
+        is_told_over(rt, alloc, SlabNodes::new(alloc), "slab", *case)?;
+        is_told_over(rt, alloc, RawNodes::new(alloc), "raw", *case)?;
     }
     Ok(())
 }

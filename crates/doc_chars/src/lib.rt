@@ -5,8 +5,6 @@ mod chars;
 mod cut;
 mod reference;
 mod scan;
-#[cfg(test)]
-mod tests;
 
 pub use chars::{CharFault, Chars, Split};
 pub use reference::{RefStep, Reference, references_agree};

@@ -88,25 +88,3 @@ fn put_escaped(out: &mut Vec<u8>, bytes: &[u8]) -> Result<(), AllocError>
     }
     Ok(())
 }
-
-#[cfg(test)]
-mod tests {
-    use super::*;
-    use std::test::Fail;
-
-    #[test]
-    fn an_element_is_written(rt: HostRuntime) -> Result<(), Fail> {
-        let alloc = rt.alloc();
-        let name = Name::from_bytes(alloc, b"a")?.ok_or("not a name")?;
-        let text = Text::from_bytes(alloc, b"1 < 2 && \"3\" > '2'")?.ok_or("not a text")?;
-        let mut out = Vec::new(alloc);
-        put_start(&mut out, &name)?;
-        put_text(&mut out, &text)?;
-        put_end(&mut out, &name)?;
-        assert_eq!(rt;
-            out.as_slice(),
-            b"<a>1 &lt; 2 &amp;&amp; \"3\" &gt; '2'</a>".as_slice()
-        );
-        Ok(())
-    }
-}

@@ -3,7 +3,7 @@
 mod rows;
 mod turns;
 
-ghost use Rattle.std.specs.Prelude.{◌≡◌, ◌≤◌, IfOk};
+ghost use Rattle.std.specs.Prelude.{◌≡◌, ◌≤◌, ◌<◌, IfOk};
 ghost use Rattle.std.specs.FinMap as map;
 ghost use Rattle.gcx_model.specs.Core.{BodyTree};
 ghost use Rattle.gcx_model.specs.Cores.{Good};
@@ -28,7 +28,7 @@ use std::test::Fail;
 use xq_parse::parse;
 
 /// What a run left behind.
-#[derive(Drop)]
+#[derive(Drop, Debug, PartialEq, Eq)]
 pub(crate) struct Ran {
     report: Report,
     out: Vec<u8>,
@@ -57,6 +57,14 @@ pub(crate) fn plainly(most: usize) -> How<'static>
     }
 }
 
+/// The document, and what takes output and trace.
+#[derive(Drop)]
+struct Streams {
+    source: MemSource,
+    out: MemSink,
+    err: MemSink,
+}
+
 /// The plan of the query.
 pub(crate) fn plan_of(alloc: Global, query: &[u8]) -> Result<Plan, Fail>
     ensures { IfOk result (λ plan. (core : BodyTree) × Good core × Placed core (plan_tree plan)) }
@@ -73,8 +81,92 @@ pub(crate) fn marked(alloc: Global) -> Marked
     Marked::new(alloc)
 }
 
+fn source_of(alloc: Global, document: &[u8], how: How<'_>) -> Result<MemSource, Fail>
+    requires { 0 < how.most }
+{
+    let bytes = document.to_vec(alloc)?;
+    let fails = how.reads.to_vec(alloc)?;
+    Ok(MemSource::new(bytes, how.most, fails))
+}
+
+fn sink_of(alloc: Global, room: usize, most: usize, fails: &[u64]) -> Result<MemSink, Fail>
+    requires { 0 < most }
+{
+    let fails = fails.to_vec(alloc)?;
+    Ok(MemSink::new(alloc, room, most, fails)?)
+}
+
+fn streams_of(
+    rt: &impl Abort,
+    alloc: Global,
+    document: &[u8],
+    how: How<'_>,
+) -> Result<Streams, Fail> {
+    assert!(rt; how.most > 0);
+    let source = source_of(alloc, document, how)?;
+    let out = sink_of(alloc, 20_000, how.most, how.writes)?;
+    let err = sink_of(alloc, 2_000, how.most, &[])?;
+    Ok(Streams { source, out, err })
+}
+
+/// Runs the plan, and answers the report and the store behind the run. `ahead` is that of `How`.
+fn run_through<N: NodeStore<Row> + Drop, C: Conds + Drop>(
+    alloc: Global,
+    plan: &Plan,
+    nodes: N,
+    conds: C,
+    ahead: u32,
+    streams: &mut Streams,
+) -> Result<(Report, N), Fail>
+    requires placed { (core : BodyTree) × Good core × Placed core (plan_tree plan.now) }
+    requires empty { N.rows nodes ≡ map.empty }
+    requires unused { N.most_held nodes ≡ 0 }
+    requires conds { C.stands conds opening }
+    requires ahead { ahead ≤ 1000 }
+{
+    let Streams { source, out, err } = streams;
+    let tracing = ahead == 0;
+    let ahead = ahead.max(1);
+    let mut engine = Engine::new(alloc, plan, nodes, conds, Limits::full(), ahead, tracing)?;
+    let report = run_query(&mut engine, alloc, source, out, err);
+    Ok((report, engine.finish_nodes()))
+}
+
+/// What the sink took, all of which it kept.
+fn taken(rt: &impl Abort, alloc: Global, sink: &MemSink) -> Result<Vec<u8>, Fail> {
+    assert!(rt; sink.is_whole());
+    Ok(sink.bytes().to_vec(alloc)?)
+}
+
+fn left_by(rt: &impl Abort, alloc: Global, report: Report, streams: &Streams) -> Result<Ran, Fail> {
+    let out = taken(rt, alloc, &streams.out)?;
+    let trace = taken(rt, alloc, &streams.err)?;
+    Ok(Ran { report, out, trace })
+}
+
+/// A run with these streams, and the store behind it.
+fn run_with<N: NodeStore<Row> + Drop, C: Conds + Drop>(
+    rt: &impl Abort,
+    alloc: Global,
+    plan: &Plan,
+    nodes: N,
+    conds: C,
+    ahead: u32,
+    streams: &mut Streams,
+) -> Result<(Ran, N), Fail>
+    requires placed { (core : BodyTree) × Good core × Placed core (plan_tree plan.now) }
+    requires empty { N.rows nodes ≡ map.empty }
+    requires unused { N.most_held nodes ≡ 0 }
+    requires conds { C.stands conds opening }
+    requires ahead { ahead ≤ 1000 }
+{
+    let (report, nodes) = run_through(alloc, plan, nodes, conds, ahead, streams)?;
+    let ran = left_by(rt, alloc, report, streams)?;
+    Ok((ran, nodes))
+}
+
 /// A run of the plan over the document, and the store behind it.
-pub(crate) fn run_over<N: NodeStore<Row> + Drop, C: Conds + Drop>(
+fn run_over<N: NodeStore<Row> + Drop, C: Conds + Drop>(
     rt: &impl Abort,
     alloc: Global,
     plan: &Plan,
@@ -89,24 +181,75 @@ pub(crate) fn run_over<N: NodeStore<Row> + Drop, C: Conds + Drop>(
     requires conds { C.stands conds opening }
     requires ahead { how.ahead ≤ 1000 }
 {
-    assert!(rt; how.most > 0);
-    let mut source = MemSource::new(document.to_vec(alloc)?, how.most, how.reads.to_vec(alloc)?);
-    let mut out = MemSink::new(alloc, 20_000, how.most, how.writes.to_vec(alloc)?)?;
-    let mut err = MemSink::new(alloc, 2_000, how.most, Vec::new(alloc))?;
-    let tracing = how.ahead == 0;
-    let ahead = how.ahead.max(1);
-    let mut engine = Engine::new(alloc, plan, nodes, conds, Limits::full(), ahead, tracing)?;
-    let report = run_query(&mut engine, alloc, &mut source, &mut out, &mut err);
-    assert!(rt; out.is_whole() && err.is_whole());
-    let ran = Ran {
-        report,
-        out: out.bytes().to_vec(alloc)?,
-        trace: err.bytes().to_vec(alloc)?,
-    };
-    Ok((ran, engine.finish_nodes()))
+    let mut streams = streams_of(rt, alloc, document, how)?;
+    run_with(rt, alloc, plan, nodes, conds, how.ahead, &mut streams)
+}
+
+/// A run over nodes by raw pointers, with marks, and the store behind it.
+fn run_raw(
+    rt: &impl Abort,
+    alloc: Global,
+    plan: &Plan,
+    document: &[u8],
+    how: How<'_>,
+) -> Result<(Ran, RawNodes<Row>), Fail>
+    requires placed { (core : BodyTree) × Good core × Placed core (plan_tree plan.now) }
+    requires ahead { how.ahead ≤ 1000 }
+{
+    let nodes = RawNodes::new(alloc);
+    run_over(rt, alloc, plan, nodes, marked(alloc), document, how)
+}
+
+/// The same without the store.
+fn run_marked_by(
+    rt: &impl Abort,
+    alloc: Global,
+    plan: &Plan,
+    document: &[u8],
+    how: How<'_>,
+) -> Result<Ran, Fail>
+    requires placed { (core : BodyTree) × Good core × Placed core (plan_tree plan.now) }
+    requires ahead { how.ahead ≤ 1000 }
+{
+    let (ran, _) = run_raw(rt, alloc, plan, document, how)?;
+    Ok(ran)
+}
+
+/// A run over nodes in a slab, without marks.
+fn run_plain_by(
+    rt: &impl Abort,
+    alloc: Global,
+    plan: &Plan,
+    document: &[u8],
+    how: How<'_>,
+) -> Result<Ran, Fail>
+    requires placed { (core : BodyTree) × Good core × Placed core (plan_tree plan.now) }
+    requires ahead { how.ahead ≤ 1000 }
+{
+    let nodes = SlabNodes::new(alloc);
+    let (ran, _) = run_over(rt, alloc, plan, nodes, Plain, document, how)?;
+    Ok(ran)
 }
 
 /// The same run over both stores and both kinds of conditions, which are one.
+fn run_by(
+    rt: &impl Abort,
+    alloc: Global,
+    query: &[u8],
+    plan: &Plan,
+    document: &[u8],
+    how: How<'_>,
+) -> Result<Ran, Fail>
+    requires placed { (core : BodyTree) × Good core × Placed core (plan_tree plan.now) }
+    requires ahead { how.ahead ≤ 1000 }
+{
+    let ran = run_marked_by(rt, alloc, plan, document, how)?;
+    let other = run_plain_by(rt, alloc, plan, document, how)?;
+    assert_eq!(rt; ran, other, "{query:?}");
+    Ok(ran)
+}
+
+/// The same for the query.
 pub(crate) fn run(
     rt: &impl Abort,
     alloc: Global,
@@ -117,26 +260,19 @@ pub(crate) fn run(
     requires ahead { how.ahead ≤ 1000 }
 {
     let plan = plan_of(alloc, query)?;
-    let (ran, _) = run_over(
-        rt,
-        alloc,
-        &plan,
-        RawNodes::new(alloc),
-        marked(alloc),
-        document,
-        how,
-    )?;
-    let (other, _) = run_over(
-        rt,
-        alloc,
-        &plan,
-        SlabNodes::new(alloc),
-        Plain,
-        document,
-        how,
-    )?;
-    assert_eq!(rt; ran.report, other.report, "{query:?}");
-    assert_eq!(rt; ran.out, other.out, "{query:?}");
-    assert_eq!(rt; ran.trace, other.trace, "{query:?}");
-    Ok(ran)
+    run_by(rt, alloc, query, &plan, document, how)
+}
+
+/// The run of the query over nodes by raw pointers, with marks, and the store behind it.
+pub(crate) fn run_marked(
+    rt: &impl Abort,
+    alloc: Global,
+    query: &[u8],
+    document: &[u8],
+    how: How<'_>,
+) -> Result<(Ran, RawNodes<Row>), Fail>
+    requires ahead { how.ahead ≤ 1000 }
+{
+    let plan = plan_of(alloc, query)?;
+    run_raw(rt, alloc, &plan, document, how)
 }

@@ -1,7 +1,9 @@
-//! Tests of the engine over plans of queries: tables of rows, and turns of its two actors.
+//! Tests of evaluator and engine over plans of queries: tables of rows, and turns of the two actors.
 #![tactic(auto)]
 
 #[cfg(test)]
 mod engines;
 #[cfg(test)]
 mod large;
+#[cfg(test)]
+mod variables;

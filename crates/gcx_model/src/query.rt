@@ -1,8 +1,9 @@
 //! Queries as trees (XQuery 1.0, section 3; the fragment is this project's).
 //!
 //! `Exprs` and `QConds` hold members that hold them again, so their clauses speak of plain trees.
-ghost use Rattle.std.specs.Prelude.{◌≡◌, ◌++◌, ◌∷◌, [], map, IfOk, OnOk, OnErr, option_map};
-ghost use Rattle.gcx_model.specs.Query.{cond_tree, cond_trees, expr_tree, expr_trees, query_trees};
+ghost use Rattle.std.specs.Prelude.{◌≡◌, ◌++◌, ◌∷◌, [], map, box_value, IfOk, OnOk, OnErr, option_map};
+ghost use Rattle.gcx_model.specs.Query.{cond_tree, cond_trees, expr_tree, expr_trees, exprs_of, query_trees};
+ghost use Rattle.gcx_model.specs.Query as tree;
 
 use gcx_base::{Memory, Name, Rel, Steps, Text};
 use std::alloc::Global;
@@ -254,34 +255,68 @@ impl Expr {
         match self {
             Expr::Empty => Ok(Expr::Empty),
             Expr::Seq(parts) => Ok(Expr::Seq(parts.copy(alloc)?)),
-            Expr::Elem { name, body } => {
-                let name = name.copy(alloc)?;
-                let body = body.copy(alloc)?;
-                Ok(Expr::Elem { name, body })
-            }
+            Expr::Elem { name, body } => copy_element(name, body, alloc),
             Expr::Path(path) => Ok(Expr::Path(path.copy(alloc)?)),
             Expr::For {
                 clauses,
                 filter,
                 body,
             } => {
-                let clauses = clauses.copy(alloc)?;
-                let filter = copy_filter(filter, alloc)?;
-                let body = Box::new(alloc, body.copy(alloc)?)?;
-                Ok(Expr::For {
-                    clauses,
-                    filter,
-                    body,
-                })
+                let body = copy_box(body, alloc)?;
+                loop_over(clauses, filter, body, alloc)
             }
             Expr::If { cond, then, other } => {
-                let cond = cond.copy(alloc)?;
-                let then = Box::new(alloc, then.copy(alloc)?)?;
-                let other = Box::new(alloc, other.copy(alloc)?)?;
-                Ok(Expr::If { cond, then, other })
+                let then = copy_box(then, alloc)?;
+                let other = copy_box(other, alloc)?;
+                choice_of(cond, then, other, alloc)
             }
         }
     }
+}
+
+/// The expression once more, in a box.
+#[cycle(copy_expressions)]
+fn copy_box(expr: &Expr, alloc: Global) -> Result<Box<Expr>, Memory>
+    ensures { IfOk result (λ copied. expr_tree (box_value copied) ≡ expr_tree expr.now) }
+{
+    let expr = expr.copy(alloc)?;
+    Ok(Box::new(alloc, expr)?)
+}
+
+/// A constructor with copies of the name and of the body.
+#[cycle(copy_expressions)]
+fn copy_element(name: &Name, body: &Exprs, alloc: Global) -> Result<Expr, Memory>
+    ensures { IfOk result (λ expr. expr_tree expr ≡ tree.Elem name.now (exprs_of (expr_trees body.now))) }
+{
+    let name = name.copy(alloc)?;
+    let body = body.copy(alloc)?;
+    Ok(Expr::Elem { name, body })
+}
+
+/// A loop over this body, with copies of the clauses and of the filter.
+fn loop_over(
+    clauses: &Clauses,
+    filter: &Option<QCond>,
+    body: Box<Expr>,
+    alloc: Global,
+) -> Result<Expr, Memory>
+    ensures { IfOk result (λ expr. expr_tree expr ≡ tree.For clauses.now (option_map cond_tree filter.now) (expr_tree (box_value body))) }
+{
+    let clauses = clauses.copy(alloc)?;
+    let filter = copy_filter(filter, alloc)?;
+    Ok(Expr::For {
+        clauses,
+        filter,
+        body,
+    })
+}
+
+/// An `if` with these branches, and a copy of the condition.
+fn choice_of(cond: &QCond, then: Box<Expr>, other: Box<Expr>, alloc: Global) -> Result<Expr, Memory>
+    ensures { IfOk result (λ expr. expr_tree expr ≡ tree.If (cond_tree cond.now) (expr_tree (box_value then)) (expr_tree (box_value other))) }
+{
+    let cond = cond.copy(alloc)?;
+    Ok(Expr::If { cond, then, other })
 }
 
 fn copy_filter(filter: &Option<QCond>, alloc: Global) -> Result<Option<QCond>, Memory>

@@ -1,41 +1,58 @@
 //! Queries and their cores.
 use crate::large::{copied, looking_far, repeated};
-use gcx_base::{Axis, Step, Test};
-use gcx_model::{Body, Item, QueryFault, What};
+use gcx_base::{Axis, Memory, Step, Test, VarId};
+use gcx_model::{Body, Cond, Item, QueryFault, What};
 use std::alloc::Global;
 use std::process::Abort;
 use std::test::Fail;
 use xq_normal::{normalise, put_cond, put_step, put_steps};
 use xq_parse::parse;
 
-fn put_shown(out: &mut String, body: &Body) -> Result<(), Fail> {
-    for item in body.items() {
-        match item {
-            Item::Write(text) => write!(out, "{} ", text.as_str())?,
-            Item::Copy(var) => write!(out, "copy {} ", var.0)?,
-            Item::For {
-                var,
-                from,
-                step,
-                body,
-            } => {
-                write!(out, "for {} in {}/", var.0, from.0)?;
-                put_step(out, step)?;
-                out.push_str(" { ")?;
-                put_shown(out, body)?;
-                out.push_str("} ")?;
-            }
-            Item::If { cond, then, other } => {
-                out.push_str("if ")?;
-                put_cond(out, cond)?;
-                out.push_str(" { ")?;
-                put_shown(out, then)?;
-                out.push_str("} else { ")?;
-                put_shown(out, other)?;
-                out.push_str("} ")?;
-            }
-            Item::Off(_) => out.push_str("off ")?,
+fn put_loop(out: &mut String, var: VarId, from: VarId, step: &Step) -> Result<(), Memory> {
+    write!(out, "for {} in {}/", var.0, from.0)?;
+    put_step(out, step)?;
+    out.push_str(" { ")?;
+    Ok(())
+}
+
+fn put_branch(out: &mut String, cond: &Cond) -> Result<(), Memory> {
+    out.push_str("if ")?;
+    put_cond(out, cond)?;
+    out.push_str(" { ")?;
+    Ok(())
+}
+
+#[cycle(shown_items)]
+fn put_item(out: &mut String, item: &Item) -> Result<(), Memory> {
+    match item {
+        Item::Write(text) => write!(out, "{} ", text.as_str())?,
+        Item::Copy(var) => write!(out, "copy {} ", var.0)?,
+        Item::For {
+            var,
+            from,
+            step,
+            body,
+        } => {
+            put_loop(out, *var, *from, step)?;
+            put_shown(out, body)?;
+            out.push_str("} ")?;
         }
+        Item::If { cond, then, other } => {
+            put_branch(out, cond)?;
+            put_shown(out, then)?;
+            out.push_str("} else { ")?;
+            put_shown(out, other)?;
+            out.push_str("} ")?;
+        }
+        Item::Off(_) => out.push_str("off ")?,
+    }
+    Ok(())
+}
+
+#[cycle(shown_items)]
+fn put_shown(out: &mut String, body: &Body) -> Result<(), Memory> {
+    for item in body.items() {
+        put_item(out, item)?;
     }
     Ok(())
 }
@@ -97,6 +114,12 @@ fn branches_go_into_loops(rt: HostRuntime) -> Result<(), Fail> {
     are_shown(&rt, rt.alloc(), rows)
 }
 
+/// The query has a core.
+fn is_within(rt: &impl Abort, alloc: Global, query: &[u8]) -> Result<(), Fail> {
+    assert_eq!(rt; refusal(alloc, query)?, None);
+    Ok(())
+}
+
 /// This limit is refused, as the first that the query passes.
 fn is_past(
     rt: &impl Abort,
@@ -105,21 +128,29 @@ fn is_past(
     what: What,
     limit: u64,
 ) -> Result<(), Fail> {
-    assert_eq!(rt;
-        refusal(alloc, query)?,
-        Some(QueryFault::TooLarge(what, limit))
-    );
+    let fault = QueryFault::TooLarge(what, limit);
+    assert_eq!(rt; refusal(alloc, query)?, Some(fault));
     Ok(())
 }
 
 #[test]
-fn a_core_that_is_too_large_is_refused(rt: HostRuntime) -> Result<(), Fail> {
+fn more_than_500_loops_are_refused(rt: HostRuntime) -> Result<(), Fail> {
     let alloc = rt.alloc();
-    assert_eq!(rt; refusal(alloc, &repeated(alloc, b"/a", 500)?)?, None);
-    is_past(&rt, alloc, &repeated(alloc, b"/a", 501)?, What::Loops, 500)?;
-    assert_eq!(rt; refusal(alloc, &looking_far(alloc, 8_000)?)?, None);
-    is_past(&rt, alloc, &looking_far(alloc, 8_001)?, What::Steps, 8_000)?;
-    assert_eq!(rt; refusal(alloc, &copied(alloc, 8)?)?, None);
+    is_within(&rt, alloc, &repeated(alloc, b"/a", 500)?)?;
+    is_past(&rt, alloc, &repeated(alloc, b"/a", 501)?, What::Loops, 500)
+}
+
+#[test]
+fn more_than_8000_steps_are_refused(rt: HostRuntime) -> Result<(), Fail> {
+    let alloc = rt.alloc();
+    is_within(&rt, alloc, &looking_far(alloc, 8_000)?)?;
+    is_past(&rt, alloc, &looking_far(alloc, 8_001)?, What::Steps, 8_000)
+}
+
+#[test]
+fn conditions_of_more_than_8388608_bytes_are_refused(rt: HostRuntime) -> Result<(), Fail> {
+    let alloc = rt.alloc();
+    is_within(&rt, alloc, &copied(alloc, 8)?)?;
     is_past(&rt, alloc, &copied(alloc, 9)?, What::Conditions, 8_388_608)
 }
 

@@ -2,155 +2,42 @@
 mod commands;
 mod failing;
 mod limits;
+mod objects;
 
-ghost use Rattle.std.specs.Prelude.{◌≡◌};
-ghost use Rattle.std.specs.FinMap as map;
-
-use crate::large::repeated;
-use buf_tree::Row;
-use gcx_base::Text;
-use gcx_cmd::{Status, gcx_main};
-use gcx_io::{MemShelf, MemSink, SureShelf, SureSink};
+use crate::large::{joined, repeated};
+use gcx_cmd::Status;
 use gcx_model::{DocFault, QueryFault, What};
-use node_store::{NodeStore, SlabNodes};
-use raw_nodes::RawNodes;
+use objects::{End, NOTHING, run, run_surely};
 use std::alloc::Global;
 use std::process::Abort;
 use std::test::Fail;
 
-/// The numbers of the calls that are to fail.
-#[derive(Drop)]
-struct FailingCalls {
-    files: Vec<u64>,
-    out: Vec<u64>,
-    err: Vec<u64>,
-}
-
-/// What a run left behind.
-#[derive(Drop)]
-struct Ran {
-    status: Status,
-    out: Vec<u8>,
-    err: Vec<u8>,
-}
-
-/// No call is to fail.
-fn nothing(alloc: Global) -> FailingCalls {
-    FailingCalls {
-        files: Vec::new(alloc),
-        out: Vec::new(alloc),
-        err: Vec::new(alloc),
-    }
-}
-
-fn text(alloc: Global, word: &[u8]) -> Result<Text, Fail> {
-    Ok(Text::from_bytes(alloc, word)?.ok_or("not a text")?)
-}
-
-fn words(alloc: Global, list: &[&[u8]]) -> Result<Vec<Text>, Fail> {
-    let mut words = Vec::new(alloc);
-    for word in list {
-        words.push(text(alloc, word)?)?;
-    }
-    Ok(words)
-}
-
-/// A run of these words over the files `q` and `d`, each call of which moves at most `most` bytes, in this store.
-fn run_in<N: NodeStore<Row> + Drop>(
+/// A run of these words ends so, over objects whose calls move a byte, some or all.
+fn ends_in_pieces(
     rt: &impl Abort,
     alloc: Global,
-    list: &[&[u8]],
+    words: &[&[u8]],
     files: (&[u8], &[u8]),
-    most: usize,
-    failing: FailingCalls,
-    nodes: &mut N,
-) -> Result<Ran, Fail>
-    requires empty { N.rows nodes.old ≡ map.empty }
-    requires fresh { N.most_held nodes.old ≡ 0 }
-{
-    assert!(rt; most > 0);
-    let (query, document) = files;
-    let mut files = MemShelf::new(alloc, 0, most, failing.files);
-    files.put(text(alloc, b"q")?, query.to_vec(alloc)?)?;
-    files.put(text(alloc, b"d")?, document.to_vec(alloc)?)?;
-    let mut out = MemSink::new(alloc, 10_000, most, failing.out)?;
-    let mut err = MemSink::new(alloc, 100, most, failing.err)?;
-    let words = words(alloc, list)?;
-    let status = gcx_main(alloc, &words, &mut files, &mut out, &mut err, nodes);
-    assert!(rt; out.is_whole() && err.is_whole());
-    Ok(Ran {
-        status,
-        out: out.bytes().to_vec(alloc)?,
-        err: err.bytes().to_vec(alloc)?,
-    })
+    end: End<'_>,
+) -> Result<(), Fail> {
+    for most in [1, 7, 65_536] {
+        let ran = run(rt, alloc, words, files, most, NOTHING)?;
+        assert_eq!(rt; ran.end(), end, "{words:?} {files:?} {most}");
+    }
+    Ok(())
 }
 
-/// A run in a store of its own.
-fn run(
-    rt: &impl Abort,
-    alloc: Global,
-    list: &[&[u8]],
-    query: &[u8],
-    document: &[u8],
-    most: usize,
-    failing: FailingCalls,
-) -> Result<Ran, Fail> {
-    let mut nodes: RawNodes<Row> = RawNodes::new(alloc);
-    run_in(
-        rt,
-        alloc,
-        list,
-        (query, document),
-        most,
-        failing,
-        &mut nodes,
-    )
-}
-
-/// A run of `run q d` over objects that never fail, in a store of slots.
-fn run_surely(rt: &impl Abort, alloc: Global, query: &[u8], document: &[u8]) -> Result<Ran, Fail> {
-    let mut files = SureShelf::new(alloc, 0);
-    files.put(text(alloc, b"q")?, query.to_vec(alloc)?)?;
-    files.put(text(alloc, b"d")?, document.to_vec(alloc)?)?;
-    let mut out = SureSink::new(alloc, 10_000)?;
-    let mut err = SureSink::new(alloc, 100)?;
-    let mut nodes: SlabNodes<Row> = SlabNodes::new(alloc);
-    let words = words(alloc, &[b"run", b"q", b"d"])?;
-    let status = gcx_main(alloc, &words, &mut files, &mut out, &mut err, &mut nodes);
-    assert!(rt; out.is_whole() && err.is_whole());
-    Ok(Ran {
-        status,
-        out: out.bytes().to_vec(alloc)?,
-        err: err.bytes().to_vec(alloc)?,
-    })
-}
-
-/// The query over the document ends so, with these bytes and this line: over objects whose calls move a byte, some or all,
-/// and over objects that never fail, in each store.
+/// The query over the document ends so, over objects whose calls move a byte, some or all, and over objects that never
+/// fail, in each store.
 fn ends_with(
     rt: &impl Abort,
     alloc: Global,
     files: (&[u8], &[u8]),
-    status: Status,
-    written: &[u8],
-    line: &[u8],
+    end: End<'_>,
 ) -> Result<(), Fail> {
-    let (query, document) = files;
-    for most in [1, 7, 65_536] {
-        let list: &[&[u8]] = &[b"run", b"q", b"d"];
-        let ran = run(rt, alloc, list, query, document, most, nothing(alloc))?;
-        assert_eq!(rt; ran.status, status, "{query:?} {document:?} {most}");
-        assert_eq!(rt;
-            ran.out.as_slice(),
-            written,
-            "{query:?} {document:?} {most}"
-        );
-        assert_eq!(rt; ran.err.as_slice(), line, "{query:?} {document:?} {most}");
-    }
-    let ran = run_surely(rt, alloc, query, document)?;
-    assert_eq!(rt; ran.status, status, "{query:?} {document:?}");
-    assert_eq!(rt; ran.out.as_slice(), written, "{query:?} {document:?}");
-    assert_eq!(rt; ran.err.as_slice(), line, "{query:?} {document:?}");
+    ends_in_pieces(rt, alloc, &[b"run", b"q", b"d"], files, end)?;
+    let ran = run_surely(rt, alloc, files)?;
+    assert_eq!(rt; ran.end(), end, "{files:?}");
     Ok(())
 }
 
@@ -162,38 +49,28 @@ fn is_answered(
     document: &[u8],
     answer: &[u8],
 ) -> Result<(), Fail> {
-    ends_with(rt, alloc, (query, document), Status::Ok, answer, b"")
+    let end = End {
+        status: Status::Ok,
+        out: answer,
+        err: b"",
+    };
+    ends_with(rt, alloc, (query, document), end)
 }
 
-/// A run of these words ends with this status and this line, and `out` takes nothing.
-fn is_told(
-    rt: &impl Abort,
-    alloc: Global,
-    list: &[&[u8]],
-    query: &[u8],
-    document: &[u8],
-    status: Status,
-    line: &[u8],
-) -> Result<(), Fail> {
-    for most in [1, 7, 65_536] {
-        let ran = run(rt, alloc, list, query, document, most, nothing(alloc))?;
-        assert_eq!(rt; ran.status, status, "{query:?} {document:?} {most}");
-        assert_eq!(rt; ran.err.as_slice(), line, "{query:?} {document:?} {most}");
-        assert_eq!(rt; ran.out.as_slice(), b"".as_slice());
-    }
-    Ok(())
-}
-
-/// The query is refused with this line, and nothing is written.
+/// The query over the document ends with this status and this line, and nothing is written.
 fn is_refused(
     rt: &impl Abort,
     alloc: Global,
-    query: &[u8],
-    document: &[u8],
+    files: (&[u8], &[u8]),
     status: Status,
     line: &[u8],
 ) -> Result<(), Fail> {
-    ends_with(rt, alloc, (query, document), status, b"", line)
+    let end = End {
+        status,
+        out: b"",
+        err: line,
+    };
+    ends_with(rt, alloc, files, end)
 }
 
 #[test]
@@ -373,8 +250,12 @@ fn what_is_settled_before_a_fault_is_written(rt: HostRuntime) -> Result<(), Fail
         ),
     ];
     for &(query, document, fault, line, written) in rows {
-        let status = Status::DocumentRefused(fault);
-        ends_with(&rt, rt.alloc(), (query, document), status, written, line)?;
+        let end = End {
+            status: Status::DocumentRefused(fault),
+            out: written,
+            err: line,
+        };
+        ends_with(&rt, rt.alloc(), (query, document), end)?;
     }
     Ok(())
 }
@@ -407,7 +288,7 @@ fn before_the_first_tag_is_whole_nothing_is_written(rt: HostRuntime) -> Result<(
     ];
     for &(document, fault, line) in rows {
         let status = Status::DocumentRefused(fault);
-        ends_with(&rt, rt.alloc(), (b"/a", document), status, b"", line)?;
+        is_refused(&rt, rt.alloc(), (b"/a", document), status, line)?;
     }
     Ok(())
 }
@@ -464,7 +345,7 @@ fn a_query_that_is_refused_is_told(rt: HostRuntime) -> Result<(), Fail> {
     for &(query, fault, line) in rows {
         // no document is read under a query that is refused
         let status = Status::QueryRefused(fault);
-        is_refused(&rt, rt.alloc(), query, b"<a></b>", status, line)?;
+        is_refused(&rt, rt.alloc(), (query, b"<a></b>"), status, line)?;
     }
     Ok(())
 }
@@ -477,68 +358,62 @@ fn tower(alloc: Global, count: usize) -> Result<Vec<u8>, Fail> {
 }
 
 #[test]
-fn limits_are_told(rt: HostRuntime) -> Result<(), Fail> {
+fn a_document_of_1000_levels_is_answered(rt: HostRuntime) -> Result<(), Fail> {
+    let tower = tower(rt.alloc(), 1_000)?;
+    is_answered(&rt, rt.alloc(), b"/a", &tower, &tower)
+}
+
+#[test]
+fn a_document_of_more_levels_is_told(rt: HostRuntime) -> Result<(), Fail> {
     let alloc = rt.alloc();
-    let most = tower(alloc, 1_000)?;
-    is_answered(&rt, alloc, b"/a", &most, &most)?;
-    let more = tower(alloc, 1_001)?;
-    ends_with(
-        &rt,
-        alloc,
-        (b"/a", &more),
-        Status::DocumentRefused(DocFault::Depth(3_000)),
-        &repeated(alloc, b"<a>", 1_000)?,
-        b"gcx: document Depth 3000\n",
-    )?;
-    let mut name = b"<".to_vec(alloc)?;
-    name.extend_from_slice(&repeated(alloc, b"n", 1_025)?)?;
-    is_refused(
-        &rt,
-        alloc,
-        b"/a",
-        &name,
-        Status::DocumentRefused(DocFault::NameLong(1_025)),
-        b"gcx: document NameLong 1025\n",
-    )?;
-    let mut nested = repeated(alloc, b"(", 201)?;
-    nested.extend_from_slice(&repeated(alloc, b")", 201)?)?;
-    is_refused(
-        &rt,
-        alloc,
-        &nested,
-        b"<a/>",
-        Status::QueryRefused(QueryFault::TooLarge(What::Nesting, 200)),
-        b"gcx: query TooLarge Nesting 200\n",
-    )
+    let tower = tower(alloc, 1_001)?;
+    let written = repeated(alloc, b"<a>", 1_000)?;
+    let end = End {
+        status: Status::DocumentRefused(DocFault::Depth(3_000)),
+        out: &written,
+        err: b"gcx: document Depth 3000\n",
+    };
+    ends_with(&rt, alloc, (b"/a", &tower), end)
+}
+
+#[test]
+fn a_name_that_is_too_long_is_told(rt: HostRuntime) -> Result<(), Fail> {
+    let alloc = rt.alloc();
+    let name = repeated(alloc, b"n", 1_025)?;
+    let document = joined(alloc, &[b"<", &name])?;
+    let status = Status::DocumentRefused(DocFault::NameLong(1_025));
+    let line = b"gcx: document NameLong 1025\n";
+    is_refused(&rt, alloc, (b"/a", &document), status, line)
+}
+
+#[test]
+fn a_query_that_is_nested_too_deep_is_told(rt: HostRuntime) -> Result<(), Fail> {
+    let alloc = rt.alloc();
+    let open = repeated(alloc, b"(", 201)?;
+    let close = repeated(alloc, b")", 201)?;
+    let query = joined(alloc, &[&open, &close])?;
+    let status = Status::QueryRefused(QueryFault::TooLarge(What::Nesting, 200));
+    let line = b"gcx: query TooLarge Nesting 200\n";
+    is_refused(&rt, alloc, (&query, b"<a/>"), status, line)
 }
 
 #[test]
 fn a_query_that_is_too_long_is_told(rt: HostRuntime) -> Result<(), Fail> {
     let alloc = rt.alloc();
     let query = vec![in alloc; b' '; 1_048_577]?;
-    let ran = run(
-        &rt,
-        alloc,
-        &[b"run", b"q", b"d"],
-        &query,
-        b"<a/>",
-        65_536,
-        nothing(alloc),
-    )?;
-    let fault = QueryFault::TooLarge(What::Text, 1_048_576);
-    assert_eq!(rt; ran.status, Status::QueryRefused(fault));
-    assert_eq!(rt;
-        ran.err.as_slice(),
-        b"gcx: query TooLarge Text 1048576\n".as_slice()
-    );
-    assert_eq!(rt; ran.out.as_slice(), b"".as_slice());
+    let words: &[&[u8]] = &[b"run", b"q", b"d"];
+    let ran = run(&rt, alloc, words, (&query, b"<a/>"), 65_536, NOTHING)?;
+    let end = End {
+        status: Status::QueryRefused(QueryFault::TooLarge(What::Text, 1_048_576)),
+        out: b"",
+        err: b"gcx: query TooLarge Text 1048576\n",
+    };
+    assert_eq!(rt; ran.end(), end);
     Ok(())
 }
 
 #[test]
-fn words_and_names_are_told(rt: HostRuntime) -> Result<(), Fail> {
-    let alloc = rt.alloc();
-    let usage = b"gcx: the words are not a command line\n".as_slice();
+fn words_that_are_no_command_line_are_told(rt: HostRuntime) -> Result<(), Fail> {
     let lists: &[&[&[u8]]] = &[
         &[],
         &[b"run"],
@@ -547,15 +422,33 @@ fn words_and_names_are_told(rt: HostRuntime) -> Result<(), Fail> {
         &[b"walk", b"q", b"d"],
         &[b"RUN", b"q", b"d"],
     ];
-    for list in lists {
-        is_told(&rt, alloc, list, b"/a", b"<a/>", Status::Usage, usage)?;
+    let end = End {
+        status: Status::Usage,
+        out: b"",
+        err: b"gcx: the words are not a command line\n",
+    };
+    for words in lists {
+        ends_in_pieces(&rt, rt.alloc(), words, (b"/a", b"<a/>"), end)?;
     }
-    let fault = b"gcx: read fault\n".as_slice();
-    let missing: &[&[&[u8]]] = &[&[b"run", b"q", b"e"], &[b"run", b"e", b"d"]];
-    for list in missing {
-        let query = b"<r>{/a}</r>";
-        is_told(&rt, alloc, list, query, b"", Status::ReadFault, fault)?;
+    Ok(())
+}
+
+#[test]
+fn a_file_that_is_missing_is_told(rt: HostRuntime) -> Result<(), Fail> {
+    let lists: &[&[&[u8]]] = &[&[b"run", b"q", b"e"], &[b"run", b"e", b"d"]];
+    let end = End {
+        status: Status::ReadFault,
+        out: b"",
+        err: b"gcx: read fault\n",
+    };
+    for words in lists {
+        ends_in_pieces(&rt, rt.alloc(), words, (b"<r>{/a}</r>", b""), end)?;
     }
+    Ok(())
+}
+
+#[test]
+fn each_status_has_its_code(rt: HostRuntime) {
     let codes = [
         Status::Ok.code(),
         Status::Usage.code(),
@@ -566,5 +459,4 @@ fn words_and_names_are_told(rt: HostRuntime) -> Result<(), Fail> {
         Status::Memory.code(),
     ];
     assert_eq!(rt; codes, [0, 2, 3, 4, 5, 6, 7]);
-    Ok(())
 }

@@ -8,6 +8,3 @@ mod reading;
 
 pub use command::{Command, Name};
 pub use reading::command_of;
-
-#[cfg(test)]
-mod tests;

@@ -13,6 +13,3 @@ mod told;
 mod upward;
 
 pub use matcher::Matcher;
-
-#[cfg(test)]
-mod tests;

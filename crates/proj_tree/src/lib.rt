@@ -7,6 +7,3 @@ mod rows;
 
 pub use nodes::{ProjNode, ProjNodes, ProjTree, own_roles, projection};
 pub use rows::roles;
-
-#[cfg(test)]
-mod tests;

@@ -5,6 +5,3 @@ mod projector;
 mod signing;
 
 pub use projector::{Fed, Projector};
-
-#[cfg(test)]
-mod tests;

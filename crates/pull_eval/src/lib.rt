@@ -23,6 +23,3 @@ pub use machine::{Acted, Machine};
 pub use marked::Marked;
 pub use plain::Plain;
 pub use truth::Truth;
-
-#[cfg(test)]
-mod tests;

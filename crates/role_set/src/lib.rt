@@ -79,36 +79,3 @@ impl RoleSet {
         self.numbers.retain(|other| *other != number);
     }
 }
-
-#[cfg(test)]
-mod tests {
-    use super::*;
-    use std::test::Fail;
-
-    #[test]
-    fn holds_more_roles_than_lie_in_place(rt: HostRuntime) -> Result<(), Fail> {
-        let mut roles = RoleSet::new(rt.alloc());
-        assert!(rt; roles.is_empty());
-        for number in [7, 0, 1_999, 7, 3, 4_294_967_295, 12, 0] {
-            roles.give(Role(number))?;
-        }
-        for (number, want) in [
-            (0, true),
-            (3, true),
-            (7, true),
-            (12, true),
-            (1_999, true),
-            (4_294_967_295, true),
-            (1, false),
-        ] {
-            assert_eq!(rt; roles.has(Role(number)), want, "at {number}");
-        }
-        for number in [7, 0, 1_999, 3, 4_294_967_295, 12] {
-            assert!(rt; roles.has(Role(number)), "before {number} goes");
-            roles.take(Role(number));
-            assert!(rt; !roles.has(Role(number)), "after {number} went");
-        }
-        assert!(rt; roles.is_empty());
-        Ok(())
-    }
-}

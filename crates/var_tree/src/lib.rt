@@ -125,6 +125,3 @@ pub fn var_tree(alloc: Global, core: &Core) -> Result<VarTree, Memory>
     read_body(&mut known, VarId(0), &core.body)?;
     tree_of(alloc, &known)
 }
-
-#[cfg(test)]
-mod tests;

@@ -24,25 +24,58 @@ fn is_told(
     Ok(())
 }
 
+/// Each number from the first on that is below the end, between these two.
+fn put_numbers(
+    out: &mut String,
+    before: &str,
+    first: u32,
+    end: u32,
+    behind: &str,
+) -> Result<(), Fail> {
+    for number in first..end {
+        write!(out, "{before}{number}{behind}")?;
+    }
+    Ok(())
+}
+
+fn put_times(out: &mut String, piece: &str, count: u32) -> Result<(), Fail> {
+    for _ in 0..count {
+        out.push_str(piece)?;
+    }
+    Ok(())
+}
+
+/// 999 elements `a` inside one another and a `b` in the innermost one.
+fn many_levels(alloc: Global) -> Result<Vec<u8>, Fail> {
+    let begun = repeated(alloc, b"<a>", 999)?;
+    let ended = repeated(alloc, b"</a>", 999)?;
+    joined(alloc, &[&begun, b"<b/>", &ended])
+}
+
+/// Opens all, and carries out a statement at each `a`.
+fn levels_script(alloc: Global) -> Result<String, Fail> {
+    let mut script = String::from_str(alloc, "1001")?;
+    put_numbers(&mut script, " o2@", 1, 1000, "")?;
+    Ok(script)
+}
+
+fn levels_told(alloc: Global) -> Result<String, Fail> {
+    let mut want = String::from_str(alloc, "+0{0}")?;
+    put_numbers(&mut want, " +", 1, 1000, "{1}")?;
+    want.push_str(" +1000{2} -1000")?;
+    put_times(&mut want, " o", 998)?;
+    want.push_str(" o ~1 x1000 most 1001")?;
+    Ok(want)
+}
+
 /// 999 elements `a` inside one another and a `b` in the innermost one, which each of them reaches. Behind the end of `b`
 /// all but the last statement leave it its role.
 #[test]
 fn a_thousand_levels(rt: HostRuntime) -> Result<(), Fail> {
     let alloc = rt.alloc();
-    let begun = repeated(alloc, b"<a>", 999)?;
-    let ended = repeated(alloc, b"</a>", 999)?;
-    let document = joined(alloc, &[&begun, b"<b/>", &ended])?;
-    let mut script = String::from_str(alloc, "1001")?;
-    let mut want = String::from_str(alloc, "+0{0}")?;
-    for level in 1..1000 {
-        write!(script, " o2@{level}")?;
-        write!(want, " +{level}{{1}}")?;
-    }
-    want.push_str(" +1000{2} -1000")?;
-    for _ in 1..999 {
-        want.push_str(" o")?;
-    }
-    want.push_str(" o ~1 x1000 most 1001")?;
+    let document = many_levels(alloc)?;
+    let script = levels_script(alloc)?;
+    let want = levels_told(alloc)?;
     let query = b"for $x in //a return for $y in $x//b return <h/>";
     is_told(&rt, alloc, query, &document, script.as_str(), want.as_str())
 }
@@ -60,22 +93,29 @@ fn asking(alloc: Global) -> Result<Vec<u8>, Fail> {
     )
 }
 
+/// Takes back the role of each condition, and then the others.
+fn roles_script(alloc: Global) -> Result<String, Fail> {
+    let mut script = String::from_str(alloc, "2")?;
+    put_numbers(&mut script, " o", 2, 2000, "@1")?;
+    script.push_str(" 1 o1@1 2 ?")?;
+    Ok(script)
+}
+
+fn roles_told(alloc: Global) -> Result<String, Fail> {
+    let mut want = String::from_str(alloc, "+0{0} +1{1} +2{2")?;
+    put_numbers(&mut want, ",", 3, 2000, "")?;
+    want.push('}')?;
+    put_times(&mut want, " o ~1", 1998)?;
+    want.push_str(" -2 x2 o ~1 -1 x1 -0 ( 0 h1 n3 t1999 w0 ) most 3")?;
+    Ok(want)
+}
+
 #[test]
 fn two_thousand_roles(rt: HostRuntime) -> Result<(), Fail> {
     let alloc = rt.alloc();
-    let mut script = String::from_str(alloc, "2")?;
-    let mut want = String::from_str(alloc, "+0{0} +1{1} +2{2")?;
-    for role in 3..2000 {
-        write!(want, ",{role}")?;
-    }
-    want.push('}')?;
-    for role in 2..2000 {
-        write!(script, " o{role}@1")?;
-        want.push_str(" o ~1")?;
-    }
-    script.push_str(" 1 o1@1 2 ?")?;
-    want.push_str(" -2 x2 o ~1 -1 x1 -0 ( 0 h1 n3 t1999 w0 ) most 3")?;
     let query = asking(alloc)?;
+    let script = roles_script(alloc)?;
+    let want = roles_told(alloc)?;
     is_told(
         &rt,
         alloc,

@@ -4,7 +4,7 @@ ghost use Rattle.std.specs.FinMap as map;
 ghost use Rattle.buf_tree.specs.View.{InUse};
 ghost use Rattle.buf_tree.specs.Match.{GoesFrom};
 
-use super::{begin, feed, place_of, plan_of, read};
+use super::{followed, place_of, plan_of};
 use buf_tree::{Buffer, Row};
 use gcx_base::{Axis, Name, Serial, Step, Steps, Test};
 use node_store::{NodeStore, Place, SlabNodes};
@@ -134,6 +134,23 @@ fn found_from<N: NodeStore<Row>>(
     }
 }
 
+/// What the step finds behind the serial `after`, searched from the first node of its axis that is not before it.
+fn found_on<N: NodeStore<Row>>(
+    buffer: &Buffer<N>,
+    place: Place,
+    step: &Step,
+    serial: u64,
+    after: u64,
+) -> Option<u64>
+    requires { InUse buffer.now.rows place.0 }
+{
+    if after == serial {
+        found_from_top(buffer, place, step)
+    } else {
+        found_from(buffer, place, step, after.saturating_sub(1))
+    }
+}
+
 fn is_found<N: NodeStore<Row>>(
     rt: &impl Abort,
     alloc: Global,
@@ -142,14 +159,13 @@ fn is_found<N: NodeStore<Row>>(
 ) -> Result<(), Fail> {
     let place = place_of(buffer, serial)?;
     let step = step_of(alloc, *axis, *test)?;
-    let found = found_behind(buffer, place, &step, after);
-    assert_eq!(rt; found, want, "behind {after}");
-    let found = if after == serial {
-        found_from_top(buffer, place, &step)
-    } else {
-        found_from(buffer, place, &step, after.saturating_sub(1))
-    };
-    assert_eq!(rt; found, want, "from {after}");
+    let behind = found_behind(buffer, place, &step, after);
+    let on = found_on(buffer, place, &step, serial, after);
+    assert_eq!(rt;
+        (behind, on),
+        (want, want),
+        "{serial}, behind and from {after}"
+    );
     Ok(())
 }
 
@@ -162,6 +178,19 @@ fn steps_of(alloc: Global, letters: &[&[u8; 2]]) -> Result<Steps, Fail> {
     Ok(steps)
 }
 
+/// Whether the steps lead from one node to another.
+fn leads<N: NodeStore<Row>>(
+    buffer: &Buffer<N>,
+    flags: &mut Vec<bool>,
+    from: u64,
+    steps: &Steps,
+    to: u64,
+) -> Result<bool, Fail> {
+    let top = place_of(buffer, from)?;
+    let end = place_of(buffer, to)?;
+    Ok(buffer.leads(top, steps.items(), end, flags)?)
+}
+
 fn is_way<N: NodeStore<Row>>(
     rt: &impl Abort,
     alloc: Global,
@@ -170,41 +199,69 @@ fn is_way<N: NodeStore<Row>>(
     (from, letters, to, want): Way,
 ) -> Result<(), Fail> {
     let steps = steps_of(alloc, letters)?;
-    let top = place_of(buffer, from)?;
-    let end = place_of(buffer, to)?;
-    let leads = buffer.leads(top, steps.items(), end, flags)?;
-    assert_eq!(rt; leads, want, "{from} to {to}");
+    let got = leads(buffer, flags, from, &steps, to)?;
+    assert_eq!(rt; got, want, "{from} to {to}");
     Ok(())
 }
 
-fn are_found<N: NodeStore<Row> + Drop>(rt: &impl Abort, alloc: Global, nodes: N) -> Result<(), Fail>
+/// A buffer to which the whole document was fed.
+fn fed<N: NodeStore<Row> + Drop>(alloc: Global, nodes: N) -> Result<Buffer<N>, Fail>
     requires { N.rows nodes ≡ map.empty }
 {
     let plan = plan_of(alloc, b"/a")?;
-    let mut out = String::new(alloc);
-    let mut reader = read(alloc, b"<a><b>x</b><c><b/>x</c><b/></a>")?;
-    let (mut projector, mut buffer) = begin(alloc, &mut out, nodes, &plan)?;
-    feed(
-        alloc,
-        &mut out,
-        &mut reader,
-        &mut projector,
-        &mut buffer,
-        12,
-    )?;
+    let mut told = String::new(alloc);
+    let document = b"<a><b>x</b><c><b/>x</c><b/></a>";
+    followed(alloc, &mut told, nodes, &plan, document, "12")
+}
+
+fn are_found<N: NodeStore<Row>>(
+    rt: &impl Abort,
+    alloc: Global,
+    buffer: &Buffer<N>,
+) -> Result<(), Fail> {
     for case in MATCHES {
-        is_found(rt, alloc, &buffer, case)?;
-    }
-    let mut flags = Vec::new(alloc);
-    for case in WAYS {
-        is_way(rt, alloc, &buffer, &mut flags, case)?;
+        is_found(rt, alloc, buffer, case)?;
     }
     Ok(())
+}
+
+fn are_ways<N: NodeStore<Row>>(
+    rt: &impl Abort,
+    alloc: Global,
+    buffer: &Buffer<N>,
+) -> Result<(), Fail> {
+    let mut flags = Vec::new(alloc);
+    for case in WAYS {
+        is_way(rt, alloc, buffer, &mut flags, case)?;
+    }
+    Ok(())
+}
+
+/// Both tables hold.
+fn tables_hold<N: NodeStore<Row>>(
+    rt: &impl Abort,
+    alloc: Global,
+    buffer: &Buffer<N>,
+) -> Result<(), Fail> {
+    are_found(rt, alloc, buffer)?;
+    are_ways(rt, alloc, buffer)
+}
+
+/// Both tables hold over this store.
+fn tables_hold_over<N: NodeStore<Row> + Drop>(
+    rt: &impl Abort,
+    alloc: Global,
+    nodes: N,
+) -> Result<(), Fail>
+    requires { N.rows nodes ≡ map.empty }
+{
+    let buffer = fed(alloc, nodes)?;
+    tables_hold(rt, alloc, &buffer)
 }
 
 #[test]
 fn matches_and_ways_are_those_of_the_tables(rt: HostRuntime) -> Result<(), Fail> {
     let alloc = rt.alloc();
-    are_found(&rt, alloc, SlabNodes::new(alloc))?;
-    are_found(&rt, alloc, RawNodes::new(alloc))
+    tables_hold_over(&rt, alloc, SlabNodes::new(alloc))?;
+    tables_hold_over(&rt, alloc, RawNodes::new(alloc))
 }

@@ -2,7 +2,7 @@
 use super::{Case, are_told};
 use std::test::Fail;
 
-const CASES: &[Case] = &[
+const BASES: &[Case] = &[
     // the copies of /a/b, each let go once it is written
     (
         "<r>{for $x in /a/b return $x}</r>",
@@ -80,6 +80,14 @@ const CASES: &[Case] = &[
         "9 o1@1 ? o2@0 1 o3@0 ? 4 ? 1 ?",
         "+0{0} +1{1} +2{2} +3{2} +4{3} -4 -3 +5 -5 x5 -2 o ~1 ( 0+ 1+ 2 3 4 h5 n6 t1 w0 ) o ~2 +6{2} ~1 o ~1 x4 x3 x2 ( 0+ 1+ 6+ h3 n7 t5 w1 ) +7{3} ~1 -7 x7 -6 x6 -1 x1 ( 0+ h1 n8 t6 w0 ) -0 ( 0 h1 n8 t6 w0 ) most 6",
     ),
+];
+
+#[test]
+fn roles_are_taken_back_at_one_base_and_at_two(rt: HostRuntime) -> Result<(), Fail> {
+    are_told(&rt, rt.alloc(), BASES)
+}
+
+const SUBTREES: &[Case] = &[
     // a whole subtree from two bases
     (
         r#"for $x in //a return for $y in $x//b return if ($y/c = "1") then <y/> else ()"#,
@@ -122,6 +130,14 @@ const CASES: &[Case] = &[
         "2 o2@2 2 o1@2 4 ? 1 o2@4 o1@4 2 ?",
         "+0{0} +1 +2{1} o +3{2} ~1 -3 x3 o ~1 -2 x2 +4{1} +5{2} -5 ( 0+ 1+ 4+ 5 h4 n6 t2 w0 ) -4 o ~1 x5 o ~1 x4 -1 x1 -0 ( 0 h1 n6 t4 w0 ) most 4",
     ),
+];
+
+#[test]
+fn roles_of_whole_subtrees_are_taken_back(rt: HostRuntime) -> Result<(), Fail> {
+    are_told(&rt, rt.alloc(), SUBTREES)
+}
+
+const TIMES: &[Case] = &[
     // a statement before its base closes, another behind that
     (
         "for $x in /r/a return (if (exists($x/b)) then <y/> else (), $x/c)",
@@ -209,6 +225,6 @@ const CASES: &[Case] = &[
 ];
 
 #[test]
-fn roles_are_taken_back_and_nodes_leave(rt: HostRuntime) -> Result<(), Fail> {
-    are_told(&rt, rt.alloc(), CASES)
+fn roles_are_taken_back_at_any_time(rt: HostRuntime) -> Result<(), Fail> {
+    are_told(&rt, rt.alloc(), TIMES)
 }

@@ -1,11 +1,41 @@
 //! The worked rows that are runs.
-use super::{How, marked, plainly, plan_of, run, run_over};
+ghost use Rattle.std.specs.Prelude.{◌≡◌, ◌≤◌};
+
+use super::{How, Ran, plainly, run, run_marked};
 use crate::large::{joined, repeated};
-use engine::Ended;
+use buf_tree::Row;
+use engine::{Ended, Report};
 use gcx_model::DocFault;
 use node_store::NodeStore;
-use raw_nodes::RawNodes;
+use std::alloc::Global;
+use std::process::Abort;
 use std::test::Fail;
+
+/// The most bytes of a read.
+const PIECES: [usize; 3] = [1, 7, 65_536];
+
+/// So it ended, and that it wrote.
+fn is_left(rt: &impl Abort, ran: &Ran, query: &[u8], ended: Ended, out: &[u8]) {
+    assert_eq!(rt; ran.report.ended, ended, "{query:?}");
+    assert_eq!(rt; ran.out.as_slice(), out, "{query:?}");
+}
+
+/// The run ends so, and writes that.
+fn ends(
+    rt: &impl Abort,
+    alloc: Global,
+    query: &[u8],
+    document: &[u8],
+    how: How<'_>,
+    ended: Ended,
+    out: &[u8],
+) -> Result<(), Fail>
+    requires ahead { how.ahead ≤ 1000 }
+{
+    let ran = run(rt, alloc, query, document, how)?;
+    is_left(rt, &ran, query, ended, out);
+    Ok(())
+}
 
 /// A query, a document and the answer.
 struct Answered(&'static [u8], &'static [u8], &'static [u8]);
@@ -93,17 +123,32 @@ const ANSWERS: [Answered; 20] = [
     ),
 ];
 
+/// The whole document was read, and all was let go.
+fn is_through(rt: &impl Abort, report: Report, document: &[u8], query: &[u8]) {
+    let want = (document.len() as u64, 0);
+    assert_eq!(rt; (report.taken_bytes, report.held), want, "{query:?}");
+    assert_eq!(rt; report.given, report.taken, "{query:?}");
+}
+
+fn is_answered(rt: &impl Abort, alloc: Global, row: &Answered, most: usize) -> Result<(), Fail> {
+    let Answered(query, document, answer) = row;
+    let ran = run(rt, alloc, query, document, plainly(most))?;
+    is_left(rt, &ran, query, Ended::Ok, answer);
+    is_through(rt, ran.report, document, query);
+    Ok(())
+}
+
+fn is_answered_in_pieces(rt: &impl Abort, alloc: Global, row: &Answered) -> Result<(), Fail> {
+    for most in PIECES {
+        is_answered(rt, alloc, row, most)?;
+    }
+    Ok(())
+}
+
 #[test]
 fn runs_answer_as_the_rows_say(rt: HostRuntime) -> Result<(), Fail> {
-    for Answered(query, document, answer) in &ANSWERS {
-        for most in [1, 7, 65_536] {
-            let ran = run(&rt, rt.alloc(), query, document, plainly(most))?;
-            assert_eq!(rt; ran.report.ended, Ended::Ok, "{query:?}");
-            assert_eq!(rt; ran.out.as_slice(), *answer, "{query:?}");
-            assert_eq!(rt; ran.report.taken_bytes, document.len() as u64);
-            assert_eq!(rt; ran.report.held, 0);
-            assert_eq!(rt; ran.report.given, ran.report.taken, "{query:?}");
-        }
+    for row in &ANSWERS {
+        is_answered_in_pieces(&rt, rt.alloc(), row)?;
     }
     Ok(())
 }
@@ -138,47 +183,61 @@ const STOPS: [Stopped; 9] = [
     Stopped(b"/a", b"<!DOCTYPE a [", DocFault::Syntax(12), b""),
 ];
 
-#[test]
-fn what_is_settled_before_a_fault_is_written(rt: HostRuntime) -> Result<(), Fail> {
-    for Stopped(query, document, fault, written) in &STOPS {
-        for most in [1, 7, 65_536] {
-            let ran = run(&rt, rt.alloc(), query, document, plainly(most))?;
-            assert_eq!(rt; ran.report.ended, Ended::Refused(*fault), "{query:?}");
-            assert_eq!(rt; ran.out.as_slice(), *written, "{query:?}");
-        }
+fn stops_in_pieces(rt: &impl Abort, alloc: Global, row: &Stopped) -> Result<(), Fail> {
+    let Stopped(query, document, fault, written) = row;
+    let ended = Ended::Refused(*fault);
+    for most in PIECES {
+        ends(rt, alloc, query, document, plainly(most), ended, written)?;
     }
     Ok(())
 }
 
 #[test]
-fn a_deep_document_is_copied_to_the_limit(rt: HostRuntime) -> Result<(), Fail> {
+fn what_is_settled_before_a_fault_is_written(rt: HostRuntime) -> Result<(), Fail> {
+    for row in &STOPS {
+        stops_in_pieces(&rt, rt.alloc(), row)?;
+    }
+    Ok(())
+}
+
+/// A thousand starts, and as many ends.
+fn nested(alloc: Global, start: &[u8], end: &[u8]) -> Result<Vec<u8>, Fail> {
+    let starts = repeated(alloc, start, 1000)?;
+    let ends = repeated(alloc, end, 1000)?;
+    joined(alloc, &[&starts, &ends])
+}
+
+#[test]
+fn a_document_of_a_thousand_levels_is_copied(rt: HostRuntime) -> Result<(), Fail> {
+    let alloc = rt.alloc();
+    let whole = nested(alloc, b"<a>", b"</a>")?;
+    ends(
+        &rt,
+        alloc,
+        b"/a",
+        &whole,
+        plainly(65_536),
+        Ended::Ok,
+        &whole,
+    )
+}
+
+#[test]
+fn a_deeper_document_is_copied_to_the_limit(rt: HostRuntime) -> Result<(), Fail> {
     let alloc = rt.alloc();
     let starts = repeated(alloc, b"<a>", 1000)?;
-    let whole = joined(alloc, &[&starts, &repeated(alloc, b"</a>", 1000)?])?;
-    let ran = run(&rt, alloc, b"/a", &whole, plainly(65_536))?;
-    assert_eq!(rt; ran.report.ended, Ended::Ok);
-    assert_eq!(rt; ran.out, whole);
     let deeper = joined(alloc, &[b"<a>", &starts])?;
-    let ran = run(&rt, alloc, b"/a", &deeper, plainly(65_536))?;
-    assert_eq!(rt; ran.report.ended, Ended::Refused(DocFault::Depth(3000)));
-    assert_eq!(rt; ran.out, starts);
-    Ok(())
+    let ended = Ended::Refused(DocFault::Depth(3000));
+    ends(&rt, alloc, b"/a", &deeper, plainly(65_536), ended, &starts)
 }
 
 #[test]
 fn many_chains_to_a_node_are_walked_once(rt: HostRuntime) -> Result<(), Fail> {
     let alloc = rt.alloc();
-    let starts = repeated(alloc, b"<x>", 1000)?;
-    let document = joined(alloc, &[&starts, &repeated(alloc, b"</x>", 1000)?])?;
-    let plan = plan_of(
-        alloc,
-        b"if (//x//x//x//x//x//x = \"1\") then <y/> else <n/>",
-    )?;
-    let conds = marked(alloc);
-    let nodes = RawNodes::new(alloc);
-    let (ran, _) = run_over(&rt, alloc, &plan, nodes, conds, &document, plainly(65_536))?;
-    assert_eq!(rt; ran.report.ended, Ended::Ok);
-    assert_eq!(rt; ran.out.as_slice(), b"<n></n>".as_slice());
+    let document = nested(alloc, b"<x>", b"</x>")?;
+    let query = b"if (//x//x//x//x//x//x = \"1\") then <y/> else <n/>";
+    let (ran, _) = run_marked(&rt, alloc, query, &document, plainly(65_536))?;
+    is_left(&rt, &ran, query, Ended::Ok, b"<n></n>");
     Ok(())
 }
 
@@ -193,67 +252,115 @@ fn a_write_that_fails_ends_the_run(rt: HostRuntime) -> Result<(), Fail> {
             writes,
             ..plainly(65_536)
         };
-        let ran = run(&rt, rt.alloc(), COPIES, TWO, how)?;
-        assert_eq!(rt; ran.report.ended, Ended::WriteFault);
-        assert_eq!(rt; ran.out.as_slice(), written);
+        ends(
+            &rt,
+            rt.alloc(),
+            COPIES,
+            TWO,
+            how,
+            Ended::WriteFault,
+            written,
+        )?;
     }
     Ok(())
+}
+
+/// The first read gives the whole front of a document, and the second one fails.
+fn front() -> How<'static>
+    ensures { result.ahead ≡ 1 }
+{
+    How {
+        reads: &[2],
+        ..plainly(65_536)
+    }
+}
+
+#[test]
+fn a_read_that_fails_ends_the_run(rt: HostRuntime) -> Result<(), Fail> {
+    let query = b"for $x in //a return for $y in $x//b return <h/>";
+    let document = b"<a><a><b/>";
+    ends(
+        &rt,
+        rt.alloc(),
+        query,
+        document,
+        front(),
+        Ended::ReadFault,
+        b"<h></h>",
+    )
 }
 
 #[test]
 fn a_read_that_fails_leaves_what_is_held(rt: HostRuntime) -> Result<(), Fail> {
     let alloc = rt.alloc();
+    let (ran, nodes) = run_marked(&rt, alloc, COPIES, b"<a><b>1</b><c/>", front())?;
+    is_left(&rt, &ran, COPIES, Ended::ReadFault, b"<r><b>1</b>");
+    let most = NodeStore::<Row>::most(&nodes);
+    assert_eq!(rt; (ran.report.held, most), (2, 4));
+    Ok(())
+}
+
+/// A query, a document, the most nodes that are held, all nodes, and the roles that are given.
+struct Counted(&'static [u8], &'static [u8], u64, u64, u128);
+
+const COUNTS: [Counted; 4] = [
+    Counted(COPIES, TWO, 4, 7, 8),
+    Counted(
+        b"for $a in /r/x return for $b in /r/y return if ($a/k = $b/k) then <m/> else ()",
+        b"<r><x><k>1</k></x><y><k>1</k></y><y><k>2</k></y></r>",
+        11,
+        11,
+        12,
+    ),
+    Counted(
+        b"for $x in /r/p return if (exists($x/k)) then <y/> else <n/>",
+        b"<r><p><k/></p></r>",
+        4,
+        4,
+        4,
+    ),
+    Counted(
+        b"for $x in /r/p return if ($x/k = \"1\") then <y/> else <n/>",
+        b"<r><p><k>1</k><k>2</k><k>3</k></p></r>",
+        5,
+        9,
+        9,
+    ),
+];
+
+/// The run with these numbers.
+fn run_counted(rt: &impl Abort, alloc: Global, row: &Counted) -> Result<Ran, Fail> {
+    let Counted(query, document, peak, nodes, given) = row;
+    let ran = run(rt, alloc, query, document, plainly(5))?;
+    let report = ran.report;
+    assert_eq!(rt; (report.peak, report.nodes), (*peak, *nodes), "{query:?}");
+    assert_eq!(rt; (report.given, report.taken), (*given, *given), "{query:?}");
+    Ok(ran)
+}
+
+/// The same run up to three tokens ahead.
+fn run_ahead(rt: &impl Abort, alloc: Global, row: &Counted) -> Result<Ran, Fail> {
+    let Counted(query, document, ..) = row;
     let how = How {
-        reads: &[2],
-        ..plainly(65_536)
+        ahead: 3,
+        ..plainly(5)
     };
-    let nested = b"for $x in //a return for $y in $x//b return <h/>";
-    let ran = run(&rt, alloc, nested, b"<a><a><b/>", how)?;
-    assert_eq!(rt; ran.report.ended, Ended::ReadFault);
-    assert_eq!(rt; ran.out.as_slice(), b"<h></h>".as_slice());
-    let plan = plan_of(alloc, COPIES)?;
-    let conds = marked(alloc);
-    let front = b"<a><b>1</b><c/>";
-    let (ran, nodes) = run_over(&rt, alloc, &plan, RawNodes::new(alloc), conds, front, how)?;
-    assert_eq!(rt; ran.report.ended, Ended::ReadFault);
-    assert_eq!(rt; ran.out.as_slice(), b"<r><b>1</b>".as_slice());
-    assert_eq!(rt; ran.report.held, 2);
-    let most = NodeStore::<buf_tree::Row>::most(&nodes);
-    assert_eq!(rt; most, 4);
+    run(rt, alloc, query, document, how)
+}
+
+fn is_counted(rt: &impl Abort, alloc: Global, row: &Counted) -> Result<(), Fail> {
+    let ran = run_counted(rt, alloc, row)?;
+    let ahead = run_ahead(rt, alloc, row)?;
+    assert_eq!(rt; ahead.out, ran.out);
+    let (peak, most) = (ran.report.peak, ahead.report.peak);
+    assert!(rt; peak <= most && most <= peak.saturating_add(3));
     Ok(())
 }
 
 #[test]
 fn the_numbers_are_those_of_the_rows(rt: HostRuntime) -> Result<(), Fail> {
-    let join = b"for $a in /r/x return for $b in /r/y return if ($a/k = $b/k) then <m/> else ()";
-    let joined = b"<r><x><k>1</k></x><y><k>1</k></y><y><k>2</k></y></r>";
-    let valued = b"for $x in /r/p return if ($x/k = \"1\") then <y/> else <n/>";
-    let there = b"for $x in /r/p return if (exists($x/k)) then <y/> else <n/>";
-    let rows: [(&[u8], &[u8], u64, u64, u128); 4] = [
-        (COPIES, TWO, 4, 7, 8),
-        (join, joined, 11, 11, 12),
-        (there, b"<r><p><k/></p></r>", 4, 4, 4),
-        (valued, b"<r><p><k>1</k><k>2</k><k>3</k></p></r>", 5, 9, 9),
-    ];
-    for (query, document, peak, nodes, given) in rows {
-        let ran = run(&rt, rt.alloc(), query, document, plainly(5))?;
-        assert_eq!(rt;
-            (ran.report.peak, ran.report.nodes),
-            (peak, nodes),
-            "{query:?}"
-        );
-        assert_eq!(rt;
-            (ran.report.given, ran.report.taken),
-            (given, given),
-            "{query:?}"
-        );
-        let how = How {
-            ahead: 3,
-            ..plainly(5)
-        };
-        let ahead = run(&rt, rt.alloc(), query, document, how)?;
-        assert_eq!(rt; ahead.out, ran.out);
-        assert!(rt; peak <= ahead.report.peak && ahead.report.peak <= peak + 3);
+    for row in &COUNTS {
+        is_counted(&rt, rt.alloc(), row)?;
     }
     Ok(())
 }

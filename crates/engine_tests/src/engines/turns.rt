@@ -24,6 +24,7 @@ use pull_eval::{Acted, Machine, Plain};
 use raw_nodes::RawNodes;
 use std::alloc::Global;
 use std::collections::VecDeque;
+use std::process::Abort;
 use std::test::Fail;
 
 /// A reader that was given the whole document.
@@ -78,71 +79,94 @@ const COPIES: &[u8] = b"<r>{for $x in /a/b return $x}</r>";
 
 const TWO: &[u8] = b"<a><b>1</b><c/><b>2</b></a>";
 
+/// What the first two calls answer.
+fn first_acted(alloc: Global, plan: &Plan, out: &mut Vec<u8>) -> Result<(Acted, Acted), Fail>
+    requires placed { (core : BodyTree) × Good core × Placed core (plan_tree plan.now) }
+{
+    let (mut machine, mut buffer) = begin(alloc, plan)?;
+    let first = act(alloc, &mut machine, &mut buffer, out)?;
+    let second = act(alloc, &mut machine, &mut buffer, out)?;
+    Ok((first, second))
+}
+
+/// What they answer to a query that copies.
+fn first_copied(alloc: Global, out: &mut Vec<u8>) -> Result<(Acted, Acted), Fail> {
+    let plan = plan_of(alloc, COPIES)?;
+    first_acted(alloc, &plan, out)
+}
+
 #[test]
 fn one_action_is_taken_a_call(rt: HostRuntime) -> Result<(), Fail> {
     let alloc = rt.alloc();
-    let plan = plan_of(alloc, COPIES)?;
-    let (mut machine, mut buffer) = begin(alloc, &plan)?;
     let mut out = Vec::new(alloc);
-    assert_eq!(rt;
-        act(alloc, &mut machine, &mut buffer, &mut out)?,
-        Acted::Wrote(3)
-    );
-    assert_eq!(rt;
-        act(alloc, &mut machine, &mut buffer, &mut out)?,
-        Acted::Blocked
-    );
+    let acted = first_copied(alloc, &mut out)?;
+    assert_eq!(rt; acted, (Acted::Wrote(3), Acted::Blocked));
     assert_eq!(rt; out.as_slice(), b"<r>".as_slice());
     Ok(())
 }
 
-/// What these turns reach: `f` feeds, `a` acts.
-fn reach(alloc: Global, turns: &str, out: &mut Vec<u8>) -> Result<Reached, Fail> {
-    let plan = plan_of(alloc, COPIES)?;
-    let tokens = tokens_of(alloc, TWO)?;
-    let mut list = Vec::new(alloc);
-    for letter in turns.as_bytes() {
-        list.push(if *letter == b'f' {
+/// `f` feeds, `a` acts.
+fn turns_of(alloc: Global, letters: &str) -> Result<Vec<Turn>, Fail> {
+    let mut turns = Vec::new(alloc);
+    for letter in letters.as_bytes() {
+        turns.push(if *letter == b'f' {
             Turn::Feed
         } else {
             Turn::Act
         })?;
     }
-    let reached = interleave(
-        alloc,
-        &plan,
-        RawNodes::new(alloc),
-        marked(alloc),
-        tokens,
-        &list,
-        out,
-    )?;
-    Ok(reached)
+    Ok(turns)
+}
+
+/// What these turns of the plan reach.
+fn reach_by(alloc: Global, plan: &Plan, turns: &[Turn], out: &mut Vec<u8>) -> Result<Reached, Fail>
+    requires placed { (core : BodyTree) × Good core × Placed core (plan_tree plan.now) }
+{
+    let tokens = tokens_of(alloc, TWO)?;
+    let (nodes, conds) = (RawNodes::new(alloc), marked(alloc));
+    Ok(interleave(alloc, plan, nodes, conds, tokens, turns, out)?)
+}
+
+/// What these turns reach.
+fn reach(alloc: Global, turns: &str, out: &mut Vec<u8>) -> Result<Reached, Fail> {
+    let turns = turns_of(alloc, turns)?;
+    let plan = plan_of(alloc, COPIES)?;
+    reach_by(alloc, &plan, &turns, out)
+}
+
+/// Turns, what is written, and how many tokens were fed, actions taken, nodes held and nodes opened.
+type Case = (&'static str, &'static str, u64, u64, u64, u64);
+
+const CASES: [Case; 6] = [
+    ("", "", 0, 0, 1, 1),
+    ("aaa", "<r>", 0, 1, 1, 1),
+    ("fffffffffffffff", "", 11, 0, 6, 7),
+    ("ffffa", "<r>", 4, 1, 4, 4),
+    ("ffffaaaaa", "<r><b>1</b>", 4, 5, 3, 4),
+    (
+        "fffffffffffaaaaaaaaaaaaaaaa",
+        "<r><b>1</b><b>2</b></r>",
+        11,
+        14,
+        0,
+        7,
+    ),
+];
+
+fn is_reached(rt: &impl Abort, alloc: Global, case: Case) -> Result<(), Fail> {
+    let (turns, out, fed, acted, held, nodes) = case;
+    let mut bytes = Vec::new(alloc);
+    let reached = reach(alloc, turns, &mut bytes)?;
+    assert_eq!(rt; bytes.as_slice(), out.as_bytes(), "{turns}");
+    assert_eq!(rt; (reached.fed, reached.acted), (fed, acted), "{turns}");
+    assert_eq!(rt; (reached.held, reached.nodes), (held, nodes), "{turns}");
+    Ok(())
 }
 
 #[test]
 fn turns_go_in_any_order(rt: HostRuntime) -> Result<(), Fail> {
-    let alloc = rt.alloc();
-    for (turns, out, fed, acted, held, nodes) in [
-        ("", "", 0, 0, 1, 1),
-        ("aaa", "<r>", 0, 1, 1, 1),
-        ("fffffffffffffff", "", 11, 0, 6, 7),
-        ("ffffa", "<r>", 4, 1, 4, 4),
-        ("ffffaaaaa", "<r><b>1</b>", 4, 5, 3, 4),
-        (
-            "fffffffffffaaaaaaaaaaaaaaaa",
-            "<r><b>1</b><b>2</b></r>",
-            11,
-            14,
-            0,
-            7,
-        ),
-    ] {
-        let mut bytes = Vec::new(alloc);
-        let reached = reach(alloc, turns, &mut bytes)?;
-        assert_eq!(rt; bytes.as_slice(), out.as_bytes(), "{turns}");
-        assert_eq!(rt; (reached.fed, reached.acted), (fed, acted), "{turns}");
-        assert_eq!(rt; (reached.held, reached.nodes), (held, nodes), "{turns}");
+    for case in CASES {
+        is_reached(&rt, rt.alloc(), case)?;
     }
     Ok(())
 }

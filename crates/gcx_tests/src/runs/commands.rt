@@ -1,5 +1,6 @@
 //! The commands, over files in memory.
-use super::{FailingCalls, nothing, run};
+use super::ends_in_pieces;
+use super::objects::{End, FailingCalls, NOTHING, Ran, run};
 use buf_trace::{put_line, read_line};
 use gcx_cmd::Status;
 use gcx_model::{DocFault, QueryFault};
@@ -192,19 +193,21 @@ type Row = (
     &'static [u8],
 );
 
+/// The words between bars.
+fn split(alloc: Global, line: &[u8]) -> Result<Vec<&[u8]>, Fail> {
+    let mut words = Vec::new(alloc);
+    for word in line.split(|byte| *byte == b'|') {
+        words.push(word)?;
+    }
+    Ok(words)
+}
+
 /// Each row, over objects whose calls move a byte, some or all.
 fn are_met(rt: &impl Abort, alloc: Global, rows: &[Row]) -> Result<(), Fail> {
-    for (line, query, document, status, out, err) in rows {
-        for most in [1, 7, 65_536] {
-            let mut list: Vec<&[u8]> = Vec::new(alloc);
-            for word in line.split(|byte| *byte == b'|') {
-                list.push(word)?;
-            }
-            let ran = run(rt, alloc, &list, query, document, most, nothing(alloc))?;
-            assert_eq!(rt; ran.status, *status, "{line:?} {most}");
-            assert_eq!(rt; ran.out.as_slice(), *out, "{line:?} {most}");
-            assert_eq!(rt; ran.err.as_slice(), *err, "{line:?} {most}");
-        }
+    for &(line, query, document, status, out, err) in rows {
+        let words = split(alloc, line)?;
+        let end = End { status, out, err };
+        ends_in_pieces(rt, alloc, &words, (query, document), end)?;
     }
     Ok(())
 }
@@ -388,77 +391,122 @@ fn peaks_and_made_documents(rt: HostRuntime) -> Result<(), Fail> {
     are_met(&rt, alloc, rows)
 }
 
-/// The calls of `err` whose numbers are these fail.
-fn failing_trace(alloc: Global, calls: Vec<u64>) -> FailingCalls {
-    FailingCalls {
-        files: Vec::new(alloc),
-        out: Vec::new(alloc),
-        err: calls,
+const LINE: &[u8] = b"gcx: write fault\n";
+
+/// The trace is whole, or its write of this number failed: `out` and `err` have a front of what they take without faults,
+/// and behind the trace stands the line.
+fn is_traced_so_far(rt: &impl Abort, ran: &Ran, whole: &Ran, call: u64) {
+    if ran.status == Status::Ok {
+        assert_eq!(rt; ran.err.as_slice(), whole.err.as_slice(), "{call}");
+    } else {
+        assert_eq!(rt; ran.status, Status::WriteFault, "{call}");
+        assert!(rt; whole.out.starts_with(&ran.out), "{call}");
+        assert!(rt; ran.err.ends_with(LINE), "{call}");
+        let trace = &ran.err[..ran.err.len().saturating_sub(LINE.len())];
+        assert!(rt; whole.err.starts_with(trace), "{call}");
     }
 }
 
-/// Each write of a trace fails once, until a run has fewer. `out` and `err` have a front of what they take without faults,
-/// and behind the trace stands the line.
+/// A run with a trace, of whose calls this one of `err` fails.
+fn traced(
+    rt: &impl Abort,
+    alloc: Global,
+    files: (&[u8], &[u8]),
+    most: usize,
+    call: Option<u64>,
+) -> Result<Ran, Fail> {
+    let words: &[&[u8]] = &[b"run", b"--trace", b"q", b"d"];
+    let failing = FailingCalls {
+        err: call,
+        ..NOTHING
+    };
+    run(rt, alloc, words, files, most, failing)
+}
+
+/// Each write of a trace fails once, until a run has fewer.
 fn ends_at_each_write(
     rt: &impl Abort,
     alloc: Global,
-    query: &[u8],
-    document: &[u8],
+    files: (&[u8], &[u8]),
     most: usize,
 ) -> Result<(), Fail> {
-    let list: &[&[u8]] = &[b"run", b"--trace", b"q", b"d"];
-    let line = b"gcx: write fault\n".as_slice();
-    let whole = run(rt, alloc, list, query, document, most, nothing(alloc))?;
+    let whole = traced(rt, alloc, files, most, None)?;
     assert_eq!(rt; whole.status, Status::Ok);
     for call in 1..1_000u64 {
-        let failing = failing_trace(alloc, vec![in alloc; call]?);
-        let ran = run(rt, alloc, list, query, document, most, failing)?;
+        let ran = traced(rt, alloc, files, most, Some(call))?;
+        is_traced_so_far(rt, &ran, &whole, call);
         if ran.status == Status::Ok {
-            assert_eq!(rt; ran.err.as_slice(), whole.err.as_slice());
             return Ok(());
         }
-        assert_eq!(rt; ran.status, Status::WriteFault, "{call}");
-        assert!(rt; whole.out.starts_with(&ran.out), "{call}");
-        assert!(rt; ran.err.ends_with(line), "{call}");
-        let trace = &ran.err[..ran.err.len().saturating_sub(line.len())];
-        assert!(rt; whole.err.starts_with(trace), "{call}");
     }
-    Ok(None::<()>.ok_or("a trace without an end")?)
+    Err(Fail::new("a trace without an end"))
 }
 
 #[test]
 fn a_trace_that_cannot_be_written_ends_the_run(rt: HostRuntime) -> Result<(), Fail> {
     let alloc = rt.alloc();
     for most in [7, 65_536] {
-        ends_at_each_write(&rt, alloc, BS, AB, most)?;
-        ends_at_each_write(&rt, alloc, PAIRS, XY, most)?;
-        ends_at_each_write(&rt, alloc, CHEAP, BIB, most)?;
+        ends_at_each_write(&rt, alloc, (BS, AB), most)?;
+        ends_at_each_write(&rt, alloc, (PAIRS, XY), most)?;
+        ends_at_each_write(&rt, alloc, (CHEAP, BIB), most)?;
     }
     Ok(())
 }
 
-/// Each write of a command's text fails once, until it has fewer: `out` has a front of what it takes without faults.
+/// A run of these words, of whose calls this one of `out` fails.
+fn told(
+    rt: &impl Abort,
+    alloc: Global,
+    words: &[&[u8]],
+    most: usize,
+    call: Option<u64>,
+) -> Result<Ran, Fail> {
+    let failing = FailingCalls {
+        out: call,
+        ..NOTHING
+    };
+    run(rt, alloc, words, (BS, AB), most, failing)
+}
+
+/// Whether the text is whole, or a write of it failed: `out` has a front of what it takes without faults.
+fn is_told_so_far(ran: &Ran, whole: &Ran) -> bool {
+    match ran.status {
+        Status::Ok => ran.out.as_slice() == whole.out.as_slice(),
+        Status::WriteFault => whole.out.starts_with(&ran.out) && ran.err.as_slice() == LINE,
+        _ => false,
+    }
+}
+
+/// Whether the text is whole although its write of this number is to fail, as it has fewer.
+fn is_whole_at(
+    rt: &impl Abort,
+    alloc: Global,
+    words: &[&[u8]],
+    most: usize,
+    whole: &Ran,
+    call: u64,
+) -> Result<bool, Fail> {
+    let ran = told(rt, alloc, words, most, Some(call))?;
+    let end = ran.end();
+    assert!(rt; is_told_so_far(&ran, whole), "{words:?} {call} {end:?}");
+    Ok(ran.status == Status::Ok)
+}
+
+/// Each write of a command's text fails once, until it has fewer.
 fn stops_at_each_write(
     rt: &impl Abort,
     alloc: Global,
-    list: &[&[u8]],
+    words: &[&[u8]],
     most: usize,
 ) -> Result<(), Fail> {
-    let whole = run(rt, alloc, list, BS, AB, most, nothing(alloc))?;
+    let whole = told(rt, alloc, words, most, None)?;
     assert_eq!(rt; whole.status, Status::Ok);
     for call in 1..1_000u64 {
-        let mut failing = nothing(alloc);
-        failing.out.push(call)?;
-        let ran = run(rt, alloc, list, BS, AB, most, failing)?;
-        if ran.status == Status::Ok {
-            assert_eq!(rt; ran.out.as_slice(), whole.out.as_slice());
+        if is_whole_at(rt, alloc, words, most, &whole, call)? {
             return Ok(());
         }
-        assert_eq!(rt; ran.status, Status::WriteFault, "{list:?} {call}");
-        assert!(rt; whole.out.starts_with(&ran.out), "{list:?} {call}");
-        assert_eq!(rt; ran.err.as_slice(), b"gcx: write fault\n".as_slice());
     }
-    Ok(None::<()>.ok_or("a text without an end")?)
+    Err(Fail::new("a text without an end"))
 }
 
 #[test]
@@ -481,25 +529,33 @@ fn a_text_that_cannot_be_written_ends_the_command(rt: HostRuntime) -> Result<(),
 
 #[test]
 fn a_run_over_100000_items_prints_its_numbers(rt: HostRuntime) -> Result<(), Fail> {
-    let alloc = rt.alloc();
-    let list: &[&[u8]] = &[b"selfrun", b"5", b"100000"];
-    let ran = run(&rt, alloc, list, b"", b"", 65_536, nothing(alloc))?;
-    assert_eq!(rt; ran.status, Status::Ok);
+    let words: &[&[u8]] = &[b"selfrun", b"5", b"100000"];
+    let ran = run(&rt, rt.alloc(), words, (b"", b""), 65_536, NOTHING)?;
     let line = b"answer 1000007 peak 7 nodes 500002 given 600002 taken 600002\n".as_slice();
-    assert_eq!(rt; ran.out.as_slice(), line);
+    assert_eq!(rt; (ran.status, ran.out.as_slice()), (Status::Ok, line));
+    Ok(())
+}
+
+/// Appends the line that these bytes hold, and nothing where they hold none.
+fn put_again(alloc: Global, text: &mut Vec<u8>, bytes: &[u8]) -> Result<(), Fail> {
+    if let Some(line) = read_line(alloc, bytes)? {
+        put_line(text, &line)?;
+    }
     Ok(())
 }
 
 #[test]
 fn each_line_of_a_trace_is_read(rt: HostRuntime) -> Result<(), Fail> {
-    let alloc = rt.alloc();
-    let mut text = Vec::new(alloc);
+    let mut text = Vec::new(rt.alloc());
     for bytes in TRACE_BS.split(|byte| *byte == b'\n') {
-        if let Some(line) = read_line(alloc, bytes)? {
-            put_line(&mut text, &line)?;
-        }
+        put_again(rt.alloc(), &mut text, bytes)?;
     }
     assert_eq!(rt; text.as_slice(), TRACE_BS);
-    assert!(rt; read_line(alloc, b"+ 2")?.is_none());
+    Ok(())
+}
+
+#[test]
+fn half_a_line_of_a_trace_is_none(rt: HostRuntime) -> Result<(), Fail> {
+    assert!(rt; read_line(rt.alloc(), b"+ 2")?.is_none());
     Ok(())
 }

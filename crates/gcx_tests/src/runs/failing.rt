@@ -1,5 +1,5 @@
 //! Runs in which one call of an object fails.
-use super::{FailingCalls, Ran, nothing, run};
+use super::objects::{End, FailingCalls, NOTHING, Ran, run};
 use gcx_cmd::Status;
 use gcx_model::DocFault;
 use std::alloc::Global;
@@ -51,6 +51,31 @@ impl Case<'_> {
         self.answer
     }
 
+    /// The number of calls of the files before the document is read.
+    fn begun(&self, most: usize) -> usize {
+        reads(self.query.len(), most).saturating_add(2)
+    }
+
+    /// The number of calls of the files in a run without faults.
+    fn calls(&self, most: usize) -> usize {
+        self.begun(most)
+            .saturating_add(reads(self.document.len(), most))
+    }
+
+    /// How the run ends whose call of this number of the files fails, and what is written: nothing before DOC is attached,
+    /// then exactly what is settled.
+    fn at_call(&self, most: usize, number: usize) -> (Status, &[u8]) {
+        let begun = self.begun(most);
+        if number <= begun {
+            (Status::ReadFault, b"".as_slice())
+        } else if number <= self.calls(most) {
+            let read = (number - begun - 1).saturating_mul(most);
+            (Status::ReadFault, self.front(read.min(self.document.len())))
+        } else {
+            (Status::Ok, self.answer)
+        }
+    }
+
     fn run(
         &self,
         rt: &impl Abort,
@@ -58,15 +83,8 @@ impl Case<'_> {
         most: usize,
         failing: FailingCalls,
     ) -> Result<Ran, Fail> {
-        run(
-            rt,
-            alloc,
-            &[b"run", b"q", b"d"],
-            self.query,
-            self.document,
-            most,
-            failing,
-        )
+        let files = (self.query, self.document);
+        run(rt, alloc, &[b"run", b"q", b"d"], files, most, failing)
     }
 }
 
@@ -75,100 +93,124 @@ fn reads(count: usize, most: usize) -> usize {
     count.div_ceil(most.max(1)).saturating_add(1)
 }
 
-/// Each call of the files fails once: nothing is written before DOC is attached, then exactly what is settled.
+/// Each call of the files fails once.
 fn files_fail(rt: &impl Abort, alloc: Global, case: Case<'_>, most: usize) -> Result<(), Fail> {
-    let begun = reads(case.query.len(), most).saturating_add(2);
-    let calls = begun.saturating_add(reads(case.document.len(), most));
-    for number in 1..=calls.saturating_add(1) {
-        let mut failing = nothing(alloc);
-        failing.files.push(number as u64)?;
-        let ran = case.run(rt, alloc, most, failing)?;
-        let (status, written) = if number <= begun {
-            (Status::ReadFault, b"".as_slice())
-        } else if number <= calls {
-            let read = (number - begun - 1).saturating_mul(most);
-            (Status::ReadFault, case.front(read.min(case.document.len())))
-        } else {
-            (Status::Ok, case.answer)
+    for number in 1..=case.calls(most).saturating_add(1) {
+        let failing = FailingCalls {
+            files: Some(number as u64),
+            ..NOTHING
         };
-        assert_eq!(rt; ran.status, status, "call {number}");
-        assert_eq!(rt; ran.out.as_slice(), written, "call {number}");
+        let ran = case.run(rt, alloc, most, failing)?;
+        let left = (ran.status, ran.out.as_slice());
+        assert_eq!(rt; left, case.at_call(most, number), "call {number}");
     }
     Ok(())
+}
+
+/// The run whose write of this number fails.
+fn at_write(
+    rt: &impl Abort,
+    alloc: Global,
+    case: &Case<'_>,
+    most: usize,
+    number: usize,
+) -> Result<Ran, Fail> {
+    let failing = FailingCalls {
+        out: Some(number as u64),
+        ..NOTHING
+    };
+    case.run(rt, alloc, most, failing)
+}
+
+/// The answer is whole, or the bytes before the write of this number, where a call more was taken than before.
+fn is_written_so_far(rt: &impl Abort, case: &Case<'_>, ran: &Ran, number: usize, before: usize) {
+    let written = ran.out.as_slice();
+    assert!(rt; case.answer.starts_with(written), "write {number}");
+    if ran.status == Status::Ok {
+        assert_eq!(rt; written, case.answer, "write {number}");
+    } else {
+        let line = b"gcx: write fault\n".as_slice();
+        assert_eq!(rt;
+            (ran.status, ran.err.as_slice()),
+            (Status::WriteFault, line),
+            "write {number}"
+        );
+        assert!(rt; number == 1 || before < written.len(), "write {number}");
+    }
 }
 
 /// Each write fails once: the bytes before it are written.
 fn writes_fail(rt: &impl Abort, alloc: Global, case: Case<'_>, most: usize) -> Result<(), Fail> {
     let mut before = 0;
     for number in 1..=case.answer.len().saturating_add(1) {
-        let mut failing = nothing(alloc);
-        failing.out.push(number as u64)?;
-        let ran = case.run(rt, alloc, most, failing)?;
-        let written = ran.out.as_slice();
-        assert!(rt; case.answer.starts_with(written), "write {number}");
-        if ran.status == Status::Ok {
-            assert_eq!(rt; written, case.answer, "write {number}");
-        } else {
-            assert_eq!(rt; ran.status, Status::WriteFault, "write {number}");
-            assert_eq!(rt; ran.err.as_slice(), b"gcx: write fault\n".as_slice());
-            // one call more than before was taken
-            assert!(rt; number == 1 || before < written.len(), "write {number}");
-        }
-        before = written.len();
+        let ran = at_write(rt, alloc, &case, most, number)?;
+        is_written_so_far(rt, &case, &ran, number, before);
+        before = ran.out.len();
+    }
+    Ok(())
+}
+
+/// The cases, and the most bytes that a call moves.
+const RUNS: &[(Case<'static>, usize)] = &[(LOOP, 1), (LOOP, 7), (JOIN, 7), (BOOKS, 7)];
+
+#[test]
+fn each_call_of_the_files_fails_once(rt: HostRuntime) -> Result<(), Fail> {
+    for &(case, most) in RUNS {
+        files_fail(&rt, rt.alloc(), case, most)?;
     }
     Ok(())
 }
 
 #[test]
-fn each_call_of_the_files_fails_once(rt: HostRuntime) -> Result<(), Fail> {
-    let alloc = rt.alloc();
-    files_fail(&rt, alloc, LOOP, 1)?;
-    files_fail(&rt, alloc, LOOP, 7)?;
-    files_fail(&rt, alloc, JOIN, 7)?;
-    files_fail(&rt, alloc, BOOKS, 7)
-}
-
-#[test]
 fn each_write_fails_once(rt: HostRuntime) -> Result<(), Fail> {
-    let alloc = rt.alloc();
-    writes_fail(&rt, alloc, LOOP, 1)?;
-    writes_fail(&rt, alloc, LOOP, 7)?;
-    writes_fail(&rt, alloc, JOIN, 7)?;
-    writes_fail(&rt, alloc, BOOKS, 7)
+    for &(case, most) in RUNS {
+        writes_fail(&rt, rt.alloc(), case, most)?;
+    }
+    Ok(())
 }
 
 #[test]
 fn a_read_fault_behind_a_tag_writes_what_the_tag_settles(rt: HostRuntime) -> Result<(), Fail> {
-    let alloc = rt.alloc();
     let query = b"for $x in //a return for $y in $x//b return <h/>".as_slice();
     let document = b"<a><a><b/>".as_slice();
-    let mut failing = nothing(alloc);
     // an attach and two reads of the query, an attach and one read of the document
-    failing.files.push(6)?;
-    let list: &[&[u8]] = &[b"run", b"q", b"d"];
-    let ran = run(&rt, alloc, list, query, document, 65_536, failing)?;
-    assert_eq!(rt; ran.status, Status::ReadFault);
-    assert_eq!(rt; ran.out.as_slice(), b"<h></h>".as_slice());
+    let failing = FailingCalls {
+        files: Some(6),
+        ..NOTHING
+    };
+    let words: &[&[u8]] = &[b"run", b"q", b"d"];
+    let ran = run(&rt, rt.alloc(), words, (query, document), 65_536, failing)?;
+    let written = b"<h></h>".as_slice();
+    assert_eq!(rt;
+        (ran.status, ran.out.as_slice()),
+        (Status::ReadFault, written)
+    );
+    Ok(())
+}
+
+/// A document is refused, and of the line that says so these bytes are written, where the write of this number fails.
+fn line_is_cut(rt: &impl Abort, alloc: Global, number: u64, line: &[u8]) -> Result<(), Fail> {
+    let failing = FailingCalls {
+        err: Some(number),
+        ..NOTHING
+    };
+    let words: &[&[u8]] = &[b"run", b"q", b"d"];
+    let ran = run(rt, alloc, words, (LOOP.query, b"<a><b></a>"), 1, failing)?;
+    let end = End {
+        status: Status::DocumentRefused(DocFault::Syntax(8)),
+        out: b"<r><b>",
+        err: line,
+    };
+    assert_eq!(rt; ran.end(), end, "write {number}");
     Ok(())
 }
 
 #[test]
 fn each_write_of_the_line_fails_once(rt: HostRuntime) -> Result<(), Fail> {
-    let alloc = rt.alloc();
     let line = b"gcx: document Syntax 8\n".as_slice();
-    let status = Status::DocumentRefused(DocFault::Syntax(8));
-    let crossed = Case {
-        document: b"<a><b></a>",
-        ..LOOP
-    };
     // 23 writes of one byte
     for number in 1..=24usize {
-        let mut failing = nothing(alloc);
-        failing.err.push(number as u64)?;
-        let ran = crossed.run(&rt, alloc, 1, failing)?;
-        assert_eq!(rt; ran.status, status, "write {number}");
-        assert_eq!(rt; ran.err.as_slice(), &line[..number - 1]);
-        assert_eq!(rt; ran.out.as_slice(), b"<r><b>".as_slice());
+        line_is_cut(&rt, rt.alloc(), number as u64, &line[..number - 1])?;
     }
     Ok(())
 }

@@ -28,7 +28,7 @@ fn is_past(
     line: &[u8],
 ) -> Result<(), Fail> {
     let status = Status::QueryRefused(QueryFault::TooLarge(what, limit));
-    is_refused(rt, alloc, query, b"<x/>", status, line)
+    is_refused(rt, alloc, (query, b"<x/>"), status, line)
 }
 
 #[test]
@@ -100,46 +100,39 @@ fn a_role_has_at_most_6_descendant_steps(rt: HostRuntime) -> Result<(), Fail> {
 }
 
 #[test]
-fn the_first_limit_in_order_is_told(rt: HostRuntime) -> Result<(), Fail> {
+fn too_many_loops_are_told_before_steps(rt: HostRuntime) -> Result<(), Fail> {
     let alloc = rt.alloc();
-    let many_loops = repeated(alloc, b"/a", 501)?;
-    let many_steps = looking_far(alloc, 8_001)?;
-    let many_bytes = copied(alloc, 9)?;
-    let many_roles = listed(alloc, LOOKING, 2_000)?;
-    let loops = joined(alloc, &[&many_steps, b", ", &many_loops])?;
-    is_past(
-        &rt,
-        alloc,
-        &loops,
-        What::Loops,
-        500,
-        b"gcx: query TooLarge Loops 500\n",
-    )?;
-    let steps = joined(alloc, &[&many_bytes, b", ", &many_steps])?;
-    is_past(
-        &rt,
-        alloc,
-        &steps,
-        What::Steps,
-        8_000,
-        b"gcx: query TooLarge Steps 8000\n",
-    )?;
-    let bytes = joined(alloc, &[SEVEN, b", ", &many_bytes])?;
-    is_past(
-        &rt,
-        alloc,
-        &bytes,
-        What::Conditions,
-        8_388_608,
-        b"gcx: query TooLarge Conditions 8388608\n",
-    )?;
-    let roles = joined(alloc, &[SEVEN, b", ", &many_roles])?;
-    is_past(
-        &rt,
-        alloc,
-        &roles,
-        What::Roles,
-        2_000,
-        b"gcx: query TooLarge Roles 2000\n",
-    )
+    let loops = repeated(alloc, b"/a", 501)?;
+    let steps = looking_far(alloc, 8_001)?;
+    let query = joined(alloc, &[&steps, b", ", &loops])?;
+    let line = b"gcx: query TooLarge Loops 500\n";
+    is_past(&rt, alloc, &query, What::Loops, 500, line)
+}
+
+#[test]
+fn too_many_steps_are_told_before_bytes(rt: HostRuntime) -> Result<(), Fail> {
+    let alloc = rt.alloc();
+    let steps = looking_far(alloc, 8_001)?;
+    let bytes = copied(alloc, 9)?;
+    let query = joined(alloc, &[&bytes, b", ", &steps])?;
+    let line = b"gcx: query TooLarge Steps 8000\n";
+    is_past(&rt, alloc, &query, What::Steps, 8_000, line)
+}
+
+#[test]
+fn too_many_bytes_are_told_before_descendants(rt: HostRuntime) -> Result<(), Fail> {
+    let alloc = rt.alloc();
+    let bytes = copied(alloc, 9)?;
+    let query = joined(alloc, &[SEVEN, b", ", &bytes])?;
+    let line = b"gcx: query TooLarge Conditions 8388608\n";
+    is_past(&rt, alloc, &query, What::Conditions, 8_388_608, line)
+}
+
+#[test]
+fn too_many_roles_are_told_before_descendants(rt: HostRuntime) -> Result<(), Fail> {
+    let alloc = rt.alloc();
+    let roles = listed(alloc, LOOKING, 2_000)?;
+    let query = joined(alloc, &[SEVEN, b", ", &roles])?;
+    let line = b"gcx: query TooLarge Roles 2000\n";
+    is_past(&rt, alloc, &query, What::Roles, 2_000, line)
 }

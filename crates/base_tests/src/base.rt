@@ -1,0 +1,192 @@
+//! Names, texts, steps, kinds and classes of characters.
+use gcx_base::{
+    Axis, Kind, Limits, Name, Step, Steps, Test, Text, is_name_char, is_name_start, is_space,
+    is_xml_char,
+};
+use std::alloc::Global;
+use std::process::Abort;
+use std::test::Fail;
+
+/// Compares the bytes of the name, as it is, copied, as a `str` and made of its own bytes.
+fn assert_named(rt: &impl Abort, alloc: Global, name: &Name, bytes: &[u8]) -> Result<(), Fail> {
+    let copied = name.copy(alloc)?;
+    let again = Name::of_name(alloc, name.as_bytes())?;
+    assert_eq!(rt;
+        [
+            name.as_bytes(),
+            copied.as_bytes(),
+            name.as_str().as_bytes(),
+            again.as_bytes()
+        ],
+        [bytes; 4]
+    );
+    Ok(())
+}
+
+/// Compares whether the bytes are a name, and what a name of them holds.
+fn assert_name(rt: &impl Abort, alloc: Global, bytes: &[u8], named: bool) -> Result<(), Fail> {
+    let name = Name::from_bytes(alloc, bytes)?;
+    assert_eq!(rt; name.is_some(), named, "{bytes:?}");
+    match name {
+        Some(name) => assert_named(rt, alloc, &name, bytes),
+        None => Ok(()),
+    }
+}
+
+#[test]
+fn names_are_of_xml(rt: HostRuntime) -> Result<(), Fail> {
+    let table: [(&[u8], bool); 14] = [
+        (b"a", true),
+        (b"sixteen_letters_", true),
+        (b"seventeen_letters", true),
+        (b"_", true),
+        (b"Z9-._", true),
+        (b"", false),
+        (b"9a", false),
+        (b"-a", false),
+        (b"a b", false),
+        (b"a:b", true),
+        (b":", true),
+        (b"\xC3\xA9\xCC\x81", true),
+        (b"\xC3\x97", false),
+        (b"a\xC3", false),
+    ];
+    for (bytes, named) in table {
+        assert_name(&rt, rt.alloc(), bytes, named)?;
+    }
+    Ok(())
+}
+
+#[test]
+fn a_name_may_be_long(rt: HostRuntime) -> Result<(), Fail> {
+    let alloc = rt.alloc();
+    let long = vec![in alloc; b'a'; 1025]?;
+    assert_name(&rt, alloc, &long, true)
+}
+
+/// Compares the bytes of the text, copied, as a `str` and taken from a string, which is empty then.
+fn assert_spelled(rt: &impl Abort, alloc: Global, text: &Text, bytes: &[u8]) -> Result<(), Fail> {
+    let copied = text.copy(alloc)?;
+    let mut string = String::from_str(alloc, text.as_str())?;
+    let taken = Text::take_from(alloc, &mut string);
+    assert_eq!(rt;
+        [
+            copied.as_bytes(),
+            text.as_str().as_bytes(),
+            taken.as_bytes()
+        ],
+        [bytes; 3]
+    );
+    assert_eq!(rt; string.as_str(), "");
+    Ok(())
+}
+
+/// Compares whether the bytes are a text, and what a text of them holds.
+fn assert_text(rt: &impl Abort, alloc: Global, bytes: &[u8], utf8: bool) -> Result<(), Fail> {
+    let text = Text::from_bytes(alloc, bytes)?;
+    assert_eq!(rt; text.is_some(), utf8, "{bytes:?}");
+    match text {
+        Some(text) => assert_spelled(rt, alloc, &text, bytes),
+        None => Ok(()),
+    }
+}
+
+#[test]
+fn texts_are_utf8(rt: HostRuntime) -> Result<(), Fail> {
+    let table: [(&[u8], bool); 10] = [
+        (b"", true),
+        (b"1 > 0", true),
+        (b"16 bytes of text", true),
+        (b"17 bytes of words", true),
+        (b"\xC3\xA9", true),
+        (b"\xF0\x9F\x98\x80", true),
+        (b"\xFF", false),
+        (b"\xC3", false),
+        (b"\xC0\x80", false),
+        (b"\xED\xA0\x80", false),
+    ];
+    for (bytes, utf8) in table {
+        assert_text(&rt, rt.alloc(), bytes, utf8)?;
+    }
+    Ok(())
+}
+
+fn name(alloc: Global, bytes: &[u8]) -> Result<Name, Fail> {
+    Ok(Name::from_bytes(alloc, bytes)?.ok_or("not a name")?)
+}
+
+/// A step of each test.
+fn four_steps(alloc: Global) -> Result<Steps, Fail> {
+    let mut steps = Steps::new(alloc);
+    let named = Test::Named(name(alloc, b"a")?);
+    for test in [named, Test::AnyElement, Test::AnyText, Test::AnyNode] {
+        steps.push(Step {
+            axis: Axis::Child,
+            test,
+        })?;
+    }
+    Ok(steps)
+}
+
+#[test]
+fn steps_keep_their_order(rt: HostRuntime) -> Result<(), Fail> {
+    let alloc = rt.alloc();
+    let steps = four_steps(alloc)?;
+    let copied = steps.copy(alloc)?;
+    let printed = format!(in alloc; "{:?}", copied.items())?;
+    assert_eq!(rt; printed, format!(in alloc; "{:?}", steps.items())?);
+    assert_eq!(rt; copied.items().len(), 4);
+    Ok(())
+}
+
+#[test]
+fn kinds_are_copied(rt: HostRuntime) -> Result<(), Fail> {
+    let alloc = rt.alloc();
+    let element = Kind::Element(name(alloc, b"b")?);
+    assert!(rt; matches!(element.copy(alloc)?, Kind::Element(_)));
+    assert!(rt; matches!(Kind::Document.copy(alloc)?, Kind::Document));
+    Ok(())
+}
+
+#[test]
+fn documents_may_be_a_thousand_deep(rt: HostRuntime) {
+    assert_eq!(rt; Limits::full().depth, 1000);
+}
+
+#[test]
+fn characters_have_their_classes(rt: HostRuntime) {
+    // Char, NameStartChar, NameChar, S
+    let table = [
+        ('\0', false, false, false, false),
+        ('\t', true, false, false, true),
+        ('\u{B}', false, false, false, false),
+        (' ', true, false, false, true),
+        ('-', true, false, true, false),
+        ('7', true, false, true, false),
+        (':', true, true, true, false),
+        ('_', true, true, true, false),
+        ('{', true, false, false, false),
+        ('\u{B7}', true, false, true, false),
+        ('\u{D7}', true, false, false, false),
+        ('\u{E9}', true, true, true, false),
+        ('\u{37E}', true, false, false, false),
+        ('\u{203F}', true, false, true, false),
+        ('\u{3000}', true, false, false, false),
+        ('\u{FFFD}', true, true, true, false),
+        ('\u{FFFE}', false, false, false, false),
+        ('\u{10000}', true, true, true, false),
+        ('\u{F0000}', true, false, false, false),
+    ];
+    for (c, char, start, part, space) in table {
+        let classes = (
+            is_xml_char(c),
+            is_name_start(c),
+            is_name_char(c),
+            is_space(c),
+        );
+        assert!(rt;
+            classes.0 == char && classes.1 == start && classes.2 == part && classes.3 == space,
+            "{c:?}"
+        );
+    }
+}

@@ -1,0 +1,5 @@
+use Rattle.buf_tree.proofs.Reading.{root_innermost}
+use Rattle.buffer_tests.proofs.document_node.open_below.Goals as goal
+
+pub open_node-requires-clause-parent : goal.open_node-requires-clause-parent
+open_node-requires-clause-parent c = root_innermost _ _ _ c.requires.1 c.in-Some.ensures

@@ -1,0 +1,342 @@
+//! The roles that a matcher gives, by itself: plans, documents and statements in words.
+ghost use Rattle.std.specs.Prelude.{IfOk};
+ghost use Rattle.matcher.specs.Matcher.{IsNode};
+
+use crate::large::{joined, repeated};
+use gcx_base::{Axis, Kind, Name, Role, Step, Steps, Test, Text, VarId};
+use gcx_model::{
+    Body, Flags, Given, Off, Plan, RoleKind, RoleRow, RoleRows, VarIds, VarRow, VarRows,
+};
+use matcher::Matcher;
+use std::alloc::Global;
+use std::fmt::Write;
+use std::process::Abort;
+use std::test::Fail;
+
+fn name(alloc: Global, letter: u8) -> Result<Name, Fail> {
+    Ok(Name::from_bytes(alloc, &[letter])?.ok_or("not a name")?)
+}
+
+/// `t` is a text, `n` any node, `e` any element, another letter an element of that name.
+fn test(alloc: Global, letter: u8) -> Result<Test, Fail> {
+    Ok(match letter {
+        b't' => Test::AnyText,
+        b'n' => Test::AnyNode,
+        b'e' => Test::AnyElement,
+        _ => Test::Named(name(alloc, letter)?),
+    })
+}
+
+/// A letter is a child step, one behind `/` a descendant step.
+fn steps(alloc: Global, path: &[u8]) -> Result<Steps, Fail> {
+    let mut steps = Steps::new(alloc);
+    let mut axis = Axis::Child;
+    for letter in path {
+        if *letter == b'/' {
+            axis = Axis::Descendant;
+        } else {
+            let test = test(alloc, *letter)?;
+            steps.push(Step { axis, test })?;
+            axis = Axis::Child;
+        }
+    }
+    Ok(steps)
+}
+
+fn number(letter: u8) -> u32 {
+    u32::from(letter.wrapping_sub(b'0'))
+}
+
+fn kind_of(letter: u8) -> RoleKind {
+    match letter {
+        b'o' => RoleKind::Own,
+        b'f' => RoleKind::First,
+        _ => RoleKind::Whole,
+    }
+}
+
+/// The first of these steps.
+fn first_step(alloc: Global, path: &[u8]) -> Result<Step, Fail> {
+    let steps = steps(alloc, path)?;
+    Ok(steps.items().first().ok_or("no step")?.copy(alloc)?)
+}
+
+/// `0/a` is a variable by a descendant step `a` from variable 0.
+fn var_row(alloc: Global, word: &[u8]) -> Result<VarRow, Fail> {
+    let (letter, path) = word.split_first().ok_or("no variable")?;
+    let step = first_step(alloc, path)?;
+    let parent = VarId(number(*letter));
+    Ok(VarRow { parent, step })
+}
+
+fn var_rows(alloc: Global, words: &str) -> Result<VarRows, Fail> {
+    let mut rows = VarRows::new(alloc);
+    for word in words.split_ascii_whitespace() {
+        rows.push(var_row(alloc, word.as_bytes())?)?;
+    }
+    Ok(rows)
+}
+
+/// `f1/b` is a first match of a descendant step `b` at variable 1.
+fn role_row(alloc: Global, word: &[u8]) -> Result<RoleRow, Fail> {
+    let [kind, var, path @ ..] = word else {
+        return Err("no kind or no variable")?;
+    };
+    let tail = steps(alloc, path)?;
+    Ok(RoleRow {
+        kind: kind_of(*kind),
+        var: VarId(number(*var)),
+        tail,
+    })
+}
+
+fn role_rows(alloc: Global, words: &str) -> Result<RoleRows, Fail> {
+    let mut rows = RoleRows::new(alloc);
+    for word in words.split_ascii_whitespace() {
+        rows.push(role_row(alloc, word.as_bytes())?)?;
+    }
+    Ok(rows)
+}
+
+/// Variables and roles in words.
+fn plan(alloc: Global, vars: &str, roles: &str) -> Result<Plan, Fail> {
+    let vars = var_rows(alloc, vars)?;
+    let roles = role_rows(alloc, roles)?;
+    Ok(Plan {
+        body: Body::new(alloc),
+        vars,
+        straight: Flags::new(alloc),
+        fsa: VarIds::new(alloc),
+        roles,
+    })
+}
+
+fn put(out: &mut String, given: &Given) -> Result<(), Fail> {
+    for role in given.items() {
+        write!(out, "{}", role.0)?;
+    }
+    out.push(' ')?;
+    Ok(())
+}
+
+/// The statement of the role, with these steps from its base to its variable.
+fn off(alloc: Global, role: u8, rel: &[u8]) -> Result<Off, Fail> {
+    let rel = steps(alloc, rel)?;
+    Ok(Off {
+        base: VarId(0),
+        own: Role(0),
+        role: Role(number(role)),
+        rel,
+        tail: Steps::new(alloc),
+        kind: RoleKind::Whole,
+    })
+}
+
+/// Enters a node, and puts its roles.
+fn enter(alloc: Global, out: &mut String, matcher: &mut Matcher, kind: &Kind) -> Result<(), Fail>
+    requires { IsNode kind.now }
+{
+    let given = matcher.enter(alloc, kind)?;
+    put(out, &given)
+}
+
+fn text(alloc: Global) -> Result<Kind, Fail>
+    ensures { IfOk result (λ kind. IsNode kind) }
+{
+    Ok(Kind::Text(Text::from_bytes(alloc, b"x")?.ok_or("not a text")?))
+}
+
+/// `.` is a text, another letter an element.
+fn node(alloc: Global, letter: u8) -> Result<Kind, Fail>
+    ensures { IfOk result (λ kind. IsNode kind) }
+{
+    match letter {
+        b'.' => text(alloc),
+        _ => Ok(Kind::Element(name(alloc, letter)?)),
+    }
+}
+
+/// Puts the roles that are taken back.
+fn put_ahead(alloc: Global, out: &mut String, matcher: &Matcher) -> Result<(), Fail> {
+    out.push('?')?;
+    put(out, &matcher.ahead(alloc)?)
+}
+
+fn step_on(alloc: Global, out: &mut String, matcher: &mut Matcher, letter: u8) -> Result<(), Fail> {
+    match letter {
+        b')' => {
+            matcher.leave();
+            Ok(())
+        }
+        b'?' => put_ahead(alloc, out, matcher),
+        _ => enter(alloc, out, matcher, &node(alloc, letter)?),
+    }
+}
+
+/// Does what a document begins with; what is left of it.
+fn follow<'a>(
+    alloc: Global,
+    out: &mut String,
+    matcher: &mut Matcher,
+    rel: &[u8],
+    document: &'a [u8],
+) -> Result<&'a [u8], Fail> {
+    match document {
+        [b'!', role, level, rest @ ..] => {
+            let off = off(alloc, *role, rel)?;
+            matcher.sign(number(*level), &off)?;
+            Ok(rest)
+        }
+        [letter, rest @ ..] => {
+            step_on(alloc, out, matcher, *letter)?;
+            Ok(rest)
+        }
+        [] => Ok(document),
+    }
+}
+
+/// What the matcher answers: `.` is a text, `)` the end of the innermost node, `!rl` signs role r's statement at
+/// level l, `?` asks what is taken back, another letter is the start of an element.
+fn answers(alloc: Global, plan: &Plan, rel: &[u8], document: &[u8]) -> Result<String, Fail> {
+    let mut matcher = Matcher::new(alloc, plan)?;
+    let mut out = String::new(alloc);
+    put(&mut out, &matcher.document(alloc)?)?;
+    let mut rest = document;
+    for _ in 0..document.len() {
+        rest = follow(alloc, &mut out, &mut matcher, rel, rest)?;
+    }
+    Ok(out)
+}
+
+/// The same by variables and roles in words.
+fn answers_by(
+    alloc: Global,
+    vars: &str,
+    roles: &str,
+    rel: &[u8],
+    document: &[u8],
+) -> Result<String, Fail> {
+    let plan = plan(alloc, vars, roles)?;
+    answers(alloc, &plan, rel, document)
+}
+
+/// Variables, roles, the steps of a statement that is signed, a document, and the roles given.
+type Case = (
+    &'static str,
+    &'static str,
+    &'static str,
+    &'static str,
+    &'static str,
+);
+
+const CASES: &[Case] = &[
+    // child steps
+    ("0r 1a", "o0 o1 o2", "", "raa))b)a.)", "0 1 2   2  "),
+    // nested matches of a descendant step
+    ("0/a", "o0 o1", "", "abaa)c.)a", "0 1  1 1   1 "),
+    // a descendant step behind another, and behind a child step
+    ("0/a 1/b 1c", "o0 o1 o2 o3", "", "abcb)ac", "0 1 2  2 1 3 "),
+    // whole subtrees, texts among them
+    (
+        "0r 1a",
+        "o0 o1 o2 w2",
+        "",
+        "ra.)b.))b.))",
+        "0 1 23 3 3 3 3 3 ",
+    ),
+    // whole in whole
+    (
+        "0/a",
+        "o0 o1 w1 w1b w1/t",
+        "",
+        "abb.)a",
+        "0 12 23 23 234 123 ",
+    ),
+    // the first match of a child step, one for each context
+    ("0/a", "o0 o1 f1b", "", "aabb))b))b", "0 1 1 2   2 "),
+    // one node for several contexts, and none behind it
+    ("0/a", "o0 o1 f1/b", "", "aacb)b))ab)b", "0 1 1  2  1 2  "),
+    // a tail with a descendant step that isn't its last
+    ("0/a", "o0 o1 f1/bc", "", "aabbc)c)c)c", "0 1 1   2    "),
+    (
+        "0/a",
+        "o0 o1 f1b/c",
+        "",
+        "abac)bc)c)))bc",
+        "0 1  1 2  2    ",
+    ),
+    // a first match at the document node, an empty tail, a text
+    ("0r", "o0 o1 f0/n f1 f1t", "", "r.a.", "0 123 4   "),
+    // any element, any node
+    ("0e 1n", "o0 o1 o2", "", "r.)a.)).", "0 1 2 2  2 "),
+    // below a level with nothing to come
+    ("0r", "o0 o1 w0a", "", "abc.)))", "0 2 2 2 2 "),
+    // taken back at one of two bases, then at both
+    (
+        "0/a",
+        "o0 o1 w1b",
+        "",
+        "a!21b?)ab?)!22b?)c?",
+        "0 1 2 ?2 1 2 ? 2 ?2  ? ",
+    ),
+    // the step of a base from further above
+    (
+        "0/a 1/b",
+        "o0 o1 o2 w2",
+        "/b",
+        "aac!31b?!32?)))b?c?",
+        "0 1 1  23 ? ?3 23 ?3 3 ?3 ",
+    ),
+    // what is signed goes with its node
+    (
+        "0/a",
+        "o0 o1 w1b f1/c",
+        "",
+        "a!21!31b?)c?))ab?",
+        "0 1 2 ?2 3 ?3 1 2 ? ",
+    ),
+    // the innermost node once more, after others inside it
+    (
+        "0r",
+        "o0 o1 w0 f1a",
+        "",
+        "r!31a?b?)c?)?",
+        "02 12 23 ?3 2 ? 2 ? ?3 ",
+    ),
+];
+
+fn is_answered(rt: &impl Abort, alloc: Global, case: Case) -> Result<(), Fail> {
+    let (vars, roles, rel, document, want) = case;
+    let got = answers_by(alloc, vars, roles, rel.as_bytes(), document.as_bytes())?;
+    assert_eq!(rt; got.as_str(), want, "{vars} | {roles} | {document}");
+    Ok(())
+}
+
+#[test]
+fn roles_are_those_of_the_definitions(rt: HostRuntime) -> Result<(), Fail> {
+    for case in CASES {
+        is_answered(&rt, rt.alloc(), *case)?;
+    }
+    Ok(())
+}
+
+/// Many elements inside one another, a `b`, and one more behind the ends of all but one of them. A statement is signed
+/// at one of them, and then at the only one left.
+fn many_levels(alloc: Global) -> Result<Vec<u8>, Fail> {
+    let begun = repeated(alloc, b"a", 999)?;
+    let ended = repeated(alloc, b")", 999)?;
+    joined(alloc, &[&begun, b"!37b?.))b", &ended, b"!31b?"])
+}
+
+/// The first match of `//b` at each of many elements inside one another, and a statement signed at one of them, and
+/// then at the only one left.
+#[test]
+fn a_thousand_levels(rt: HostRuntime) -> Result<(), Fail> {
+    let alloc = rt.alloc();
+    let document = many_levels(alloc)?;
+    let ones = repeated(alloc, b"1 ", 999)?;
+    let want = joined(alloc, &[b"0 ", &ones, b"23 ? 3 3 3 ?3 "])?;
+    let got = answers_by(alloc, "0/a", "o0 o1 f1/b w1/b", b"", &document)?;
+    assert_eq!(rt; got.as_str().as_bytes(), want.as_slice());
+    Ok(())
+}

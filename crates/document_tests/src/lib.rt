@@ -1,0 +1,13 @@
+//! Tests of what reads and writes documents: characters, whole and cut documents, values, tags, and lines of a trace.
+#![tactic(auto)]
+
+#[cfg(test)]
+mod characters;
+#[cfg(test)]
+mod documents;
+#[cfg(test)]
+mod tags;
+#[cfg(test)]
+mod trace_lines;
+#[cfg(test)]
+mod values;

@@ -1,6 +1,0 @@
-use Rattle.std.proofs.Common.{length}
-use Rattle.doc_reader.specs.Standing.{waiting}
-use Rattle.gcx_tests.proofs.answers.tree.Given as goal
-
-abbrev pub decreases-loop-token : goal.decreases-loop-token
-decreases-loop-token l = length (waiting l.reader)

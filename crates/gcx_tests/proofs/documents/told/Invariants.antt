@@ -1,5 +1,0 @@
-use Rattle.doc_reader.specs.Standing.{IsOpen}
-use Rattle.gcx_tests.proofs.documents.told.Given as goal
-
-abbrev pub invariant-loop-piece : goal.invariant-loop-piece
-invariant-loop-piece l = IsOpen l.reader
