@@ -5,6 +5,7 @@ ghost use Rattle.gcx_model.specs.Values.{compare, Bytes, Units};
 use gcx_base::Rel;
 use std::alloc::{AllocError, Global};
 use std::cmp::Ordering;
+use std::process::Abort;
 use std::test::Fail;
 use xq_values::{NumText, compare_text, holds};
 
@@ -78,9 +79,23 @@ fn reads_nothing_else(rt: HostRuntime) {
     }
 }
 
+/// A value, the relation, the units of a literal, and whether the value is so related to it.
+type Comparison<'a> = (&'a str, Rel, i128, bool);
+
+/// Each comparison has the truth that it names.
+fn are_compared(rt: &impl Abort, rows: &[Comparison<'_>]) {
+    for &(value, rel, units, want) in rows {
+        assert_eq!(rt;
+            number_holds(value.as_bytes(), rel, units),
+            want,
+            "{value} {rel:?}"
+        );
+    }
+}
+
 #[test]
 fn compares_values_with_literals(rt: HostRuntime) {
-    let rows: &[(&str, Rel, i128, bool)] = &[
+    let rows: &[Comparison<'_>] = &[
         ("2.5", Rel::Ge, 5 * ONE / 2, true),
         ("2.49999999999999999999", Rel::Ge, 5 * ONE / 2, false),
         ("+3.", Rel::Ge, 5 * ONE / 2, true),
@@ -102,6 +117,13 @@ fn compares_values_with_literals(rt: HostRuntime) {
         ("-0.00000000000000000000000001", Rel::Lt, 0, true),
         ("0.00000000000000000000000001", Rel::Gt, 0, true),
         ("-1", Rel::Ge, 1, false),
+    ];
+    are_compared(&rt, rows);
+}
+
+#[test]
+fn compares_wide_values_with_literals(rt: HostRuntime) {
+    let rows: &[Comparison<'_>] = &[
         (
             "18446744073709551616",
             Rel::Gt,
@@ -139,13 +161,7 @@ fn compares_values_with_literals(rt: HostRuntime) {
             false,
         ),
     ];
-    for &(value, rel, units, want) in rows {
-        assert_eq!(rt;
-            number_holds(value.as_bytes(), rel, units),
-            want,
-            "{value} {rel:?}"
-        );
-    }
+    are_compared(&rt, rows);
 }
 
 #[test]

@@ -1,11 +1,11 @@
 //! Copies of a query, its core and its plan, which have parts of every kind.
+use crate::cores::core;
 use gcx_model::{Core, Plan, Query, QueryFault};
 use signoff_place::compile;
 use std::alloc::Global;
 use std::fmt::Debug;
 use std::process::Abort;
 use std::test::Fail;
-use xq_normal::normalise;
 use xq_parse::parse;
 
 const QUERY: &[u8] =
@@ -48,10 +48,6 @@ fn queries_are_copied(rt: HostRuntime) -> Result<(), Fail> {
     query_is_copied(&rt, rt.alloc(), &query)
 }
 
-fn core(alloc: Global) -> Result<Core, QueryFault> {
-    normalise(alloc, &parse(alloc, QUERY)?)
-}
-
 fn core_is_copied(rt: &impl Abort, alloc: Global, core: &Core) -> Result<(), Fail> {
     let copy = core.copy(alloc)?;
     let words = &["Write", "Copy", "For", "If", "Exists", "Compare"];
@@ -60,7 +56,7 @@ fn core_is_copied(rt: &impl Abort, alloc: Global, core: &Core) -> Result<(), Fai
 
 #[test]
 fn cores_are_copied(rt: HostRuntime) -> Result<(), Fail> {
-    let core = core(rt.alloc())?;
+    let core = core(rt.alloc(), QUERY)?;
     core_is_copied(&rt, rt.alloc(), &core)
 }
 

@@ -8,6 +8,8 @@ mod command_lines;
 #[cfg(test)]
 mod copies;
 #[cfg(test)]
+mod cores;
+#[cfg(test)]
 mod literals;
 #[cfg(test)]
 mod plans;

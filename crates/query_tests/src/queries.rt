@@ -44,6 +44,26 @@ fn are_printed(rt: &impl Abort, alloc: Global, rows: &[(&str, &str)]) -> Result<
     Ok(())
 }
 
+/// A query with this condition.
+fn chosen(alloc: Global, condition: &str) -> Result<String, Fail> {
+    Ok(format!(in alloc; "if ({condition}) then () else ()")?)
+}
+
+/// Queries with these conditions are printed so, and what was printed is printed so again.
+fn are_printed_as_conditions(
+    rt: &impl Abort,
+    alloc: Global,
+    rows: &[(&str, &str)],
+) -> Result<(), Fail> {
+    for &(condition, printed) in rows {
+        let query = chosen(alloc, condition)?;
+        let printed = chosen(alloc, printed)?;
+        is_printed(rt, alloc, query.as_str(), printed.as_str())?;
+        is_printed(rt, alloc, printed.as_str(), printed.as_str())?;
+    }
+    Ok(())
+}
+
 /// These queries are refused with these faults.
 fn are_refused(rt: &impl Abort, alloc: Global, rows: &[(&str, QueryFault)]) {
     for &(query, wanted) in rows {
@@ -130,6 +150,13 @@ fn expressions_are_printed(rt: HostRuntime) -> Result<(), Fail> {
         ("<for><if/></for>", "<for>{<if></if>}</for>"),
         ("<text>{()}</text>", "<text>{()}</text>"),
         ("<a:b/>, <\u{E9}/>", "<a:b></a:b>, <\u{E9}></\u{E9}>"),
+    ];
+    are_printed(&rt, rt.alloc(), rows)
+}
+
+#[test]
+fn loops_are_printed(rt: HostRuntime) -> Result<(), Fail> {
+    let rows: &[(&str, &str)] = &[
         ("for $x in /a return $x", "for $x in /a return $x"),
         ("for$x in/a return$x", "for $x in /a return $x"),
         (
@@ -162,6 +189,13 @@ fn expressions_are_printed(rt: HostRuntime) -> Result<(), Fail> {
             "for $x in /a where exists($x) return <h/>",
             "for $x in /a where exists($x) return <h></h>",
         ),
+    ];
+    are_printed(&rt, rt.alloc(), rows)
+}
+
+#[test]
+fn branches_are_printed(rt: HostRuntime) -> Result<(), Fail> {
+    let rows: &[(&str, &str)] = &[
         ("if (true()) then /a else /b", "if (true()) then /a else /b"),
         ("if(true())then()else()", "if (true()) then () else ()"),
         (
@@ -181,200 +215,102 @@ fn expressions_are_printed(rt: HostRuntime) -> Result<(), Fail> {
 }
 
 #[test]
-fn conditions_are_printed(rt: HostRuntime) -> Result<(), Fail> {
+fn comparisons_are_printed(rt: HostRuntime) -> Result<(), Fail> {
     let rows: &[(&str, &str)] = &[
+        ("exists(/a//b/c)", "exists(/a//b/c)"),
+        ("//a/b = /c//d/e", "//a/b = /c//d/e"),
+        ("/a=1", "/a = 1"),
+        ("/a!=1", "/a != 1"),
+        ("/a<1", "/a < 1"),
+        ("/a<=/b", "/a <= /b"),
+        ("/a>/b", "/a > /b"),
+        ("/a>=1", "/a >= 1"),
+        ("/a < /b", "/a < /b"),
+        ("1 < /a", "1 < /a"),
+        ("'x' != /a", "\"x\" != /a"),
+        ("/true = /not/and", "/true = /not/and"),
+    ];
+    are_printed_as_conditions(&rt, rt.alloc(), rows)
+}
+
+#[test]
+fn connectives_are_printed(rt: HostRuntime) -> Result<(), Fail> {
+    let rows: &[(&str, &str)] = &[
+        ("(true())", "true()"),
+        ("((/a = 1))", "/a = 1"),
+        ("not(true())", "not(true())"),
+        ("not((not(true())))", "not(not(true()))"),
         (
-            "if (exists(/a//b/c)) then () else ()",
-            "if (exists(/a//b/c)) then () else ()",
+            "true() and true() and true()",
+            "true() and true() and true()",
+        ),
+        ("true() or true() or true()", "true() or true() or true()"),
+        ("true() or true() and true()", "true() or true() and true()"),
+        (
+            "true() or (true() and true())",
+            "true() or true() and true()",
         ),
         (
-            "if (//a/b = /c//d/e) then () else ()",
-            "if (//a/b = /c//d/e) then () else ()",
-        ),
-        ("if (/a=1) then () else ()", "if (/a = 1) then () else ()"),
-        ("if (/a!=1) then () else ()", "if (/a != 1) then () else ()"),
-        ("if (/a<1) then () else ()", "if (/a < 1) then () else ()"),
-        (
-            "if (/a<=/b) then () else ()",
-            "if (/a <= /b) then () else ()",
-        ),
-        ("if (/a>/b) then () else ()", "if (/a > /b) then () else ()"),
-        ("if (/a>=1) then () else ()", "if (/a >= 1) then () else ()"),
-        (
-            "if (/a < /b) then () else ()",
-            "if (/a < /b) then () else ()",
-        ),
-        ("if (1 < /a) then () else ()", "if (1 < /a) then () else ()"),
-        (
-            "if ('x' != /a) then () else ()",
-            "if (\"x\" != /a) then () else ()",
+            "(true() and true()) or true()",
+            "true() and true() or true()",
         ),
         (
-            "if (/true = /not/and) then () else ()",
-            "if (/true = /not/and) then () else ()",
+            "(true() or true()) and true()",
+            "(true() or true()) and true()",
         ),
         (
-            "if ((true())) then () else ()",
-            "if (true()) then () else ()",
+            "true() and (true() and true())",
+            "true() and (true() and true())",
         ),
         (
-            "if (((/a = 1))) then () else ()",
-            "if (/a = 1) then () else ()",
+            "true() or (true() or true())",
+            "true() or (true() or true())",
         ),
         (
-            "if (not(true())) then () else ()",
-            "if (not(true())) then () else ()",
+            "not(true() or true()) and true()",
+            "not(true() or true()) and true()",
         ),
         (
-            "if (not((not(true())))) then () else ()",
-            "if (not(not(true()))) then () else ()",
-        ),
-        (
-            "if (true() and true() and true()) then () else ()",
-            "if (true() and true() and true()) then () else ()",
-        ),
-        (
-            "if (true() or true() or true()) then () else ()",
-            "if (true() or true() or true()) then () else ()",
-        ),
-        (
-            "if (true() or true() and true()) then () else ()",
-            "if (true() or true() and true()) then () else ()",
-        ),
-        (
-            "if (true() or (true() and true())) then () else ()",
-            "if (true() or true() and true()) then () else ()",
-        ),
-        (
-            "if ((true() and true()) or true()) then () else ()",
-            "if (true() and true() or true()) then () else ()",
-        ),
-        (
-            "if ((true() or true()) and true()) then () else ()",
-            "if ((true() or true()) and true()) then () else ()",
-        ),
-        (
-            "if (true() and (true() and true())) then () else ()",
-            "if (true() and (true() and true())) then () else ()",
-        ),
-        (
-            "if (true() or (true() or true())) then () else ()",
-            "if (true() or (true() or true())) then () else ()",
-        ),
-        (
-            "if (not(true() or true()) and true()) then () else ()",
-            "if (not(true() or true()) and true()) then () else ()",
-        ),
-        (
-            "if ((true() and (true() or true()))) then () else ()",
-            "if (true() and (true() or true())) then () else ()",
+            "(true() and (true() or true()))",
+            "true() and (true() or true())",
         ),
     ];
-    are_printed(&rt, rt.alloc(), rows)
+    are_printed_as_conditions(&rt, rt.alloc(), rows)
 }
 
 #[test]
 fn literals_are_printed(rt: HostRuntime) -> Result<(), Fail> {
     let rows: &[(&str, &str)] = &[
-        ("if (/a = 0) then () else ()", "if (/a = 0) then () else ()"),
+        ("/a = 0", "/a = 0"),
+        ("/a = -0", "/a = 0"),
+        ("/a = -0.0", "/a = 0"),
+        ("/a = 007", "/a = 7"),
+        ("/a = 1.50", "/a = 1.5"),
+        ("/a = -3.140", "/a = -3.14"),
+        ("/a = -0.5", "/a = -0.5"),
+        ("/a = 0.123456789012345678", "/a = 0.123456789012345678"),
+        ("/a = 1.000000000000000000", "/a = 1"),
+        ("/a = 0.000000000000000001", "/a = 0.000000000000000001"),
+        ("/a = 9223372036854775807", "/a = 9223372036854775807"),
+        ("/a = -9223372036854775808", "/a = -9223372036854775808"),
         (
-            "if (/a = -0) then () else ()",
-            "if (/a = 0) then () else ()",
+            "/a = 9223372036854775807.999999999999999999",
+            "/a = 9223372036854775807.999999999999999999",
         ),
-        (
-            "if (/a = -0.0) then () else ()",
-            "if (/a = 0) then () else ()",
-        ),
-        (
-            "if (/a = 007) then () else ()",
-            "if (/a = 7) then () else ()",
-        ),
-        (
-            "if (/a = 1.50) then () else ()",
-            "if (/a = 1.5) then () else ()",
-        ),
-        (
-            "if (/a = -3.140) then () else ()",
-            "if (/a = -3.14) then () else ()",
-        ),
-        (
-            "if (/a = -0.5) then () else ()",
-            "if (/a = -0.5) then () else ()",
-        ),
-        (
-            "if (/a = 0.123456789012345678) then () else ()",
-            "if (/a = 0.123456789012345678) then () else ()",
-        ),
-        (
-            "if (/a = 1.000000000000000000) then () else ()",
-            "if (/a = 1) then () else ()",
-        ),
-        (
-            "if (/a = 0.000000000000000001) then () else ()",
-            "if (/a = 0.000000000000000001) then () else ()",
-        ),
-        (
-            "if (/a = 9223372036854775807) then () else ()",
-            "if (/a = 9223372036854775807) then () else ()",
-        ),
-        (
-            "if (/a = -9223372036854775808) then () else ()",
-            "if (/a = -9223372036854775808) then () else ()",
-        ),
-        (
-            "if (/a = 9223372036854775807.999999999999999999) then () else ()",
-            "if (/a = 9223372036854775807.999999999999999999) then () else ()",
-        ),
-        (
-            "if (/a = -9223372036854775808.5) then () else ()",
-            "if (/a = -9223372036854775808.5) then () else ()",
-        ),
-        (
-            "if (/a = 00000000000000000000000000001) then () else ()",
-            "if (/a = 1) then () else ()",
-        ),
-        (
-            "if (/a = \"\") then () else ()",
-            "if (/a = \"\") then () else ()",
-        ),
-        (
-            "if (/a = '') then () else ()",
-            "if (/a = \"\") then () else ()",
-        ),
-        (
-            "if (/a = 'it''s') then () else ()",
-            "if (/a = \"it's\") then () else ()",
-        ),
-        (
-            "if (/a = \"say \"\"x\"\"\") then () else ()",
-            "if (/a = \"say \"\"x\"\"\") then () else ()",
-        ),
-        (
-            "if (/a = '\"') then () else ()",
-            "if (/a = \"\"\"\") then () else ()",
-        ),
-        (
-            "if (/a = '&lt;&gt;&amp;&apos;&quot;') then () else ()",
-            "if (/a = \"<>&amp;'\"\"\") then () else ()",
-        ),
-        (
-            "if (/a = '&#65;&#x00e9;') then () else ()",
-            "if (/a = \"A\u{E9}\") then () else ()",
-        ),
-        (
-            "if (/a = 'a\n\tb') then () else ()",
-            "if (/a = \"a\n\tb\") then () else ()",
-        ),
-        (
-            "if (/a = '(: :)') then () else ()",
-            "if (/a = \"(: :)\") then () else ()",
-        ),
-        (
-            "if (/a = '\u{FEFF}') then () else ()",
-            "if (/a = \"\u{FEFF}\") then () else ()",
-        ),
+        ("/a = -9223372036854775808.5", "/a = -9223372036854775808.5"),
+        ("/a = 00000000000000000000000000001", "/a = 1"),
+        ("/a = \"\"", "/a = \"\""),
+        ("/a = ''", "/a = \"\""),
+        ("/a = 'it''s'", "/a = \"it's\""),
+        ("/a = \"say \"\"x\"\"\"", "/a = \"say \"\"x\"\"\""),
+        ("/a = '\"'", "/a = \"\"\"\""),
+        ("/a = '&lt;&gt;&amp;&apos;&quot;'", "/a = \"<>&amp;'\"\"\""),
+        ("/a = '&#65;&#x00e9;'", "/a = \"A\u{E9}\""),
+        ("/a = 'a\n\tb'", "/a = \"a\n\tb\""),
+        ("/a = '(: :)'", "/a = \"(: :)\""),
+        ("/a = '\u{FEFF}'", "/a = \"\u{FEFF}\""),
     ];
-    are_printed(&rt, rt.alloc(), rows)
+    are_printed_as_conditions(&rt, rt.alloc(), rows)
 }
 
 mod nesting;

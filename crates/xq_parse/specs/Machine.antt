@@ -120,8 +120,16 @@ clauses_state sc m k = clause_state sc m (λ m c. clauses (c.var ∷ sc) m (c �
 abbrev pub list_state : ℕ → Scope → Marks → (Marks → List ExprTree → State) → State
 list_state n sc m k = expr n sc m (λ m e. rest n sc m (e ∷ []) k)
 
+-- Clause {"," Clause} ["where" Cond]
+abbrev pub loop_head_state : ℕ → Scope → Marks → (Scope → Marks → List Clause → Option CondTree → State) → State
+loop_head_state n sc m k = clauses_state sc m (λ sc m cs. condition n sc m (λ m w. k sc m cs w))
+
+-- "return" Expr
+abbrev pub loop_body_state : ℕ → Scope → Marks → (Marks → ExprTree → State) → State
+loop_body_state n sc m k = word return_ (expr n sc m k)
+
 unfoldable pub for_state : ℕ → Scope → Marks → (Marks → ExprTree → State) → State
-for_state n sc m k = clauses_state sc m (λ sc m cs. condition n sc m (λ m w. word return_ (expr n sc m (λ m e. k m (q.For cs w e)))))
+for_state n sc m k = loop_head_state n sc m (λ sc m cs w. loop_body_state n sc m (λ m e. k m (q.For cs w e)))
 
 -- "(" Cond ")" "then"
 unfoldable pub head_state : ℕ → Scope → Marks → (Marks → CondTree → State) → State

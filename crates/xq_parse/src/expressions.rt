@@ -1,12 +1,12 @@
 //! Expressions.
-ghost use Rattle.std.specs.Prelude.{◌≡◌, ◌≤◌, ◌<◌, ◌+◌, ◌++◌, ◌∷◌, [], ℕ, true, cond, List, Option, length, IfOk, OnOk, option_map};
+ghost use Rattle.std.specs.Prelude.{◌≡◌, ◌≤◌, ◌<◌, ◌+◌, ◌++◌, ◌∷◌, [], ℕ, true, cond, List, Option, length, IfOk, OnOk, box_value, option_map};
 ghost use Rattle.gcx_model.specs.declared.query.Clause.{Clause};
 ghost use Rattle.gcx_model.specs.Query as trees;
 ghost use Rattle.gcx_model.specs.Query.{CondTree, ExprTree, cond_tree, expr_tree, expr_trees};
 ghost use Rattle.xq_parse.specs.declared.marks.Marks.{Marks};
 ghost use Rattle.xq_parse.specs.Places.{Scope};
 ghost use Rattle.xq_parse.specs.Grammar.{seq_of};
-ghost use Rattle.xq_parse.specs.Machine.{State, clause_state, clauses, clauses_state, condition, content, elem_state, else_state, expr, for_state, head_state, if_state, inner, list_state, listed_state, rest, tag};
+ghost use Rattle.xq_parse.specs.Machine.{State, clause_state, clauses, clauses_state, condition, content, elem_state, else_state, expr, for_state, head_state, if_state, inner, list_state, listed_state, loop_body_state, loop_head_state, rest, tag};
 ghost use Rattle.xq_parse.specs.Behind.{ExprHasRoom, Extends, PartHasRoom, expr_behind, part_behind};
 ghost use Rattle.xq_parse.specs.Reading.{Moves, Stop, run};
 
@@ -25,6 +25,13 @@ pub(crate) enum ExprStart {
     Elem,
     Paren,
     Path,
+}
+
+/// What stands between `for` and `return`.
+#[derive(Drop)]
+struct LoopHead {
+    clauses: Clauses,
+    filter: Option<QCond>,
 }
 
 /// How a part of a constructor's body begins.
@@ -240,6 +247,43 @@ impl<'a> Parser<'a> {
         }
     }
 
+    /// Reads the clauses of a loop and its condition, if it has one.
+    fn loop_head(&mut self, depth: usize) -> Result<LoopHead, Refusal>
+        requires { depth ≤ 200 }
+        ensures moves { (k : Scope → Marks → List Clause → Option CondTree → State) → Moves (λ h. run 200 (k self.new.scope self.new.marks h.clauses (option_map cond_tree h.filter)) self.new.cursor.rest.now) result (run 200 (loop_head_state depth self.old.scope self.old.marks k) self.old.cursor.rest.now) }
+        ensures scope { OnOk result (Extends self.new.scope self.old.scope) }
+        ensures shorter { length self.new.cursor.rest.now ≤ length self.old.cursor.rest.now }
+    {
+        let clauses = self.clauses()?;
+        let filter = self.filter(depth)?;
+        Ok(LoopHead { clauses, filter })
+    }
+
+    /// Reads an expression that stands inside another one.
+    #[cycle(exprs)]
+    fn part(&mut self, depth: usize) -> Result<Box<Expr>, Refusal>
+        requires { depth ≤ 200 }
+        ensures moves { (k : Marks → ExprTree → State) → Moves (λ e. run 200 (k self.new.marks (expr_tree (box_value e))) self.new.cursor.rest.now) result (run 200 (expr depth self.old.scope self.old.marks k) self.old.cursor.rest.now) }
+        ensures scope { OnOk result (self.new.scope ≡ self.old.scope) }
+        ensures shorter { length self.new.cursor.rest.now ≤ length self.old.cursor.rest.now }
+    {
+        let part = self.expr(depth)?;
+        Ok(Box::new(self.cursor.alloc, part)?)
+    }
+
+    /// Reads `return` and the body of a loop.
+    #[cycle(exprs)]
+    fn loop_body(&mut self, depth: usize) -> Result<Box<Expr>, Refusal>
+        requires { depth ≤ 200 }
+        ensures moves { (k : Marks → ExprTree → State) → Moves (λ e. run 200 (k self.new.marks (expr_tree (box_value e))) self.new.cursor.rest.now) result (run 200 (loop_body_state depth self.old.scope self.old.marks k) self.old.cursor.rest.now) }
+        ensures scope { OnOk result (self.new.scope ≡ self.old.scope) }
+        ensures shorter { length self.new.cursor.rest.now ≤ length self.old.cursor.rest.now }
+    {
+        self.cursor.word(b"return")?;
+        let body = self.part(depth)?;
+        Ok(body)
+    }
+
     /// Reads what stands behind `for`.
     #[tactic(auto, unfolding(crate::specs::Machine::for_state))]
     #[cycle(exprs)]
@@ -250,15 +294,13 @@ impl<'a> Parser<'a> {
         ensures shorter { length self.new.cursor.rest.now ≤ length self.old.cursor.rest.now }
     {
         let outer = self.scope.len();
-        let clauses = self.clauses()?;
-        let filter = self.filter(depth)?;
-        self.cursor.word(b"return")?;
-        let body = self.expr(depth)?;
+        let LoopHead { clauses, filter } = self.loop_head(depth)?;
+        let body = self.loop_body(depth)?;
         self.scope.leave(outer);
         Ok(Expr::For {
             clauses,
             filter,
-            body: Box::new(self.cursor.alloc, body)?,
+            body,
         })
     }
 
@@ -279,14 +321,14 @@ impl<'a> Parser<'a> {
 
     /// Reads `else` and the other branch.
     #[cycle(exprs)]
-    fn other_branch(&mut self, depth: usize) -> Result<Expr, Refusal>
+    fn other_branch(&mut self, depth: usize) -> Result<Box<Expr>, Refusal>
         requires { depth ≤ 200 }
-        ensures moves { (k : Marks → ExprTree → State) → Moves (λ e. run 200 (k self.new.marks (expr_tree e)) self.new.cursor.rest.now) result (run 200 (else_state depth self.old.scope self.old.marks k) self.old.cursor.rest.now) }
+        ensures moves { (k : Marks → ExprTree → State) → Moves (λ e. run 200 (k self.new.marks (expr_tree (box_value e))) self.new.cursor.rest.now) result (run 200 (else_state depth self.old.scope self.old.marks k) self.old.cursor.rest.now) }
         ensures scope { OnOk result (self.new.scope ≡ self.old.scope) }
         ensures shorter { length self.new.cursor.rest.now ≤ length self.old.cursor.rest.now }
     {
         self.cursor.word(b"else")?;
-        let other = self.expr(depth)?;
+        let other = self.part(depth)?;
         Ok(other)
     }
 
@@ -300,10 +342,8 @@ impl<'a> Parser<'a> {
         ensures shorter { length self.new.cursor.rest.now ≤ length self.old.cursor.rest.now }
     {
         let cond = self.head(depth)?;
-        let then = self.expr(depth)?;
+        let then = self.part(depth)?;
         let other = self.other_branch(depth)?;
-        let then = Box::new(self.cursor.alloc, then)?;
-        let other = Box::new(self.cursor.alloc, other)?;
         Ok(Expr::If { cond, then, other })
     }
 

@@ -304,6 +304,26 @@ fn unknown_variables_are_refused(rt: HostRuntime) {
     let rows: &[(&str, QueryFault)] = &[
         ("$x", QueryFault::UnknownVar(0)),
         ("$x/a", QueryFault::UnknownVar(0)),
+        ("if ($x = 1) then () else ()", QueryFault::UnknownVar(4)),
+        (
+            "if (exists($x)) then () else ()",
+            QueryFault::UnknownVar(11),
+        ),
+        ("if (1 < $x/a) then () else ()", QueryFault::UnknownVar(8)),
+        (
+            "if (not(/a = $x)) then () else ()",
+            QueryFault::UnknownVar(13),
+        ),
+        ("<a>{$x}</a>", QueryFault::UnknownVar(4)),
+        ("//a/b, $x", QueryFault::UnknownVar(7)),
+        ("if (true()) then $x else $y", QueryFault::UnknownVar(17)),
+    ];
+    are_refused(&rt, rt.alloc(), rows);
+}
+
+#[test]
+fn variables_out_of_their_loops_are_refused(rt: HostRuntime) {
+    let rows: &[(&str, QueryFault)] = &[
         ("for $x in $x/a return ()", QueryFault::UnknownVar(10)),
         ("for $x in /a return $y", QueryFault::UnknownVar(20)),
         ("for $x in /a return $x, $x", QueryFault::UnknownVar(24)),
@@ -320,17 +340,6 @@ fn unknown_variables_are_refused(rt: HostRuntime) {
             "for $x in /a where $y = 1 return ()",
             QueryFault::UnknownVar(19),
         ),
-        ("if ($x = 1) then () else ()", QueryFault::UnknownVar(4)),
-        (
-            "if (exists($x)) then () else ()",
-            QueryFault::UnknownVar(11),
-        ),
-        ("if (1 < $x/a) then () else ()", QueryFault::UnknownVar(8)),
-        (
-            "if (not(/a = $x)) then () else ()",
-            QueryFault::UnknownVar(13),
-        ),
-        ("<a>{$x}</a>", QueryFault::UnknownVar(4)),
         (
             "for $x in /a return for $y in $x/b return $z",
             QueryFault::UnknownVar(42),
@@ -339,8 +348,6 @@ fn unknown_variables_are_refused(rt: HostRuntime) {
         ("for $x in /a return $X", QueryFault::UnknownVar(20)),
         ("for $x in $y//a/b return $z", QueryFault::UnknownVar(10)),
         ("for $x in /a//b/c return $z", QueryFault::UnknownVar(25)),
-        ("//a/b, $x", QueryFault::UnknownVar(7)),
-        ("if (true()) then $x else $y", QueryFault::UnknownVar(17)),
         ("for $x in $y/a return ()", QueryFault::UnknownVar(10)),
     ];
     are_refused(&rt, rt.alloc(), rows);

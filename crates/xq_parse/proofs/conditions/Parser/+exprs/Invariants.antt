@@ -9,13 +9,19 @@ abbrev pub decreases-expr : goal.decreases-expr
 decreases-expr l = 10 * (200 - l.depth)
 
 abbrev pub decreases-for_expr : goal.decreases-for_expr
-decreases-for_expr l = 10 * (200 - l.depth) + 1
+decreases-for_expr l = 10 * (200 - l.depth) + 3
+
+abbrev pub decreases-loop_body : goal.decreases-loop_body
+decreases-loop_body l = 10 * (200 - l.depth) + 2
+
+abbrev pub decreases-part : goal.decreases-part
+decreases-part l = 10 * (200 - l.depth) + 1
 
 abbrev pub decreases-if_expr : goal.decreases-if_expr
-decreases-if_expr l = 10 * (200 - l.depth) + 2
+decreases-if_expr l = 10 * (200 - l.depth) + 3
 
 abbrev pub decreases-other_branch : goal.decreases-other_branch
-decreases-other_branch l = 10 * (200 - l.depth) + 1
+decreases-other_branch l = 10 * (200 - l.depth) + 2
 
 abbrev pub decreases-list : goal.decreases-list
 decreases-list l = 10 * (200 - l.depth) + 1

@@ -1,5 +1,0 @@
-use Rattle.std.proofs.Common.{length}
-use Rattle.query_tests.proofs.projections.+nested.Given as goal
-
-abbrev pub decreases-nested : goal.decreases-nested
-decreases-nested l = length l.loops.now
