@@ -1,7 +1,7 @@
 //! Names, texts, steps, kinds and classes of characters.
 use gcx_base::{
     Axis, Kind, Limits, Name, Step, Steps, Test, Text, is_name_char, is_name_start, is_space,
-    is_xml_char,
+    is_xml_char, same_bytes,
 };
 use std::alloc::Global;
 use std::process::Abort;
@@ -64,18 +64,20 @@ fn a_name_may_be_long(rt: HostRuntime) -> Result<(), Fail> {
     assert_name(&rt, alloc, &long, true)
 }
 
-/// Compares the bytes of the text, copied, as a `str` and taken from a string, which is empty then.
+/// Compares the bytes of the text, copied, made of its own bytes, as a `str` and taken from a string, which is empty then.
 fn assert_spelled(rt: &impl Abort, alloc: Global, text: &Text, bytes: &[u8]) -> Result<(), Fail> {
     let copied = text.copy(alloc)?;
+    let again = Text::of_text(alloc, text.as_bytes())?;
     let mut string = String::from_str(alloc, text.as_str())?;
     let taken = Text::take_from(alloc, &mut string);
     assert_eq!(rt;
         [
             copied.as_bytes(),
+            again.as_bytes(),
             text.as_str().as_bytes(),
             taken.as_bytes()
         ],
-        [bytes; 3]
+        [bytes; 4]
     );
     assert_eq!(rt; string.as_str(), "");
     Ok(())
@@ -145,6 +147,71 @@ fn kinds_are_copied(rt: HostRuntime) -> Result<(), Fail> {
     let element = Kind::Element(name(alloc, b"b")?);
     assert!(rt; matches!(element.copy(alloc)?, Kind::Element(_)));
     assert!(rt; matches!(Kind::Document.copy(alloc)?, Kind::Document));
+    Ok(())
+}
+
+#[test]
+fn bytes_are_the_same_where_each_is(rt: HostRuntime) {
+    let table: [(&[u8], &[u8], bool); 8] = [
+        (b"", b"", true),
+        (b"abc", b"abc", true),
+        (b"abc", b"abd", false),
+        (b"abcd", b"abcd", true),
+        (b"abcd", b"abce", false),
+        (b"abcd", b"abcde", false),
+        (b"abcdefghi", b"abcdefghi", true),
+        (b"abcdefghi", b"abcdefghj", false),
+    ];
+    for (one, other, same) in table {
+        assert_eq!(rt; same_bytes(one, other), same, "{one:?} {other:?}");
+    }
+}
+
+#[test]
+fn steps_are_compared_with_their_names(rt: HostRuntime) -> Result<(), Fail> {
+    let alloc = rt.alloc();
+    let (steps, others) = (four_steps(alloc)?, four_steps(alloc)?);
+    for (i, step) in steps.items().iter().enumerate() {
+        for (j, other) in others.items().iter().enumerate() {
+            assert!(rt; (*step == *other) == (i == j), "{i} {j}");
+        }
+    }
+    assert!(rt; name(alloc, b"named")? != name(alloc, b"names")?);
+    let (text, other) = (Text::of_text(alloc, b"12")?, Text::of_text(alloc, b"13")?);
+    assert!(rt; text == text.copy(alloc)? && text != other);
+    Ok(())
+}
+
+/// Compares which of a step of each test a node of this kind passes.
+fn assert_passes(
+    rt: &impl Abort,
+    alloc: Global,
+    kind: &Kind,
+    passed: [bool; 4],
+) -> Result<(), Fail> {
+    let steps = four_steps(alloc)?;
+    for (step, passes) in steps.items().iter().zip(passed) {
+        assert!(rt;
+            step.test.passes(kind) == passes,
+            "{:?} {:?}",
+            step.test,
+            kind
+        );
+    }
+    Ok(())
+}
+
+#[test]
+fn kinds_pass_tests(rt: HostRuntime) -> Result<(), Fail> {
+    let alloc = rt.alloc();
+    let named = Kind::Element(name(alloc, b"a")?);
+    let other = Kind::Element(name(alloc, b"b")?);
+    let text = Kind::Text(Text::of_text(alloc, b"a")?);
+    assert_passes(&rt, alloc, &Kind::Document, [false; 4])?;
+    assert_passes(&rt, alloc, &named, [true, true, false, true])?;
+    assert_passes(&rt, alloc, &other, [false, true, false, true])?;
+    assert_passes(&rt, alloc, &text, [false, false, true, true])?;
+    assert!(rt; text.is_text() && !named.is_text() && !Kind::Document.is_text());
     Ok(())
 }
 

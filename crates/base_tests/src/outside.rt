@@ -4,7 +4,7 @@ ghost use Rattle.std.specs.Prelude.{◌≡◌, IfOk, IsTrue, OnOk, []};
 use gcx_base::Text;
 use gcx_io::{
     AttachFault, Failed, FileShelf, MemShelf, MemSink, MemSource, NullSink, Opened, Shelf, Sink,
-    Source, StdErr, StdOut, SureShelf, SureSink, SureSource, write_all,
+    Source, StdErr, StdOut, SureShelf, SureSink, SureSource, write_all, write_file,
 };
 use std::process::Abort;
 use std::test::Fail;
@@ -74,7 +74,7 @@ fn sinks_without_failing_calls(rt: &(impl Abort + AllocGlobal)) -> Result<(), Fa
     assert_writes(rt, &mut sink, &rows);
     assert!(rt; sink.is_whole());
     assert_eq!(rt; sink.bytes(), b"abc".as_slice());
-    assert_writes(rt, &mut NullSink, &rows);
+    assert_writes(rt, &mut NullSink::new(), &rows);
     Ok(())
 }
 
@@ -268,6 +268,50 @@ fn files_that_are_made_hold_what_is_written(rt: HostRuntime) -> Result<(), Fail>
     make(&rt, &mut shelf, path.as_bytes())?;
     assert_eq!(rt; take_away(&rt, path)?.as_slice(), b"abc".as_slice());
     assert_not_made(&rt, &mut shelf, b"-")
+}
+
+/// Makes the file and writes a text into it. Its handle can't be read.
+fn fill(
+    rt: &(impl Abort + AllocGlobal),
+    shelf: &mut FileShelf,
+    name: &[u8],
+    bytes: &[u8],
+) -> Result<(), Fail> {
+    let name = text(rt, name)?;
+    let handle = shelf.create(&name)?;
+    assert_eq!(rt; write_file(shelf, handle, bytes), Ok(()));
+    let mut buf = [0; 4];
+    assert_eq!(rt; shelf.read(handle, &mut buf), Err(Failed));
+    Ok(())
+}
+
+#[test]
+fn a_text_is_written_into_a_file(rt: HostRuntime) -> Result<(), Fail> {
+    let path = "gcx_io_filled";
+    let mut shelf = FileShelf::new(rt);
+    fill(&rt, &mut shelf, path.as_bytes(), b"abcde")?;
+    assert_eq!(rt; take_away(&rt, path)?.as_slice(), b"abcde".as_slice());
+    Ok(())
+}
+
+/// Makes the file and writes three bytes, one with each call, and compares the answer and what the file holds.
+fn assert_fills(
+    rt: &(impl Abort + AllocGlobal),
+    fails: Vec<u64>,
+    answer: Result<(), Failed>,
+    held: &[u8],
+) -> Result<(), Fail> {
+    let mut shelf = MemShelf::new(rt.alloc(), 3, 1, fails);
+    let name = text(rt, b"o")?;
+    let handle = shelf.create(&name)?;
+    assert_eq!(rt; write_file(&mut shelf, handle, b"abc"), answer);
+    assert_held(rt, &shelf, &[(b"o", Some(held))])
+}
+
+#[test]
+fn a_text_is_written_into_memory(rt: HostRuntime) -> Result<(), Fail> {
+    assert_fills(&rt, Vec::new(rt.alloc()), Ok(()), b"abc")?;
+    assert_fills(&rt, vec![in rt.alloc(); 3u64]?, Err(Failed), b"a")
 }
 
 #[test]

@@ -16,6 +16,7 @@ enum Call {
     Plant(u32),
     Append(u32, u32),
     Unlink(u32),
+    Drop(u32),
     Write(u32, u32),
 }
 
@@ -30,12 +31,12 @@ const CALLS: [(Call, &str, &str, usize); 16] = [
     (Call::Append(2, 6), "1(2(5 6) 4)", "1(4 2(6 5))", 5),
     (Call::Append(6, 7), "1(2(5 6(7)) 4)", "1(4 2(6(7) 5))", 6),
     (Call::Write(6, 8), "1(2(5 8(7)) 4)", "1(4 2(8(7) 5))", 6),
-    (Call::Unlink(5), "1(2(8(7)) 4)", "1(4 2(8(7)))", 6),
+    (Call::Drop(5), "1(2(8(7)) 4)", "1(4 2(8(7)))", 6),
     (Call::Unlink(4), "1(2(8(7)))", "1(2(8(7)))", 6),
-    (Call::Unlink(7), "1(2(8))", "1(2(8))", 6),
+    (Call::Drop(7), "1(2(8))", "1(2(8))", 6),
     (Call::Unlink(8), "1(2)", "1(2)", 6),
     (Call::Unlink(2), "1", "1", 6),
-    (Call::Unlink(1), "", "", 6),
+    (Call::Drop(1), "", "", 6),
     (Call::Plant(9), "9", "9", 6),
 ];
 
@@ -76,6 +77,16 @@ fn locate<N: NodeStore<u32>>(store: &N, payload: u32) -> Result<Place, Fail>
     Ok(find(store, root, payload, 999).ok_or("no row")?)
 }
 
+fn drop_at<T: Drop, N: NodeStore<T>>(store: &mut N, place: Place) -> Result<(), Fail>
+    requires { IsSome (map.get (N.rows store.old) place.0) }
+{
+    if store.first(place).is_some() {
+        return Err("no leaf")?;
+    }
+    store.drop_leaf(place);
+    Ok(())
+}
+
 fn make_call<N: NodeStore<u32>>(store: &mut N, call: &Call) -> Result<(), Fail> {
     match *call {
         Call::Plant(payload) => {
@@ -94,6 +105,10 @@ fn make_call<N: NodeStore<u32>>(store: &mut N, call: &Call) -> Result<(), Fail> 
                 return Err("no leaf")?;
             }
             store.unlink_leaf(place);
+        }
+        Call::Drop(payload) => {
+            let place = locate(&*store, payload)?;
+            drop_at(store, place)?;
         }
         Call::Write(old, new) => {
             let place = locate(&*store, old)?;
@@ -184,6 +199,34 @@ fn calls_answer_the_table(rt: HostRuntime) -> Result<(), Fail> {
     let alloc = rt.alloc();
     run(&rt, alloc, &mut RawNodes::new(alloc))?;
     run(&rt, alloc, &mut SlabNodes::new(alloc))
+}
+
+// Each row's payload owns memory.
+fn drop_texts<N: NodeStore<String>>(
+    rt: &impl Abort,
+    alloc: Global,
+    store: &mut N,
+) -> Result<(), Fail>
+    requires { N.rows store.old ≡ map.empty }
+{
+    store.plant(String::from_str(alloc, "the text of the root")?)?;
+    let root = store.root().ok_or("no root")?;
+    store.append(root, String::from_str(alloc, "the text of its child")?)?;
+    let root = store.root().ok_or("no root")?;
+    let child = store.last(root).ok_or("no child")?;
+    drop_at(store, child)?;
+    let root = store.root().ok_or("no root")?;
+    assert_eq!(rt; store.payload(root).as_str(), "the text of the root");
+    drop_at(store, root)?;
+    assert!(rt; store.root().is_none());
+    Ok(())
+}
+
+#[test]
+fn payloads_that_own_memory_are_dropped(rt: HostRuntime) -> Result<(), Fail> {
+    let alloc = rt.alloc();
+    drop_texts(&rt, alloc, &mut RawNodes::new(alloc))?;
+    drop_texts(&rt, alloc, &mut SlabNodes::new(alloc))
 }
 
 fn make_calls<N: NodeStore<u32>>(store: &mut N, calls: &[Call]) -> Result<(), Fail> {

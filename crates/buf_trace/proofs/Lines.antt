@@ -7,8 +7,9 @@ use Rattle.gcx_base.specs.declared.ids.Serial.{Serial}
 use Rattle.gcx_model.specs.Given.{IsRising}
 use Rattle.gcx_model.specs.Members.{In}
 use Rattle.gcx_model.specs.Demand.{kind_text, line_text}
-use Rattle.gcx_laws.specs.LineTexts as laws
-use Rattle.gcx_laws.proofs.Spelling.{line_by_text}
+use Rattle.base_laws.proofs.Lists.{cons_head}
+use Rattle.tree_laws.specs.LineTexts as laws
+use Rattle.tree_laws.proofs.Spelling.{line_by_text}
 use Rattle.buf_trace.specs.declared.line.LineKind.{LineKind}
 use Rattle.buf_trace.specs.declared.line.LineKind.TheVariants as kind
 use Rattle.buf_trace.specs.declared.line.Line.{Line}
@@ -85,9 +86,6 @@ module _ {E : Type 0} where
 abbrev NotOpened : List ℕ → Type 0
 NotOpened text = (l : Line) → IsLine l → line_text (line_tree l) ≡ 43 ∷ (32 ∷ text) → ⊥
 
-signs : (a b : ℕ) (xs ys : List ℕ) → a ∷ xs ≡ b ∷ ys → a ≡ b
-signs a b xs ys e = cc
-
 record OpenedText (text : List ℕ) : Type 0 where
   serial : ℕ
   kind : LineKind
@@ -101,10 +99,10 @@ opened_text : (text : List ℕ) (l : Line) → IsLine l → line_text (line_tree
 opened_text text (line.Opened s k g) h e =
     let behind_sign : text ≡ decimal s.0 ++ 32 ∷ (kind_text (kind_tree k) ++ roles_text g) = cc in
     record { serial = s.0; kind = k; given = g; low = h.0; named = h.1; fits = h.2; whole = behind_sign }
-opened_text text (line.Closed s) h e = let sign = signs 45 43 _ _ e in absurd (omega arith)
-opened_text text (line.Wrote n) h e = let sign = signs 119 43 _ _ e in absurd (omega arith)
-opened_text text (line.SignedOff s r) h e = let sign = signs 111 43 _ _ e in absurd (omega arith)
-opened_text text (line.Gone s) h e = let sign = signs 120 43 _ _ e in absurd (omega arith)
+opened_text text (line.Closed s) h e = let sign = cons_head 45 43 _ _ e in absurd (omega arith)
+opened_text text (line.Wrote n) h e = let sign = cons_head 119 43 _ _ e in absurd (omega arith)
+opened_text text (line.SignedOff s r) h e = let sign = cons_head 111 43 _ _ e in absurd (omega arith)
+opened_text text (line.Gone s) h e = let sign = cons_head 120 43 _ _ e in absurd (omega arith)
 
 record OffText (text : List ℕ) : Type 0 where
   serial : ℕ
@@ -117,10 +115,10 @@ off_text : (text : List ℕ) (l : Line) → IsLine l → line_text (line_tree l)
 off_text text (line.SignedOff s r) h e =
     let behind_sign : text ≡ decimal s.0 ++ 32 ∷ decimal r.0 = cc in
     record { serial = s.0; role = r; low = h.0; small = h.1; whole = behind_sign }
-off_text text (line.Opened s k g) h e = let sign = signs 43 111 _ _ e in absurd (omega arith)
-off_text text (line.Closed s) h e = let sign = signs 45 111 _ _ e in absurd (omega arith)
-off_text text (line.Wrote n) h e = let sign = signs 119 111 _ _ e in absurd (omega arith)
-off_text text (line.Gone s) h e = let sign = signs 120 111 _ _ e in absurd (omega arith)
+off_text text (line.Opened s k g) h e = let sign = cons_head 43 111 _ _ e in absurd (omega arith)
+off_text text (line.Closed s) h e = let sign = cons_head 45 111 _ _ e in absurd (omega arith)
+off_text text (line.Wrote n) h e = let sign = cons_head 119 111 _ _ e in absurd (omega arith)
+off_text text (line.Gone s) h e = let sign = cons_head 120 111 _ _ e in absurd (omega arith)
 
 -- the first word of the text, and what stands behind it
 module _ (text word : List ℕ) (o : Option (Bor (List ℕ))) (w : IsWord word) (e : text ≡ word ++ behind o) where

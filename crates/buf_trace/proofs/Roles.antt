@@ -8,7 +8,7 @@ use Rattle.gcx_model.specs.Given.{IsRising, IsAboveLast}
 use Rattle.gcx_model.specs.Members.{In}
 pub use Rattle.gcx_model.proofs.Rising.{above_pushed}
 use Rattle.gcx_model.proofs.Rising.{rising_push}
-use Rattle.gcx_laws.proofs.Lists.{In-append, In-right}
+use Rattle.tree_laws.proofs.Lists.{In-append, In-right}
 use Rattle.buf_trace.specs.Lines.{IsGiven}
 use Rattle.buf_trace.specs.Reading.{IsWord, roles_text}
 use Rattle.buf_trace.proofs.Words.{Stops, cut_same, decimal_word}

@@ -16,7 +16,8 @@ use Rattle.gcx_base.specs.Characters.{is_start_char, is_part_char}
 use Rattle.gcx_base.specs.Name.{is_name, IsNameBytes}
 use Rattle.gcx_model.specs.Members.{In}
 use Rattle.gcx_model.specs.Demand.{kind_text}
-use Rattle.gcx_laws.proofs.Lists.{In-append}
+use Rattle.base_laws.proofs.Members.{list_all_at, place_of}
+use Rattle.tree_laws.proofs.Lists.{In-append}
 use Rattle.buf_trace.specs.declared.line.LineKind.{LineKind}
 use Rattle.buf_trace.specs.declared.line.LineKind.TheVariants.{Document, Element, Text}
 use Rattle.buf_trace.specs.Lines.{IsKind, kind_tree}
@@ -99,21 +100,11 @@ decimal_word n m = decimal_by_steps (λ k ds. IsWord ds) one more n m
     more : (k : ℕ) (ds : List ℕ) → 10 ≤ k → IsWord ds → IsWord (ds ++ (48 + k % 10) ∷ [])
     more k ds h f = word_append ds ((48 + k % 10) ∷ []) f (λ i. elim i [ inl e ↦ (let r : 48 + k % 10 ≡ 32 = e in omega arith) | inr j ↦ j ])
 
-list_in : (p : ℕ → Bool) (b : ℕ) (cs : List ℕ) → list_all p cs ≡ true → In b cs → p b ≡ true
-list_in p b [] h i = absurd i
-list_in p b (c ∷ cs) h (inl e) = ap p (sym e) ∙ (and_parts (p c) (list_all p cs) h).0
-list_in p b (c ∷ cs) h (inr i) = list_in p b cs (and_parts (p c) (list_all p cs) h).1 i
-
-byte_at : (b : ℕ) (xs : List ℕ) → In b xs → (k : ℕ) × (k < length xs) × (get_or xs k 0 ≡ b)
-byte_at b [] i = absurd i
-byte_at b (x ∷ xs) (inl e) = (0, omega arith, e)
-byte_at b (x ∷ xs) (inr i) = let r = byte_at b xs i in (suc r.0, (let l = r.1 in omega arith), r.2)
-
 -- a space of a text is a character of it
 space_in : (cs : List ℕ) → In 32 (encodes cs) → In 32 cs
 space_in [] i = i
 space_in (c ∷ cs) i = elim (In-append 32 (encode c) (encodes cs) i) [
-  | inl j ↦ (let r = byte_at 32 (encode c) j in
+  | inl j ↦ (let r = place_of 32 (encode c) j in
       let small : get_or (encode c) r.0 0 < 128 = subst (λ (z : ℕ). z < 128) (sym r.2) (omega arith) in
       inl (inside_one c [] (encode c) r.0 (sym (append-nil (encode c))) r.1 small ∙ r.2))
   | inr j ↦ inr (space_in cs j)
@@ -124,7 +115,7 @@ all_parts [] h = absurd (false≢true h)
 all_parts (c ∷ cs) h = let a = and_parts (is_start_char c) (list_all is_part_char cs) h in and_from _ _ (or_left (is_start_char c) _ a.0) a.1
 
 name_word : (name : List ℕ) → IsNameBytes name → IsWord name
-name_word name n i = false≢true (list_in is_part_char 32 n.chars (all_parts n.chars n.name) (space_in n.chars (subst (λ (z : List ℕ). In 32 z) (sym n.parts) i)))
+name_word name n i = false≢true (list_all_at is_part_char 32 n.chars (all_parts n.chars n.name) (space_in n.chars (subst (λ (z : List ℕ). In 32 z) (sym n.parts) i)))
 
 pub kind_word : (k : LineKind) → IsKind k → IsWord (kind_text (kind_tree k))
 kind_word Document h (inl e) = omega arith

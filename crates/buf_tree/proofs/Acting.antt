@@ -12,10 +12,10 @@ use Rattle.gcx_model.specs.Placed.{offs_in, is_own}
 use Rattle.gcx_model.specs.Run.{Offed}
 use Rattle.gcx_model.specs.Held.{held, is_held, live}
 use Rattle.gcx_model.specs.Past.{Past, past_acted, is_ahead, waiting_offs}
-use Rattle.gcx_laws.specs.Pasts.{bases}
-use Rattle.gcx_laws.proofs.Lists.{In, In-filter}
-use Rattle.gcx_laws.proofs.Awaited.{waiting_law}
-use Rattle.gcx_laws.proofs.PastForms.{past_acts}
+use Rattle.past_laws.specs.Pasts.{bases}
+use Rattle.tree_laws.proofs.Lists.{In, In-filter}
+use Rattle.past_laws.proofs.Awaited.{waiting_law}
+use Rattle.past_laws.proofs.PastForms.{past_acts}
 use Rattle.std.specs.FinMap.{get}
 use Rattle.node_store.specs.Rows.{changed_at, paid_by}
 use Rattle.buf_tree.specs.declared.row.Row.{Row}

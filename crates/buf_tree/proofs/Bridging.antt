@@ -13,12 +13,12 @@ use Rattle.gcx_model.specs.Placed.{offs_in}
 use Rattle.gcx_model.specs.Run.{Offed}
 use Rattle.gcx_model.specs.Held.{held, held_tree, is_held, live, reaches, roles_live}
 use Rattle.gcx_model.specs.Past.{Past, IsPast, roles_signed}
-use Rattle.gcx_laws.specs.Pasts.{bases}
-use Rattle.gcx_laws.proofs.Lists.{In, In-filter}
-use Rattle.gcx_laws.proofs.Matches.{Rising-filter}
-use Rattle.gcx_laws.proofs.Chains.{above_self}
-use Rattle.gcx_laws.proofs.Bases.{is_grown}
-use Rattle.gcx_laws.proofs.RowFacts.{held_above, kept_by_rows}
+use Rattle.past_laws.specs.Pasts.{bases}
+use Rattle.tree_laws.proofs.Lists.{In, In-filter}
+use Rattle.tree_laws.proofs.Matches.{Rising-filter}
+use Rattle.tree_laws.proofs.Chains.{above_self}
+use Rattle.past_laws.proofs.Bases.{is_grown}
+use Rattle.past_laws.proofs.RowFacts.{held_above, kept_by_rows}
 use Rattle.buf_tree.specs.Shape.{Cell, num, Rising}
 use Rattle.buf_tree.specs.Stands.{Seen, seen, told}
 use Rattle.buf_tree.specs.Ways.{Tells, NodeOf, TreeOf, is_waiting, IsKeptBut}

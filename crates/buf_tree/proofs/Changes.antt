@@ -6,7 +6,7 @@ use Rattle.std.specs.Ordering.{nat_cmp, eq_by_cmp}
 use Rattle.std.specs.Cmp.{nat_cmp_total, unsigned_tied}
 use Rattle.std.specs.FinMap.{get, insert, remove, get-insert, get-remove}
 use Rattle.std.proofs.lemmas.Bool.{and_parts, and_from, true≢false, false≢true, eqb-true, eq-eqb, ne_eqb, false_from_ne_true}
-use Rattle.gcx_laws.proofs.Lists.{In, In-filter, In-kept}
+use Rattle.tree_laws.proofs.Lists.{In, In-filter, In-kept}
 use Rattle.node_store.specs.Rows.{Entry, without_child, changed, changed_at, parent_of, left_by, unlinked, paid_by}
 use Rattle.buf_tree.specs.declared.row.Row.{Row}
 use Rattle.buf_tree.specs.Shape.{Store, Cell, num, Rising, at_place, at_serial, place_for, is_under, entry_in, Above, Shape, with_at, without}

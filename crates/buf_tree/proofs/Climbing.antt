@@ -11,9 +11,9 @@ use Rattle.gcx_base.specs.declared.kind.Kind.{Kind}
 use Rattle.gcx_base.specs.declared.steps.Step.{Step}
 use Rattle.gcx_model.specs.Tree.{Node, Root, Under, serial_of, above, within}
 use Rattle.gcx_model.specs.Paths.{hits}
-use Rattle.gcx_laws.proofs.Lists.{In, any_in, any_from}
-use Rattle.gcx_laws.proofs.Chains.{above_self, above_trans}
-use Rattle.gcx_laws.proofs.Freeze.{hits_within}
+use Rattle.tree_laws.proofs.Lists.{In, any_in, any_from}
+use Rattle.tree_laws.proofs.Chains.{above_self, above_trans}
+use Rattle.tree_laws.proofs.Freeze.{hits_within}
 use Rattle.node_store.specs.Rows.{Entry, parent_of}
 use Rattle.buf_tree.specs.declared.row.Row.{Row}
 use Rattle.buf_tree.specs.Shape.{Store, Cell, num, cells, Rising, Shaped}

@@ -8,14 +8,14 @@ use Rattle.gcx_model.specs.Tree.{Tree, Token, Start, Chars, End, Node, Root, Und
 use Rattle.gcx_model.specs.Growth.{may_come, level}
 use Rattle.gcx_model.specs.Held.{is_held, held}
 use Rattle.gcx_model.specs.Past.{Past, IsPast, past_fed}
-use Rattle.gcx_laws.proofs.Lists.{In, In-left, In-right, In-append, In-filter, In-kept}
-use Rattle.gcx_laws.proofs.Matches.{Grown, Grown-grow, added, added_at, grow_nodes}
-use Rattle.gcx_laws.proofs.Freeze.{within_self}
-use Rattle.gcx_laws.proofs.Changes.{live_by_feed}
-use Rattle.gcx_laws.proofs.Awaited.{waiting_law}
-use Rattle.gcx_laws.proofs.PastForms.{past_feeds}
-use Rattle.gcx_laws.proofs.Bases.{is_grown}
-use Rattle.gcx_laws.proofs.More.{held_by_feed}
+use Rattle.tree_laws.proofs.Lists.{In, In-left, In-right, In-append, In-filter, In-kept}
+use Rattle.tree_laws.proofs.Matches.{Grown, Grown-grow, added, added_at, grow_nodes}
+use Rattle.tree_laws.proofs.Freeze.{within_self}
+use Rattle.past_laws.proofs.Changes.{live_by_feed}
+use Rattle.past_laws.proofs.Awaited.{waiting_law}
+use Rattle.past_laws.proofs.PastForms.{past_feeds}
+use Rattle.past_laws.proofs.Bases.{is_grown}
+use Rattle.placed_laws.proofs.HeldChanges.{held_by_feed}
 use Rattle.buf_tree.specs.Rows.{shut_row}
 use Rattle.buf_tree.specs.Shape.{Cell, num, Rising, with_at}
 use Rattle.buf_tree.specs.Purge.{Purged}

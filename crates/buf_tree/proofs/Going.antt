@@ -6,8 +6,8 @@ use Rattle.std.proofs.lemmas.Bool.{false≢true, eqb-true, eq-eqb}
 use Rattle.gcx_base.specs.declared.steps.Axis.{Axis}
 use Rattle.gcx_base.specs.declared.steps.Axis.TheVariants.{Child, Descendant}
 use Rattle.gcx_base.specs.declared.steps.Test.{Test}
-use Rattle.gcx_model.specs.Paths.{passes}
-use Rattle.gcx_laws.proofs.Lists.{In}
+use Rattle.gcx_base.specs.Tests.{passes}
+use Rattle.tree_laws.proofs.Lists.{In}
 use Rattle.node_store.specs.Rows.{parent_of, next_of, head_of, children_in}
 use Rattle.buf_tree.specs.Shape.{Store, Cell, num, cells, at_place, Shaped}
 use Rattle.buf_tree.specs.Walk.{Nested, Inside, Within, Climbs, JustBehind, BehindIn, On, serial_in, high_at}

@@ -7,7 +7,7 @@ use Rattle.std.specs.FinMap.{empty, get, insert, get-empty}
 use Rattle.std.proofs.lemmas.List.{append-nil, map-append}
 use Rattle.std.proofs.lemmas.List.Elements.{filter-append}
 use Rattle.std.proofs.lemmas.Bool.{and_parts, true≢false, false≢true, eqb-true, eq-eqb, ne_eqb, cases_eq, false_from_ne_true}
-use Rattle.gcx_laws.proofs.Lists.{In, In-left, In-append, filter_none}
+use Rattle.tree_laws.proofs.Lists.{In, In-left, In-append, filter_none}
 use Rattle.node_store.specs.Rows.{Entry, leaf, with_child, planted, appended}
 use Rattle.buf_tree.specs.declared.row.Row.{Row}
 use Rattle.buf_tree.specs.Shape.{Store, Cell, num, Rising, at_place, at_serial, place_for, is_under, entry_in, Shape}

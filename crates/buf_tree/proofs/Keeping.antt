@@ -8,11 +8,12 @@ use Rattle.std.specs.Cmp.{nat_cmp_total}
 use Rattle.std.specs.FinSet as set
 use Rattle.std.specs.FinSet.{FinSet, nat_cmp-IsAntisymmetric, len-empty, empty_of_len}
 use Rattle.std.proofs.lemmas.Bool.{false≢true, eqb-true, eq-eqb, ne_eqb, cases_eq}
-use Rattle.gcx_laws.proofs.Lists.{In, In-left, In-append, In-filter}
+use Rattle.tree_laws.proofs.Lists.{In, In-left, In-append, In-filter}
 use Rattle.node_store.specs.Rows.{Entry, changed_at, paid_by, with_payload, planted, appended}
 use Rattle.buf_tree.specs.declared.row.Row.{Row}
 use Rattle.buf_tree.specs.Shape.{Store, Cell, num, cells, Rising, is_under, entry_in, Shape, Shaped, with_at, at_place}
-use Rattle.buf_tree.specs.Rows.{shut_row, untaken, IsDead, serials, is_text, is_bare}
+use Rattle.gcx_base.specs.Kinds.{is_text}
+use Rattle.buf_tree.specs.Rows.{shut_row, untaken, IsDead, serials, is_bare}
 use Rattle.gcx_base.specs.declared.kind.Kind.{Kind}
 use Rattle.gcx_base.specs.declared.ids.Serial.{Serial}
 use Rattle.buf_tree.specs.Purge.{is_gone, Keeps, Tidy, TidyBut, Purged, Cleared}

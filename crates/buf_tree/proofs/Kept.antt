@@ -10,8 +10,8 @@ use Rattle.gcx_model.specs.ItemView.{off_tree, role_kind}
 use Rattle.gcx_model.specs.Core.{RoleKind, Own, First, Whole}
 use Rattle.gcx_model.specs.Held.{reaches}
 use Rattle.gcx_model.specs.Tree.{Tree, Node, Root, Under, serial_of, above}
-use Rattle.gcx_laws.proofs.Lists.{In}
-use Rattle.gcx_laws.proofs.Chains.{above_self, above_trans}
+use Rattle.tree_laws.proofs.Lists.{In}
+use Rattle.tree_laws.proofs.Chains.{above_self, above_trans}
 use Rattle.node_store.specs.Rows.{Entry, parent_of}
 use Rattle.buf_tree.specs.declared.row.Row.{Row}
 use Rattle.buf_tree.specs.Shape.{Store, Cell, cells, Shaped}

@@ -4,7 +4,7 @@ use Rattle.std.specs.Prelude.{option_map, option_and_then, IsSome}
 use Rattle.std.specs.List.{filter}
 use Rattle.std.specs.FinMap.{get}
 use Rattle.std.proofs.lemmas.Bool.{and_parts, and_from, false≢true, eqb-true, eq-eqb, ne_eqb, cases_eq}
-use Rattle.gcx_laws.proofs.Lists.{In, In-filter, In-kept}
+use Rattle.tree_laws.proofs.Lists.{In, In-filter, In-kept}
 use Rattle.node_store.specs.Rows.{Entry, parent_of, next_of, prev_of, after, before, head_of, last_of, children_in, children_of}
 use Rattle.buf_tree.specs.Shape.{Store, Cell, num, Rising, is_under, place_for, at_serial, Shape}
 use Rattle.buf_tree.specs.Match.{IsChild}

@@ -1,7 +1,7 @@
 -- Document order among the rows: what stands below a row, and what stands next to it.
 use Rattle.std.proofs.Common.{◌≡◌, ℕ, zero, suc, ◌<◌, ◌≤◌, refl, sym, ap, subst, inl, inr, ◌⊎◌, arith, List}
 use Rattle.std.proofs.lemmas.Bool.{cases_eq}
-use Rattle.gcx_laws.proofs.Lists.{In}
+use Rattle.tree_laws.proofs.Lists.{In}
 use Rattle.buf_tree.specs.Shape.{Cell, num, Rising, Above}
 use Rattle.buf_tree.specs.Walk.{Nested, Inside, Within, Deeper, IsLast, JustBefore, JustBehind, Climbs}
 use Rattle.buf_tree.specs.Match.{IsChild, Rises}

@@ -15,12 +15,12 @@ use Rattle.gcx_model.specs.Placed.{offs_in, is_own, is_own_kind, is_empty}
 use Rattle.gcx_model.specs.Run.{Offed}
 use Rattle.gcx_model.specs.Held.{held, held_tree, is_held, live, reaches, gives}
 use Rattle.gcx_model.specs.Past.{Past, IsPast}
-use Rattle.gcx_laws.specs.Pasts.{bases}
-use Rattle.gcx_laws.proofs.Lists.{In, In-filter}
-use Rattle.gcx_laws.proofs.Matches.{Numbered-same, Matches-in}
-use Rattle.gcx_laws.proofs.Bases.{is_grown, live_by_bases, own_tells}
-use Rattle.gcx_laws.proofs.Changes.{live_by_act}
-use Rattle.gcx_laws.proofs.RowFacts.{bases_above, row_tells}
+use Rattle.past_laws.specs.Pasts.{bases}
+use Rattle.tree_laws.proofs.Lists.{In, In-filter}
+use Rattle.tree_laws.proofs.Matches.{Numbered-same, Matches-in}
+use Rattle.past_laws.proofs.Bases.{is_grown, live_by_bases, own_tells}
+use Rattle.past_laws.proofs.Changes.{live_by_act}
+use Rattle.past_laws.proofs.RowFacts.{bases_above, row_tells}
 use Rattle.buf_tree.specs.Rows.{signed_for, untaken}
 use Rattle.buf_tree.specs.Shape.{Store, Cell, num, cells, Shaped, with_at}
 use Rattle.buf_tree.specs.Walk.{Nested, Inside, Within}

@@ -19,19 +19,19 @@ use Rattle.gcx_model.specs.Core.{OffTree}
 use Rattle.gcx_model.specs.Run.{Action, Wrote, Offed}
 use Rattle.gcx_model.specs.Placed.{is_own}
 use Rattle.gcx_model.specs.Held.{given, taken, live, roles_live, is_live, is_held, held}
-use Rattle.gcx_model.specs.Past.{Past, past_fed, open_nodes, awaited, waiting_offs, roles_signed}
-use Rattle.gcx_laws.proofs.Lists.{In, In-filter, In-kept, any_in, any_from}
-use Rattle.gcx_laws.proofs.Matches.{Grown, added, added_at, grow_nodes, Numbered-high, Numbered-same}
-use Rattle.gcx_laws.proofs.Bases.{is_grown}
-use Rattle.gcx_laws.proofs.Changes.{filter_both, live_by_feed}
-use Rattle.gcx_laws.proofs.Ahead.{new_unsigned}
-use Rattle.gcx_laws.proofs.PastForms.{past_feeds}
-use Rattle.gcx_laws.proofs.RowFacts.{open_behind}
-use Rattle.buf_tree.specs.Rows.{IsNode, is_text}
+use Rattle.gcx_model.specs.Past.{Past, past_fed, open_nodes, awaited, waiting_offs, roles_signed, IsNode, past_grown, token_for}
+use Rattle.tree_laws.proofs.Lists.{In, In-filter, In-kept, any_in, any_from}
+use Rattle.tree_laws.proofs.Matches.{Grown, added, added_at, grow_nodes, Numbered-high, Numbered-same}
+use Rattle.past_laws.proofs.Bases.{is_grown}
+use Rattle.past_laws.proofs.Changes.{filter_both, live_by_feed}
+use Rattle.past_laws.proofs.Ahead.{new_unsigned}
+use Rattle.past_laws.proofs.PastForms.{past_feeds}
+use Rattle.past_laws.proofs.RowFacts.{open_behind}
+use Rattle.gcx_base.specs.Kinds.{is_text}
 use Rattle.buf_tree.specs.Shape.{Cell, num, at_place}
 use Rattle.buf_tree.specs.View.{View, Innermost, num_in, level_in}
 use Rattle.buf_tree.specs.Calls.{Opened, numbers, less, new_roles, new_row, stays, with_new}
-use Rattle.buf_tree.specs.Stands.{Seen, seen, told, StandsFor, past_grown, token_for, GivenTo, awaited_by}
+use Rattle.buf_tree.specs.Stands.{Seen, seen, told, StandsFor, GivenTo, awaited_by}
 use Rattle.buf_tree.proofs.Standing.{pair_left, none_kept, none_passes, empty_list}
 use Rattle.buf_tree.proofs.Feeding.{bools, map_both, within_low, held_fed, row_same, top_is}
 

@@ -6,8 +6,8 @@ use Rattle.std.proofs.lemmas.Bool.{false≢true, eqb-true, eq-eqb, cases_eq}
 use Rattle.gcx_base.specs.declared.steps.Step.{Step}
 use Rattle.gcx_model.specs.Tree.{Node, Root, Under, serial_of, above}
 use Rattle.gcx_model.specs.Paths.{hits}
-use Rattle.gcx_laws.proofs.Lists.{In}
-use Rattle.gcx_laws.proofs.Chains.{above_self}
+use Rattle.tree_laws.proofs.Lists.{In}
+use Rattle.tree_laws.proofs.Chains.{above_self}
 use Rattle.buf_tree.specs.Shape.{Store, Cell, num, cells, Shaped}
 use Rattle.buf_tree.specs.Walk.{Nested, Inside, Within, BehindIn}
 use Rattle.buf_tree.specs.Match.{Rises}

@@ -1,13 +1,12 @@
 -- One row less on the way up.
-use Rattle.std.proofs.Common.{◌≡◌, ◌≢◌, ◌==◌, ℕ, suc, ◌+◌, ◌<◌, Bool, true, false, cond, not, ◌&&◌, ◌||◌, List, [], ◌∷◌, ◌++◌, length, map, refl, sym, ◌∙◌, ap, subst, inl, inr, ◌⊎◌, arith, Some, None, Option}
+use Rattle.std.proofs.Common.{◌≡◌, ◌≢◌, ◌==◌, ℕ, suc, ◌+◌, ◌<◌, Bool, true, false, cond, not, ◌&&◌, ◌||◌, List, [], ◌∷◌, ◌++◌, length, map, refl, sym, ◌∙◌, ap, subst, inl, inr, ◌⊎◌, arith, Some, None, Option, append_assoc}
 use Rattle.std.specs.Prelude.{option_map, option_and_then, IsSome}
-use Rattle.std.proofs.Common.{append_assoc}
 use Rattle.std.proofs.lemmas.List.{append-nil}
 use Rattle.std.specs.List.{filter}
 use Rattle.std.specs.FinMap.{get}
 use Rattle.std.proofs.lemmas.Bool.{or_cases, or_left, and_parts, and_from, false≢true, eqb-true, eq-eqb, ne_eqb, cases_eq, cases_Bool, false_from_ne_true}
 use Rattle.gcx_model.specs.Paths.{any}
-use Rattle.gcx_laws.proofs.Lists.{In, In-append, In-filter, In-kept, filter_same}
+use Rattle.tree_laws.proofs.Lists.{In, In-append, In-filter, In-kept, filter_same}
 use Rattle.node_store.specs.Rows.{Entry, unlinked, parent_of}
 use Rattle.buf_tree.specs.declared.row.Row.{Row}
 use Rattle.buf_tree.specs.Shape.{Store, Cell, num, cells, Rising, at_serial, place_for, is_under, entry_in, Shape, Shaped, without}

@@ -9,10 +9,10 @@ use Rattle.gcx_model.specs.Paths.{any, hits, reach, first, head, matches}
 use Rattle.gcx_model.specs.Core.{RoleKind, Own, First, Whole}
 use Rattle.gcx_model.specs.Held.{is_node, gives}
 use Rattle.gcx_model.specs.Nodes.{Rising}
-use Rattle.gcx_laws.proofs.Lists.{In, any_in, any_from, In-filter, In-kept}
-use Rattle.gcx_laws.proofs.Bases.{head_in, node_is}
-use Rattle.gcx_laws.proofs.Freeze.{within_above, hits_within}
-use Rattle.gcx_laws.proofs.Chains.{above_trans}
+use Rattle.tree_laws.proofs.Lists.{In, any_in, any_from, In-filter, In-kept}
+use Rattle.past_laws.proofs.Bases.{head_in, node_is}
+use Rattle.tree_laws.proofs.Freeze.{within_above, hits_within}
+use Rattle.tree_laws.proofs.Chains.{above_trans}
 use Rattle.buf_tree.specs.Shape.{Store, Cell, cells, Shaped}
 use Rattle.buf_tree.specs.Ways.{Tells, Descends, is_same, leads, TreeOf, NoneBefore, Flags, tail_ends, tail_steps, ends_at}
 use Rattle.buf_tree.proofs.Feeding.{bools}

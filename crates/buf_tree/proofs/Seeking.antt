@@ -1,18 +1,16 @@
 -- The searches from the last row back.
 use Rattle.std.proofs.Common.{◌≡◌, ◌==◌, ℕ, zero, suc, ◌<◌, ◌≤◌, Bool, true, false, cond, List, [], ◌∷◌, refl, sym, ◌∙◌, ap, subst, inl, inr, arith, Some, None, Option, ltb, length}
 use Rattle.std.specs.List.{filter}
-use Rattle.std.specs.Prelude.{MatchOption}
-use Rattle.std.proofs.lemmas.Bool.{ltb-true, ltb-false, true≢false}
+use Rattle.std.specs.Prelude.{MatchOption, option_map, IsSome}
+use Rattle.std.proofs.lemmas.Bool.{ltb-true, ltb-false, true≢false, false≢true, cases_Bool, eqb-true, eq-eqb}
 use Rattle.node_store.specs.declared.store.Place.{Place}
-use Rattle.std.specs.Prelude.{option_map, IsSome}
 use Rattle.std.specs.FinMap.{get}
-use Rattle.std.proofs.lemmas.Bool.{false≢true, cases_Bool, eqb-true, eq-eqb}
 use Rattle.gcx_base.specs.declared.steps.Axis.{Axis}
 use Rattle.gcx_base.specs.declared.steps.Axis.TheVariants.{Child, Descendant}
 use Rattle.gcx_base.specs.declared.steps.Test.{Test}
 use Rattle.gcx_base.specs.declared.steps.Step.{Step}
-use Rattle.gcx_model.specs.Paths.{passes}
-use Rattle.gcx_laws.proofs.Lists.{In}
+use Rattle.gcx_base.specs.Tests.{passes}
+use Rattle.tree_laws.proofs.Lists.{In}
 use Rattle.node_store.specs.Rows.{Entry, parent_of, prev_of, last_of, children_in}
 use Rattle.buf_tree.specs.declared.row.Row.{Row}
 use Rattle.buf_tree.specs.Shape.{Store, Cell, num, cells, at_place, Shaped}

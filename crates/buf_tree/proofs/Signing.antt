@@ -12,13 +12,13 @@ use Rattle.gcx_model.specs.Run.{Offed}
 use Rattle.gcx_model.specs.Placed.{offs_in}
 use Rattle.gcx_model.specs.Held.{live, roles_live, is_held, held}
 use Rattle.gcx_model.specs.Past.{Past, IsPast, past_acted, is_signed, roles_signed}
-use Rattle.gcx_laws.specs.Pasts.{bases}
-use Rattle.gcx_laws.proofs.Lists.{In, In-filter, In-kept}
-use Rattle.gcx_laws.proofs.Bases.{is_grown, live_by_bases}
-use Rattle.gcx_laws.proofs.Changes.{live_by_act, signed_by_act}
-use Rattle.gcx_laws.proofs.More.{held_by_act}
-use Rattle.gcx_laws.proofs.PastForms.{past_acts}
-use Rattle.gcx_laws.proofs.RowFacts.{row_tells}
+use Rattle.past_laws.specs.Pasts.{bases}
+use Rattle.tree_laws.proofs.Lists.{In, In-filter, In-kept}
+use Rattle.past_laws.proofs.Bases.{is_grown, live_by_bases}
+use Rattle.past_laws.proofs.Changes.{live_by_act, signed_by_act}
+use Rattle.placed_laws.proofs.HeldChanges.{held_by_act}
+use Rattle.past_laws.proofs.PastForms.{past_acts}
+use Rattle.past_laws.proofs.RowFacts.{row_tells}
 use Rattle.buf_tree.specs.declared.row.Row.{Row}
 use Rattle.buf_tree.specs.Shape.{Cell, Rising}
 use Rattle.buf_tree.specs.Purge.{Purged}

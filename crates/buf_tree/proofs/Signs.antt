@@ -7,7 +7,7 @@ use Rattle.std.specs.FinSet.{contains-insert}
 use Rattle.std.proofs.lemmas.Bool.{and_parts, or_left, false≢true, eqb-true, eq-eqb, cases_Bool}
 use Rattle.gcx_model.specs.declared.item.Off.{Off}
 use Rattle.gcx_model.specs.Tree.{Tree, Node, Root, Under}
-use Rattle.gcx_laws.proofs.Lists.{In}
+use Rattle.tree_laws.proofs.Lists.{In}
 use Rattle.buf_tree.specs.Rows.{signed_for}
 use Rattle.buf_tree.specs.Shape.{Cell, num, Rising, with_at}
 use Rattle.buf_tree.specs.Ways.{Tells, NodeOf, TreeOf, is_waiting, IsKept, IsKeptBut}

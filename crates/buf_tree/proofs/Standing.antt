@@ -11,9 +11,9 @@ use Rattle.gcx_model.specs.Paths.{any}
 use Rattle.gcx_model.specs.Members.{count}
 use Rattle.gcx_model.specs.Held.{is_live, is_held, live, roles_live}
 use Rattle.gcx_model.specs.Past.{Past, parent_serial}
-use Rattle.gcx_laws.proofs.Lists.{In, In-filter, In-kept, any_in, any_from}
-use Rattle.gcx_laws.proofs.Matches.{Grown, Numbered-same, Numbered-high}
-use Rattle.gcx_laws.proofs.Freeze.{within_self, within_trans, open_up_at}
+use Rattle.tree_laws.proofs.Lists.{In, In-filter, In-kept, any_in, any_from}
+use Rattle.tree_laws.proofs.Matches.{Grown, Numbered-same, Numbered-high}
+use Rattle.tree_laws.proofs.Freeze.{within_self, within_trans, open_up_at}
 use Rattle.buf_tree.specs.declared.row.Row.{Row}
 use Rattle.buf_tree.specs.Rows.{IsDead}
 use Rattle.buf_tree.specs.Shape.{Cell, num, Rising, is_under}

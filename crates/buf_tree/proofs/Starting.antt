@@ -10,17 +10,18 @@ use Rattle.gcx_base.specs.declared.steps.Step.{Step}
 use Rattle.gcx_base.specs.declared.steps.Test.{Test}
 use Rattle.gcx_base.specs.declared.steps.Test.TheVariants.{Named, AnyElement, AnyText, AnyNode}
 use Rattle.gcx_model.specs.Tree.{Root, serial_of, opening}
-use Rattle.gcx_model.specs.Paths.{any, all, passes, lies, hits, matches, first}
+use Rattle.gcx_base.specs.Tests.{passes}
+use Rattle.gcx_model.specs.Paths.{any, all, lies, hits, matches, first}
 use Rattle.gcx_model.specs.Members.{count}
 use Rattle.gcx_model.specs.Core.{RoleKind, Own, First, Whole, BodyTree, OffTree, PlanTree}
 use Rattle.gcx_model.specs.Cores.{Good}
 use Rattle.gcx_model.specs.Placed.{Placed}
 use Rattle.gcx_model.specs.Held.{path_of, statement_of, is_node, gives, given, roles_given, signed, all_signed, on_off, live, roles_live}
 use Rattle.gcx_model.specs.Past.{opening_past, is_signed, roles_signed}
-use Rattle.gcx_laws.proofs.Bases.{tells}
-use Rattle.gcx_laws.proofs.More.{one_statement_law}
-use Rattle.gcx_laws.proofs.PastForms.{past_opens}
-use Rattle.gcx_laws.proofs.Told.{given_told}
+use Rattle.past_laws.proofs.Bases.{tells}
+use Rattle.placed_laws.proofs.PlanStatements.{one_statement_law}
+use Rattle.past_laws.proofs.PastForms.{past_opens}
+use Rattle.placed_laws.proofs.Told.{given_told}
 use Rattle.buf_tree.specs.View.{View}
 use Rattle.buf_tree.specs.Calls.{Started, numbers, root_row}
 use Rattle.buf_tree.specs.Stands.{seen, told, StandsFor, awaited_by}

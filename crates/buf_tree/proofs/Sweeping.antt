@@ -1,16 +1,15 @@
 -- A sweep from the last row below a base back.
-use Rattle.std.proofs.Common.{◌≡◌, ◌==◌, ℕ, ◌+◌, ◌<◌, ◌≤◌, Bool, true, false, cond, not, ◌||◌, List, [], ◌∷◌, ◌++◌, length, map, refl, sym, ◌∙◌, ap, subst, inl, inr, ◌⊎◌, arith, Some}
+use Rattle.std.proofs.Common.{◌≡◌, ◌==◌, ℕ, ◌+◌, ◌<◌, ◌≤◌, Bool, true, false, cond, not, ◌||◌, List, [], ◌∷◌, ◌++◌, length, map, refl, sym, ◌∙◌, ap, subst, inl, inr, ◌⊎◌, arith, Some, append_assoc}
 use Rattle.std.specs.List.{filter}
 use Rattle.std.specs.Prelude.{◌↔◌}
 use Rattle.std.specs.FinMap.{get}
 use Rattle.std.specs.FinSet as set
-use Rattle.std.proofs.Common.{append_assoc}
 use Rattle.std.proofs.lemmas.List.{append-nil}
 use Rattle.std.proofs.lemmas.Bool.{and_parts, or_cases, false≢true, eqb-true, eq-eqb, ne_eqb, cases_eq, cases_Bool}
 use Rattle.gcx_model.specs.declared.item.Off.{Off}
 use Rattle.gcx_model.specs.Tree.{Tree, Node, serial_of}
-use Rattle.gcx_laws.proofs.Lists.{In, In-append, In-filter, In-kept, any_in, filter_same}
-use Rattle.gcx_laws.proofs.Pruned.{map_same}
+use Rattle.tree_laws.proofs.Lists.{In, In-append, In-filter, In-kept, any_in, filter_same}
+use Rattle.need_laws.proofs.Pruned.{map_same}
 use Rattle.node_store.specs.Rows.{Entry, changed_at, paid_by, unlinked}
 use Rattle.buf_tree.specs.declared.row.Row.{Row}
 use Rattle.buf_tree.specs.Rows.{IsSpare, untaken}

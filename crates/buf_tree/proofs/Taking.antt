@@ -2,8 +2,8 @@
 use Rattle.std.proofs.Common.{◌≡◌, ◌≢◌, ◌==◌, ℕ, suc, ◌+◌, ◌<◌, ◌≤◌, Bool, true, false, cond, not, ◌&&◌, ◌||◌, List, [], ◌∷◌, length, map, refl, sym, ◌∙◌, ap, subst, inl, inr, arith}
 use Rattle.std.specs.List.{filter}
 use Rattle.std.proofs.lemmas.Bool.{false≢true, eqb-true, eq-eqb, ne_eqb}
-use Rattle.gcx_laws.proofs.Lists.{In, filter_same}
-use Rattle.gcx_laws.proofs.Pruned.{map_same}
+use Rattle.tree_laws.proofs.Lists.{In, filter_same}
+use Rattle.need_laws.proofs.Pruned.{map_same}
 use Rattle.buf_tree.specs.declared.row.Row.{Row}
 use Rattle.buf_tree.specs.Rows.{IsDead, untaken}
 use Rattle.buf_tree.specs.Shape.{Cell, num, Rising, is_under, with_at}

@@ -10,10 +10,11 @@ use Rattle.gcx_base.specs.declared.steps.Axis.{Axis}
 use Rattle.gcx_base.specs.declared.steps.Axis.TheVariants.{Child, Descendant}
 use Rattle.gcx_base.specs.declared.steps.Step.{Step}
 use Rattle.gcx_model.specs.Tree.{Node, Root, Under, serial_of, kind_of, above, within}
-use Rattle.gcx_model.specs.Paths.{hits, reach, lies, passes}
-use Rattle.gcx_laws.proofs.Lists.{In, any_in, any_from}
-use Rattle.gcx_laws.proofs.Freeze.{within_self, within_above, hits_within}
-use Rattle.gcx_laws.proofs.Chains.{above_self, above_trans}
+use Rattle.gcx_base.specs.Tests.{passes}
+use Rattle.gcx_model.specs.Paths.{hits, reach, lies}
+use Rattle.tree_laws.proofs.Lists.{In, any_in, any_from}
+use Rattle.tree_laws.proofs.Freeze.{within_self, within_above, hits_within}
+use Rattle.tree_laws.proofs.Chains.{above_self, above_trans}
 use Rattle.buf_tree.specs.Ways.{Descends, leads, Flags, FlagsBut, goes_on, flag_up}
 use Rattle.buf_tree.proofs.Feeding.{bools}
 

@@ -1,9 +1,8 @@
 -- Taking a role back from rows, and what leaves then.
-use Rattle.std.proofs.Common.{◌≡◌, ◌==◌, ℕ, zero, suc, ◌+◌, ◌-◌, ◌<◌, ◌≤◌, Bool, true, false, cond, not, ◌&&◌, ◌||◌, List, [], ◌∷◌, ◌++◌, length, map, refl, sym, ◌∙◌, ap, subst, inl, inr, ◌⊎◌, arith, Some}
+use Rattle.std.proofs.Common.{◌≡◌, ◌==◌, ℕ, zero, suc, ◌+◌, ◌-◌, ◌<◌, ◌≤◌, Bool, true, false, cond, not, ◌&&◌, ◌||◌, List, [], ◌∷◌, ◌++◌, length, map, refl, sym, ◌∙◌, ap, subst, inl, inr, ◌⊎◌, arith, Some, append_assoc}
 use Rattle.std.specs.Prelude.{◌↔◌, IsSome, reverse}
 use Rattle.std.specs.List.{filter, list_any}
 use Rattle.std.proofs.lemmas.List.{append-nil, length-append, reverse-append, map-append}
-use Rattle.std.proofs.Common.{append_assoc}
 use Rattle.std.specs.Ordering.{nat_cmp}
 use Rattle.std.specs.Cmp.{nat_cmp_total, unsigned_tied}
 use Rattle.std.specs.FinSet as set
@@ -11,9 +10,9 @@ use Rattle.std.specs.FinSet.{contains-remove, contains-empty}
 use Rattle.std.specs.FinMap.{get}
 use Rattle.std.proofs.lemmas.Bool.{or_cases, or_left, or_right, and_parts, true≢false, false≢true, not-true, eqb-true, eq-eqb, cases_eq, cases_Bool, false_from_ne_true}
 use Rattle.gcx_model.specs.Paths.{any}
-use Rattle.gcx_laws.proofs.Lists.{In, In-left, In-right, In-append, In-filter, In-kept, filter_none, filter_same, any_in, any_from}
-use Rattle.gcx_laws.specs.Trace as trace
-use Rattle.gcx_laws.proofs.Departures.{falling_same}
+use Rattle.tree_laws.proofs.Lists.{In, In-left, In-right, In-append, In-filter, In-kept, filter_none, filter_same, any_in, any_from}
+use Rattle.tree_laws.specs.Departing as trace
+use Rattle.tree_laws.proofs.Departures.{falling_same}
 use Rattle.node_store.specs.Rows.{Entry, changed_at, paid_by}
 use Rattle.buf_tree.specs.declared.row.Row.{Row}
 use Rattle.buf_tree.specs.Rows.{untaken}

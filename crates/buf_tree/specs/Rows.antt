@@ -1,27 +1,17 @@
 -- What single edits make of a row.
-use Rattle.std.specs.Prelude.{◌≡◌, ◌+◌, ◌==◌, ◌&&◌, ℕ, Bool, true, false, not, List, [], map}
+use Rattle.std.specs.Prelude.{◌≡◌, ◌+◌, ◌==◌, ◌&&◌, ℕ, Bool, false, not, List, [], map}
 use Rattle.std.specs.Ordering.{nat_cmp}
 use Rattle.std.specs.FinSet as set
 use Rattle.gcx_base.specs.declared.ids.Serial.{Serial}
 use Rattle.gcx_base.specs.declared.kind.Kind.{Kind}
 use Rattle.gcx_base.specs.declared.kind.Kind.TheVariants.{Document, Element, Text}
+use Rattle.gcx_base.specs.Kinds.{is_text}
 use Rattle.node_store.specs.Rows.{Entry}
 use Rattle.buf_tree.specs.declared.row.Row.{Row}
-
-abbrev pub is_text : Kind → Bool
-is_text Document = false
-is_text (Element name) = false
-is_text (Text b) = true
 
 -- a text without a role
 abbrev pub is_bare : Kind → set.FinSet nat_cmp → Bool
 is_bare kind roles = is_text kind && (set.len roles == 0)
-
--- an element or a text
-abbrev pub IsNode : Kind → Type 0
-IsNode Document = ⊥
-IsNode (Element name) = Unit {0}
-IsNode (Text b) = Unit {0}
 
 abbrev pub serials : List Serial → List ℕ
 serials ss = map (λ (s : Serial). s.0) ss

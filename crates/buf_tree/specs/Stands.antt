@@ -52,19 +52,9 @@ pub record StandsFor (v : View) (past : Past) : Type 0 where
   pub waiting : map awaited_by v.waiting ≡ waiting_offs past
   pub nodes : v.nodes ≡ length past.tree.nodes
 
--- one token more, of which no statement has been told yet
-abbrev pub past_grown : Token → Past → Past
-past_grown t past = record past { tree = grow t past.tree }
-
 -- all actions so far count as taken before the last token
 abbrev pub past_told : Past → Past
 past_told past = record past { fed = length past.acts }
-
--- the token that opens a node of this kind
-abbrev pub token_for : Kind → Token
-token_for Document = End
-token_for (Element name) = Start name
-token_for (Text b) = Chars b
 
 -- the node that the token opens is given the one list of roles, of which the other is taken in advance
 abbrev pub GivenTo : Past → Token → List Role → List Role → Type 0

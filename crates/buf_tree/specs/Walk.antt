@@ -1,7 +1,7 @@
 -- What the walks over the rows answer. This follows the code: only private functions and the buffer's invariant, which has `Nested`, speak of it.
 use Rattle.std.specs.Prelude.{◌≡◌, ◌<◌, ◌≤◌, ◌⊎◌, ℕ, suc, true, ltb, List, length, filter, Option, Some, None}
 use Rattle.gcx_base.specs.declared.steps.Test.{Test}
-use Rattle.gcx_model.specs.Paths.{passes}
+use Rattle.gcx_base.specs.Tests.{passes}
 use Rattle.gcx_model.specs.Members.{In}
 use Rattle.buf_tree.specs.Shape.{Cell, num, at_place}
 

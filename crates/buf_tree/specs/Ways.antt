@@ -12,7 +12,8 @@ use Rattle.gcx_model.specs.Held.{is_node, reaches}
 use Rattle.gcx_model.specs.ItemView.{off_tree}
 use Rattle.gcx_model.specs.Nodes.{Rising}
 use Rattle.gcx_model.specs.Members.{In}
-use Rattle.gcx_model.specs.Paths.{any, hits, first, passes}
+use Rattle.gcx_base.specs.Tests.{passes}
+use Rattle.gcx_model.specs.Paths.{any, hits, first}
 use Rattle.gcx_model.specs.Tree.{Tree, Node, Root, Under, serial_of, above}
 use Rattle.buf_tree.specs.declared.row.Row.{Row}
 use Rattle.buf_tree.specs.Shape.{Cell, num}

@@ -12,13 +12,15 @@ ghost use Rattle.gcx_model.specs.Cores.{Good};
 ghost use Rattle.gcx_model.specs.Placed.{Placed};
 ghost use Rattle.gcx_model.specs.Held.{roles_given};
 ghost use Rattle.gcx_model.specs.Past.{Past, opening_past, past_fed};
-ghost use Rattle.buf_tree.specs.Rows.{IsNode, serials};
+ghost use Rattle.gcx_model.specs.Past.{IsNode};
+ghost use Rattle.buf_tree.specs.Rows.{serials};
 ghost use Rattle.buf_tree.specs.Shape.{Cell, num, cells, Shape};
 ghost use Rattle.buf_tree.specs.View.{View, InUse, Innermost, serial_at, level_in};
 ghost use Rattle.buf_tree.specs.Shape.{at_place};
 ghost use Rattle.buf_tree.specs.Calls.{Started, Opened, Closed, HasRole, Untaken, numbers, less};
 ghost use Rattle.buf_tree.specs.Ways.{is_waiting};
-ghost use Rattle.buf_tree.specs.Stands.{StandsFor, past_grown, past_told, token_for, GivenTo};
+ghost use Rattle.buf_tree.specs.Stands.{StandsFor, past_told, GivenTo};
+ghost use Rattle.gcx_model.specs.Past.{past_grown, token_for};
 
 use crate::ahead::Ahead;
 use crate::edits::{add_row, plant_row, settle, shut, untake};
@@ -170,6 +172,7 @@ impl<N: NodeStore<Row>> Buffer<N> {
     }
 
     /// Closes the innermost open node, while nothing waits. Then what nothing keeps leaves. Takes no memory.
+    #[inline(always)]
     pub fn close_node(&mut self, place: Place)
         requires innermost { Innermost self.old.rows place.0 }
         requires waiting { self.old.waiting ≡ [] }
@@ -210,6 +213,7 @@ impl<N: NodeStore<Row>> Buffer<N> {
     }
 
     /// The serial of the row at the place. Takes no memory.
+    #[inline(always)]
     pub fn serial(&self, place: Place) -> Serial
         requires { InUse self.now.rows place.0 }
         ensures serial { result.0 ≡ serial_at place.0 self.now.rows }
@@ -219,6 +223,7 @@ impl<N: NodeStore<Row>> Buffer<N> {
     }
 
     /// Whether the node of the row at the place is closed. Takes no memory.
+    #[inline(always)]
     pub fn is_closed(&self, place: Place) -> bool
         requires { InUse self.now.rows place.0 }
         ensures { (c : Cell) → In c self.now.rows → c.place ≡ place.0 → result ≡ not c.row.is_open }
@@ -236,6 +241,7 @@ impl<N: NodeStore<Row>> Buffer<N> {
     }
 
     /// A cursor over the store, at the row at the place. Takes no memory.
+    #[inline(always)]
     pub fn at(&self, place: Place) -> At<'_, N, Row>
         requires { InUse self.now.rows place.0 }
         ensures place { result.place ≡ place }
@@ -267,6 +273,7 @@ impl<N: NodeStore<Row>> Buffer<N> {
     }
 
     /// Forgets the departures. Takes no memory.
+    #[inline(always)]
     pub fn clear_gone(&mut self)
         ensures { self.new ≡ record self.old { gone = [] } }
     {
@@ -281,6 +288,7 @@ impl<N: NodeStore<Row>> Buffer<N> {
     }
 }
 
+#[inline(always)]
 fn holds(roles: &[Role], role: Role) -> bool
     ensures { result ≡ list_any (λ k. k == role.0) (numbers roles.now) }
 {
@@ -293,6 +301,7 @@ fn holds(roles: &[Role], role: Role) -> bool
 }
 
 /// The roles that are given and not ahead.
+#[inline(always)]
 fn roles_left(alloc: Global, given: &[Role], ahead: &[Role]) -> Result<RoleSet, Memory>
     ensures { IfOk result (λ s. s ≡ set.from_list (less (numbers given.now) (numbers ahead.now))) }
 {

@@ -14,6 +14,7 @@ use gcx_base::{Memory, Role, Serial};
 use node_store::{NodeStore, Place};
 
 /// Closes the node.
+#[inline(always)]
 pub(crate) fn shut<N: NodeStore<Row>>(nodes: &mut N, place: Place)
     requires { IsSome (map.get (N.rows nodes.old) place.0) }
     ensures rows { N.rows nodes.new ≡ changed_at (paid_by shut_row) place.0 (N.rows nodes.old) }
@@ -26,6 +27,7 @@ pub(crate) fn shut<N: NodeStore<Row>>(nodes: &mut N, place: Place)
 }
 
 /// Takes a role, which the node has, back from it.
+#[inline(always)]
 pub(crate) fn untake<N: NodeStore<Row>>(nodes: &mut N, place: Place, role: Role)
     requires { (e : Entry Row) × (map.get (N.rows nodes.old) place.0 ≡ Some e) × (set.contains e.payload.roles role.0 ≡ true) }
     ensures rows { N.rows nodes.new ≡ changed_at (paid_by (untaken role.0)) place.0 (N.rows nodes.old) }
@@ -38,6 +40,7 @@ pub(crate) fn untake<N: NodeStore<Row>>(nodes: &mut N, place: Place, role: Role)
 }
 
 /// Signs the node for the role's statement.
+#[inline(always)]
 pub(crate) fn sign<N: NodeStore<Row>>(nodes: &mut N, place: Place, role: Role) -> Result<(), Memory>
     requires { IsSome (map.get (N.rows nodes.old) place.0) }
     ensures ok { OnOk result (N.rows nodes.new ≡ changed_at (paid_by (signed_for role.0)) place.0 (N.rows nodes.old)) }
@@ -52,6 +55,7 @@ pub(crate) fn sign<N: NodeStore<Row>>(nodes: &mut N, place: Place, role: Role) -
 }
 
 /// Whether nothing keeps the node: it is closed, has no role and no child.
+#[inline(always)]
 pub(crate) fn is_spare<N: NodeStore<Row>>(nodes: &N, place: Place) -> bool
     requires { IsSome (map.get (N.rows nodes.now) place.0) }
     ensures { (e : Entry Row) → map.get (N.rows nodes.now) place.0 ≡ Some e → IsTrue result ↔ IsSpare e }
@@ -61,6 +65,7 @@ pub(crate) fn is_spare<N: NodeStore<Row>>(nodes: &N, place: Place) -> bool
 }
 
 /// Takes out a row that nothing keeps, and answers where its parent is.
+#[inline(always)]
 pub(crate) fn drop_row<N: NodeStore<Row>>(
     nodes: &mut N,
     gone: &mut Vec<Serial>,
@@ -77,12 +82,14 @@ pub(crate) fn drop_row<N: NodeStore<Row>>(
     ensures loans { N.loans nodes.new ≡ N.loans nodes.old }
 {
     let up = nodes.parent(place);
-    let row = nodes.unlink_leaf(place);
-    gone.push_reserved(Serial(row.serial));
+    let serial = nodes.payload(place).serial;
+    nodes.drop_leaf(place);
+    gone.push_reserved(Serial(serial));
     up
 }
 
 /// From the row at the place upwards takes out what nothing keeps.
+#[inline(always)]
 pub(crate) fn purge<N: NodeStore<Row>>(nodes: &mut N, gone: &mut Vec<Serial>, place: Place)
     requires shape { Shaped (N.rows nodes.old) }
     requires there { IsSome (map.get (N.rows nodes.old) place.0) }
@@ -118,6 +125,7 @@ pub(crate) fn plant_row<N: NodeStore<Row>>(nodes: &mut N, row: Row) -> Result<Pl
 }
 
 /// A new row as last child. Want of memory leaves the store as it was.
+#[inline(always)]
 pub(crate) fn add_row<N: NodeStore<Row>>(
     nodes: &mut N,
     parent: Place,
@@ -137,6 +145,7 @@ pub(crate) fn add_row<N: NodeStore<Row>>(
 }
 
 /// A purge, and the number of rows behind it.
+#[inline(always)]
 pub(crate) fn settle<N: NodeStore<Row>>(
     nodes: &mut N,
     gone: &mut Vec<Serial>,

@@ -19,6 +19,7 @@ use node_store::{NodeStore, Place};
 impl<N: NodeStore<Row>> Buffer<N> {
     /// The first row that the step reaches from the row at the place, of those with a serial above `after`. Looks at
     /// rows above `after` alone, from the last one back. Takes no memory.
+    #[inline(always)]
     pub fn next_match(&self, place: Place, step: &Step, after: Serial) -> Option<Place>
         requires { InUse self.now.rows place.0 }
         ensures found { (c : Cell) → In c self.now.rows → c.place ≡ place.0 → MatchOption result (Unreached self.now.rows c step.now after.0) (λ p. FirstReached self.now.rows c step.now after.0 p.0) }
@@ -33,6 +34,7 @@ impl<N: NodeStore<Row>> Buffer<N> {
     /// The first row that the step reaches from the row at the place, of those behind the row at `from`, which is that
     /// row, a child of it, or for a descendant step any row below it. Looks at the rows from there on up to the answer
     /// alone, for a child step at children. Takes no memory.
+    #[inline(always)]
     pub fn match_behind(&self, place: Place, step: &Step, from: Place) -> Option<Place>
         requires { GoesFrom self.now.rows place.0 step.now.axis from.0 }
         ensures found { (c d : Cell) → In c self.now.rows → In d self.now.rows → c.place ≡ place.0 → d.place ≡ from.0 → MatchOption result (Unreached self.now.rows c step.now (num d)) (λ p. FirstReached self.now.rows c step.now (num d) p.0) }

@@ -1,6 +1,6 @@
 //! What the buffer keeps of a node.
 ghost use Rattle.std.specs.Prelude.{◌≡◌, ◌≤◌, not};
-ghost use Rattle.buf_tree.specs.Rows.{is_text, is_bare, below_row};
+ghost use Rattle.buf_tree.specs.Rows.{is_bare, below_row};
 
 use gcx_base::{Kind, Serial};
 use role_set::RoleSet;
@@ -41,24 +41,19 @@ impl Row {
     }
 }
 
-/// Whether a node of this kind is a text, which is closed at once.
-pub(crate) fn is_text(kind: &Kind) -> bool
-    ensures { result ≡ is_text kind.now }
-{
-    matches!(kind, Kind::Text(_))
-}
-
 /// Whether a new node of this kind with these roles leaves at once.
+#[inline(always)]
 pub(crate) fn is_bare(kind: &Kind, roles: &RoleSet) -> bool
     ensures { result ≡ is_bare kind.now roles.now }
 {
-    if !is_text(kind) {
+    if !kind.is_text() {
         return false;
     }
     roles.is_empty()
 }
 
 /// The row of a new child of this one, with these roles.
+#[inline(always)]
 pub(crate) fn row_below(alloc: Global, above: &Row, serial: u64, kind: Kind, roles: RoleSet) -> Row
     requires { above.now.level ≤ 1000 }
     ensures { result ≡ below_row above.now.serial above.now.level serial kind roles }
@@ -67,7 +62,7 @@ pub(crate) fn row_below(alloc: Global, above: &Row, serial: u64, kind: Kind, rol
         serial,
         parent: above.serial,
         level: above.level + 1,
-        is_open: !is_text(&kind),
+        is_open: !kind.is_text(),
         kind,
         roles,
         signed: RoleSet::new(alloc),

@@ -2,43 +2,18 @@
 ghost use Rattle.std.specs.Prelude.{◌≡◌, ◌==◌, ◌≤◌, ◌⊎◌, cond, Option, Some, None, IsSome, MatchOption, option_map};
 ghost use Rattle.std.specs.FinMap as map;
 ghost use Rattle.gcx_base.specs.declared.steps.Axis.TheVariants.{Child, Descendant};
-ghost use Rattle.gcx_base.specs.declared.steps.Test.TheVariants.{Named};
-ghost use Rattle.gcx_base.specs.declared.kind.Kind.TheVariants.{Element};
 ghost use Rattle.gcx_model.specs.Members.{In};
-ghost use Rattle.gcx_model.specs.Paths.{passes};
+ghost use Rattle.gcx_base.specs.Tests.{passes};
 ghost use Rattle.node_store.specs.Rows.{head_of, children_in};
 ghost use Rattle.buf_tree.specs.Shape.{Cell, num, cells, Shaped};
 ghost use Rattle.buf_tree.specs.Walk.{Nested, Inside, Within, IsLast, JustBefore, BeforeIn, BehindIn};
 ghost use Rattle.buf_tree.specs.Match.{IsChild, Unreached, FirstReached, IsFrom};
 
 use crate::row::Row;
-use gcx_base::{Kind, Name, Step, Test};
+use gcx_base::{Step, Test};
 use node_store::{NodeStore, Place};
 
-fn is_named(name: &Name, other: &Name) -> bool
-    ensures { result ≡ passes (Named name.now) (Element other.now) }
-{
-    name.as_bytes() == other.as_bytes()
-}
-
-/// Whether a node of this kind passes the test.
-pub(crate) fn passes(test: &Test, kind: &Kind) -> bool
-    ensures { result ≡ passes test.now kind.now }
-{
-    match kind {
-        Kind::Document => false,
-        Kind::Element(other) => match test {
-            Test::Named(name) => is_named(name, other),
-            Test::AnyElement | Test::AnyNode => true,
-            Test::AnyText => false,
-        },
-        Kind::Text(_) => match test {
-            Test::AnyText | Test::AnyNode => true,
-            Test::Named(_) | Test::AnyElement => false,
-        },
-    }
-}
-
+#[inline(always)]
 pub(crate) fn is_same(place: Place, other: Place) -> bool
     ensures { result ≡ (place.0 == other.0) }
 {
@@ -46,6 +21,7 @@ pub(crate) fn is_same(place: Place, other: Place) -> bool
 }
 
 /// The last row of the subtree.
+#[inline(always)]
 fn tail<N: NodeStore<Row>>(nodes: &N, top: Place) -> Place
     requires shape { Shaped (N.rows nodes.now) }
     requires nested { Nested (cells (N.rows nodes.now)) }
@@ -60,6 +36,7 @@ fn tail<N: NodeStore<Row>>(nodes: &N, top: Place) -> Place
 }
 
 /// The row before this one in document order, or None at the first.
+#[inline(always)]
 fn before<N: NodeStore<Row>>(nodes: &N, place: Place) -> Option<Place>
     requires shape { Shaped (N.rows nodes.now) }
     requires nested { Nested (cells (N.rows nodes.now)) }
@@ -73,6 +50,7 @@ fn before<N: NodeStore<Row>>(nodes: &N, place: Place) -> Option<Place>
 }
 
 /// The last row below this one, or None where there is none.
+#[inline(always)]
 pub(crate) fn last_below<N: NodeStore<Row>>(nodes: &N, top: Place) -> Option<Place>
     requires shape { Shaped (N.rows nodes.now) }
     requires nested { Nested (cells (N.rows nodes.now)) }
@@ -84,6 +62,7 @@ pub(crate) fn last_below<N: NodeStore<Row>>(nodes: &N, top: Place) -> Option<Pla
 }
 
 /// The row before this one that lies below `top`, as this one does, or None where it is the first of these.
+#[inline(always)]
 pub(crate) fn before_below<N: NodeStore<Row>>(nodes: &N, top: Place, place: Place) -> Option<Place>
     requires shape { Shaped (N.rows nodes.now) }
     requires nested { Nested (cells (N.rows nodes.now)) }
@@ -97,6 +76,7 @@ pub(crate) fn before_below<N: NodeStore<Row>>(nodes: &N, top: Place, place: Plac
 }
 
 /// The first of the children above `bound` that passes the test. The children are looked at from the last one back.
+#[inline(always)]
 pub(crate) fn first_child<N: NodeStore<Row>>(
     nodes: &N,
     top: Place,
@@ -122,10 +102,11 @@ pub(crate) fn first_child<N: NodeStore<Row>>(
 }
 
 /// This place where its row passes the test, else the one found before.
+#[inline(always)]
 fn pick(test: &Test, row: &Row, here: Place, found: Option<Place>) -> Option<Place>
     ensures { option_map (λ p. p.0) result ≡ cond (passes test.now row.now.kind) (Some here.0) (option_map (λ p. p.0) found) }
 {
-    if passes(test, &row.kind) {
+    if test.passes(&row.kind) {
         Some(here)
     } else {
         found
@@ -160,6 +141,7 @@ pub(crate) fn first_below<N: NodeStore<Row>>(
 }
 
 /// The row behind the subtree of this one, which has no child, as far as it lies below `top`.
+#[inline(always)]
 fn behind<N: NodeStore<Row>>(nodes: &N, top: Place, place: Place) -> Option<Place>
     requires shape { Shaped (N.rows nodes.now) }
     requires nested { Nested (cells (N.rows nodes.now)) }
@@ -184,6 +166,7 @@ fn behind<N: NodeStore<Row>>(nodes: &N, top: Place, place: Place) -> Option<Plac
 
 /// The row behind this one that lies below `top`, where this one is `top` or lies below it, or None where it is the
 /// last of these.
+#[inline(always)]
 pub(crate) fn after<N: NodeStore<Row>>(nodes: &N, top: Place, place: Place) -> Option<Place>
     requires shape { Shaped (N.rows nodes.now) }
     requires nested { Nested (cells (N.rows nodes.now)) }
@@ -199,6 +182,7 @@ pub(crate) fn after<N: NodeStore<Row>>(nodes: &N, top: Place, place: Place) -> O
 }
 
 /// The first child, or the next one behind `from`, a child.
+#[inline(always)]
 fn child_after<N: NodeStore<Row>>(nodes: &N, top: Place, from: Place) -> Option<Place>
     requires shape { Shaped (N.rows nodes.now) }
     requires top { IsSome (map.get (N.rows nodes.now) top.0) }
@@ -213,6 +197,7 @@ fn child_after<N: NodeStore<Row>>(nodes: &N, top: Place, from: Place) -> Option<
 }
 
 /// The next child behind `from`, a child or `top` itself, that passes the test.
+#[inline(always)]
 pub(crate) fn next_child<N: NodeStore<Row>>(
     nodes: &N,
     top: Place,
@@ -228,7 +213,7 @@ pub(crate) fn next_child<N: NodeStore<Row>>(
 {
     let mut at = child_after(nodes, top, from);
     'on: while let Some(here) = at {
-        if passes(&step.test, &nodes.payload(here).kind) {
+        if step.test.passes(&nodes.payload(here).kind) {
             return Some(here);
         }
         at = nodes.next(here);
@@ -253,7 +238,7 @@ pub(crate) fn next_below<N: NodeStore<Row>>(
 {
     let mut at = after(nodes, top, from);
     'on: while let Some(here) = at {
-        if passes(&step.test, &nodes.payload(here).kind) {
+        if step.test.passes(&nodes.payload(here).kind) {
             return Some(here);
         }
         at = after(nodes, top, here);

@@ -19,7 +19,7 @@ use crate::ahead::Ahead;
 use crate::buffer::Buffer;
 use crate::edits::{settle, sign};
 use crate::row::Row;
-use crate::sweep::{has_other_base, is_own, sweep, take_own};
+use crate::sweep::{has_other_base, sweep, take_own};
 use crate::trail::Trail;
 use gcx_base::{Memory, Serial};
 use gcx_model::Off;
@@ -72,6 +72,7 @@ impl<N: NodeStore<Row>> Buffer<N> {
 
     /// Takes the role of the statement, for which the node is signed, from the nodes that lose it, and lets go what
     /// nothing keeps then. `others` says whether another base may keep it, and then there is room for the walks.
+    #[inline(always)]
     fn withdraw(&mut self, place: Place, off: &Off, others: bool, trail: &mut Trail)
         requires taking { Taking self.old.rows place.0 off.now others }
         requires room { others ≡ true → (length off.now.tail + 1 ≤ vec_capacity trail.old.tails) × (length off.now.rel + 1 ≤ vec_capacity trail.old.rels) × (length off.now.tail + 1 ≤ vec_capacity trail.old.again) }
@@ -88,6 +89,7 @@ impl<N: NodeStore<Row>> Buffer<N> {
 
 /// Takes the role of the statement from the rows that lose it, and takes out the rows below the base that nothing
 /// keeps then. Answers how many roles were taken.
+#[inline(always)]
 fn take_back<N: NodeStore<Row>>(
     nodes: &mut N,
     gone: &mut Vec<Serial>,
@@ -109,13 +111,14 @@ fn take_back<N: NodeStore<Row>>(
     ensures most { N.most_held nodes.new ≡ N.most_held nodes.old }
     ensures loans { N.loans nodes.new ≡ N.loans nodes.old }
 {
-    if is_own(off) {
+    if off.is_own() {
         return take_own(nodes, off, place);
     }
     sweep(nodes, gone, off, place, others, trail)
 }
 
 /// Room for the walks of the statement, where another base may keep its role.
+#[inline(always)]
 fn trail_for(alloc: Global, off: &Off, others: bool) -> Result<Trail, Memory>
     ensures { IfOk result (λ t. others ≡ true → (length off.now.tail + 1 ≤ vec_capacity t.tails) × (length off.now.rel + 1 ≤ vec_capacity t.rels) × (length off.now.tail + 1 ≤ vec_capacity t.again)) }
 {

@@ -20,21 +20,11 @@ use crate::search::{before_below, last_below};
 use crate::trail::Trail;
 use crate::upward::{is_kept, is_waiting};
 use gcx_base::Serial;
-use gcx_model::{Off, RoleKind};
+use gcx_model::Off;
 use node_store::{NodeStore, Place};
 
-/// Whether the statement reaches its base alone.
-pub(crate) fn is_own(off: &Off) -> bool
-    ensures { result ≡ is_own (off_tree off.now) }
-{
-    match off.kind {
-        RoleKind::Own => off.rel.items().is_empty(),
-        RoleKind::First => false,
-        RoleKind::Whole => false,
-    }
-}
-
 /// Whether a base stands above at which the statement isn't signed.
+#[inline(always)]
 fn has_base_above<N: NodeStore<Row>>(nodes: &N, off: &Off, place: Place) -> bool
     requires shape { Shaped (N.rows nodes.now) }
     requires nested { Nested (cells (N.rows nodes.now)) }
@@ -52,6 +42,7 @@ fn has_base_above<N: NodeStore<Row>>(nodes: &N, off: &Off, place: Place) -> bool
 }
 
 /// Whether a base stands below at which the statement isn't signed.
+#[inline(always)]
 fn has_base_below<N: NodeStore<Row>>(nodes: &N, off: &Off, place: Place) -> bool
     requires shape { Shaped (N.rows nodes.now) }
     requires nested { Nested (cells (N.rows nodes.now)) }
@@ -69,13 +60,14 @@ fn has_base_below<N: NodeStore<Row>>(nodes: &N, off: &Off, place: Place) -> bool
 }
 
 /// Whether another base may keep the role of this one's statement somewhere.
+#[inline(always)]
 pub(crate) fn has_other_base<N: NodeStore<Row>>(nodes: &N, off: &Off, place: Place) -> bool
     requires shape { Shaped (N.rows nodes.now) }
     requires nested { Nested (cells (N.rows nodes.now)) }
     requires there { IsSome (map.get (N.rows nodes.now) place.0) }
     ensures { (c : Cell) → In c (cells (N.rows nodes.now)) → c.place ≡ place.0 → (result ≡ true) ↔ ((is_own (off_tree off.now) ≡ false) × (BaseAbove (cells (N.rows nodes.now)) off.now c ⊎ BaseBelow (cells (N.rows nodes.now)) off.now c)) }
 {
-    if is_own(off) {
+    if off.is_own() {
         return false;
     }
     if has_base_above(nodes, off, place) {
@@ -86,6 +78,7 @@ pub(crate) fn has_other_base<N: NodeStore<Row>>(nodes: &N, off: &Off, place: Pla
 
 /// Takes the statement's role from the row, where it has it and no base keeps it. Answers how many roles were taken.
 /// Where there is no other base none keeps it.
+#[inline(always)]
 fn withdraw<N: NodeStore<Row>>(
     nodes: &mut N,
     off: &Off,
@@ -118,6 +111,7 @@ fn withdraw<N: NodeStore<Row>>(
 }
 
 /// Takes out the row where nothing keeps it.
+#[inline(always)]
 fn drop_spare<N: NodeStore<Row>>(nodes: &mut N, gone: &mut Vec<Serial>, place: Place)
     requires there { IsSome (map.get (N.rows nodes.old) place.0) }
     requires room { vec_len gone.old < vec_capacity gone.old }
@@ -133,6 +127,7 @@ fn drop_spare<N: NodeStore<Row>>(nodes: &mut N, gone: &mut Vec<Serial>, place: P
 
 /// Takes the role from the base's subtree, from its last row back, and takes out the rows below the base that nothing
 /// keeps then. Answers how many roles were taken.
+#[inline(always)]
 pub(crate) fn sweep<N: NodeStore<Row>>(
     nodes: &mut N,
     gone: &mut Vec<Serial>,
@@ -165,6 +160,7 @@ pub(crate) fn sweep<N: NodeStore<Row>>(
 }
 
 /// Takes the role of a statement that reaches its base alone, where the base has it. Answers how many roles were taken.
+#[inline(always)]
 pub(crate) fn take_own<N: NodeStore<Row>>(nodes: &mut N, off: &Off, place: Place) -> u64
     requires there { IsSome (map.get (N.rows nodes.old) place.0) }
     ensures taken { (e : Entry Row) → map.get (N.rows nodes.old) place.0 ≡ Some e → result ≡ cond (set.contains e.payload.roles off.now.role.0) 1 0 }

@@ -14,7 +14,7 @@ ghost use Rattle.buf_tree.specs.Walk.{Nested};
 ghost use Rattle.buf_tree.specs.Ways.{NodeOf, NoneBefore, TreeOf, IsKept, FlagsBut, is_waiting, is_whole, tail_steps, tail_ends, ends_at, Descends, Flags, flag_up, goes_on};
 
 use crate::row::Row;
-use crate::search::{after, is_same, passes};
+use crate::search::{after, is_same};
 use crate::trail::Trail;
 use gcx_base::{Axis, Kind, Step};
 use gcx_model::{Off, RoleKind};
@@ -37,7 +37,7 @@ fn begin(flags: &mut Vec<bool>, steps: usize, end: bool)
 fn flag_up(step: &Step, kind: &Kind, here: bool, next: bool) -> bool
     ensures { result ≡ flag_up step.now kind.now here next }
 {
-    (next && passes(&step.test, kind)) || (here && goes_on(step.axis))
+    (next && step.test.passes(kind)) || (here && goes_on(step.axis))
 }
 
 /// Whether a step may also lead on from a node that it could lead to.
@@ -120,6 +120,7 @@ fn is_first<N: NodeStore<Row>>(
 }
 
 /// Whether the row is that of a base at which the statement isn't signed.
+#[inline(always)]
 pub(crate) fn is_waiting(row: &Row, off: &Off) -> bool
     ensures { result ≡ is_waiting row.now off.now }
 {

@@ -20,10 +20,10 @@ use Rattle.gcx_model.specs.declared.item.Off.{Off}
 use Rattle.gcx_model.specs.Growth.{may_come, may_all, level}
 use Rattle.gcx_model.specs.Past.{Past, opening_past, past_fed, past_acted, reopened}
 use Rattle.gcx_model.specs.Seen.{SeenIs, seen_tree}
-use Rattle.gcx_laws.proofs.Lists.{In-filter}
-use Rattle.gcx_laws.proofs.Matches.{Numbered-same}
-use Rattle.gcx_laws.proofs.Bases.{is_grown}
-use Rattle.gcx_laws.proofs.Growing.{grow_all-append}
+use Rattle.tree_laws.proofs.Lists.{In-filter}
+use Rattle.tree_laws.proofs.Matches.{Numbered-same}
+use Rattle.past_laws.proofs.Bases.{is_grown}
+use Rattle.tree_laws.proofs.Growing.{grow_all-append}
 use Rattle.doc_laws.proofs.Growing.{seen_comes}
 use Rattle.doc_laws.proofs.TreeBounds.{seen_within}
 use Rattle.doc_reader.specs.Standing.{ReaderView, GivesBy, Stands, waiting, said_of}

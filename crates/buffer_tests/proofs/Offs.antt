@@ -9,7 +9,7 @@ use Rattle.gcx_model.specs.Core as tree
 use Rattle.gcx_model.specs.Core.{OffTree}
 use Rattle.gcx_model.specs.Members.{In}
 use Rattle.gcx_model.specs.Placed.{item_offs, offs_in}
-use Rattle.gcx_laws.proofs.Lists.{In-left, In-right}
+use Rattle.tree_laws.proofs.Lists.{In-left, In-right}
 
 -- a statement of an item is one of the body
 pub among : (xs : List Item) (k : ℕ) (x : Item) (o : OffTree) → k < length xs → x ≡ slice_index_or xs k x → In o (item_offs (item_tree x)) → In o (offs_in (body_of (map item_tree xs)))

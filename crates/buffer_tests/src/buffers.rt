@@ -6,7 +6,7 @@ ghost use Rattle.gcx_model.specs.Members.{In};
 ghost use Rattle.gcx_model.specs.Core.{BodyTree, PlanTree};
 ghost use Rattle.gcx_model.specs.Cores.{Good};
 ghost use Rattle.gcx_model.specs.ItemView.{body_tree, off_tree};
-ghost use Rattle.gcx_model.specs.Placed.{Placed, is_own, offs_in};
+ghost use Rattle.gcx_model.specs.Placed.{Placed, offs_in};
 ghost use Rattle.gcx_model.specs.PlanView.{plan_tree};
 ghost use Rattle.doc_reader.specs.Standing.{ReaderView, Stands};
 ghost use Rattle.projector.specs.declared.projector.Projector.{Projector};
@@ -21,9 +21,9 @@ mod statements;
 use buf_tree::{Buffer, Row};
 use doc_reader::Reader;
 use gcx_base::{Axis, Limits, Serial, Step, Test};
-use gcx_laws::normal_is_good;
-use gcx_model::{Body, Given, Item, Off, Plan, RoleKind};
+use gcx_model::{Body, Given, Item, Off, Plan};
 use node_store::{NodeStore, Place, SlabNodes};
+use placed_laws::normal_is_good;
 use projector::{Fed, Projector};
 use raw_nodes::RawNodes;
 use signoff_place::compile;
@@ -200,17 +200,6 @@ fn feed<N: NodeStore<Row>>(
     Ok(())
 }
 
-/// Whether the statement reaches its base alone.
-fn is_own(off: &Off) -> bool
-    ensures { result ≡ is_own (off_tree off.now) }
-{
-    match off.kind {
-        RoleKind::Own => off.rel.items().is_empty(),
-        RoleKind::First => false,
-        RoleKind::Whole => false,
-    }
-}
-
 /// Carries out a statement of the plan at the node of this row.
 fn carry_out<N: NodeStore<Row>>(
     alloc: Global,
@@ -225,7 +214,7 @@ fn carry_out<N: NodeStore<Row>>(
     if !buffer.is_due(place, off) {
         return Err("not due")?;
     }
-    if is_own(off) || buffer.is_closed(place) {
+    if off.is_own() || buffer.is_closed(place) {
         buffer.sign_off(alloc, place, off)?;
     } else {
         buffer.sign_ahead(alloc, place, off)?;

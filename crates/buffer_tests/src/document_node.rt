@@ -2,7 +2,7 @@
 ghost use Rattle.std.specs.Prelude.{List, IfOk};
 ghost use Rattle.gcx_base.specs.declared.ids.Role.{Role};
 ghost use Rattle.buf_tree.specs.Calls.{Started};
-ghost use Rattle.buf_tree.specs.Rows.{IsNode};
+ghost use Rattle.gcx_model.specs.Past.{IsNode};
 
 use buf_tree::{Buffer, Row};
 use gcx_base::{Kind, Name, Role, Steps, VarId};

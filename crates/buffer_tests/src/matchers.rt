@@ -1,6 +1,6 @@
 //! The roles that a matcher gives, by itself: plans, documents and statements in words.
 ghost use Rattle.std.specs.Prelude.{IfOk};
-ghost use Rattle.matcher.specs.Matcher.{IsNode};
+ghost use Rattle.gcx_model.specs.Past.{IsNode};
 
 use crate::large::{joined, repeated};
 use gcx_base::{Axis, Kind, Name, Role, Step, Steps, Test, Text, VarId};

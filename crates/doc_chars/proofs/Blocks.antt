@@ -1,17 +1,17 @@
 -- Characters that aren't Chars, found by their bytes.
-use Rattle.std.proofs.Common.{ℕ, zero, suc, ◌≡◌, ◌+◌, ◌-◌, ◌*◌, ◌/◌, ◌%◌, ◌<◌, ◌≤◌, Bool, true, false, not, ◌&&◌, ◌||◌, cond, eqb, List, [], ◌∷◌, ◌++◌, length, take, drop, get_or, refl, sym, ap, ◌∙◌, subst, arith, length-append, length-take, length-drop, append_assoc, inl, inr}
+use Rattle.std.proofs.Common.{ℕ, zero, suc, ◌≡◌, ◌+◌, ◌-◌, ◌/◌, ◌<◌, ◌≤◌, Bool, true, false, not, ◌&&◌, cond, eqb, List, [], ◌∷◌, ◌++◌, length, take, drop, get_or, refl, sym, ap, ◌∙◌, subst, arith, length-append, length-take, length-drop, append_assoc, inl, inr}
 use Rattle.std.specs.Prelude.{nat_le}
 use Rattle.std.specs.Char.{IsScalar, encode_utf8}
 use Rattle.std.specs.List.{list_all}
 use Rattle.std.specs.Str.{IsUtf8}
-use Rattle.std.proofs.lemmas.Bool.{true≢false, false≢true, cases_lt}
+use Rattle.std.proofs.lemmas.Bool.{true≢false, cases_lt, and_parts, and_from, not-false}
 use Rattle.std.proofs.lemmas.Bool.Decides.{nat_tests}
 use Rattle.std.proofs.lemmas.List.{get_or-append-add, get_or-drop, get_or-take}
 use Rattle.doc_chars.proofs.Fronts.{some_bytes, front_of, rest_of}
 use Rattle.std.proofs.str.Laws.{one, two, three, four}
-use lib.Utf8.{scalar, scalars, scalar_cases, encode, encodes, next}
+use lib.Utf8.{scalar, scalars, encode, encodes, next}
 use Rattle.gcx_base.specs.Characters.{is_char}
-use Rattle.doc_chars.specs.Blocks.{is_plain_byte, is_last_at, is_other_at, HasNoOther, IsFirstOther}
+use Rattle.doc_chars.specs.Blocks.{is_plain_byte, is_other_at, HasNoOther, IsFirstOther}
 use Rattle.doc_chars.specs.Scan.{AreChars}
 
 -- ---- the bytes of one character
@@ -135,28 +135,16 @@ front c rest s =
 
 -- ---- texts
 
-and_both : (a b : Bool) → a && b ≡ true → (a ≡ true) × (b ≡ true)
-and_both true b e = (refl, e)
-and_both false b e = absurd (false≢true e)
-
-true_and : (a b : Bool) → a ≡ true → b ≡ true → a && b ≡ true
-true_and true b e f = f
-true_and false b e f = absurd (false≢true e)
-
-not_false : (b : Bool) → not b ≡ false → b ≡ true
-not_false true e = refl
-not_false false e = absurd (true≢false e)
-
 behind : (xs ys : List ℕ) (from to : ℕ) → HasNoOther 0 (length xs + to) (xs ++ ys) → HasNoOther 0 to ys
 behind xs ys from to h i a b = sym (shift xs ys i) ∙ h (length xs + i) (omega arith) (omega (arith, b))
 
 none_all : (cs : List ℕ) → scalars cs ≡ true → HasNoOther 0 (length (encodes cs)) (encodes cs) → list_all is_char cs ≡ true
 none_all [] s h = refl
 none_all (c ∷ cs) s h =
-    let both = and_both (scalar c) (scalars cs) s in
+    let both = and_parts (scalar c) (scalars cs) s in
     let size = length-append (encode c) (encodes cs) in
-    let first = not_false (is_char c) (sym (front c (encodes cs) both.0) ∙ h 0 (omega arith) (omega (arith, size, some_bytes c))) in
-    true_and (is_char c) (list_all is_char cs) first
+    let first = not-false (is_char c) (sym (front c (encodes cs) both.0) ∙ h 0 (omega arith) (omega (arith, size, some_bytes c))) in
+    and_from (is_char c) (list_all is_char cs) first
     (none_all cs both.1 (behind (encode c) (encodes cs) 0 (length (encodes cs)) (subst (λ n. HasNoOther 0 n (encode c ++ encodes cs)) size h)))
 
 pub none_other : (text : List ℕ) → IsUtf8 text → HasNoOther 0 (length text) text → AreChars text
@@ -179,10 +167,10 @@ record Found (text : List ℕ) (at : ℕ) : Type 0 where
 
 found : (cs : List ℕ) (at : ℕ) → scalars cs ≡ true → at < length (encodes cs) → HasNoOther 0 at (encodes cs) → is_other_at (encodes cs) at ≡ true → Found (encodes cs) at
 found [] at s l h f = absurd (omega arith)
-found (c ∷ cs) at s l h f = by (is_char c) refl (λ k. found cs k (and_both (scalar c) (scalars cs) s).1)
+found (c ∷ cs) at s l h f = by (is_char c) refl (λ k. found cs k (and_parts (scalar c) (scalars cs) s).1)
   where
     both : (scalar c ≡ true) × (scalars cs ≡ true)
-    both = and_both (scalar c) (scalars cs) s
+    both = and_parts (scalar c) (scalars cs) s
 
     here : is_char c ≡ false → at ≡ 0 → Found (encode c ++ encodes cs) at
     here e z = record { front = []; c = c; after = encodes cs; chars = refl; parts = refl; size = sym z; scalar_is = both.0; other = e }
@@ -192,7 +180,7 @@ found (c ∷ cs) at s l h f = by (is_char c) refl (λ k. found cs k (and_both (s
       front = c ∷ r.front;
       c = r.c;
       after = r.after;
-      chars = true_and (is_char c) (list_all is_char r.front) e r.chars;
+      chars = and_from (is_char c) (list_all is_char r.front) e r.chars;
       parts = ap (λ l. encode c ++ l) r.parts ∙ sym (append_assoc (encode c) (encodes r.front) (encode r.c ++ r.after));
       size = omega (arith, length-append (encode c) (encodes r.front), r.size, n);
       scalar_is = r.scalar_is;
@@ -244,8 +232,8 @@ first_is text from to at u l h f =
 
 each : (xs : List ℕ) (k : ℕ) → list_all is_plain_byte xs ≡ true → k < length xs → is_plain_byte (get_or xs k 0) ≡ true
 each [] k e l = absurd (omega arith)
-each (x ∷ xs) zero e l = (and_both (is_plain_byte x) (list_all is_plain_byte xs) e).0
-each (x ∷ xs) (suc k) e l = each xs k (and_both (is_plain_byte x) (list_all is_plain_byte xs) e).1 (omega arith)
+each (x ∷ xs) zero e l = (and_parts (is_plain_byte x) (list_all is_plain_byte xs) e).0
+each (x ∷ xs) (suc k) e l = each xs k (and_parts (is_plain_byte x) (list_all is_plain_byte xs) e).1 (omega arith)
 
 plain_other : (x y z n : ℕ) → is_plain_byte x ≡ true → other_by x y z n ≡ false
 plain_other x y z n h = grind (arith, nat_tests)

@@ -47,10 +47,6 @@ front_within text front rest c after at is len parts =
     let some = some_bytes c in
     omega (arith, a, b, len, some)
 
-pub nil_of_length : {X : Type 0} (xs : List X) → length xs ≡ 0 → xs ≡ []
-nil_of_length [] e = refl
-nil_of_length (x ∷ xs) e = absurd (omega arith)
-
 -- ---- where UTF-8 ends
 
 pub front_end : (bs : List ℕ) → IsCharFront (drop (length bs) bs)

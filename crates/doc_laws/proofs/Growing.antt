@@ -12,8 +12,8 @@ use Rattle.gcx_model.specs.Grammar.{SpellsDocument}
 use Rattle.gcx_model.specs.Fronts.{bottom, no_piece}
 use Rattle.gcx_model.specs.Faults.{FaultWithin, by_character, by_sequence, by_cut, by_end, none_yet, none_whole, FaultIs, within_limit, before_limit, past_limit}
 use Rattle.gcx_model.specs.Seen.{SeenIn, IsLongest, DocumentEnds, closes, stays_open, SeenIs, seen_tree, open_ends, LastTag}
-use Rattle.gcx_laws.proofs.Documents.{document_comes}
-use Rattle.gcx_laws.proofs.Growing.{leads}
+use Rattle.tree_laws.proofs.Documents.{document_comes}
+use Rattle.tree_laws.proofs.Growing.{leads}
 use Rattle.doc_laws.specs.Laws.{IsNamed}
 use Rattle.doc_laws.specs.Machine.{State}
 use Rattle.doc_laws.specs.States.{state_of, Fronts}

@@ -12,8 +12,8 @@ use Rattle.gcx_model.specs.Grammar.{Content, nothing, mark, space, char, referen
 use Rattle.gcx_model.specs.Fronts.{Frames, bottom, frame, frames_spelling, IsFrames, inside, depth, frames_tokens, seen_tokens}
 use Rattle.gcx_model.specs.Faults.{Clean}
 use Rattle.gcx_model.specs.Within.{AreAttributesWithin, IsContentWithin}
-use Rattle.gcx_laws.proofs.Lists.{In-append}
-use Rattle.gcx_laws.proofs.Growing.{grow_all-append}
+use Rattle.tree_laws.proofs.Lists.{In-append}
+use Rattle.tree_laws.proofs.Growing.{grow_all-append}
 use Rattle.doc_laws.proofs.Moves.{tokens-with_run}
 use Rattle.doc_laws.proofs.Within.{content_within, tag_within}
 

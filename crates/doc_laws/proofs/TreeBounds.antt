@@ -12,9 +12,9 @@ use Rattle.gcx_model.specs.Grammar.{spelling}
 use Rattle.gcx_model.specs.Fronts.{frames_spelling, piece_spelling, seen_tokens}
 use Rattle.gcx_model.specs.Faults.{Clean}
 use Rattle.gcx_model.specs.Seen.{DocumentEnds, closes, stays_open, seen_tree}
-use Rattle.gcx_laws.proofs.Matches.{Grown-opening, Grown-all}
-use Rattle.gcx_laws.proofs.Waits.{nodes_stay}
-use Rattle.gcx_laws.proofs.Growing.{grow_all-append}
+use Rattle.tree_laws.proofs.Matches.{Grown-opening, Grown-all}
+use Rattle.tree_laws.proofs.Fed.{nodes_stay}
+use Rattle.tree_laws.proofs.Growing.{grow_all-append}
 use Rattle.doc_laws.specs.Bounds.{SeenWithin}
 use Rattle.doc_laws.proofs.Levels.{NoneDeep, front_low}
 use Rattle.doc_laws.proofs.Counted.{opens, opens-append, opens_nodes, front_counted}

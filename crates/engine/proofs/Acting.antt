@@ -8,7 +8,7 @@ use Rattle.gcx_base.specs.declared.ids.Serial.{Serial}
 use Rattle.gcx_model.specs.Core.{PlanTree}
 use Rattle.gcx_model.specs.PlanView.{plan_tree}
 use Rattle.gcx_model.specs.Held.{sum_given}
-use Rattle.gcx_laws.proofs.Keeping.{taken_are_there}
+use Rattle.move_laws.proofs.Keeping.{taken_are_there}
 use Rattle.buf_tree.specs.View.{View, capped}
 use Rattle.projector.specs.declared.projector.Projector.{Projector}
 use Rattle.pull_eval.specs.Acting.{Acts, MayAct}

@@ -15,12 +15,13 @@ use Rattle.gcx_model.specs.Held.{path_of, is_held}
 use Rattle.gcx_model.specs.Growth.{Leads}
 use Rattle.gcx_model.specs.Copying.{CopyFrame, Inside, FinePoint}
 use Rattle.gcx_model.specs.Points.{actions, so_far, CoreState, Frame, Rest, Round, Part, later, PointAt, Bound_in}
-use Rattle.gcx_laws.proofs.Lists.{In-filter, In-append}
-use Rattle.gcx_laws.proofs.Matches.{Numbered-high, Matches-in}
-use Rattle.gcx_laws.proofs.More.{turn_law}
-use Rattle.gcx_laws.proofs.CopyMoves.{fine_point_stays, copy_frames_stand, inside_held}
-use Rattle.gcx_laws.proofs.Evaluator as over
-use Rattle.gcx_laws.proofs.Public.{root_from, grown_from, from_state}
+use Rattle.tree_laws.proofs.Lists.{In-filter, In-append}
+use Rattle.tree_laws.proofs.Matches.{Numbered-high, Matches-in}
+use Rattle.placed_laws.proofs.PointNeeds.{turn_law}
+use Rattle.move_laws.proofs.CopyMoves.{fine_point_stays, copy_frames_stand, inside_held}
+use Rattle.need_laws.proofs.Evaluator as over
+use Rattle.tree_laws.proofs.Fed.{root_from, grown_from}
+use Rattle.placed_laws.proofs.FromPlans.{from_state}
 use Rattle.run_laws.proofs.Feeds.{nodes_grow, matches_grow}
 use Rattle.node_store.specs.declared.store.Place.{Place}
 use Rattle.buf_tree.specs.Shape.{Cell, num}

@@ -11,9 +11,9 @@ use Rattle.gcx_model.specs.Growth.{Leads, may_all}
 use Rattle.gcx_model.specs.Points.{actions, so_far}
 use Rattle.gcx_model.specs.Demand.{peak_of}
 use Rattle.gcx_model.specs.Seen.{seen_tree}
-use Rattle.gcx_laws.proofs.Growing.{grow_all-append, leads}
-use Rattle.gcx_laws.proofs.Keeping.{so_far_stays}
-use Rattle.gcx_laws.proofs.Matches.{added, grow_nodes}
+use Rattle.tree_laws.proofs.Growing.{grow_all-append, leads}
+use Rattle.move_laws.proofs.Keeping.{so_far_stays}
+use Rattle.tree_laws.proofs.Matches.{added, grow_nodes}
 use Rattle.run_laws.proofs.Counts.{peak_step, held_counts, peak_within}
 use Rattle.buf_tree.specs.View.{View, capped}
 use Rattle.engine.specs.declared.engine.Counts.{Counts}

@@ -9,13 +9,12 @@ use Rattle.gcx_model.specs.Tree.{Node, serial_of, Token as Said, grow}
 use Rattle.gcx_model.specs.Members.{In}
 use Rattle.gcx_model.specs.Held.{held, is_held, has_serial, departed}
 use Rattle.gcx_model.specs.Nodes.{Rising as NodesRising}
-use Rattle.gcx_model.specs.Past.{Past, past_fed}
-use Rattle.gcx_laws.specs.Pasts.{Opens}
-use Rattle.gcx_laws.proofs.Ahead.{new_node}
-use Rattle.gcx_laws.proofs.Bases.{is_grown}
-use Rattle.gcx_laws.proofs.Lists.{filter_none}
-use Rattle.gcx_laws.proofs.Matches.{Numbered-high, Rising-filter}
-use Rattle.gcx_laws.proofs.RowFacts.{open_behind}
+use Rattle.gcx_model.specs.Past.{Past, past_fed, Opens}
+use Rattle.past_laws.proofs.Ahead.{new_node}
+use Rattle.past_laws.proofs.Bases.{is_grown}
+use Rattle.tree_laws.proofs.Lists.{filter_none}
+use Rattle.tree_laws.proofs.Matches.{Numbered-high, Rising-filter}
+use Rattle.past_laws.proofs.RowFacts.{open_behind}
 use Rattle.buf_tree.specs.Rows.{shut_row}
 use Rattle.buf_tree.specs.Shape.{Cell, Rising, num, with_at}
 use Rattle.buf_tree.specs.View.{View}

@@ -12,9 +12,9 @@ use Rattle.gcx_model.specs.Points.{actions, so_far}
 use Rattle.gcx_model.specs.Past.{Past}
 use Rattle.gcx_model.specs.Run.{Action}
 use Rattle.gcx_model.specs.Seen.{SeenIs, seen_tree}
-use Rattle.gcx_laws.specs.Laws.{AllClosed}
-use Rattle.gcx_laws.proofs.Documents.{documents_grow}
-use Rattle.gcx_laws.proofs.Public.{empty_law}
+use Rattle.tree_laws.specs.Growth.{AllClosed}
+use Rattle.tree_laws.proofs.Documents.{documents_grow}
+use Rattle.placed_laws.proofs.Balances.{empty_law}
 use Rattle.run_laws.proofs.Summing.{taken_is_given}
 use Rattle.doc_laws.proofs.LastTag.{seen_one}
 use Rattle.doc_reader.specs.declared.token.Token.{Token}

@@ -11,7 +11,7 @@ use Rattle.gcx_model.specs.Placed.{Placed}
 use Rattle.gcx_model.specs.Growth.{may_all}
 use Rattle.gcx_model.specs.Points.{actions}
 use Rattle.gcx_model.specs.Seen.{seen_tree}
-use Rattle.gcx_laws.proofs.Growing.{grow_all-append}
+use Rattle.tree_laws.proofs.Growing.{grow_all-append}
 use Rattle.doc_laws.proofs.Growing.{seen_comes}
 use Rattle.doc_reader.specs.declared.token.Token.{Token}
 use Rattle.doc_reader.specs.Standing.{ReaderView, Stands, waiting, said_of}

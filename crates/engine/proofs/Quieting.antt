@@ -9,16 +9,16 @@ use Rattle.gcx_model.specs.Members.{In, count}
 use Rattle.gcx_model.specs.Run.{Action}
 use Rattle.gcx_model.specs.Held.{live, roles_live, roles_given, is_live, is_held}
 use Rattle.gcx_model.specs.Growth.{Leads, more, may_come}
-use Rattle.gcx_laws.proofs.Growing.{grows}
+use Rattle.tree_laws.proofs.Growing.{grows}
 use Rattle.gcx_model.specs.Points.{actions}
 use Rattle.gcx_model.specs.Past.{Past, IsPast, open_nodes, past_fed}
-use Rattle.gcx_laws.specs.Quiet.{by_opening, by_closing}
-use Rattle.gcx_laws.proofs.Unmoved.{quiet_token}
-use Rattle.gcx_laws.proofs.Lists.{In-filter, any_in, any_from, filter_none}
-use Rattle.gcx_laws.proofs.Freeze.{within_self}
-use Rattle.gcx_laws.proofs.Changes.{live_by_feed}
-use Rattle.gcx_laws.proofs.RowFacts.{open_behind}
-use Rattle.gcx_laws.proofs.Ahead.{open_nodes_are}
+use Rattle.move_laws.specs.Quiet.{by_opening, by_closing}
+use Rattle.move_laws.proofs.Unmoved.{quiet_token}
+use Rattle.tree_laws.proofs.Lists.{In-filter, any_in, any_from, filter_none}
+use Rattle.tree_laws.proofs.Freeze.{within_self}
+use Rattle.past_laws.proofs.Changes.{live_by_feed}
+use Rattle.past_laws.proofs.RowFacts.{open_behind}
+use Rattle.past_laws.proofs.Ahead.{open_nodes_are}
 use Rattle.buf_tree.specs.Rows.{shut_row}
 use Rattle.buf_tree.specs.Shape.{Cell, num, with_at}
 use Rattle.buf_tree.specs.Purge.{is_gone}

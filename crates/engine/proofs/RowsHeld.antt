@@ -7,9 +7,9 @@ use Rattle.gcx_model.specs.Members.{In}
 use Rattle.gcx_model.specs.Growth.{level}
 use Rattle.gcx_model.specs.Held.{is_live, is_held, held}
 use Rattle.gcx_model.specs.Past.{Past}
-use Rattle.gcx_laws.proofs.Bases.{is_grown}
-use Rattle.gcx_laws.proofs.Lists.{In-filter, In-kept}
-use Rattle.gcx_laws.proofs.Matches.{Rising, Rising-filter}
+use Rattle.past_laws.proofs.Bases.{is_grown}
+use Rattle.tree_laws.proofs.Lists.{In-filter, In-kept}
+use Rattle.tree_laws.proofs.Matches.{Rising, Rising-filter}
 use Rattle.run_laws.proofs.Feeds.{open_chain}
 use Rattle.node_store.specs.declared.store.Place.{Place}
 use Rattle.buf_tree.specs.Shape.{Cell, num}

@@ -8,7 +8,7 @@ use Rattle.gcx_model.specs.declared.fault.DocFault.TheVariants.{Utf8, Syntax, Tr
 use Rattle.gcx_model.specs.Tree.{Tree, Token as Said, opening, grow, grow_all}
 use Rattle.gcx_model.specs.Growth.{Leads, may_come, may_all}
 use Rattle.gcx_model.specs.Seen.{SeenIs, seen_tree}
-use Rattle.gcx_laws.proofs.Growing.{grow_all-append, leads}
+use Rattle.tree_laws.proofs.Growing.{grow_all-append, leads}
 use Rattle.doc_laws.proofs.TreeBounds.{seen_within}
 use Rattle.doc_laws.proofs.Growing.{seen_comes}
 use Rattle.doc_laws.proofs.LastTag.{seen_one}

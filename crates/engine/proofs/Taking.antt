@@ -8,8 +8,8 @@ use Rattle.gcx_model.specs.Run.{Action, Wrote, Offed}
 use Rattle.gcx_model.specs.Held.{sum_given}
 use Rattle.gcx_model.specs.Points.{so_far, CoreState}
 use Rattle.gcx_model.specs.Past.{Past, past_acted, is_ahead, reopened}
-use Rattle.gcx_laws.specs.Moves.{IsNext, NoneLeft}
-use Rattle.gcx_laws.proofs.Keeping.{taken_are_there}
+use Rattle.move_laws.specs.Moves.{IsNext, NoneLeft}
+use Rattle.move_laws.proofs.Keeping.{taken_are_there}
 use Rattle.run_laws.proofs.Summing.{taken_is_given}
 use Rattle.matcher.specs.Matcher.{Stands}
 use Rattle.buf_tree.specs.Shape.{Cell}

@@ -6,14 +6,13 @@ use Rattle.gcx_base.specs.declared.kind.Kind.TheVariants.{Element, Text}
 use Rattle.gcx_model.specs.Members.{In}
 use Rattle.gcx_model.specs.Core.{PlanTree}
 use Rattle.gcx_model.specs.Held.{roles_given}
-use Rattle.gcx_model.specs.Past.{Past, past_fed}
+use Rattle.gcx_model.specs.Past.{Past, past_fed, Opens}
 use Rattle.gcx_model.specs.Demand.{Line, LineKind, ElementNode, TextNode, line_text, left, action_line, act_lines, feed_line, text_of_lines}
 use Rattle.gcx_model.specs.Demand as tree
-use Rattle.gcx_laws.specs.Pasts.{Opens}
-use Rattle.gcx_laws.proofs.Ahead.{new_node}
-use Rattle.gcx_laws.proofs.Lists.{In-append}
-use Rattle.gcx_laws.proofs.More.{flat_map-append}
-use Rattle.gcx_laws.proofs.RowFacts.{open_behind}
+use Rattle.past_laws.proofs.Ahead.{new_node}
+use Rattle.tree_laws.proofs.Lists.{In-append}
+use Rattle.placed_laws.proofs.PlanWriting.{flat_map-append}
+use Rattle.past_laws.proofs.RowFacts.{open_behind}
 use Rattle.buf_tree.specs.View.{View}
 use Rattle.buf_tree.specs.Calls.{numbers}
 use Rattle.buf_tree.specs.Stands.{StandsFor}

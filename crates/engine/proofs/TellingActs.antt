@@ -13,7 +13,7 @@ use Rattle.gcx_model.specs.Points.{actions, so_far}
 use Rattle.gcx_model.specs.Past.{Past, past_acted}
 use Rattle.gcx_model.specs.Demand.{Line, left, action_line, act_lines, text_of_lines}
 use Rattle.gcx_model.specs.Demand as tree
-use Rattle.gcx_laws.specs.Moves.{IsNext}
+use Rattle.move_laws.specs.Moves.{IsNext}
 use Rattle.buf_tree.specs.View.{View}
 use Rattle.buf_tree.specs.Calls.{left_out}
 use Rattle.buf_tree.specs.Stands.{StandsFor}

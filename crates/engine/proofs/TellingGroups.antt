@@ -14,9 +14,9 @@ use Rattle.gcx_model.specs.Growth.{Leads}
 use Rattle.gcx_model.specs.Points.{actions, so_far}
 use Rattle.gcx_model.specs.Seen.{seen_tree}
 use Rattle.gcx_model.specs.Demand.{Line, left, act_lines, feed_line, demand, text_of_lines}
-use Rattle.gcx_laws.proofs.Goes.{demand-append}
-use Rattle.gcx_laws.proofs.Growing.{grow_all-append}
-use Rattle.gcx_laws.proofs.Keeping.{so_far_stays}
+use Rattle.trace_laws.proofs.Goes.{demand-append}
+use Rattle.tree_laws.proofs.Growing.{grow_all-append}
+use Rattle.move_laws.proofs.Keeping.{so_far_stays}
 use Rattle.doc_reader.specs.declared.token.Token.{Token}
 use Rattle.doc_reader.specs.Standing.{said_of}
 use Rattle.engine.specs.Engine.{OnRefusal}

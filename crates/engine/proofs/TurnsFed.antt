@@ -31,7 +31,8 @@ use Rattle.engine.specs.declared.turns.Turn.{Turn as CodeTurn}
 use Rattle.engine.specs.declared.turns.Turn.TheVariants as code
 use Rattle.engine.specs.Engine.{ActorsStand, past_at}
 use Rattle.engine.specs.Going.{ComesWithin, Goes, all_of, bytes_at, roles_in}
-use Rattle.engine.specs.Turns.{AreWithin, Reaches, TurnsOn, actions_in, turn_of, turns_of, written}
+use Rattle.gcx_model.specs.Seen.{AreWithin}
+use Rattle.engine.specs.Turns.{Reaches, TurnsOn, actions_in, turn_of, turns_of, written}
 use Rattle.engine.proofs.RowsHeld.{shallow_rows}
 use Rattle.engine.proofs.Taking.{beside_told, Did, told_all}
 use Rattle.engine.proofs.Feeding.{given_fed, stands_fed}

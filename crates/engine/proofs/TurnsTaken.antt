@@ -10,10 +10,10 @@ use Rattle.gcx_model.specs.Held.{sum_given}
 use Rattle.gcx_model.specs.Growth.{Leads, more, stays, may_come, may_all}
 use Rattle.gcx_model.specs.Points.{actions, so_far, CoreState}
 use Rattle.gcx_model.specs.Turning.{Turn, Feed, Act, Turned, tree_fed, turn, turned, one_up_to}
-use Rattle.gcx_laws.proofs.Growing.{grow_all-append, grows, leads}
-use Rattle.gcx_laws.proofs.Keeping.{taken_are_there}
-use Rattle.gcx_laws.proofs.More.{flat_map-append}
-use Rattle.gcx_laws.proofs.TurnsReached.{one_turn_more, turns_reach}
+use Rattle.tree_laws.proofs.Growing.{grow_all-append, grows, leads}
+use Rattle.move_laws.proofs.Keeping.{taken_are_there}
+use Rattle.placed_laws.proofs.PlanWriting.{flat_map-append}
+use Rattle.trace_laws.proofs.TurnsReached.{one_turn_more, turns_reach}
 use Rattle.doc_reader.specs.Standing.{said_of}
 use Rattle.buf_tree.specs.View.{capped}
 use Rattle.engine.specs.Engine.{ActorsStand, past_at}

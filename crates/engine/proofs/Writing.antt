@@ -7,8 +7,8 @@ use Rattle.gcx_model.specs.Core.{PlanTree}
 use Rattle.gcx_model.specs.Run.{Action, bytes_of}
 use Rattle.gcx_model.specs.Growth.{Leads}
 use Rattle.gcx_model.specs.Points.{actions, so_far}
-use Rattle.gcx_laws.proofs.Keeping.{so_far_stays}
-use Rattle.gcx_laws.proofs.More.{flat_map-append}
+use Rattle.move_laws.proofs.Keeping.{so_far_stays}
+use Rattle.placed_laws.proofs.PlanWriting.{flat_map-append}
 use Rattle.engine.specs.Going.{Goes, bytes_at, all_of}
 
 module _ (plan : PlanTree) where

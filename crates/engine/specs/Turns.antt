@@ -18,6 +18,7 @@ use Rattle.engine.specs.declared.turns.Turn.{Turn as CodeTurn}
 use Rattle.engine.specs.declared.turns.Turn.TheVariants as code
 use Rattle.engine.specs.declared.turns.Actors.{Actors}
 use Rattle.engine.specs.declared.turns.Reached.{Reached}
+use Rattle.gcx_model.specs.Seen.{AreWithin}
 
 abbrev pub turn_of : CodeTurn → Turn
 turn_of code.Feed = model.Feed
@@ -25,10 +26,6 @@ turn_of code.Act = model.Act
 
 abbrev pub turns_of : List CodeTurn → List Turn
 turns_of ts = map turn_of ts
-
--- the tree behind each front of the tokens has no more than 2^40 nodes beside the document node, and no element deeper than 1,000 is open
-abbrev pub AreWithin : List Said → Type 0
-AreWithin ts = (before after : List Said) → ts ≡ before ++ after → (length (seen_tree before).nodes ≤ 2 ^ 40 + 1) × ((p : Node) → (seen_tree before).at ≡ Some p → level p ≤ 1000)
 
 -- The answer's numbers are those of a state over these tokens.
 pub record Tells (plan : PlanTree) (ts : List Said) (s : Turned) (r : Reached) : Type 0 where

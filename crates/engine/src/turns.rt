@@ -9,7 +9,8 @@ ghost use Rattle.gcx_model.specs.Tree.{Token as Said, opening};
 ghost use Rattle.gcx_model.specs.Growth.{may_all};
 ghost use Rattle.gcx_model.specs.Turning.{Act, Feed, Turned, turn, turned};
 ghost use Rattle.doc_reader.specs.Standing.{said_of};
-ghost use Rattle.engine.specs.Turns.{AreWithin, Reaches, SomeTurns, Tells, TurnsOn, actions_in, turn_of, turns_of, written};
+ghost use Rattle.gcx_model.specs.Seen.{AreWithin};
+ghost use Rattle.engine.specs.Turns.{Reaches, SomeTurns, Tells, TurnsOn, actions_in, turn_of, turns_of, written};
 
 use crate::engine::roles_of;
 use crate::report::few_roles;

@@ -7,7 +7,7 @@ use Rattle.doc_laws.proofs.Growing.{seen_comes}
 use Rattle.doc_laws.proofs.TreeBounds.{seen_within}
 use Rattle.doc_reader.specs.declared.token.Token.{Token}
 use Rattle.doc_reader.specs.Standing.{ReaderView, Stands, said_of}
-use Rattle.engine.specs.Turns.{AreWithin}
+use Rattle.gcx_model.specs.Seen.{AreWithin}
 use Rattle.engine.proofs.Seeing.{seeing, may_parts}
 
 pub given_comes : (r : ReaderView) (b : List ℕ) (ended : Bool) (given : List Token) → Stands r full_limits b ended given → may_all (map said_of given) opening ≡ true

@@ -1,4 +1,5 @@
 ghost use Rattle.std.specs.Prelude.{◌≡◌, IfOk};
+ghost use Rattle.gcx_base.specs.Kinds.{is_text};
 
 use crate::{Memory, Name, Text};
 use std::alloc::Global;
@@ -13,6 +14,14 @@ pub enum Kind {
 }
 
 impl Kind {
+    /// Whether a node of this kind is a text.
+    #[inline(always)]
+    pub fn is_text(&self) -> bool
+        ensures { result ≡ is_text self.now }
+    {
+        matches!(self, Kind::Text(_))
+    }
+
     /// The same kind once more.
     pub fn copy(&self, alloc: Global) -> Result<Kind, Memory>
         ensures { IfOk result (λ kind. kind ≡ self.now) }

@@ -1,6 +1,7 @@
 //! What every crate of `gcx` speaks of: names, texts, steps, kinds of nodes, numbers of roles and variables, limits.
 #![tactic(auto)]
 
+mod bytes;
 mod chars;
 mod ids;
 mod kind;
@@ -11,6 +12,7 @@ mod rel;
 mod steps;
 mod text;
 
+pub use bytes::same_bytes;
 pub use chars::{is_name_char, is_name_start, is_space, is_xml_char};
 pub use ids::{Role, Serial, VarId};
 pub use kind::Kind;

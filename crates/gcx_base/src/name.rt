@@ -1,10 +1,13 @@
 ghost use Rattle.std.specs.Prelude.{◌≡◌, true, false, IfOk, IfSome, IsNone};
 ghost use Rattle.std.specs.List.{list_all};
 ghost use Rattle.gcx_base.specs.Characters.{is_part_char};
-ghost use Rattle.std.specs.Str.{chars};
+ghost use Rattle.std.specs.Str.{chars, bytes_eq};
+ghost use Rattle.std.specs.Cmp.{partial_equiv_from_equiv};
+ghost use Rattle.std.specs.Cmp.Lexicographic.{nat_list_eq_equiv};
 ghost use Rattle.gcx_base.specs.Name.{first_starts, is_name, IsNameBytes};
 
 use crate::Memory;
+use crate::bytes::same_bytes;
 use crate::chars::{is_name_char, is_name_start};
 use simdutf8::compat::from_utf8;
 use smallvec::SmallVec;
@@ -90,6 +93,7 @@ impl Name {
     }
 
     /// Its bytes.
+    #[inline(always)]
     pub fn as_bytes(&self) -> &[u8]
         ensures bytes { result.now ≡ self.now }
         ensures named { IsNameBytes self.now }
@@ -112,4 +116,19 @@ impl Name {
     {
         Name::of_name(alloc, self.as_bytes())
     }
+}
+
+impl PartialEq for Name {
+    ghost eq = { bytes_eq };
+
+    ghost laws = { partial_equiv_from_equiv nat_list_eq_equiv };
+
+    #[inline(always)]
+    fn eq(&self, other: &Name) -> bool {
+        same_bytes(self.as_bytes(), other.as_bytes())
+    }
+}
+
+impl Eq for Name {
+    ghost laws = { nat_list_eq_equiv };
 }

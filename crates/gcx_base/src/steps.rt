@@ -1,6 +1,7 @@
 ghost use Rattle.std.specs.Prelude.{◌≡◌, ◌++◌, ◌∷◌, [], IfOk, OnOk, OnErr};
+ghost use Rattle.gcx_base.specs.Tests.{passes};
 
-use crate::{Memory, Name};
+use crate::{Kind, Memory, Name};
 use std::alloc::Global;
 use std::marker::Model;
 
@@ -12,7 +13,7 @@ pub enum Axis {
 }
 
 /// What a step asks of a node: a name, any element, any text, or any of both.
-#[derive(Drop, Debug)]
+#[derive(Drop, Debug, PartialEq, Eq)]
 pub enum Test {
     Named(Name),
     AnyElement,
@@ -21,6 +22,20 @@ pub enum Test {
 }
 
 impl Test {
+    /// Whether a node of this kind passes the test. The document node passes none.
+    #[inline(always)]
+    pub fn passes(&self, kind: &Kind) -> bool
+        ensures { result ≡ passes self.now kind.now }
+    {
+        match (self, kind) {
+            (_, Kind::Document) => false,
+            (Test::Named(name), Kind::Element(other)) => *name == *other,
+            (Test::AnyElement | Test::AnyNode, Kind::Element(_)) => true,
+            (Test::AnyText | Test::AnyNode, Kind::Text(_)) => true,
+            _ => false,
+        }
+    }
+
     /// The same test once more.
     pub fn copy(&self, alloc: Global) -> Result<Test, Memory>
         ensures { IfOk result (λ test. test ≡ self.now) }
@@ -35,7 +50,7 @@ impl Test {
 }
 
 /// A step from a node to others below it (XQuery 1.0, section 3.2.1).
-#[derive(Drop, Debug)]
+#[derive(Drop, Debug, PartialEq, Eq)]
 pub struct Step {
     pub axis: Axis,
     pub test: Test,

@@ -1,6 +1,9 @@
-ghost use Rattle.std.specs.Prelude.{◌≡◌, IfOk, IsNone, IfSome, IsUtf8, [], string_bytes};
+ghost use Rattle.std.specs.Prelude.{◌≡◌, IfOk, IsNone, IfSome, IsUtf8, [], bytes_eq, string_bytes};
+ghost use Rattle.std.specs.Cmp.{partial_equiv_from_equiv};
+ghost use Rattle.std.specs.Cmp.Lexicographic.{nat_list_eq_equiv};
 
 use crate::Memory;
+use crate::bytes::same_bytes;
 use simdutf8::compat::from_utf8;
 use smallvec::SmallVec;
 use std::alloc::Global;
@@ -35,11 +38,18 @@ impl Text {
         ensures none { IfOk result (λ text. IsNone text → IsUtf8 bytes.now → ⊥) }
     {
         match from_utf8(bytes) {
-            Ok(text) => Ok(Some(Text {
-                bytes: SmallVec::from_slice(alloc, text.as_bytes())?,
-            })),
+            Ok(text) => Ok(Some(Text::of_text(alloc, text.as_bytes())?)),
             Err(_) => Ok(None),
         }
+    }
+
+    /// A text of bytes that are known to be UTF-8.
+    pub fn of_text(alloc: Global, bytes: &[u8]) -> Result<Text, Memory>
+        requires { IsUtf8 bytes.now }
+        ensures { IfOk result (λ text. text ≡ bytes.now) }
+    {
+        let bytes = SmallVec::from_slice(alloc, bytes)?;
+        Ok(Text { bytes })
     }
 
     /// The same text in another type. A long one is moved.
@@ -65,6 +75,7 @@ impl Text {
     }
 
     /// Its bytes.
+    #[inline(always)]
     pub fn as_bytes(&self) -> &[u8]
         ensures bytes { result.now ≡ self.now }
         ensures utf8 { IsUtf8 self.now }
@@ -84,8 +95,21 @@ impl Text {
     pub fn copy(&self, alloc: Global) -> Result<Text, Memory>
         ensures { IfOk result (λ text. text ≡ self.now) }
     {
-        Ok(Text {
-            bytes: SmallVec::from_slice(alloc, self.bytes.as_slice())?,
-        })
+        Text::of_text(alloc, self.as_bytes())
     }
+}
+
+impl PartialEq for Text {
+    ghost eq = { bytes_eq };
+
+    ghost laws = { partial_equiv_from_equiv nat_list_eq_equiv };
+
+    #[inline(always)]
+    fn eq(&self, other: &Text) -> bool {
+        same_bytes(self.as_bytes(), other.as_bytes())
+    }
+}
+
+impl Eq for Text {
+    ghost laws = { nat_list_eq_equiv };
 }

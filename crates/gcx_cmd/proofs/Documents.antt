@@ -14,8 +14,8 @@ use Rattle.gcx_model.specs.Faults.{Decodes, Clean, FaultIs, within_limit, before
 use Rattle.gcx_model.specs.Seen.{SeenIs, seen_tree}
 use Rattle.gcx_model.specs.declared.fault.DocFault.{DocFault}
 use Rattle.gcx_model.specs.declared.fault.DocFault.TheVariants as fault
-use Rattle.gcx_laws.specs.Laws.{AllClosed}
-use Rattle.gcx_laws.proofs.Meaning.{whole_closed}
+use Rattle.tree_laws.specs.Growth.{AllClosed}
+use Rattle.tree_laws.proofs.Documents.{whole_closed}
 use Rattle.doc_laws.specs.Machine.{State, is_whole}
 use Rattle.doc_laws.proofs.LastTag.{longest_so_far, seen_whole, seen_one}
 use Rattle.doc_laws.proofs.Pieces.{Stands as Kept}

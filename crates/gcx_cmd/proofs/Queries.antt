@@ -20,7 +20,7 @@ use Rattle.gcx_cmd.specs.Main.{SpellsOne, Accepts, SaysOfQuery, IsQuery, IsOneQu
 use Rattle.gcx_cmd.specs.Running.{IsPlanOf, IsPlaced}
 use Rattle.gcx_cmd.specs.ReadEnd.{query_status}
 use Rattle.gcx_cmd.specs.Reading.{IsReadUpTo}
-use Rattle.gcx_laws.proofs.Moved.{normal_good}
+use Rattle.placed_laws.proofs.Moved.{normal_good}
 
 too_large : (bytes : List ℕ) → 1048576 < length bytes → TextFaultOf bytes (TooLarge Text 1048576)
 too_large bytes long = inl (refl, refl, long)

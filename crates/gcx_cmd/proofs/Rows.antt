@@ -7,7 +7,7 @@ use Rattle.std.specs.FinMap.{empty, get, get-empty, same_map, nat_cmp-IsAntisymm
 use Rattle.std.proofs.lemmas.Bool.{false≢true, eq-eqb}
 use Rattle.std.proofs.lemmas.List.{length-map}
 use Rattle.node_store.specs.Rows.{Entry}
-use Rattle.gcx_laws.proofs.Lists.{In, In-filter}
+use Rattle.tree_laws.proofs.Lists.{In, In-filter}
 use Rattle.gcx_model.specs.Tree.{Node, Tree}
 use Rattle.gcx_model.specs.Past.{Past}
 use Rattle.buf_tree.specs.declared.row.Row.{Row}

@@ -18,10 +18,10 @@ use Rattle.gcx_model.specs.Seen.{SeenIs, seen_tree}
 use Rattle.gcx_model.specs.Sound.{is_sound}
 use Rattle.gcx_model.specs.Tree.{Tree, Token, Node}
 use Rattle.gcx_model.specs.declared.fault.DocFault.{DocFault}
-use Rattle.gcx_laws.specs.Laws.{AllClosed}
-use Rattle.gcx_laws.proofs.Meaning.{normal_law}
-use Rattle.gcx_laws.proofs.More.{plan_bytes}
-use Rattle.gcx_laws.proofs.Public.{empty_law}
+use Rattle.tree_laws.specs.Growth.{AllClosed}
+use Rattle.placed_laws.proofs.Meaning.{normal_law}
+use Rattle.placed_laws.proofs.PlanWriting.{plan_bytes}
+use Rattle.placed_laws.proofs.Balances.{empty_law}
 use Rattle.doc_laws.proofs.Found.{found_seen}
 use Rattle.doc_laws.proofs.Growing.{seen_leads}
 use Rattle.buf_tree.specs.Shape.{Store, Shape}

@@ -63,8 +63,8 @@ fn measure_document<F: Shelf, N: NodeStore<Row> + Drop>(
         Err(end) => return Err(Status::from(end)),
     };
     let mut source = Opened::new(files, handle);
-    let mut out = NullSink;
-    let mut err = NullSink;
+    let mut out = NullSink::new();
+    let mut err = NullSink::new();
     let report = run_plan(
         alloc,
         plan,
@@ -164,7 +164,7 @@ fn run_self(alloc: Global, seed: u32, count: u32) -> Result<SelfRun, Memory>
     let bytes = document_bytes(alloc, seed, count)?;
     let mut source = SureSource::new(bytes);
     let mut answer = SureSink::new(alloc, 0)?;
-    let mut err = NullSink;
+    let mut err = NullSink::new();
     let mut nodes: RawNodes<Row> = RawNodes::new(alloc);
     let report = run_plan(
         alloc,

@@ -1,6 +1,6 @@
 -- Faults and their counts.
 use Rattle.std.proofs.Common.{◌≡◌, ◌≤◌, Err, arith}
-use Rattle.gcx_io.specs.Calls.{Tally, failed}
+use Rattle.gcx_io.specs.Tallies.{Tally, failed}
 use Rattle.gcx_io.specs.Causes.{HasCause}
 
 -- a call that fails by its number raises the count

@@ -1,34 +1,30 @@
 -- What handles have left, and their names.
 use Rattle.std.proofs.Common.{inl, inr, ◌≡◌, ◌≢◌, ℕ, ◌<◌, min, Bool, true, false, List, [], ◌∷◌, ◌++◌, length, take, drop, get_or, slice_get, slice_set, Some, sym, ◌∙◌, ap, subst, arith, refl, zero, suc, length-append}
-use Rattle.std.specs.Prelude.{option_map}
 use Rattle.std.specs.declared.option.Option.{Option}
 use Rattle.std.specs.Io.KnownBytes.{Consumes, IsAtEnd}
-use Rattle.gcx_io.specs.Held.{Opening, rest_at, name_at, read_at}
-use Rattle.gcx_io.specs.Files.{while_whole, opened, names_of}
+use Rattle.gcx_io.specs.Held.{Opening, rest_at, name_at, read_opening, read_at, noted_opening, noted_at}
+use Rattle.gcx_io.specs.Files.{while_whole, opened, names_of, rests_of, told_rest}
+use Rattle.gcx_io.specs.Views.{Call, Gave}
 use Rattle.gcx_io.specs.Shelf.{Adds, AddsName, LeavesOthers, Names, LeavesOtherNames}
 use Rattle.gcx_io.proofs.Moved.{front_of}
 use Rattle.gcx_io.proofs.Mapped.{apart}
-
--- what a handle has left, where it is told
-abbrev pub told_rest : Bool → List Opening → ℕ → Option (List ℕ)
-told_rest whole os k = while_whole whole (option_map (λ o. o.rest) (slice_get os k))
 
 pub name_there : (os : List Opening) (handle : ℕ) → handle < length os → slice_get (names_of os) handle ≡ Some (name_at os handle)
 name_there [] handle given = absurd (omega arith)
 name_there (o ∷ os) zero given = refl
 name_there (o ∷ os) (suc handle) given = name_there os handle (omega arith)
 
-rest_there : (os : List Opening) (handle : ℕ) → handle < length os → option_map (λ (o : Opening). o.rest) (slice_get os handle) ≡ Some (rest_at os handle)
+rest_there : (os : List Opening) (handle : ℕ) → handle < length os → slice_get (rests_of os) handle ≡ Some (rest_at os handle)
 rest_there [] handle given = absurd (omega arith)
 rest_there (o ∷ os) zero given = refl
 rest_there (o ∷ os) (suc handle) given = rest_there os handle (omega arith)
 
-rest_read : (os : List Opening) (handle n : ℕ) → handle < length os → option_map (λ (o : Opening). o.rest) (slice_get (read_at os handle n) handle) ≡ Some (drop n (rest_at os handle))
+rest_read : (os : List Opening) (handle n : ℕ) → handle < length os → slice_get (rests_of (read_at os handle n)) handle ≡ Some (drop n (rest_at os handle))
 rest_read [] handle n given = absurd (omega arith)
 rest_read (o ∷ os) zero n given = refl
 rest_read (o ∷ os) (suc handle) n given = rest_read os handle n (omega arith)
 
-other_read : (os : List Opening) (handle n k : ℕ) → k ≢ handle → slice_get (read_at os handle n) k ≡ slice_get os k
+other_read : (os : List Opening) (handle n k : ℕ) → k ≢ handle → slice_get (rests_of (read_at os handle n)) k ≡ slice_get (rests_of os) k
 other_read [] handle n k other = refl
 other_read (o ∷ os) zero n zero other = absurd (other refl)
 other_read (o ∷ os) zero n (suc k) other = refl
@@ -45,10 +41,9 @@ names_read [] handle n = refl
 names_read (o ∷ os) zero n = refl
 names_read (o ∷ os) (suc handle) n = ap (λ l. o.name ∷ l) (names_read os handle n)
 
--- a handle whose place moved on
-pub read_set : (os : List Opening) (handle n : ℕ) (o : Opening) → handle < length os → o ≡ get_or os handle o → slice_set os handle (record { name = o.name; rest = drop n o.rest }) ≡ read_at os handle n
+pub read_set : (os : List Opening) (handle n : ℕ) (o : Opening) → handle < length os → o ≡ get_or os handle o → slice_set os handle (read_opening n o) ≡ read_at os handle n
 read_set [] handle n o given is = absurd (omega arith)
-read_set (x ∷ os) zero n o given is = ap (λ (y : Opening). record { name = y.name; rest = drop n y.rest } ∷ os) is
+read_set (x ∷ os) zero n o given is = ap (λ (y : Opening). read_opening n y ∷ os) is
 read_set (x ∷ os) (suc handle) n o given is = ap (λ l. x ∷ l) (read_set os handle n o (omega arith) is)
 
 pub rest_is : (os : List Opening) (handle : ℕ) (o : Opening) → handle < length os → o ≡ get_or os handle o → rest_at os handle ≡ o.rest
@@ -62,7 +57,7 @@ name_is (x ∷ os) zero o given is = ap (λ (y : Opening). y.name) (sym is)
 name_is (x ∷ os) (suc handle) o given is = name_is os handle o (omega arith) is
 
 pub others_stay : (whole : Bool) (os : List Opening) (handle n : ℕ) → LeavesOthers (told_rest whole os) (told_rest whole (read_at os handle n)) handle
-others_stay whole os handle n k other = ap (λ (o : Option Opening). while_whole whole (option_map (λ o. o.rest) o)) (other_read os handle n k other)
+others_stay whole os handle n k other = ap (λ (o : Option (List ℕ)). while_whole whole o) (other_read os handle n k other)
 
 -- n bytes at the front of what was left, none only at the end
 abbrev pub Consumed : Option (List ℕ) → Option (List ℕ) → ℕ → List ℕ → Type 0
@@ -78,22 +73,22 @@ rest_moves true os handle n most buf now given some room count moved =
 
 -- ---- a handle more
 
-last_there : {A B : Type 0} (f : A → B) (xs : List A) (x : A) → option_map f (slice_get (xs ++ x ∷ []) (length xs)) ≡ Some (f x)
-last_there f [] x = refl
-last_there f (y ∷ ys) x = last_there f ys x
+last_rest : (os : List Opening) (o : Opening) → slice_get (rests_of (os ++ o ∷ [])) (length os) ≡ Some o.rest
+last_rest [] o = refl
+last_rest (x ∷ os) o = last_rest os o
 
-front_there : {A : Type 0} (xs ys : List A) (k : ℕ) → k < length xs → slice_get (xs ++ ys) k ≡ slice_get xs k
-front_there [] ys k given = absurd (omega arith)
-front_there (x ∷ xs) ys zero given = refl
-front_there (x ∷ xs) ys (suc k) given = front_there xs ys k (omega arith)
+front_rest : (os : List Opening) (o : Opening) (k : ℕ) → k < length os → slice_get (rests_of (os ++ o ∷ [])) k ≡ slice_get (rests_of os) k
+front_rest [] o k given = absurd (omega arith)
+front_rest (x ∷ os) o zero given = refl
+front_rest (x ∷ os) o (suc k) given = front_rest os o k (omega arith)
 
 pub opened_adds : (whole : Bool) (os : List Opening) (name rest : List ℕ) (handle : ℕ) → handle ≡ length os
     → Adds (length os) (length (opened name rest os)) (told_rest whole os) (told_rest whole (opened name rest os)) (while_whole whole (Some rest)) handle
 opened_adds whole os name rest handle is = record {
   number = is;
-  count = length-append os (record { name = name; rest = rest } ∷ []);
-  bytes = ap (λ (k : ℕ). told_rest whole (opened name rest os) k) is ∙ ap (while_whole whole) (last_there (λ (o : Opening). o.rest) os (record { name = name; rest = rest }));
-  others = λ k given. ap (λ (o : Option Opening). while_whole whole (option_map (λ o. o.rest) o)) (front_there os (record { name = name; rest = rest } ∷ []) k given);
+  count = length-append os (record { name = name; rest = rest; calls = [] } ∷ []);
+  bytes = ap (λ (k : ℕ). told_rest whole (opened name rest os) k) is ∙ ap (while_whole whole) (last_rest os (record { name = name; rest = rest; calls = [] }));
+  others = λ k given. ap (λ (o : Option (List ℕ)). while_whole whole o) (front_rest os (record { name = name; rest = rest; calls = [] }) k given);
 }
 
 names_opened : (os : List Opening) (o : Opening) → names_of (os ++ o ∷ []) ≡ names_of os ++ o.name ∷ []
@@ -116,9 +111,31 @@ front_name (x ∷ os) o (suc k) given = front_name os o k (omega arith)
 pub opened_names : (names : Names) (os : List Opening) (name rest : List ℕ) (handle : ℕ) → handle ≡ length os
     → AddsName names (slice_get (names_of os)) (slice_get (names_of (opened name rest os))) name handle
 opened_names names os name rest handle is = record {
-  owner = λ telling. ap (λ (k : ℕ). slice_get (names_of (opened name rest os)) k) is ∙ last_name os (record { name = name; rest = rest });
-  others = λ k given. front_name os (record { name = name; rest = rest }) k (subst (λ (h : ℕ). k < h) is given);
+  owner = λ telling. ap (λ (k : ℕ). slice_get (names_of (opened name rest os)) k) is ∙ last_name os (record { name = name; rest = rest; calls = [] });
+  others = λ k given. front_name os (record { name = name; rest = rest; calls = [] }) k (subst (λ (h : ℕ). k < h) is given);
 }
+
+-- ---- a call more that read nothing
+
+pub count_noted : (os : List Opening) (handle : ℕ) (call : Call) → length (noted_at os handle call) ≡ length os
+count_noted [] handle call = refl
+count_noted (o ∷ os) zero call = refl
+count_noted (o ∷ os) (suc handle) call = ap suc (count_noted os handle call)
+
+pub names_noted : (os : List Opening) (handle : ℕ) (call : Call) → names_of (noted_at os handle call) ≡ names_of os
+names_noted [] handle call = refl
+names_noted (o ∷ os) zero call = refl
+names_noted (o ∷ os) (suc handle) call = ap (λ l. o.name ∷ l) (names_noted os handle call)
+
+pub rests_noted : (os : List Opening) (handle : ℕ) (call : Call) → rests_of (noted_at os handle call) ≡ rests_of os
+rests_noted [] handle call = refl
+rests_noted (o ∷ os) zero call = refl
+rests_noted (o ∷ os) (suc handle) call = ap (λ l. o.rest ∷ l) (rests_noted os handle call)
+
+pub noted_set : (os : List Opening) (handle : ℕ) (call : Call) (o : Opening) → handle < length os → o ≡ get_or os handle o → slice_set os handle (noted_opening call o) ≡ noted_at os handle call
+noted_set [] handle call o given is = absurd (omega arith)
+noted_set (x ∷ os) zero call o given is = ap (λ (y : Opening). noted_opening call y ∷ os) is
+noted_set (x ∷ os) (suc handle) call o given is = ap (λ l. x ∷ l) (noted_set os handle call o (omega arith) is)
 
 -- a shelf that goes on as before, or stops telling
 pub stays_whole : (whole kept : Bool) (os : List Opening) (owner : Option (List ℕ)) (count : ℕ) → (whole ≡ false → kept ≡ false)

@@ -3,9 +3,9 @@ use Rattle.std.proofs.Common.{◌≡◌, ℕ, ◌<◌, min, Bool, true, false, L
 use Rattle.std.specs.Prelude.{unwrap_or}
 use Rattle.std.specs.declared.option.Option.{Option}
 use Rattle.gcx_io.specs.Held.{Opening, held, held_or_none, rest_at, name_at, read_at}
-use Rattle.gcx_io.specs.Files.{OpenFiles, while_whole, rests, owners, handle_count, names_of, opened, Sets, Keeps}
+use Rattle.gcx_io.specs.Files.{OpenFiles, while_whole, told_rest, rests, owners, handle_count, names_of, opened, Sets, Keeps}
 use Rattle.gcx_io.specs.Shelf.{Names, content_of, Adds, AddsName, Appends, LeavesOthers, Maps}
-use Rattle.gcx_io.proofs.Handles.{told_rest, name_there, count_read, names_read, others_stay, Consumed, rest_moves, opened_adds, opened_names}
+use Rattle.gcx_io.proofs.Handles.{name_there, count_read, names_read, others_stay, Consumed, rest_moves, opened_adds, opened_names}
 use Rattle.gcx_io.proofs.Mapped.{Told, sets_maps, keeps_append}
 
 -- ---- attach
@@ -33,17 +33,21 @@ held_content false old name there = refl
 
 -- ---- create
 
-set_content : (all whole : Bool) (before after : OpenFiles) (name : List ℕ) (least : ℕ) → Sets before.files after.files name [] least
+content_set : (all whole : Bool) (before after : OpenFiles) (name : List ℕ) (least : ℕ) → Sets before.files after.files name [] least
     → content_of (while_whole whole (Some (Told all after.files))) name ≡ while_whole whole (Some [])
-set_content all false before after name least s = refl
-set_content all true before after name least s = (sets_maps all true before.files after.files name [] least s).0
+content_set all false before after name least s = refl
+content_set all true before after name least s = (sets_maps all true before.files after.files name [] least s).0
+
+-- what a name holds that was made
+pub set_content : (all : Bool) (old new : OpenFiles) (name : List ℕ) (least : ℕ) → Sets old.files new.files name [] least → new.whole ≡ old.whole
+    → content_of (while_whole new.whole (Some (Told all new.files))) name ≡ while_whole old.whole (Some [])
+set_content all old new name least sets whole =
+    ap (λ (w : Bool). content_of (while_whole w (Some (Told all new.files))) name) whole ∙ content_set all old.whole old new name least sets
 
 pub create_adds : (all : Bool) (old new : OpenFiles) (name : List ℕ) (least handle : ℕ) → Sets old.files new.files name [] least → new.openings ≡ opened name [] old.openings → new.whole ≡ old.whole
     → handle ≡ length old.openings → Adds (handle_count old) (handle_count new) (rests old) (rests new) (content_of (while_whole new.whole (Some (Told all new.files))) name) handle
 create_adds all old new name least handle sets openings whole number =
-    let content : content_of (while_whole new.whole (Some (Told all new.files))) name ≡ while_whole old.whole (Some []) =
-    ap (λ (w : Bool). content_of (while_whole w (Some (Told all new.files))) name) whole ∙ set_content all old.whole old new name least sets in
-    subst (λ (o : Option (List ℕ)). Adds (length old.openings) (length new.openings) (told_rest old.whole old.openings) (told_rest new.whole new.openings) o handle) (sym content)
+    subst (λ (o : Option (List ℕ)). Adds (length old.openings) (length new.openings) (told_rest old.whole old.openings) (told_rest new.whole new.openings) o handle) (sym (set_content all old new name least sets whole))
     (subst (λ (w : Bool). Adds (length old.openings) (length new.openings) (told_rest old.whole old.openings) (told_rest w new.openings) (while_whole old.whole (Some [])) handle) (sym whole)
     (subst (λ (os : List Opening). Adds (length old.openings) (length os) (told_rest old.whole old.openings) (told_rest old.whole os) (while_whole old.whole (Some [])) handle) (sym openings)
     (opened_adds old.whole old.openings name [] handle number)))
@@ -59,10 +63,10 @@ create_maps all old new name least sets whole =
 
 -- ---- write
 
-pub write_appends : (all : Bool) (old new : OpenFiles) (handle : ℕ) (piece : List ℕ) → handle < length old.openings
-    → (old.whole ≡ true → Keeps new.whole old.files new.files (name_at old.openings handle) piece) → (old.whole ≡ false → new ≡ old)
+pub write_appends : (all : Bool) (old new : OpenFiles) (os : List Opening) (handle : ℕ) (piece : List ℕ) → handle < length old.openings
+    → (old.whole ≡ true → Keeps new.whole old.files new.files (name_at old.openings handle) piece) → (old.whole ≡ false → new ≡ record old { openings = os })
     → Appends (while_whole old.whole (Some (Told all old.files))) (while_whole new.whole (Some (Told all new.files))) (owners old handle) piece
-write_appends all old new handle piece given keeps lost =
+write_appends all old new os handle piece given keeps lost =
     keeps_append all old.whole new.whole old.files new.files (name_at old.openings handle) piece keeps (λ e. ap (λ (f : OpenFiles). f.whole) (lost e) ∙ e) (owners old handle) (name_there old.openings handle given)
 
 -- ---- read

@@ -1,16 +1,19 @@
 -- How files in memory and their handles are seen (this project's).
-use Rattle.std.specs.Prelude.{◌≡◌, ◌<◌, ◌≤◌, ℕ, zero, suc, ◌+◌, List, [], ◌∷◌, ◌++◌, Bool, true, false, length, map, slice_get, slice_set, option_map, IsSome}
-use Rattle.std.proofs.Common.{arith, refl}
+use Rattle.std.specs.Prelude.{◌≡◌, ◌<◌, ◌≤◌, ℕ, zero, suc, ◌+◌, List, [], ◌∷◌, ◌++◌, Bool, true, false, length, map, slice_get, slice_set, IsSome}
+use Rattle.std.proofs.Common.{arith, refl, ap}
 use Rattle.std.specs.declared.option.Option.{Option}
 use Rattle.std.specs.declared.option.Option.TheVariants.{Some, None}
 use Rattle.gcx_io.specs.Held.{File, held, held_or_none, room_of, with_file, Opening}
-use Rattle.gcx_io.specs.Shelf.{Names}
+use Rattle.gcx_io.specs.Shelf.{Names, IsTelling}
+use Rattle.gcx_io.specs.Views.{Miss, missed, HandleView, ShelfView}
 
--- the files, the handles, and whether all the bytes that were taken are kept
+-- the files, the handles, whether all the bytes that were taken are kept, and the names at which `attach` or `create`
+-- failed
 pub record OpenFiles : Type 0 where
   pub files : List File
   pub openings : List Opening
   pub whole : Bool
+  pub refused : List Miss
 
 -- told while all that was taken is kept
 abbrev pub while_whole : {A : Type 0} → Bool → Option A → Option A
@@ -25,9 +28,16 @@ held_names s = while_whole s.whole (Some (held s.files))
 abbrev pub all_names : OpenFiles → Names
 all_names s = while_whole s.whole (Some (λ name. Some (held_or_none s.files name)))
 
--- what each handle has left
+-- what the handles have left
+abbrev pub rests_of : List Opening → List (List ℕ)
+rests_of openings = map (λ o. o.rest) openings
+
+-- what each handle has left, where it is told
+abbrev pub told_rest : Bool → List Opening → ℕ → Option (List ℕ)
+told_rest whole openings k = while_whole whole (slice_get (rests_of openings) k)
+
 abbrev pub rests : OpenFiles → ℕ → Option (List ℕ)
-rests s k = while_whole s.whole (option_map (λ o. o.rest) (slice_get s.openings k))
+rests s = told_rest s.whole s.openings
 
 -- the names of the handles
 abbrev pub names_of : List Opening → List (List ℕ)
@@ -43,7 +53,7 @@ handle_count s = length s.openings
 
 -- a handle more, of this name, which has these bytes left
 abbrev pub opened : List ℕ → List ℕ → List Opening → List Opening
-opened name rest openings = openings ++ record { name = name; rest = rest } ∷ []
+opened name rest openings = openings ++ record { name = name; rest = rest; calls = [] } ∷ []
 
 -- the name holds these bytes, with room for so many more, and nothing else is changed in the files
 pub record Sets (before after : List File) (name bytes : List ℕ) (least : ℕ) : Type 0 where
@@ -55,7 +65,8 @@ pub record Sets (before after : List File) (name bytes : List ℕ) (least : ℕ)
 abbrev pub Keeps : (kept : Bool) → (before after : List File) → (name piece : List ℕ) → Type 0
 Keeps true before after name piece = (room : ℕ) × (room_of before name ≤ room + length piece)
     × (after ≡ with_file (record { name = name; bytes = held_or_none before name ++ piece; room = room }) before)
-Keeps false before after name piece = ((n : List ℕ) → held after n ≡ held before n) × (room_of before name < length piece)
+Keeps false before after name piece =
+    ((n : List ℕ) → held after n ≡ held before n) × (room_of before name < length piece)
 
 -- the place of the first file of a name
 pub record IsPlaceOf (name : List ℕ) (files : List File) (i : ℕ) : Type 0 where
@@ -78,3 +89,58 @@ pub owner_told : (openings : List Opening) (k : ℕ) → k < length openings →
 owner_told [] k given = absurd (omega arith)
 owner_told (o ∷ os) zero given = refl
 owner_told (o ∷ os) (suc k) given = owner_told os k (omega arith)
+
+-- a handle that was given has something left where that is told, if only no bytes
+rest_told : (openings : List Opening) (k : ℕ) → k < length openings → IsSome (slice_get (rests_of openings) k)
+rest_told [] k given = absurd (omega arith)
+rest_told (o ∷ os) zero given = refl
+rest_told (o ∷ os) (suc k) given = rest_told os k (omega arith)
+
+-- the name is listed as missed
+abbrev pub after_miss : List ℕ → OpenFiles → OpenFiles
+after_miss name s = record s { refused = s.refused ++ missed name (length s.openings) ∷ [] }
+
+-- how handles are seen
+abbrev pub view_of : Bool → Opening → HandleView
+view_of whole o = record { name = o.name; calls = o.calls; left = while_whole whole (Some o.rest) }
+
+abbrev pub views : Bool → List Opening → List HandleView
+views whole openings = map (view_of whole) openings
+
+-- how a shelf of these files is seen
+abbrev pub files_seen : Names → (faults write_faults : ℕ) → OpenFiles → ShelfView
+files_seen names faults write_faults s =
+    record {
+      names = names;
+      given = views s.whole s.openings;
+      refused = s.refused;
+      faults = faults;
+      write_faults = write_faults;
+    }
+
+-- ---- what is seen of handles is what the members tell
+
+pub views_count : (whole : Bool) (openings : List Opening) → length (views whole openings) ≡ length openings
+views_count whole [] = refl
+views_count whole (o ∷ os) = ap suc (views_count whole os)
+
+pub views_left : (whole : Bool) (openings : List Opening) (k : ℕ) (v : HandleView)
+    → slice_get (views whole openings) k ≡ Some v
+    → told_rest whole openings k ≡ v.left
+views_left whole [] k v there = cc
+views_left whole (o ∷ os) zero v there = cc
+views_left whole (o ∷ os) (suc k) v there = views_left whole os k v there
+
+pub views_name : (whole : Bool) (openings : List Opening) (k : ℕ) (v : HandleView)
+    → slice_get (views whole openings) k ≡ Some v
+    → slice_get (names_of openings) k ≡ Some v.name
+views_name whole [] k v there = cc
+views_name whole (o ∷ os) zero v there = cc
+views_name whole (o ∷ os) (suc k) v there = views_name whole os k v there
+
+-- a shelf that tells its names tells what each handle has left
+pub rests_told : (whole : Bool) (holds : List ℕ → Option (List ℕ)) (openings : List Opening) (k : ℕ)
+    → k < length openings
+    → IsTelling (while_whole whole (Some holds)) → IsSome (told_rest whole openings k)
+rests_told true holds openings k given telling = rest_told openings k given
+rests_told false holds openings k given telling = absurd telling

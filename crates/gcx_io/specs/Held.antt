@@ -1,8 +1,9 @@
 -- Files in memory: names and what they hold, and what each handle has left (this project's).
-use Rattle.std.specs.Prelude.{ℕ, zero, suc, List, [], ◌∷◌, drop, unwrap_or, if◌then◌else◌}
+use Rattle.std.specs.Prelude.{ℕ, zero, suc, List, [], ◌∷◌, ◌++◌, take, drop, unwrap_or, if◌then◌else◌}
 use Rattle.std.specs.Str.{bytes_eq}
 use Rattle.std.specs.declared.option.Option.{Option}
 use Rattle.std.specs.declared.option.Option.TheVariants.{Some, None}
+use Rattle.gcx_io.specs.Views.{Call, Gave}
 
 -- a name and what it holds, and how many more bytes there is surely room for
 pub record File : Type 0 where
@@ -33,10 +34,11 @@ abbrev pub with_file : File → List File → List File
 with_file file [] = file ∷ []
 with_file file (f ∷ fs) = if bytes_eq f.name file.name then file ∷ fs else f ∷ with_file file fs
 
--- a handle: its name, and what it has left
+-- a handle: its name, what it has left, and its calls
 pub record Opening : Type 0 where
   pub name : List ℕ
   pub rest : List ℕ
+  pub calls : List Call
 
 -- what the handle of this number has left, [] where there is no such handle
 abbrev pub rest_at : List Opening → ℕ → List ℕ
@@ -50,8 +52,22 @@ name_at [] handle = []
 name_at (o ∷ os) zero = o.name
 name_at (o ∷ os) (suc handle) = name_at os handle
 
+-- n bytes more were read of the handle
+abbrev pub read_opening : ℕ → Opening → Opening
+read_opening n o = record { name = o.name; rest = drop n o.rest; calls = o.calls ++ Gave (take n o.rest) ∷ [] }
+
+-- one call more of the handle, which read nothing
+abbrev pub noted_opening : Call → Opening → Opening
+noted_opening call o = record { name = o.name; rest = o.rest; calls = o.calls ++ call ∷ [] }
+
 -- n bytes more were read of the handle of this number
 abbrev pub read_at : List Opening → ℕ → (n : ℕ) → List Opening
 read_at [] handle n = []
-read_at (o ∷ os) zero n = record { name = o.name; rest = drop n o.rest } ∷ os
+read_at (o ∷ os) zero n = read_opening n o ∷ os
 read_at (o ∷ os) (suc handle) n = o ∷ read_at os handle n
+
+-- one call more of the handle of this number, which read nothing
+abbrev pub noted_at : List Opening → ℕ → Call → List Opening
+noted_at [] handle call = []
+noted_at (o ∷ os) zero call = noted_opening call o ∷ os
+noted_at (o ∷ os) (suc handle) call = o ∷ noted_at os handle call

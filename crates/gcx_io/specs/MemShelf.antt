@@ -1,12 +1,13 @@
 -- How a shelf in memory with calls that fail is seen (this project's).
 use Rattle.std.specs.Prelude.{ℕ, List, Bool, true, false}
 use Rattle.std.specs.declared.option.Option.{Option}
-use Rattle.gcx_io.specs.Calls.{Tally, passed, failed}
-use Rattle.gcx_io.specs.Files.{OpenFiles, held_names, rests, owners, handle_count}
+use Rattle.gcx_io.specs.Tallies.{Tally, passed, failed}
+use Rattle.gcx_io.specs.Files.{OpenFiles, held_names, rests, owners, handle_count, files_seen}
 use Rattle.gcx_io.specs.Shelf.{Names}
+use Rattle.gcx_io.specs.Views.{ShelfView}
 
--- the files and handles, the room of a file that is made, the most bytes that one call moves, the calls with the faults of
--- `attach` and `read`, and how often `create` or `write` failed
+-- the files and handles, the room of a file that is made, the most bytes that one call moves, the calls with the faults
+-- of `attach` and `read`, and how often `create` or `write` failed
 pub record ShelfState : Type 0 where
   pub kept : OpenFiles
   pub room : ℕ
@@ -36,3 +37,6 @@ shelf_faults s = s.calls.faults
 abbrev pub after_missing : (whole : Bool) → Tally → Tally
 after_missing true calls = passed calls
 after_missing false calls = failed calls
+
+abbrev pub shelf_seen : ShelfState → ShelfView
+shelf_seen s = files_seen (shelf_names s) (shelf_faults s) s.write_faults s.kept

@@ -1,5 +1,5 @@
 -- How a shelf is seen: what each name holds, and the name of each handle and what it has left (this project's).
-use Rattle.std.specs.Prelude.{◌≡◌, ◌≢◌, ◌⊎◌, ℕ, ◌+◌, ◌<◌, List, [], ◌++◌, unwrap_or, ⊤}
+use Rattle.std.specs.Prelude.{◌≡◌, ◌≢◌, ◌⊎◌, ℕ, ◌+◌, ◌<◌, List, [], ◌∷◌, ◌++◌, take, unwrap_or, ⊤}
 use Rattle.std.specs.declared.option.Option.{Option}
 use Rattle.std.specs.declared.option.Option.TheVariants.{Some, None}
 
@@ -23,7 +23,8 @@ IsTelling None = ⊥
 IsTelling (Some holds) = ⊤
 
 -- a handle is added, behind those that were given, with all of these bytes left
-pub record Adds (before after : ℕ) (left_before left_after : ℕ → Option (List ℕ)) (content : Option (List ℕ)) (handle : ℕ) : Type 0 where
+pub record Adds (before after : ℕ) (left_before left_after : ℕ → Option (List ℕ)) (content : Option (List ℕ))
+    (handle : ℕ) : Type 0 where
   pub number : handle ≡ before
   pub count : after ≡ before + 1
   pub bytes : left_after handle ≡ content
@@ -43,19 +44,33 @@ abbrev pub Maps : (before after : Names) → (name bytes : List ℕ) → Type 0
 Maps None None name bytes = ⊤
 Maps None (Some after) name bytes = ⊥
 Maps (Some before) None name bytes = ⊥
-Maps (Some before) (Some after) name bytes = (after name ≡ Some bytes) × ((other : List ℕ) → other ≢ name → after other ≡ before other)
+Maps (Some before) (Some after) name bytes =
+    (after name ≡ Some bytes) × ((other : List ℕ) → other ≢ name → after other ≡ before other)
 
--- The bytes stand behind what the name of a handle held, and every other name holds what it held. The shelf may stop telling.
+-- The bytes stand behind what the name of a handle held, and every other name holds what it held. The shelf may stop
+-- telling.
 abbrev pub Appends : (before after : Names) → (owner : Option (List ℕ)) → (bytes : List ℕ) → Type 0
 Appends None None owner bytes = ⊤
 Appends None (Some after) owner bytes = ⊥
 Appends (Some before) None owner bytes = ⊤
-Appends (Some before) (Some after) owner bytes = (name : List ℕ) → owner ≡ Some name → Maps (Some before) (Some after) name (unwrap_or (before name) [] ++ bytes)
+Appends (Some before) (Some after) owner bytes = (name : List ℕ) → owner ≡ Some name
+    → Maps (Some before) (Some after) name (unwrap_or (before name) [] ++ bytes)
 
 -- It is as before, or isn't told any more.
 abbrev pub Stays : (before after : Option (List ℕ)) → Type 0
 Stays before after = (after ≡ before) ⊎ (after ≡ None)
 
 -- the handles of other names have left what they had
-abbrev pub LeavesOtherNames : (owners before after : ℕ → Option (List ℕ)) → (count : ℕ) → (owner : Option (List ℕ)) → Type 0
+abbrev pub LeavesOtherNames : (owners before after : ℕ → Option (List ℕ)) → (count : ℕ) → (owner : Option (List ℕ))
+    → Type 0
 LeavesOtherNames owners before after count owner = (k : ℕ) → k < count → owners k ≢ owner → Stays (before k) (after k)
+
+-- The same, where nothing changed if there are no bytes.
+abbrev pub AppendsAll : (before after : Names) → (owner : Option (List ℕ)) → (bytes : List ℕ) → Type 0
+AppendsAll before after owner [] = after ≡ before
+AppendsAll before after owner (x ∷ xs) = Appends before after owner (x ∷ xs)
+
+-- a front of the bytes stands there
+pub record AppendsWithin (before after : Names) (owner : Option (List ℕ)) (bytes : List ℕ) : Type 0 where
+  pub count : ℕ
+  pub taken : AppendsAll before after owner (take count bytes)

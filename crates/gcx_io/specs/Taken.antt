@@ -12,7 +12,3 @@ pub record Kept : Type 0 where
 abbrev pub told_where : Bool → List ℕ → Option (List ℕ)
 told_where true bytes = Some bytes
 told_where false bytes = None
-
--- the bytes taken, as each sink tells them
-abbrev pub told_taken : Kept → Option (List ℕ)
-told_taken s = s.taken

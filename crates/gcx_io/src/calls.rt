@@ -1,5 +1,5 @@
 ghost use Rattle.std.specs.Prelude.{◌≡◌, ◌≤◌, ◌↔◌, IsTrue, MatchBool};
-ghost use Rattle.gcx_io.specs.Calls.{IsToFail, no_calls, passed, failed};
+ghost use Rattle.gcx_io.specs.Tallies.{IsToFail, no_calls, passed, failed};
 
 use std::marker::Model;
 
@@ -12,7 +12,7 @@ pub(crate) struct Calls {
 }
 
 impl Model for Calls {
-    ghost use Rattle.gcx_io.specs.Calls.{Tally};
+    ghost use Rattle.gcx_io.specs.Tallies.{Tally};
 
     ghost Value = { Tally };
 

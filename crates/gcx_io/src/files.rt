@@ -1,9 +1,11 @@
 ghost use Rattle.std.specs.Prelude.{◌≡◌, ◌<◌, ◌≤◌, ◌+◌, ◌++◌, ◌∷◌, ℕ, [], true, false, length, take, drop, min, vec_len, vec_capacity, ◌-◌, IfOk, OnOk, OnErr, MatchOption, option_copied};
-ghost use Rattle.gcx_io.specs.Held.{held, held_or_none, mapped, with_file, rest_at, name_at, read_at};
-ghost use Rattle.gcx_io.specs.Files.{opened, Sets, Keeps, IsPlaceOf, IsNewTo};
+ghost use Rattle.gcx_io.specs.Held.{held, held_or_none, mapped, with_file, rest_at, name_at, read_at, noted_at};
+ghost use Rattle.gcx_io.specs.Files.{opened, after_miss, Sets, Keeps, IsPlaceOf, IsNewTo};
+ghost use Rattle.gcx_io.specs.Views.{Took, Failed};
 
 use crate::Handle;
 use crate::opening::Opening;
+use call_history::Misses;
 use gcx_base::{Memory, Text};
 use std::alloc::Global;
 use std::marker::Model;
@@ -21,14 +23,16 @@ impl Model for Entry {
 
     ghost Value = { File };
 
-    ghost view = { λ e. record { name = e.name; bytes = e.bytes.items; room = vec_capacity e.bytes - vec_len e.bytes } };
+    ghost view = { λ e.
+        record { name = e.name; bytes = e.bytes.items; room = vec_capacity e.bytes - vec_len e.bytes } };
 }
 
 impl Entry {
     /// Adds the piece, where memory is found for it.
     fn append(&mut self, piece: &[u8]) -> bool
         ensures name { self.new.name ≡ self.old.name }
-        ensures kept { result ≡ true → (self.new.bytes ≡ self.old.bytes ++ piece.now) × (self.old.room ≤ self.new.room + length piece.now) }
+        ensures kept { result ≡ true → (self.new.bytes ≡ self.old.bytes ++ piece.now)
+            × (self.old.room ≤ self.new.room + length piece.now) }
         ensures lost { result ≡ false → (self.new.bytes ≡ self.old.bytes) × (self.old.room < length piece.now) }
     {
         self.bytes.extend_from_slice(piece).is_ok()
@@ -66,7 +70,9 @@ fn place(entries: &mut Vec<Entry>, entry: Entry) -> Result<(), Memory>
 
 /// Puts an entry of this name and piece behind the others.
 fn add(alloc: Global, entries: &mut Vec<Entry>, name: &Text, piece: &[u8]) -> Result<(), Memory>
-    ensures ok { OnOk result ((room : ℕ) × (entries.new.items ≡ entries.old.items ++ record { name = name.now; bytes = piece.now; room = room } ∷ [])) }
+    ensures ok { OnOk result
+        ((room : ℕ) × (entries.new.items ≡ entries.old.items
+        ++ record { name = name.now; bytes = piece.now; room = room } ∷ [])) }
     ensures err { OnErr result (entries.new.items ≡ entries.old.items) }
 {
     let mut bytes = Vec::new(alloc);
@@ -94,6 +100,7 @@ pub(crate) struct Files {
     entries: Vec<Entry>,
     openings: Vec<Opening>,
     whole: bool,
+    misses: Misses,
 }
 
 impl Model for Files {
@@ -101,25 +108,29 @@ impl Model for Files {
 
     ghost Value = { OpenFiles };
 
-    ghost view = { λ f. record { files = f.entries.items; openings = f.openings.items; whole = f.whole } };
+    ghost view = { λ f. record
+        { files = f.entries.items; openings = f.openings.items; whole = f.whole; refused = f.misses.list } };
 }
 
 impl Files {
     /// No file, and no handle.
     pub fn new(alloc: Global) -> Files
-        ensures { result ≡ record { files = []; openings = []; whole = true } }
+        ensures { result ≡ record { files = []; openings = []; whole = true; refused = [] } }
     {
         Files {
             alloc,
             entries: Vec::new(alloc),
             openings: Vec::new(alloc),
             whole: true,
+            misses: Misses::new(),
         }
     }
 
     /// Maps the name to these bytes, whatever it held.
     pub fn put(&mut self, name: Text, bytes: Vec<u8>) -> Result<(), Memory>
-        ensures ok { OnOk result (self.new ≡ record self.old { files = mapped name bytes.items (vec_capacity bytes - vec_len bytes) self.old.files }) }
+        ensures ok { OnOk result
+            (self.new ≡ record self.old
+            { files = mapped name bytes.items (vec_capacity bytes - vec_len bytes) self.old.files }) }
         ensures err { OnErr result (self.new ≡ self.old) }
     {
         self.entries.insert(0, Entry { name, bytes })?;
@@ -156,7 +167,9 @@ impl Files {
     /// Adds a handle that has left what the name holds, no bytes where it isn't mapped.
     pub fn attach(&mut self, name: &Text) -> Result<Handle, Memory>
         ensures number { IfOk result (λ handle. handle.0 ≡ length self.old.openings) }
-        ensures ok { OnOk result (self.new ≡ record self.old { openings = opened name.now (held_or_none self.old.files name.now) self.old.openings }) }
+        ensures ok { OnOk result
+            (self.new ≡ record self.old
+            { openings = opened name.now (held_or_none self.old.files name.now) self.old.openings }) }
         ensures err { OnErr result (self.new ≡ self.old) }
     {
         let mut bytes = Vec::new(self.alloc);
@@ -173,6 +186,7 @@ impl Files {
         ensures files { OnOk result (Sets self.old.files self.new.files name.now [] room) }
         ensures openings { OnOk result (self.new.openings ≡ opened name.now [] self.old.openings) }
         ensures whole { self.new.whole ≡ self.old.whole }
+        ensures refused { self.new.refused ≡ self.old.refused }
         ensures err { OnErr result (self.new ≡ self.old) }
     {
         let entry = Entry {
@@ -201,16 +215,56 @@ impl Files {
     }
 
     /// Adds the piece to what the name of a handle holds, or from then on keeps nothing more.
-    pub fn write(&mut self, handle: Handle, piece: &[u8])
+    fn keep(&mut self, handle: Handle, piece: &[u8])
         requires given { handle.0 < length self.old.openings }
         requires some { 0 < length piece.now }
-        ensures keeps { self.old.whole ≡ true → Keeps self.new.whole self.old.files self.new.files (name_at self.old.openings handle.0) piece.now }
+        ensures keeps { self.old.whole ≡ true
+            → Keeps self.new.whole self.old.files self.new.files (name_at self.old.openings handle.0) piece.now }
         ensures lost { self.old.whole ≡ false → self.new ≡ self.old }
         ensures openings { self.new.openings ≡ self.old.openings }
+        ensures refused { self.new.refused ≡ self.old.refused }
     {
         if self.whole {
             let opening = &self.openings[handle.0];
             self.whole = append(self.alloc, &mut self.entries, opening.name(), piece);
         }
+    }
+
+    /// The same, as a call of the handle.
+    pub fn write(&mut self, handle: Handle, piece: &[u8])
+        requires given { handle.0 < length self.old.openings }
+        requires some { 0 < length piece.now }
+        ensures keeps { self.old.whole ≡ true
+            → Keeps self.new.whole self.old.files self.new.files (name_at self.old.openings handle.0) piece.now }
+        ensures lost { self.old.whole ≡ false → self.new
+            ≡ record self.old { openings = noted_at self.old.openings handle.0 (Took piece.now) } }
+        ensures openings { self.new.openings ≡ noted_at self.old.openings handle.0 (Took piece.now) }
+        ensures refused { self.new.refused ≡ self.old.refused }
+    {
+        self.keep(handle, piece);
+        self.take(handle, piece);
+    }
+
+    /// Notes that a write of a handle took these bytes.
+    fn take(&mut self, handle: Handle, piece: &[u8])
+        requires { handle.0 < length self.old.openings }
+        ensures { self.new ≡ record self.old { openings = noted_at self.old.openings handle.0 (Took piece.now) } }
+    {
+        self.openings[handle.0].took(piece);
+    }
+
+    /// A call of a handle that failed.
+    pub fn fail(&mut self, handle: Handle, buf: &[u8])
+        requires { handle.0 < length self.old.openings }
+        ensures { self.new ≡ record self.old { openings = noted_at self.old.openings handle.0 Failed } }
+    {
+        self.openings[handle.0].fail(buf);
+    }
+
+    /// An `attach` or a `create` of this name that failed.
+    pub fn miss(&mut self, name: &Text)
+        ensures { self.new ≡ after_miss name.now self.old }
+    {
+        self.misses.note(name.as_bytes(), self.openings.len());
     }
 }

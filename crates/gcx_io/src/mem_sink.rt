@@ -1,9 +1,10 @@
 ghost use Rattle.std.specs.Prelude.{◌≡◌, ◌≤◌, ◌<◌, ◌↔◌, Some, IsSome, IsTrue, IfOk, []};
-ghost use Rattle.gcx_io.specs.Calls.{no_calls};
+ghost use Rattle.gcx_io.specs.Tallies.{no_calls};
 
 use crate::calls::Calls;
 use crate::taken::Taken;
 use crate::{Failed, Sink};
+use call_history::History;
 use gcx_base::Memory;
 use std::alloc::Global;
 use std::marker::Model;
@@ -14,6 +15,7 @@ pub struct MemSink {
     taken: Taken,
     most: usize,
     calls: Calls,
+    history: History,
 }
 
 impl Model for MemSink {
@@ -22,7 +24,8 @@ impl Model for MemSink {
 
     ghost Value = { SinkState };
 
-    ghost view = { λ s. record { taken = s.taken.taken; room = s.taken.room; most = s.most; calls = s.calls } };
+    ghost view = { λ s. record
+        { taken = s.taken.taken; room = s.taken.room; most = s.most; calls = s.calls; history = s.history.calls } };
 
     ghost invariant = { λ s. 0 < s.most };
 }
@@ -36,11 +39,13 @@ impl MemSink {
         ensures room { IfOk result (λ sink. room ≤ sink.room) }
         ensures most { IfOk result (λ sink. sink.most ≡ most) }
         ensures calls { IfOk result (λ sink. sink.calls ≡ no_calls fails.items) }
+        ensures history { IfOk result (λ sink. sink.history ≡ []) }
     {
         Ok(MemSink {
             taken: Taken::new(alloc, room)?,
             most,
             calls: Calls::new(fails),
+            history: History::new(),
         })
     }
 
@@ -61,15 +66,22 @@ impl MemSink {
 }
 
 impl Sink for MemSink {
-    ghost use Rattle.std.specs.Prelude.{◌≡◌, ◌↔◌, ◌≤◌, ◌<◌, ◌+◌, IsErr, IsSome, IfOk, OnErr, MatchResult, length, min};
+    ghost use Rattle.std.specs.Prelude.{◌≡◌, ◌↔◌, ◌≤◌, ◌<◌, ◌+◌, IsErr, IsSome, IfOk, OnErr, MatchResult, length, min, refl};
     ghost use Rattle.gcx_io.specs.Causes.{HasCause};
     ghost use Rattle.gcx_io.specs.Bytes.{WriteGrows, Moves};
-    ghost use Rattle.gcx_io.specs.Calls.{IsToFail, passed, failed};
-    ghost use Rattle.gcx_io.specs.MemSink.{sink_taken, sink_faults};
+    ghost use Rattle.gcx_io.specs.Tallies.{IsToFail, passed, failed};
+    ghost use Rattle.gcx_io.specs.MemSink.{sink_taken, sink_faults, sink_seen};
+    ghost use Rattle.gcx_io.specs.Calls.{WritesOnce};
 
     ghost taken = { sink_taken };
 
     ghost faults = { sink_faults };
+
+    ghost calls = { λ s. s.history };
+
+    ghost seen = { sink_seen };
+
+    ghost sees = { λ _. refl };
 
     fn write(&mut self, piece: &[u8]) -> Result<usize, Failed>
         requires { 0 < length piece.now }
@@ -81,14 +93,18 @@ impl Sink for MemSink {
         ensures room { IfOk result (λ n. self.old.room ≤ self.new.room + n) }
         ensures same_room { OnErr result (self.new.room ≡ self.old.room) }
         ensures failed { IsErr result ↔ IsToFail self.old.calls }
-        ensures calls { MatchResult result (λ _. self.new.calls ≡ passed self.old.calls) (λ _. self.new.calls ≡ failed self.old.calls) }
+        ensures calls { MatchResult result (λ _. self.new.calls ≡ passed self.old.calls)
+            (λ _. self.new.calls ≡ failed self.old.calls) }
         ensures most { self.new.most ≡ self.old.most }
+        ensures writes { WritesOnce (sink_seen self.old) (sink_seen self.new) result piece.now }
     {
         if self.calls.is_failing() {
+            self.history.failed(piece);
             return Err(Failed);
         }
         let count = piece.len().min(self.most);
         self.taken.keep(&piece[..count]);
+        self.history.took(&piece[..count]);
         Ok(count)
     }
 }

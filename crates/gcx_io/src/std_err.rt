@@ -1,56 +1,67 @@
-ghost use Rattle.std.specs.Prelude.{◌≡◌};
+ghost use Rattle.std.specs.Prelude.{◌≡◌, []};
 
+use crate::noting::Noting;
 use crate::{Failed, Sink};
-use std::io::{Stderr, Write};
+use std::io::Stderr;
 use std::marker::Model;
 
-/// Standard error. It tells nothing of what it took, and is seen as the number of its faults.
+/// Standard error. It tells nothing of what it took but by its calls.
 #[derive(Drop)]
 pub struct StdErr {
-    stream: Stderr,
+    stream: Noting<Stderr>,
     faults: u64,
 }
 
 impl Model for StdErr {
-    ghost use Rattle.std.specs.Prelude.{ℕ};
+    ghost use Rattle.gcx_io.specs.StdSink.{StreamState};
 
-    ghost Value = { ℕ };
+    ghost Value = { StreamState };
 
-    ghost view = { λ s. s.faults };
+    ghost view = { λ s. record { calls = s.stream.history.calls; faults = s.faults } };
 }
 
 impl StdErr {
-    /// No write has failed yet.
+    /// No call came yet.
     pub fn new(rt: HostRuntime) -> StdErr
-        ensures { result ≡ 0 }
+        ensures { result ≡ record { calls = []; faults = 0 } }
     {
         StdErr {
-            stream: rt.stderr(),
+            stream: Noting::new(rt.stderr()),
             faults: 0,
         }
     }
 }
 
 impl Sink for StdErr {
-    ghost use Rattle.std.specs.Prelude.{◌≡◌, ◌<◌, None, length, MatchResult};
+    ghost use Rattle.std.specs.Prelude.{◌≡◌, ◌<◌, None, length, MatchResult, refl};
     ghost use Rattle.gcx_io.specs.Causes.{HasCause};
     ghost use Rattle.gcx_io.specs.Bytes.{WriteGrows, Moves};
-    ghost use Rattle.gcx_io.specs.Calls.{one_more};
+    ghost use Rattle.gcx_io.specs.Calls.{WritesOnce};
+    ghost use Rattle.gcx_io.specs.StdSink.{stream_seen};
+    ghost use Rattle.gcx_io.specs.Tallies.{one_more};
 
     ghost taken = { λ _. None };
 
-    ghost faults = { λ s. s };
+    ghost faults = { λ s. s.faults };
+
+    ghost calls = { λ s. s.calls };
+
+    ghost seen = { stream_seen };
+
+    ghost sees = { λ _. refl };
 
     fn write(&mut self, piece: &[u8]) -> Result<usize, Failed>
         requires { 0 < length piece.now }
         ensures bound { Moves result piece.now }
         ensures bytes { WriteGrows None None result piece.now }
-        ensures cause { HasCause self.old self.new result }
-        ensures faults { MatchResult result (λ _. self.new ≡ self.old) (λ _. self.new ≡ one_more self.old) }
+        ensures cause { HasCause self.old.faults self.new.faults result }
+        ensures faults { MatchResult result (λ _. self.new.faults ≡ self.old.faults)
+            (λ _. self.new.faults ≡ one_more self.old.faults) }
+        ensures writes { WritesOnce (stream_seen self.old) (stream_seen self.new) result piece.now }
     {
         match self.stream.write(piece) {
-            Ok(count) if 0 < count => Ok(count),
-            _ => {
+            Ok(count) => Ok(count),
+            Err(Failed) => {
                 self.faults = self.faults.saturating_add(1);
                 Err(Failed)
             }

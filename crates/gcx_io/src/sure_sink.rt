@@ -2,6 +2,7 @@ ghost use Rattle.std.specs.Prelude.{◌≡◌, ◌≤◌, ◌↔◌, Some, IsSom
 
 use crate::taken::Taken;
 use crate::{Failed, Sink};
+use call_history::History;
 use gcx_base::Memory;
 use std::alloc::Global;
 use std::marker::Model;
@@ -10,14 +11,15 @@ use std::marker::Model;
 #[derive(Drop)]
 pub struct SureSink {
     taken: Taken,
+    history: History,
 }
 
 impl Model for SureSink {
-    ghost use Rattle.gcx_io.specs.Taken.{Kept};
+    ghost use Rattle.gcx_io.specs.SureSink.{SureSinkState};
 
-    ghost Value = { Kept };
+    ghost Value = { SureSinkState };
 
-    ghost view = { λ s. s.taken };
+    ghost view = { λ s. record { taken = s.taken.taken; room = s.taken.room; history = s.history.calls } };
 }
 
 impl SureSink {
@@ -25,9 +27,11 @@ impl SureSink {
     pub fn new(alloc: Global, room: usize) -> Result<SureSink, Memory>
         ensures empty { IfOk result (λ sink. sink.taken ≡ Some []) }
         ensures room { IfOk result (λ sink. room ≤ sink.room) }
+        ensures history { IfOk result (λ sink. sink.history ≡ []) }
     {
         Ok(SureSink {
             taken: Taken::new(alloc, room)?,
+            history: History::new(),
         })
     }
 
@@ -48,14 +52,21 @@ impl SureSink {
 }
 
 impl Sink for SureSink {
-    ghost use Rattle.std.specs.Prelude.{◌≡◌, ◌≤◌, ◌<◌, ◌+◌, Ok, IsSome, length};
+    ghost use Rattle.std.specs.Prelude.{◌≡◌, ◌≤◌, ◌<◌, ◌+◌, Ok, IsSome, length, refl};
     ghost use Rattle.gcx_io.specs.Causes.{HasCause};
     ghost use Rattle.gcx_io.specs.Bytes.{WriteGrows, Moves};
-    ghost use Rattle.gcx_io.specs.Taken.{told_taken};
+    ghost use Rattle.gcx_io.specs.Calls.{WritesOnce};
+    ghost use Rattle.gcx_io.specs.SureSink.{told_taken, sure_sink_seen};
 
     ghost taken = { told_taken };
 
     ghost faults = { λ _. 0 };
+
+    ghost calls = { λ s. s.history };
+
+    ghost seen = { sure_sink_seen };
+
+    ghost sees = { λ _. refl };
 
     fn write(&mut self, piece: &[u8]) -> Result<usize, Failed>
         requires { 0 < length piece.now }
@@ -65,8 +76,10 @@ impl Sink for SureSink {
         ensures ok { result ≡ Ok (length piece.now) }
         ensures whole { length piece.now ≤ self.old.room → IsSome self.old.taken → IsSome self.new.taken }
         ensures room { self.old.room ≤ self.new.room + length piece.now }
+        ensures writes { WritesOnce (sure_sink_seen self.old) (sure_sink_seen self.new) result piece.now }
     {
         self.taken.keep(piece);
+        self.history.took(piece);
         Ok(piece.len())
     }
 }

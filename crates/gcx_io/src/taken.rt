@@ -18,7 +18,8 @@ impl Model for Taken {
 
     ghost Value = { Kept };
 
-    ghost view = { λ t. record { taken = told_where t.whole t.bytes.items; room = vec_capacity t.bytes - vec_len t.bytes } };
+    ghost view = { λ t. record
+        { taken = told_where t.whole t.bytes.items; room = vec_capacity t.bytes - vec_len t.bytes } };
 }
 
 impl Taken {

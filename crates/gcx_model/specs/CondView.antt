@@ -4,7 +4,7 @@ use Rattle.gcx_model.specs.declared.cond.Operand.{Operand}
 use Rattle.gcx_model.specs.declared.cond.Operand.TheVariants as operand
 use Rattle.gcx_model.specs.declared.cond.Cond.{Cond, Cond-F, fold-Cond}
 use Rattle.gcx_model.specs.declared.cond.Cond.TheOpen as cond
-use Rattle.gcx_model.specs.declared.cond.Conds.{Conds, Conds-F}
+use Rattle.gcx_model.specs.declared.cond.CondList.{CondList, CondList-F}
 use Rattle.gcx_model.specs.Core.{OperandTree, Path, Str, Num, CondTree, CondTrees, Always, Exists, Compare, Not, All, Any, no_cond, more_conds}
 
 -- the operand as a plain tree
@@ -25,12 +25,12 @@ core_cond_layer (cond.Not c) = Not (box_value c)
 core_cond_layer (cond.All cs) = All cs
 core_cond_layer (cond.Any cs) = Any cs
 
-abbrev pub core_conds_layer : Conds-F CondTree CondTrees → CondTrees
+abbrev pub core_conds_layer : CondList-F CondTree CondTrees → CondTrees
 core_conds_layer cs = core_conds_of cs.members.items
 
 -- the condition as a plain tree
 abbrev pub core_cond_tree : Cond → CondTree
 core_cond_tree c = fold-Cond CondTree CondTrees core_cond_layer core_conds_layer c
 
-abbrev pub core_cond_trees : Conds → List CondTree
+abbrev pub core_cond_trees : CondList → List CondTree
 core_cond_trees cs = map core_cond_tree cs.members.items

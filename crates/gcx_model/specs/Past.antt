@@ -10,6 +10,14 @@ use Rattle.gcx_model.specs.Cores.{Good}
 use Rattle.gcx_model.specs.Placed.{offs_in, Placed, is_own}
 use Rattle.gcx_model.specs.Growth.{Leads, level}
 use Rattle.gcx_model.specs.Held.{path_of, statement_of, on_off, signed, roles_live, held}
+use Rattle.gcx_base.specs.declared.kind.Kind.TheVariants.{Document}
+use Rattle.gcx_base.specs.declared.kind.Kind.TheVariants.{Element}
+use Rattle.gcx_base.specs.declared.kind.Kind.TheVariants.{Text}
+use Rattle.gcx_model.specs.Tree.{Start}
+use Rattle.gcx_model.specs.Tree.{Chars}
+use Rattle.gcx_model.specs.Tree.{End}
+use Rattle.std.specs.Prelude.{◌+◌}
+use Rattle.std.specs.Prelude.{true}
 
 -- the plan; the tokens so far, as their tree; the actions so far; and how many of these were taken before the last token
 pub record Past : Type 0 where
@@ -25,6 +33,22 @@ opening_past plan = record { plan = plan; tree = opening; acts = []; fed = 0 }
 -- one token more
 abbrev pub past_fed : Token → Past → Past
 past_fed t past = record past { tree = grow t past.tree; fed = length past.acts }
+
+-- one token more, with no more actions taken before the last token: it differs from `past_fed` in `fed` alone
+abbrev pub past_grown : Token → Past → Past
+past_grown t past = record past { tree = grow t past.tree }
+
+-- the token that opens a node of this kind
+abbrev pub token_for : Kind → Token
+token_for Document = End
+token_for (Element name) = Start name
+token_for (Text b) = Chars b
+
+-- an element or a text
+abbrev pub IsNode : Kind → Type 0
+IsNode Document = ⊥
+IsNode (Element name) = Unit {0}
+IsNode (Text b) = Unit {0}
 
 -- one action more
 abbrev pub past_acted : Action → Past → Past
@@ -51,6 +75,15 @@ open_from (Some p) = above p
 -- the open nodes, the innermost first
 abbrev pub open_nodes : Tree → List Node
 open_nodes P = open_from P.at
+
+-- the innermost node: the innermost open one, or the text that came last
+abbrev pub IsLast : Tree → (text : Bool) → Node → Type 0
+IsLast P false a = P.at ≡ Some a
+IsLast P true a = (p : Node) × (s : ℕ) × (b : List ℕ) × (ns : List Node) × (a ≡ Under p s (Text b)) × (P.at ≡ Some p) × (P.nodes ≡ ns ++ a ∷ [])
+
+-- the token opens this node
+abbrev pub Opens : Tree → Token → Node → Type 0
+Opens P t n = In n (grow t P).nodes × (In n P.nodes → ⊥)
 
 -- a statement of which the matcher hasn't heard, and the level of its node
 pub record Awaited : Type 0 where

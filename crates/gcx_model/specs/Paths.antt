@@ -1,12 +1,11 @@
 -- Steps and paths (XQuery 1.0, section 3.2.1: the axes child and descendant, name tests and kind tests).
-use Rattle.std.specs.Prelude.{ℕ, Bool, true, false, cond, ◌&&◌, ◌||◌, List, [], ◌∷◌, ◌==◌, filter, flat_map, Option, Some, None, bytes_eq}
+use Rattle.std.specs.Prelude.{ℕ, Bool, true, false, cond, ◌&&◌, ◌||◌, List, [], ◌∷◌, ◌==◌, filter, flat_map, Option, Some, None}
 use Rattle.gcx_base.specs.declared.kind.Kind.{Kind}
 use Rattle.gcx_base.specs.declared.kind.Kind.TheVariants.{Document, Element, Text}
 use Rattle.gcx_base.specs.declared.steps.Axis.{Axis}
 use Rattle.gcx_base.specs.declared.steps.Axis.TheVariants.{Child, Descendant}
-use Rattle.gcx_base.specs.declared.steps.Test.{Test}
-use Rattle.gcx_base.specs.declared.steps.Test.TheVariants.{Named, AnyElement, AnyText, AnyNode}
 use Rattle.gcx_base.specs.declared.steps.Step.{Step}
+use Rattle.gcx_base.specs.Tests.{passes}
 use Rattle.gcx_model.specs.Tree.{Node, Root, Under, serial_of, kind_of, above, within, Tree}
 
 abbrev pub any : {X : Type 0} → (X → Bool) → List X → Bool
@@ -16,17 +15,6 @@ any p (x ∷ xs) = p x || any p xs
 abbrev pub all : {X : Type 0} → (X → Bool) → List X → Bool
 all p [] = true
 all p (x ∷ xs) = p x && all p xs
-
-abbrev pub passes : Test → Kind → Bool
-passes t Document = false
-passes (Named n) (Element name) = bytes_eq n name
-passes AnyElement (Element name) = true
-passes AnyText (Element name) = false
-passes AnyNode (Element name) = true
-passes (Named n) (Text b) = false
-passes AnyElement (Text b) = false
-passes AnyText (Text b) = true
-passes AnyNode (Text b) = true
 
 -- the node is a child, or a proper descendant, of the node with serial n
 abbrev pub lies : Axis → ℕ → Node → Bool

@@ -4,7 +4,8 @@ use Rattle.gcx_base.specs.declared.steps.Step.{Step}
 use Rattle.gcx_model.specs.Tree.{Node, Root, serial_of, Tree, opening, is_closed}
 use Rattle.gcx_model.specs.Paths.{matches}
 use Rattle.gcx_model.specs.Core.{CondTree, ItemTree, Copy, For, If, BodyTree, Then, PlanTree}
-use Rattle.gcx_model.specs.Truth.{True, False, Env, bind_var, truth}
+use Rattle.gcx_model.specs.declared.truth.Truth.TheVariants.{True, False}
+use Rattle.gcx_model.specs.Truth.{Env, bind_var, truth}
 use Rattle.gcx_model.specs.Run.{Action, Out, idle, seq, loop, copy, run_item, run, env0}
 use Rattle.gcx_model.specs.Growth.{Grow}
 

@@ -7,7 +7,9 @@ use Rattle.gcx_model.specs.Paths.{matches}
 use Rattle.gcx_model.specs.Written.{start_tag, end_tag, escaped}
 use Rattle.gcx_model.specs.Answer.{children}
 use Rattle.gcx_model.specs.Core.{OffTree, ItemTree, Write, Copy, For, If, Off, BodyTree, Nil, Then}
-use Rattle.gcx_model.specs.Truth.{Verdict, True, False, Unknown, Env, bind_var, truth}
+use Rattle.gcx_model.specs.declared.truth.Truth.{Truth}
+use Rattle.gcx_model.specs.declared.truth.Truth.TheVariants.{True, False, Unknown}
+use Rattle.gcx_model.specs.Truth.{Env, bind_var, truth}
 
 -- bytes written; a statement carried out with its base bound to the node of this number
 pub data Action : Type 0 where
@@ -50,7 +52,7 @@ abbrev pub copy : (most : ℕ) → Tree → Node → Out
 copy zero P n = idle false
 copy (suc most) P n = copy_with (kind_of n) (loop (copy most P) (children P n) (is_closed P n))
 
-abbrev pub choose : Verdict → Out → Out → Out
+abbrev pub choose : Truth → Out → Out → Out
 choose True a b = a
 choose False a b = b
 choose Unknown a b = idle false

@@ -7,6 +7,11 @@ use Rattle.gcx_model.specs.Tree.{Token, End, Tree, opening, grow_all}
 use Rattle.gcx_model.specs.Grammar.{SpellsDocument, Content, nothing, mark, space, char, reference, cdata, comment, bare, instruction, doctype, single, tagged, end_tag}
 use Rattle.gcx_model.specs.Fronts.{Frames, bottom, frame, Piece, no_piece, Opens, inside, seen_tokens}
 use Rattle.gcx_model.specs.Faults.{Clean, FaultIs}
+use Rattle.std.specs.Prelude.{◌+◌}
+use Rattle.std.specs.Prelude.{◌^◌}
+use Rattle.std.specs.Prelude.{Some}
+use Rattle.gcx_model.specs.Tree.{Node}
+use Rattle.gcx_model.specs.Growth.{level}
 
 -- The characters are a front of a document, and these are the tokens of its whole tags. Those of attributes count with their tag.
 pub record SeenIn (cs : List ℕ) (ts : List Token) : Type 0 where
@@ -102,3 +107,7 @@ pub record SeenInWords (lim : Limits) (b : List ℕ) (ts : List Token) : Type 0 
   pub no_fault : FaultIs lim (encodes front) false None
   pub by_tag : ((front ≡ []) × (ts ≡ [])) ⊎ ((w : EndsWithTag front) × (d : Nodes) × SpellsDocument (front ++ end_tags w.frames) d × (tokens d ≡ ts ++ open_ends w.frames))
   pub longest : (c more : List ℕ) → scalars c ≡ true → b ≡ encodes c ++ more → FaultIs lim (encodes c) false None → EndsWithTag c → length c ≤ length front
+
+-- the tree behind each front of the tokens has no more than 2^40 nodes beside the document node, and no element deeper than 1,000 is open
+abbrev pub AreWithin : List Token → Type 0
+AreWithin ts = (before after : List Token) → ts ≡ before ++ after → (length (seen_tree before).nodes ≤ 2 ^ 40 + 1) × ((p : Node) → (seen_tree before).at ≡ Some p → level p ≤ 1000)

@@ -1,4 +1,4 @@
-//! Conditions of a core. `Conds` holds members that hold it again, so its clauses speak of plain trees.
+//! Conditions of a core. `CondList` holds members that hold it again, so its clauses speak of plain trees.
 ghost use Rattle.std.specs.Prelude.{◌≡◌, ◌++◌, ◌∷◌, [], map, IfOk, OnOk, OnErr};
 ghost use Rattle.gcx_model.specs.CondView.{core_cond_tree, core_cond_trees};
 
@@ -49,9 +49,9 @@ pub enum Cond {
     },
     Not(Box<Cond>),
     /// At least two members.
-    All(Conds),
+    All(CondList),
     /// At least two members.
-    Any(Conds),
+    Any(CondList),
 }
 
 impl Cond {
@@ -85,16 +85,16 @@ impl Cond {
 /// A list of conditions.
 #[derive(Drop, Debug)]
 #[cycle(core_conditions)]
-pub struct Conds {
+pub struct CondList {
     pub members: Vec<Cond>,
 }
 
-impl Conds {
+impl CondList {
     /// The empty list.
-    pub fn new(alloc: Global) -> Conds
+    pub fn new(alloc: Global) -> CondList
         ensures { core_cond_trees result ≡ [] }
     {
-        Conds {
+        CondList {
             members: Vec::new(alloc),
         }
     }
@@ -118,10 +118,10 @@ impl Conds {
 
     /// The same list once more.
     #[cycle(copy_core_conditions)]
-    pub fn copy(&self, alloc: Global) -> Result<Conds, Memory>
+    pub fn copy(&self, alloc: Global) -> Result<CondList, Memory>
         ensures { IfOk result (λ conds. core_cond_trees conds ≡ core_cond_trees self.now) }
     {
-        let mut copied = Conds::new(alloc);
+        let mut copied = CondList::new(alloc);
         for cond in self.items() {
             copied.push(cond.copy(alloc)?)?;
         }

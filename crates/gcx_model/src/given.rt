@@ -27,6 +27,7 @@ impl Model for Given {
 
 impl Given {
     /// The empty list.
+    #[inline(always)]
     pub fn new(alloc: Global) -> Given
         ensures { result ≡ [] }
     {
@@ -36,6 +37,7 @@ impl Given {
     }
 
     /// Adds a role, which is above the last one, at the end. After `Memory` the list is unchanged.
+    #[inline(always)]
     pub fn push(&mut self, role: Role) -> Result<(), Memory>
         requires { IsAboveLast self.old role }
         ensures ok { OnOk result (self.new ≡ self.old ++ role ∷ []) }
@@ -46,6 +48,7 @@ impl Given {
     }
 
     /// The roles, strictly rising.
+    #[inline(always)]
     pub fn items(&self) -> &[Role]
         ensures same { result.now ≡ self.now }
         ensures rising { IsRising self.now }

@@ -1,6 +1,7 @@
 //! The items of a core and of a plan. `Body` holds items that hold it again, so its clauses speak of plain trees.
 ghost use Rattle.std.specs.Prelude.{◌≡◌, ◌++◌, ◌∷◌, [], map, IfOk, OnOk, OnErr};
-ghost use Rattle.gcx_model.specs.ItemView.{item_tree, item_trees};
+ghost use Rattle.gcx_model.specs.ItemView.{item_tree, item_trees, off_tree};
+ghost use Rattle.gcx_model.specs.Placed.{is_own};
 
 use crate::cond::Cond;
 use gcx_base::{Memory, Role, Step, Steps, Text, VarId};
@@ -34,6 +35,16 @@ pub struct Off {
 }
 
 impl Off {
+    /// Whether the statement takes back its base's own role, and so reaches its base alone.
+    pub fn is_own(&self) -> bool
+        ensures { result ≡ is_own (off_tree self.now) }
+    {
+        match self.kind {
+            RoleKind::Own => self.rel.items().is_empty(),
+            RoleKind::First | RoleKind::Whole => false,
+        }
+    }
+
     /// The same statement once more.
     pub fn copy(&self, alloc: Global) -> Result<Off, Memory>
         ensures { IfOk result (λ off. off ≡ self.now) }

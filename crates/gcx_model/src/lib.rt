@@ -7,10 +7,12 @@ mod given;
 mod item;
 mod plan;
 mod query;
+mod truth;
 
-pub use cond::{Cond, Conds, Operand};
+pub use cond::{Cond, CondList, Operand};
 pub use fault::{DocFault, QueryFault, What};
 pub use given::Given;
 pub use item::{Body, Item, Off, RoleKind};
 pub use plan::{Core, Flags, Plan, RoleRow, RoleRows, VarIds, VarRow, VarRows};
 pub use query::{Clause, Clauses, Expr, Exprs, PathExpr, QCond, QConds, QOperand, Query};
+pub use truth::Truth;

@@ -9,8 +9,8 @@ use Rattle.gcx_model.specs.Nodes.{Grown}
 use Rattle.gcx_model.specs.Core.{First, PlanTree, RoleRowTree}
 use Rattle.gcx_model.specs.ItemView.{role_kind}
 use Rattle.gcx_model.specs.Held.{path_of}
-use Rattle.gcx_laws.specs.Pasts.{Opens as Opened}
-use Rattle.gcx_laws.proofs.Lists.{In}
+use Rattle.gcx_model.specs.Past.{Opens as Opened}
+use Rattle.tree_laws.proofs.Lists.{In}
 use Rattle.matcher.specs.Lists.{Climbs, From, Gains, Holds}
 use Rattle.matcher.specs.Parts.{contexts_at, hits_at, pending_at, whole_at, IsUnmatched}
 use Rattle.matcher.specs.Row.{IsFirst, IsFound, IsRow, IsRole}

@@ -13,19 +13,19 @@ use Rattle.gcx_model.specs.Core.{RoleKind, Own, First, Whole, OffTree, RoleRowTr
 use Rattle.gcx_model.specs.ItemView.{role_kind}
 use Rattle.gcx_model.specs.Held.{path_of, gives, given_row, on_row, given, reaches}
 use Rattle.gcx_model.specs.Placed.{row_at}
-use Rattle.gcx_model.specs.Past.{Past}
-use Rattle.gcx_laws.proofs.Lists.{In, In-right, any_from}
-use Rattle.gcx_laws.proofs.Matches.{Matches-in}
-use Rattle.gcx_laws.proofs.Chains.{above_in, above_trans, above_self, hits_above}
-use Rattle.gcx_laws.proofs.Frames.{hits-append}
-use Rattle.gcx_laws.proofs.Public.{grown_from}
-use Rattle.gcx_laws.proofs.Told.{Told}
-use Rattle.gcx_laws.proofs.Bases.{head_in}
+use Rattle.gcx_model.specs.Past.{Past, IsLast}
+use Rattle.tree_laws.proofs.Lists.{In, In-right, any_from}
+use Rattle.tree_laws.proofs.Matches.{Matches-in}
+use Rattle.tree_laws.proofs.Chains.{above_in, above_trans, above_self, hits_above}
+use Rattle.need_laws.proofs.Frames.{hits-append}
+use Rattle.tree_laws.proofs.Fed.{grown_from}
+use Rattle.placed_laws.proofs.Told.{Told}
+use Rattle.past_laws.proofs.Bases.{head_in}
 use Rattle.matcher.specs.Lists.{Holds}
 use Rattle.matcher.specs.Spots.{IsWay, kind_with, tail_with}
 use Rattle.matcher.specs.Rows.{Hit}
 use Rattle.matcher.specs.Row.{IsRow}
-use Rattle.matcher.specs.Matcher.{Innermost, Stands}
+use Rattle.matcher.specs.Matcher.{Stands}
 use Rattle.matcher.specs.Stacks.{innermost_row}
 use Rattle.matcher.specs.Ahead.{Target, AreVars, AreBases}
 use Rattle.matcher.specs.Parts.{hits_at}
@@ -57,7 +57,7 @@ first_tail First tail e = refl
 first_tail Whole tail e = absurd (cc)
 
 -- the innermost node is one of the tree's
-pub innermost_in : (P : Tree) → Grown P → (text : Bool) (a : Node) → Innermost P text a → In a P.nodes
+pub innermost_in : (P : Tree) → Grown P → (text : Bool) (a : Node) → IsLast P text a → In a P.nodes
 innermost_in P w false a h = w.at_in a h
 innermost_in P w true a h = subst (λ (z : List Node). In a z) (sym h.6) (In-right a h.3 (a ∷ []) (inl refl))
 
@@ -70,7 +70,7 @@ last_same (x ∷ []) [] a b e = absurd (cc)
 last_same (x ∷ (z ∷ xs)) [] a b e = absurd (cc)
 last_same (x ∷ xs) (y ∷ ys) a b e = last_same xs ys a b (cc)
 
-pub innermost_same : (P : Tree) (text : Bool) (a b : Node) → Innermost P text a → Innermost P text b → a ≡ b
+pub innermost_same : (P : Tree) (text : Bool) (a b : Node) → IsLast P text a → IsLast P text b → a ≡ b
 innermost_same P false a b h k = let e : Some a ≡ Some b = sym h ∙ k in cc
 innermost_same P true a b h k = last_same h.3 k.3 a b (sym h.6 ∙ k.6)
 

@@ -13,11 +13,11 @@ use Rattle.gcx_model.specs.Equal.{off_eq}
 use Rattle.gcx_model.specs.Held.{path_of, is_off, signed}
 use Rattle.gcx_model.specs.Past.{Past, IsPast}
 use Rattle.gcx_model.specs.Placed.{offs_in, row_at, Placed}
-use Rattle.gcx_laws.proofs.Lists.{In, any_in}
-use Rattle.gcx_laws.proofs.Equal.{off_same}
-use Rattle.gcx_laws.proofs.Matches.{Numbered-same, Matches-in}
-use Rattle.gcx_laws.proofs.More.{paths_by_rows}
-use Rattle.gcx_laws.proofs.Public.{grown_from}
+use Rattle.tree_laws.proofs.Lists.{In, any_in}
+use Rattle.tree_laws.proofs.Equal.{off_same}
+use Rattle.tree_laws.proofs.Matches.{Numbered-same, Matches-in}
+use Rattle.placed_laws.proofs.PlanStatements.{paths_by_rows}
+use Rattle.tree_laws.proofs.Fed.{grown_from}
 use Rattle.matcher.specs.Spots.{AreSpots}
 use Rattle.matcher.specs.declared.spots.Spots.{Spots}
 use Rattle.matcher.proofs.Looking.{some_at}

@@ -10,15 +10,16 @@ use Rattle.gcx_base.specs.declared.steps.Test.TheVariants.{Named, AnyElement, An
 use Rattle.gcx_base.specs.declared.kind.Kind.TheVariants.{Document}
 use Rattle.gcx_base.specs.declared.steps.Step.{Step}
 use Rattle.gcx_model.specs.Tree.{Node, Root, serial_of, above, opening}
-use Rattle.gcx_model.specs.Paths.{passes, lies, hits, any, head, first}
+use Rattle.gcx_base.specs.Tests.{passes}
+use Rattle.gcx_model.specs.Paths.{lies, hits, any, head, first}
 use Rattle.gcx_model.specs.Core.{RoleKind, Own, First, Whole, BodyTree, RoleRowTree, PlanTree}
 use Rattle.gcx_model.specs.Cores.{Good}
 use Rattle.gcx_model.specs.Placed.{Placed, row_at}
 use Rattle.gcx_model.specs.Held.{path_of}
 use Rattle.gcx_model.specs.Growth.{level}
 use Rattle.gcx_model.specs.Past.{opening_past}
-use Rattle.gcx_laws.proofs.Lists.{In, any_in, any_from}
-use Rattle.gcx_laws.proofs.PastForms.{past_opens}
+use Rattle.tree_laws.proofs.Lists.{In, any_in, any_from}
+use Rattle.past_laws.proofs.PastForms.{past_opens}
 use Rattle.matcher.specs.Lists.{Climbs, From}
 use Rattle.matcher.specs.Matcher.{Stands, IsSign}
 use Rattle.matcher.specs.Signs.{InTurn}

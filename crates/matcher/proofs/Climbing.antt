@@ -1,12 +1,11 @@
 -- Rising lists, and a number put at its place.
 use Rattle.std.proofs.Common.{◌≡◌, ℕ, zero, suc, ◌+◌, ◌-◌, max, ◌<◌, ◌≤◌, List, [], ◌∷◌, ◌++◌, length, take, drop, get_or, refl, sym, ◌∙◌, ap, subst, inl, inr, ◌⊎◌, arith, drop-cons, Some}
 use Rattle.std.specs.List.{insert}
-use Rattle.std.specs.Prelude.{map}
+use Rattle.std.specs.Prelude.{map, slice_get}
 use Rattle.std.proofs.lemmas.List.{take-append-drop, take_more, take_all, append-nil}
-use Rattle.std.specs.Prelude.{slice_get}
 use Rattle.gcx_base.specs.declared.ids.Role.{Role}
 use Rattle.gcx_model.specs.Given.{IsAboveLast}
-use Rattle.gcx_laws.proofs.Lists.{In, In-left, In-right, In-append}
+use Rattle.tree_laws.proofs.Lists.{In, In-left, In-right, In-append}
 use Rattle.matcher.proofs.Gaining.{in_get}
 use Rattle.matcher.specs.Lists.{Climbs, Parts}
 

@@ -7,25 +7,26 @@ use Rattle.gcx_base.specs.declared.kind.Kind.{Kind}
 use Rattle.gcx_base.specs.declared.kind.Kind.TheVariants.{Document, Element, Text}
 use Rattle.gcx_base.specs.declared.steps.Step.{Step}
 use Rattle.gcx_model.specs.Tree.{Node, Under, serial_of, above, Tree, Token, grow}
-use Rattle.gcx_model.specs.Paths.{hits, passes}
+use Rattle.gcx_base.specs.Tests.{passes}
+use Rattle.gcx_model.specs.Paths.{hits}
 use Rattle.gcx_model.specs.Nodes.{Grown}
 use Rattle.gcx_model.specs.Growth.{level}
 use Rattle.gcx_model.specs.Core.{First, Whole}
 use Rattle.gcx_model.specs.Held.{path_of, roles_given, signed}
-use Rattle.gcx_model.specs.Past.{Past, open_nodes}
-use Rattle.gcx_laws.specs.Pasts.{Opens}
-use Rattle.gcx_laws.proofs.Lists.{In, any_in, any_from}
-use Rattle.gcx_laws.proofs.Matches.{Grown-grow}
-use Rattle.gcx_laws.proofs.Public.{grown_from}
-use Rattle.gcx_laws.proofs.Chains.{above_in, above_trans, above_self}
-use Rattle.gcx_laws.proofs.Frames.{hits-append}
-use Rattle.gcx_laws.proofs.Ahead.{first_behind, new_unsigned}
+use Rattle.gcx_model.specs.Past.{Past, open_nodes, Opens, past_grown, token_for}
+use Rattle.tree_laws.proofs.Lists.{In, any_in, any_from}
+use Rattle.tree_laws.proofs.Matches.{Grown-grow}
+use Rattle.tree_laws.proofs.Fed.{grown_from}
+use Rattle.tree_laws.proofs.Chains.{above_in, above_trans, above_self}
+use Rattle.need_laws.proofs.Frames.{hits-append}
+use Rattle.past_laws.proofs.Ahead.{first_behind, new_unsigned}
 use Rattle.matcher.specs.Lists.{Holds}
 use Rattle.matcher.specs.Parts.{hits_at, pending_at, whole_at}
 use Rattle.matcher.specs.Row.{IsFound, IsInside, IsPending, IsRow}
 use Rattle.matcher.specs.Rows.{HitsBelow}
 use Rattle.matcher.specs.Stacks.{innermost_row}
-use Rattle.matcher.specs.Matcher.{IsSign, Stands, is_text, past_grown, token_for}
+use Rattle.gcx_base.specs.Kinds.{is_text}
+use Rattle.matcher.specs.Matcher.{IsSign, Stands}
 use Rattle.matcher.specs.Entering.{Comes, Goes, IsIdle, IsIdled}
 use Rattle.matcher.specs.declared.matcher.Matcher.{Matcher}
 use Rattle.matcher.specs.declared.row.Found.{Found}

@@ -9,16 +9,17 @@ use Rattle.gcx_model.specs.Paths.{hits}
 use Rattle.gcx_model.specs.Nodes.{Grown}
 use Rattle.gcx_model.specs.Growth.{level}
 use Rattle.gcx_model.specs.Held.{roles_given}
-use Rattle.gcx_model.specs.Past.{Past}
-use Rattle.gcx_laws.proofs.Lists.{In}
-use Rattle.gcx_laws.proofs.Public.{grown_from}
-use Rattle.gcx_laws.proofs.Ahead.{new_unsigned}
+use Rattle.gcx_model.specs.Past.{Past, past_grown, token_for}
+use Rattle.tree_laws.proofs.Lists.{In}
+use Rattle.tree_laws.proofs.Fed.{grown_from}
+use Rattle.past_laws.proofs.Ahead.{new_unsigned}
 use Rattle.matcher.specs.Lists.{Climbs, From, Gains, Holds}
 use Rattle.matcher.specs.Parts.{hits_at, pending_at, whole_at, found_at, slice_of, IsUnmatched}
 use Rattle.matcher.specs.Row.{IsFound, IsRow}
 use Rattle.matcher.specs.Rows.{AreRoles, HitsBelow}
 use Rattle.matcher.specs.Stacks.{AreStacked, IsAdded, innermost_row}
-use Rattle.matcher.specs.Matcher.{Stands, is_text, past_grown, token_for}
+use Rattle.gcx_base.specs.Kinds.{is_text}
+use Rattle.matcher.specs.Matcher.{Stands}
 use Rattle.matcher.specs.Entering.{Finds, Firsts, FoundNoted, Goes, IsBared, LeadsTo}
 use Rattle.matcher.specs.declared.matcher.Matcher.{Matcher}
 use Rattle.matcher.specs.declared.row.Context.{Context}

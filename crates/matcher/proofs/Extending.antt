@@ -1,7 +1,7 @@
 -- Lists that stay the same up to their old ends.
 use Rattle.std.proofs.Common.{◌≡◌, ℕ, ◌+◌, ◌<◌, ◌≤◌, List, [], ◌∷◌, ◌++◌, length, take, drop, get_or, refl, sym, ◌∙◌, ap, inl, inr, arith, append_assoc}
 use Rattle.std.proofs.lemmas.List.{append-nil, length-append, take-append-le, take_all}
-use Rattle.gcx_laws.proofs.Lists.{In-left, In-right, In-append}
+use Rattle.tree_laws.proofs.Lists.{In-left, In-right, In-append}
 use Rattle.matcher.specs.Lists.{Adds, Extends, From, Gains}
 use Rattle.matcher.proofs.Gaining.{gains_none, gains_push, gains_as, gains_next, gains_all}
 

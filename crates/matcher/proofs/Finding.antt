@@ -11,11 +11,11 @@ use Rattle.gcx_model.specs.Core.{Own, First, Whole, RoleKind, RoleRowTree}
 use Rattle.gcx_model.specs.Held.{path_of}
 use Rattle.gcx_model.specs.Placed.{row_at}
 use Rattle.gcx_model.specs.Past.{Past, open_nodes}
-use Rattle.gcx_laws.proofs.Lists.{In}
-use Rattle.gcx_laws.proofs.Public.{grown_from}
-use Rattle.gcx_laws.proofs.Chains.{above_in, above_self}
-use Rattle.gcx_laws.proofs.Frames.{hits-append}
-use Rattle.gcx_laws.proofs.Ahead.{first_behind}
+use Rattle.tree_laws.proofs.Lists.{In}
+use Rattle.tree_laws.proofs.Fed.{grown_from}
+use Rattle.tree_laws.proofs.Chains.{above_in, above_self}
+use Rattle.need_laws.proofs.Frames.{hits-append}
+use Rattle.past_laws.proofs.Ahead.{first_behind}
 use Rattle.matcher.specs.Lists.{From, Gains}
 use Rattle.matcher.specs.Spots.{kind_with}
 use Rattle.matcher.specs.Rows.{FoundAt, Hit, Unfound, Up}

@@ -2,7 +2,7 @@
 use Rattle.std.proofs.Common.{◌≡◌, Bool, true, false, cond, List, [], ◌∷◌, ◌++◌, refl, sym, ◌∙◌, ap, subst, inl, inr, ◌⊎◌, Some, None, Option}
 use Rattle.std.specs.List.{filter}
 use Rattle.gcx_model.specs.Paths.{head}
-use Rattle.gcx_laws.proofs.Lists.{In}
+use Rattle.tree_laws.proofs.Lists.{In}
 
 module _ {X : Type 0} (p : X → Bool) where
   abbrev front : List X → Option X

@@ -2,9 +2,8 @@
 use Rattle.std.proofs.Common.{◌≡◌, ℕ, zero, suc, ◌+◌, ◌<◌, ◌≤◌, true, false, List, [], ◌∷◌, ◌++◌, length, take, drop, get_or, refl, sym, ◌∙◌, ap, subst, inl, inr, ◌⊎◌, arith, eqb}
 use Rattle.std.specs.List.{list_any, insert}
 use Rattle.std.proofs.lemmas.Bool.{or_cases, or_left, or_right, false≢true, eqb-true, eq-eqb}
-use Rattle.std.proofs.lemmas.List.{take_more, take_all, take-append-drop}
-use Rattle.std.proofs.lemmas.List.{get_or_default}
-use Rattle.gcx_laws.proofs.Lists.{In, In-left, In-right, In-append}
+use Rattle.std.proofs.lemmas.List.{take_more, take_all, take-append-drop, get_or_default}
+use Rattle.tree_laws.proofs.Lists.{In, In-left, In-right, In-append}
 use Rattle.matcher.specs.Lists.{From, Gains, Holds}
 
 module _ {Y : Type 0} where

@@ -12,10 +12,10 @@ use Rattle.gcx_model.specs.Core.{RoleKind, Own, First, Whole, RoleRowTree, PlanT
 use Rattle.gcx_model.specs.Held.{path_of, is_node, gives, given_row, on_row, given, roles_given}
 use Rattle.gcx_model.specs.Placed.{row_at}
 use Rattle.gcx_model.specs.Members.{count}
-use Rattle.gcx_laws.proofs.Lists.{In, In-filter, In-kept, any_in, any_from}
-use Rattle.gcx_laws.proofs.Matches.{Numbered-same, Matches-in, Matches-from}
-use Rattle.gcx_laws.proofs.Chains.{above_in, hits_above}
-use Rattle.gcx_laws.proofs.Bases.{In-count-from, head_in, node_is}
+use Rattle.tree_laws.proofs.Lists.{In, In-filter, In-kept, any_in, any_from}
+use Rattle.tree_laws.proofs.Matches.{Numbered-same, Matches-in, Matches-from}
+use Rattle.tree_laws.proofs.Chains.{above_in, hits_above}
+use Rattle.past_laws.proofs.Bases.{In-count-from, head_in, node_is}
 use Rattle.matcher.specs.Lists.{Holds, Climbs}
 use Rattle.matcher.specs.Spots.{AreSpots, kind_with, tail_with}
 use Rattle.matcher.specs.Rows.{HasRole}

@@ -1,9 +1,8 @@
 -- The projection tree grows by a spot, and by the way of a role.
 use Rattle.std.proofs.Common.{◌≡◌, ℕ, zero, suc, ◌<◌, ◌≤◌, List, [], ◌∷◌, ◌++◌, length, take, set, refl, sym, ◌∙◌, ap, subst, inl, inr, ◌⊎◌, arith, Some}
 use Rattle.std.specs.Prelude.{slice_get, ◌↔◌}
-use Rattle.std.proofs.Math.ListN.{get_or-append}
+use Rattle.std.proofs.Math.ListN.{get_or-append, length-set}
 use Rattle.std.proofs.lemmas.List.{length-append}
-use Rattle.std.proofs.Math.ListN.{length-set}
 use Rattle.std.proofs.Math.Seq.{get_or-append_seam, take-append_seam}
 use Rattle.std.proofs.lemmas.Option.{slice_get_within}
 use Rattle.gcx_base.specs.declared.steps.Axis.{Axis}
@@ -11,7 +10,7 @@ use Rattle.gcx_base.specs.declared.steps.Axis.TheVariants.{Child, Descendant}
 use Rattle.gcx_base.specs.declared.steps.Step.{Step}
 use Rattle.gcx_model.specs.Core.{Own, First, Whole}
 use Rattle.gcx_model.specs.ItemView.{role_kind}
-use Rattle.gcx_laws.proofs.Lists.{In}
+use Rattle.tree_laws.proofs.Lists.{In}
 use Rattle.matcher.specs.Lists.{Gains}
 use Rattle.matcher.specs.Spots.{IsBelow}
 use Rattle.matcher.specs.Growing.{Told, Below, Ends, Contexts, told_by, IsTold, IsFresh, TellsMore, Was, TellMore, path_at, Growing}

@@ -6,13 +6,14 @@ use Rattle.gcx_base.specs.declared.steps.Step.{Step}
 use Rattle.gcx_base.specs.declared.steps.Axis.{Axis}
 use Rattle.gcx_base.specs.declared.steps.Axis.TheVariants.{Child, Descendant}
 use Rattle.gcx_model.specs.Tree.{Node, Root, Under, serial_of, above, within, Tree}
-use Rattle.gcx_model.specs.Paths.{any, reach, lies, passes, hits}
+use Rattle.gcx_base.specs.Tests.{passes}
+use Rattle.gcx_model.specs.Paths.{any, reach, lies, hits}
 use Rattle.gcx_model.specs.Nodes.{Grown}
-use Rattle.gcx_laws.proofs.Lists.{In, any_in, any_from}
-use Rattle.gcx_laws.proofs.Matches.{Numbered-same}
-use Rattle.gcx_laws.proofs.Freeze.{within_self, within_above, hits_within}
-use Rattle.gcx_laws.proofs.Chains.{above_in, hits_above, hits_one, hits_one_from}
-use Rattle.gcx_laws.proofs.Frames.{hits-append}
+use Rattle.tree_laws.proofs.Lists.{In, any_in, any_from}
+use Rattle.tree_laws.proofs.Matches.{Numbered-same}
+use Rattle.tree_laws.proofs.Freeze.{within_self, within_above, hits_within}
+use Rattle.tree_laws.proofs.Chains.{above_in, hits_above, hits_one, hits_one_from}
+use Rattle.need_laws.proofs.Frames.{hits-append}
 
 pub within_in : (n : ℕ) (m : Node) → within n m ≡ true → (j : Node) × In j (above m) × (serial_of j ≡ n)
 within_in n Root h = (Root, inl refl, eqb-true _ _ h)

@@ -13,14 +13,14 @@ use Rattle.gcx_model.specs.Paths.{hits, head}
 use Rattle.gcx_model.specs.Core.{OffTree, PlanTree}
 use Rattle.gcx_model.specs.Growth.{level, may_come_at}
 use Rattle.gcx_model.specs.Held.{signed}
-use Rattle.gcx_model.specs.Past.{Past, IsPast}
-use Rattle.gcx_laws.proofs.Lists.{In, In-filter, In-kept}
-use Rattle.gcx_laws.proofs.Chains.{above_self}
-use Rattle.gcx_laws.proofs.PastForms.{past_feeds}
-use Rattle.gcx_laws.proofs.Public.{grown_from}
+use Rattle.gcx_model.specs.Past.{Past, IsPast, past_grown}
+use Rattle.tree_laws.proofs.Lists.{In, In-filter, In-kept}
+use Rattle.tree_laws.proofs.Chains.{above_self}
+use Rattle.past_laws.proofs.PastForms.{past_feeds}
+use Rattle.tree_laws.proofs.Fed.{grown_from}
 use Rattle.matcher.specs.Row.{IsFirst, IsFound, IsRow}
 use Rattle.matcher.specs.Stacks.{AreStacked, IsTaken}
-use Rattle.matcher.specs.Matcher.{IsSign, Stands, past_grown}
+use Rattle.matcher.specs.Matcher.{IsSign, Stands}
 use Rattle.matcher.specs.Signs.{InTurn}
 use Rattle.matcher.specs.declared.matcher.Matcher.{Matcher}
 use Rattle.matcher.specs.declared.row.Found.{Found}

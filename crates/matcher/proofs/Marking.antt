@@ -4,7 +4,7 @@ use Rattle.std.specs.Prelude.{slice_get}
 use Rattle.std.proofs.lemmas.List.{take-append-drop, with_items_is}
 use Rattle.std.specs.declared.vec.Vec.{Vec}
 use Rattle.std.specs.Vec.{with_items}
-use Rattle.gcx_laws.proofs.Lists.{In, In-left, In-right, In-append}
+use Rattle.tree_laws.proofs.Lists.{In, In-left, In-right, In-append}
 use Rattle.matcher.specs.Stacks.{Marks}
 
 -- a mark that is set, and the others

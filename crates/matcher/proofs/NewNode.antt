@@ -9,17 +9,17 @@ use Rattle.gcx_base.specs.declared.steps.Step.{Step}
 use Rattle.gcx_base.specs.declared.steps.Axis.{Axis}
 use Rattle.gcx_base.specs.declared.steps.Axis.TheVariants.{Child, Descendant}
 use Rattle.gcx_model.specs.Tree.{Node, Root, Under, serial_of, kind_of, above, within, Tree, Token, grow, grow_at}
-use Rattle.gcx_model.specs.Paths.{head, hits, reach, lies, passes, first, matches}
+use Rattle.gcx_base.specs.Tests.{passes}
+use Rattle.gcx_model.specs.Paths.{head, hits, reach, lies, first, matches}
 use Rattle.gcx_model.specs.Nodes.{Grown}
 use Rattle.gcx_model.specs.Growth.{level, may_come}
-use Rattle.gcx_model.specs.Past.{Past, IsPast, open_nodes, open_from}
-use Rattle.gcx_laws.specs.Pasts.{Opens}
-use Rattle.gcx_laws.proofs.Lists.{In, In-append, In-left, In-right, any_in, filter_none}
-use Rattle.gcx_laws.proofs.Matches.{Grown-grow, Numbered-high, Matches-in, Matches-from, added, grow_nodes}
-use Rattle.gcx_laws.proofs.Chains.{above_in}
-use Rattle.gcx_laws.proofs.Ahead.{new_node, first_behind}
-use Rattle.gcx_laws.proofs.PastForms.{past_feeds}
-use Rattle.matcher.specs.Matcher.{Innermost, IsNode, is_text, past_grown, token_for}
+use Rattle.gcx_model.specs.Past.{Past, IsPast, open_nodes, open_from, Opens, IsLast, IsNode, past_grown, token_for}
+use Rattle.tree_laws.proofs.Lists.{In, In-append, In-left, In-right, any_in, filter_none}
+use Rattle.tree_laws.proofs.Matches.{Grown-grow, Numbered-high, Matches-in, Matches-from, added, grow_nodes}
+use Rattle.tree_laws.proofs.Chains.{above_in}
+use Rattle.past_laws.proofs.Ahead.{new_node, first_behind}
+use Rattle.past_laws.proofs.PastForms.{past_feeds}
+use Rattle.gcx_base.specs.Kinds.{is_text}
 use Rattle.matcher.proofs.Upwards.{level_above}
 
 nodes_of : (P : Tree) (a : Node) → P.at ≡ Some a → (kind : Kind) → IsNode kind → (grow (token_for kind) P).nodes ≡ P.nodes ++ Under a (length P.nodes) kind ∷ []
@@ -27,7 +27,7 @@ nodes_of P a at Document n = absurd n
 nodes_of P a at (Element v) n = ap (λ (o : Option Node). (grow_at o (token_for (Element v)) P).nodes) at
 nodes_of P a at (Text v) n = ap (λ (o : Option Node). (grow_at o (token_for (Text v)) P).nodes) at
 
-pub innermost_of : (P : Tree) (a : Node) → P.at ≡ Some a → (kind : Kind) → IsNode kind → Innermost (grow (token_for kind) P) (is_text kind) (Under a (length P.nodes) kind)
+pub innermost_of : (P : Tree) (a : Node) → P.at ≡ Some a → (kind : Kind) → IsNode kind → IsLast (grow (token_for kind) P) (is_text kind) (Under a (length P.nodes) kind)
 innermost_of P a at Document n = absurd n
 innermost_of P a at (Element v) n = ap (λ (o : Option Node). (grow_at o (token_for (Element v)) P).at) at
 innermost_of P a at (Text v) n = (a, length P.nodes, v, P.nodes, refl, ap (λ (o : Option Node). (grow_at o (token_for (Text v)) P).at) at, nodes_of P a at (Text v) n)

@@ -8,13 +8,14 @@ use Rattle.gcx_base.specs.declared.steps.Axis.{Axis}
 use Rattle.gcx_base.specs.declared.steps.Axis.TheVariants.{Child, Descendant}
 use Rattle.gcx_base.specs.declared.steps.Step.{Step}
 use Rattle.gcx_model.specs.Tree.{Node, Under, above, Tree}
-use Rattle.gcx_model.specs.Paths.{any, passes, hits}
+use Rattle.gcx_base.specs.Tests.{passes}
+use Rattle.gcx_model.specs.Paths.{any, hits}
 use Rattle.gcx_model.specs.Nodes.{Grown}
 use Rattle.gcx_model.specs.Core.{RoleKind, Own, First, Whole, RoleRowTree, PlanTree}
 use Rattle.gcx_model.specs.ItemView.{role_kind}
 use Rattle.gcx_model.specs.Held.{path_of}
 use Rattle.gcx_model.specs.Placed.{row_at}
-use Rattle.gcx_laws.proofs.Lists.{In}
+use Rattle.tree_laws.proofs.Lists.{In}
 use Rattle.matcher.specs.Lists.{From, Gains, Holds}
 use Rattle.matcher.specs.Spots.{IsBelow, IsEnd, AreSpots, kind_with, tail_with}
 use Rattle.matcher.specs.Rows.{Tells, Waits, Passes, HitsBelow}

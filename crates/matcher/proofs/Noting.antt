@@ -3,7 +3,7 @@ use Rattle.std.proofs.Common.{◌≡◌, ℕ, zero, suc, ◌+◌, ◌<◌, List,
 use Rattle.std.specs.Prelude.{slice_get}
 use Rattle.std.proofs.lemmas.List.{take_more}
 use Rattle.std.proofs.Math.ListN.{length-set}
-use Rattle.gcx_laws.proofs.Lists.{In, In-left, In-right, In-append}
+use Rattle.tree_laws.proofs.Lists.{In, In-left, In-right, In-append}
 use Rattle.matcher.specs.Lists.{From}
 use Rattle.matcher.specs.Rows.{IsOpen}
 use Rattle.matcher.specs.Entering.{Noted, OpenAt}

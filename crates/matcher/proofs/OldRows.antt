@@ -7,10 +7,9 @@ use Rattle.gcx_model.specs.Paths.{first}
 use Rattle.gcx_model.specs.Nodes.{Grown}
 use Rattle.gcx_model.specs.Growth.{level}
 use Rattle.gcx_model.specs.Core.{PlanTree, RoleRowTree}
-use Rattle.gcx_model.specs.Past.{open_nodes}
+use Rattle.gcx_model.specs.Past.{open_nodes, Opens}
 use Rattle.gcx_model.specs.Placed.{row_at}
-use Rattle.gcx_laws.specs.Pasts.{Opens}
-use Rattle.gcx_laws.proofs.Lists.{In}
+use Rattle.tree_laws.proofs.Lists.{In}
 use Rattle.matcher.specs.Lists.{Climbs, From}
 use Rattle.matcher.specs.Parts.{contexts_at, hits_at, pending_at, whole_at, found_at, slice_of, IsUnmatched}
 use Rattle.matcher.specs.Row.{IsFirst, IsFound, IsRow}

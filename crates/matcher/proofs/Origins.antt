@@ -8,14 +8,15 @@ use Rattle.gcx_base.specs.declared.steps.Axis.{Axis}
 use Rattle.gcx_base.specs.declared.steps.Axis.TheVariants.{Child, Descendant}
 use Rattle.gcx_base.specs.declared.steps.Step.{Step}
 use Rattle.gcx_model.specs.Tree.{Node, Root, Under, serial_of, kind_of, above, Tree}
-use Rattle.gcx_model.specs.Paths.{hits, reach, lies, passes}
+use Rattle.gcx_base.specs.Tests.{passes}
+use Rattle.gcx_model.specs.Paths.{hits, reach, lies}
 use Rattle.gcx_model.specs.Nodes.{Grown}
 use Rattle.gcx_model.specs.Growth.{level}
 use Rattle.gcx_model.specs.Core.{PlanTree}
-use Rattle.gcx_laws.proofs.Lists.{In}
-use Rattle.gcx_laws.proofs.Matches.{Numbered-same}
-use Rattle.gcx_laws.proofs.Chains.{above_in, above_trans, hits_one, hits_one_from}
-use Rattle.gcx_laws.proofs.Frames.{hits-append}
+use Rattle.tree_laws.proofs.Lists.{In}
+use Rattle.tree_laws.proofs.Matches.{Numbered-same}
+use Rattle.tree_laws.proofs.Chains.{above_in, above_trans, hits_one, hits_one_from}
+use Rattle.need_laws.proofs.Frames.{hits-append}
 use Rattle.matcher.specs.Lists.{Holds}
 use Rattle.matcher.specs.Spots.{AreSpots}
 use Rattle.matcher.specs.Rows.{Hit, Over, StepsUp, Up, arrived, stepped, nowhere}

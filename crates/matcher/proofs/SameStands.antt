@@ -6,7 +6,7 @@ use Rattle.gcx_model.specs.Tree.{Node, Tree}
 use Rattle.gcx_model.specs.Growth.{level}
 use Rattle.gcx_model.specs.Core.{PlanTree}
 use Rattle.gcx_model.specs.Past.{Past}
-use Rattle.gcx_laws.proofs.Lists.{In}
+use Rattle.tree_laws.proofs.Lists.{In}
 use Rattle.matcher.specs.Lists.{Climbs}
 use Rattle.matcher.specs.Parts.{IsUnmatched}
 use Rattle.matcher.specs.Row.{IsRow}

@@ -10,12 +10,12 @@ use Rattle.gcx_model.specs.Run.{Offed}
 use Rattle.gcx_model.specs.Held.{path_of, signed}
 use Rattle.gcx_model.specs.Placed.{offs_in}
 use Rattle.gcx_model.specs.Past.{Past, past_acted, open_from, open_nodes}
-use Rattle.gcx_laws.proofs.Lists.{In, In-left, In-right, In-append}
-use Rattle.gcx_laws.proofs.Matches.{Numbered-same, Matches-in}
-use Rattle.gcx_laws.proofs.Chains.{above_in}
-use Rattle.gcx_laws.proofs.More.{signed_is_off}
-use Rattle.gcx_laws.proofs.PastForms.{past_acts}
-use Rattle.gcx_laws.proofs.Public.{grown_from}
+use Rattle.tree_laws.proofs.Lists.{In, In-left, In-right, In-append}
+use Rattle.tree_laws.proofs.Matches.{Numbered-same, Matches-in}
+use Rattle.tree_laws.proofs.Chains.{above_in}
+use Rattle.tree_laws.proofs.OffsSigned.{signed_is_off}
+use Rattle.past_laws.proofs.PastForms.{past_acts}
+use Rattle.tree_laws.proofs.Fed.{grown_from}
 use Rattle.matcher.specs.Lists.{Gains}
 use Rattle.matcher.specs.Row.{IsRow}
 use Rattle.matcher.specs.Matcher.{Stands, IsSign}

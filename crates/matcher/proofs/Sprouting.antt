@@ -10,11 +10,11 @@ use Rattle.gcx_base.specs.declared.steps.Step.{Step}
 use Rattle.gcx_model.specs.Core.{Own, First, Whole, VarRowTree, RoleRowTree, PlanTree}
 use Rattle.gcx_model.specs.Held.{paths_from, path_of}
 use Rattle.gcx_model.specs.ItemView.{role_kind}
-use Rattle.gcx_model.specs.Paths.{passes}
+use Rattle.gcx_base.specs.Tests.{passes}
 use Rattle.gcx_model.specs.Placed.{row_at}
 use Rattle.gcx_model.specs.PlanView.{var_row_tree}
 use Rattle.gcx_model.specs.declared.plan.VarRow.{VarRow}
-use Rattle.gcx_laws.proofs.Lists.{In}
+use Rattle.tree_laws.proofs.Lists.{In}
 use Rattle.matcher.specs.Spots.{IsWay, AreSpots, kind_with, tail_with}
 use Rattle.gcx_base.specs.declared.steps.Axis.TheVariants.{Child, Descendant}
 use Rattle.matcher.specs.Growing.{Told, Below, Ends, Contexts, told_by, IsTold, IsFresh, path_at, Growing, Reached, Ended}

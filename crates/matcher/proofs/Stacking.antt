@@ -4,7 +4,7 @@ use Rattle.std.specs.Prelude.{slice_get}
 use Rattle.std.proofs.lemmas.List.{length-append, length-take-le, take_all}
 use Rattle.std.proofs.lemmas.Bool.{false≢true}
 use Rattle.std.proofs.lemmas.Option.{slice_get_within}
-use Rattle.gcx_laws.proofs.Lists.{In}
+use Rattle.tree_laws.proofs.Lists.{In}
 use Rattle.matcher.specs.Parts.{slice_of, pending_at}
 use Rattle.matcher.specs.Stacks.{Marks, EndsBefore, EndsWith, AreEmpty, AreStacked, AreLonger, IsCut, IsTaken, SameRows, TellsSame, end_of, innermost_row, of_row}
 use Rattle.matcher.specs.declared.row.Part.{Part}

@@ -13,14 +13,14 @@ use Rattle.gcx_model.specs.ItemView.{role_kind}
 use Rattle.gcx_model.specs.Held.{path_of, statement_of, given, signed, reaches, all_signed, on_off, taken, roles_taken}
 use Rattle.gcx_model.specs.Placed.{row_at, offs_in}
 use Rattle.gcx_model.specs.Past.{Past}
-use Rattle.gcx_laws.proofs.Lists.{In, In-left, In-right, In-append}
-use Rattle.gcx_laws.proofs.Matches.{Matches-in, Matches-from}
-use Rattle.gcx_laws.proofs.Chains.{above_in, above_trans}
-use Rattle.gcx_laws.proofs.Stays.{all_in, all_from}
-use Rattle.gcx_laws.proofs.Bases.{or_not}
-use Rattle.gcx_laws.proofs.Public.{grown_from}
-use Rattle.gcx_laws.proofs.Told.{Told, told, given_told, taken_told}
-use Rattle.gcx_laws.proofs.More.{one_statement_law}
+use Rattle.tree_laws.proofs.Lists.{In, In-left, In-right, In-append}
+use Rattle.tree_laws.proofs.Matches.{Matches-in, Matches-from}
+use Rattle.tree_laws.proofs.Chains.{above_in, above_trans}
+use Rattle.need_laws.proofs.Stays.{all_in, all_from}
+use Rattle.past_laws.proofs.Bases.{or_not}
+use Rattle.tree_laws.proofs.Fed.{grown_from}
+use Rattle.placed_laws.proofs.Told.{Told, told, given_told, taken_told}
+use Rattle.placed_laws.proofs.PlanStatements.{one_statement_law}
 use Rattle.matcher.specs.Lists.{Climbs, Holds}
 use Rattle.matcher.specs.Spots.{IsWay}
 use Rattle.matcher.specs.Matcher.{Stands, IsSign}

@@ -2,7 +2,7 @@
 use Rattle.std.proofs.Common.{◌≡◌, ℕ, zero, suc, ◌-◌, ◌<◌, ◌≤◌, List, [], ◌∷◌, ◌++◌, length, take, drop, get_or, refl, sym, ap, subst, inl, inr, arith, drop-cons}
 use Rattle.std.specs.List.{insert}
 use Rattle.std.proofs.lemmas.List.{take-append-drop}
-use Rattle.gcx_laws.proofs.Lists.{In, In-left, In-right, In-append}
+use Rattle.tree_laws.proofs.Lists.{In, In-left, In-right, In-append}
 use Rattle.matcher.specs.Signs.{InTurn}
 use Rattle.matcher.specs.declared.signs.Sign.{Sign}
 use Rattle.matcher.proofs.Gaining.{in_get}

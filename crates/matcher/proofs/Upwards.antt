@@ -6,9 +6,9 @@ use Rattle.gcx_model.specs.Tree.{Node, Root, Under, serial_of, above, Tree}
 use Rattle.gcx_model.specs.Paths.{lies}
 use Rattle.gcx_model.specs.Nodes.{Grown}
 use Rattle.gcx_model.specs.Growth.{level}
-use Rattle.gcx_laws.proofs.Lists.{In}
-use Rattle.gcx_laws.proofs.Matches.{Numbered-same}
-use Rattle.gcx_laws.proofs.Chains.{above_in, above_trans, above_self}
+use Rattle.tree_laws.proofs.Lists.{In}
+use Rattle.tree_laws.proofs.Matches.{Numbered-same}
+use Rattle.tree_laws.proofs.Chains.{above_in, above_trans, above_self}
 use Rattle.matcher.proofs.Leading.{in_within, within_in}
 
 -- a node above another one lies at a lower level, and there is one node above at each level

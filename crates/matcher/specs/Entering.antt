@@ -8,15 +8,14 @@ use Rattle.gcx_model.specs.Core.{First, PlanTree, RoleRowTree}
 use Rattle.gcx_model.specs.Held.{path_of}
 use Rattle.gcx_model.specs.Growth.{level, may_come}
 use Rattle.gcx_model.specs.Members.{In}
-use Rattle.gcx_model.specs.Past.{Past, IsPast, open_nodes}
-use Rattle.gcx_laws.specs.Pasts.{Opens}
+use Rattle.gcx_model.specs.Past.{Past, IsPast, open_nodes, Opens, IsNode, token_for}
 use Rattle.matcher.specs.Lists.{From, Holds}
 use Rattle.matcher.specs.Parts.{hits_at, pending_at}
 use Rattle.matcher.specs.Row.{IsFound, IsRole, IsRow}
 use Rattle.matcher.specs.Rows.{HitsBelow, IsOpen}
 use Rattle.matcher.specs.Spots.{AreSpots}
 use Rattle.matcher.specs.Stacks.{AreStacked, IsAdded, innermost_row}
-use Rattle.matcher.specs.Matcher.{IsNode, Stands, token_for}
+use Rattle.matcher.specs.Matcher.{Stands}
 use Rattle.matcher.specs.declared.matcher.Matcher.{Matcher}
 use Rattle.matcher.specs.declared.row.Context.{Context}
 use Rattle.matcher.specs.declared.row.Found.{Found}

@@ -8,7 +8,7 @@ use Rattle.gcx_model.specs.Core.{OffTree}
 use Rattle.gcx_model.specs.Held.{signed}
 use Rattle.gcx_model.specs.Growth.{level}
 use Rattle.gcx_model.specs.Members.{In}
-use Rattle.gcx_model.specs.Past.{Past, IsPast}
+use Rattle.gcx_model.specs.Past.{Past, IsPast, IsLast}
 use Rattle.gcx_model.specs.Placed.{offs_in}
 use Rattle.matcher.specs.Row.{IsRow}
 use Rattle.matcher.specs.Parts.{pending_at}
@@ -18,32 +18,6 @@ use Rattle.matcher.specs.Signs.{InTurn}
 use Rattle.matcher.specs.declared.matcher.Matcher.{Matcher}
 use Rattle.matcher.specs.declared.row.Row.{Row}
 use Rattle.matcher.specs.declared.signs.Sign.{Sign}
-
--- the token that opens a node of this kind
-abbrev pub token_for : Kind → Token
-token_for Document = End
-token_for (Element name) = Start name
-token_for (Text b) = Chars b
-
--- an element or a text
-abbrev pub IsNode : Kind → Type 0
-IsNode Document = ⊥
-IsNode (Element name) = Unit {0}
-IsNode (Text b) = Unit {0}
-
-abbrev pub is_text : Kind → Bool
-is_text Document = false
-is_text (Element name) = false
-is_text (Text b) = true
-
--- one token more
-abbrev pub past_grown : Token → Past → Past
-past_grown t past = record past { tree = grow t past.tree }
-
--- the innermost node: the innermost open one, or the text that came last
-abbrev pub Innermost : Tree → (text : Bool) → Node → Type 0
-Innermost P false a = P.at ≡ Some a
-Innermost P true a = (p : Node) × (s : ℕ) × (b : List ℕ) × (ns : List Node) × (a ≡ Under p s (Text b)) × (P.at ≡ Some p) × (P.nodes ≡ ns ++ a ∷ [])
 
 -- the statement that is signed at a node of the level, with the number of its steps to the role's variable
 pub record IsSign (past : Past) (a : Node) (s : Sign) : Type 0 where
@@ -63,7 +37,7 @@ pub record Stands (m : Matcher) (past : Past) (text : Bool) : Type 0 where
   pub spots : AreSpots past.plan m.spots
   pub flag : m.text ≡ text
   pub here : Node
-  pub innermost : Innermost past.tree text here
+  pub innermost : IsLast past.tree text here
   pub some : 0 < length m.rows.rows.items
   pub levels : length m.rows.rows.items + m.idle ≡ suc (level here)
   pub rows : (a : Node) (row : Row) → In a (above here) → slice_get m.rows.rows.items (level a) ≡ Some row → IsRow past.plan past.tree m.spots.spots.items spots.path m.rows row a

@@ -4,7 +4,7 @@ use Rattle.gcx_base.specs.declared.kind.Kind.{Kind}
 use Rattle.gcx_base.specs.declared.steps.Axis.{Axis}
 use Rattle.gcx_base.specs.declared.steps.Axis.TheVariants.{Child, Descendant}
 use Rattle.gcx_model.specs.Members.{In}
-use Rattle.gcx_model.specs.Paths.{passes}
+use Rattle.gcx_base.specs.Tests.{passes}
 use Rattle.matcher.specs.Lists.{Climbs, From, Holds}
 use Rattle.matcher.specs.declared.spots.Spot.{Spot}
 use Rattle.matcher.specs.declared.row.Row.{Row}

@@ -1,24 +1,10 @@
 //! Which paths lead to a new node.
 ghost use Rattle.std.specs.Prelude.{◌≡◌, ℕ, true, OnOk};
-ghost use Rattle.gcx_model.specs.Paths.{passes};
 ghost use Rattle.matcher.specs.Lists.{From, Gains, Holds};
 ghost use Rattle.matcher.specs.Rows.{HitsBelow, Passes, Tells, Under};
 
 use crate::spots::Spot;
-use gcx_base::{Kind, Memory, Test};
-
-/// Whether the node passes the test.
-fn passes(test: &Test, kind: &Kind) -> bool
-    ensures { result ≡ passes test.now kind.now }
-{
-    match (test, kind) {
-        (_, Kind::Document) => false,
-        (Test::Named(name), Kind::Element(other)) => name.as_bytes() == other.as_bytes(),
-        (Test::AnyElement | Test::AnyNode, Kind::Element(_)) => true,
-        (Test::AnyText | Test::AnyNode, Kind::Text(_)) => true,
-        _ => false,
-    }
-}
+use gcx_base::{Kind, Memory};
 
 /// Adds the spot where the node passes its test.
 #[inline(always)]
@@ -27,7 +13,7 @@ fn try_one(hits: &mut Vec<u32>, spots: &[Spot], number: u32, kind: &Kind) -> Res
 {
     match spots.get(number as usize) {
         Some(spot) => {
-            if passes(&spot.step.test, kind) {
+            if spot.step.test.passes(kind) {
                 hits.push(number)?;
             }
             Ok(())

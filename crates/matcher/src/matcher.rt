@@ -12,9 +12,11 @@ ghost use Rattle.gcx_model.specs.ItemView.{off_tree, role_kind};
 ghost use Rattle.gcx_model.specs.PlanView.{plan_tree};
 ghost use Rattle.gcx_model.specs.Held.{path_of, roles_given, taken, roles_taken};
 ghost use Rattle.gcx_model.specs.Past.{Past, opening_past, open_nodes, past_acted};
-ghost use Rattle.gcx_laws.specs.Pasts.{Opens};
+ghost use Rattle.gcx_model.specs.Past.{Opens};
 ghost use Rattle.matcher.specs.Lists.{Climbs, Holds};
-ghost use Rattle.matcher.specs.Matcher.{Innermost, IsNode, Stands, is_text, past_grown, token_for};
+ghost use Rattle.gcx_base.specs.Kinds.{is_text};
+ghost use Rattle.gcx_model.specs.Past.{IsLast, IsNode, past_grown, token_for};
+ghost use Rattle.matcher.specs.Matcher.{Stands};
 ghost use Rattle.matcher.specs.Entering.{AreHits, Goes, IsBared, IsIdle, IsIdled, IsOver};
 ghost use Rattle.matcher.specs.Stacks.{innermost_row, IsNoted};
 ghost use Rattle.matcher.specs.Ahead.{HasWhole, WholeTarget, OwnTarget, FirstTarget, Target, AreVars, AreBases, AreTaken, HasSign};
@@ -76,12 +78,6 @@ fn find_below(hits: &mut Vec<u32>, spots: &[Spot], rows: &Rows, kind: &Kind) -> 
         }
         None => Ok(()),
     }
-}
-
-fn is_text_kind(kind: &Kind) -> bool
-    ensures { result ≡ is_text kind.now }
-{
-    matches!(kind, Kind::Text(_))
 }
 
 /// Notes that a statement is signed at the node of the row of this level.
@@ -157,7 +153,7 @@ impl Matcher {
         ensures given { IfOk result (λ given. (past : Past) (n : Node) → Stands self.old past false → may_come (token_for kind.now) past.tree ≡ true → Opens past.tree (token_for kind.now) n → map (λ r. r.0) given ≡ roles_given past.plan (grow (token_for kind.now) past.tree) n) }
         ensures err { OnErr result ((past : Past) (text : Bool) → Stands self.old past text → Stands self.new past text) }
     {
-        let text = is_text_kind(kind);
+        let text = kind.is_text();
         if self.is_idle(text) {
             return self.enter_idle(alloc, text);
         }
@@ -256,6 +252,7 @@ impl Matcher {
     }
 
     /// Leaves the innermost node, which isn't the document node, for its parent. Takes no memory.
+    #[inline(always)]
     pub fn leave(&mut self)
         ensures text { (past : Past) → Stands self.old past true → Stands self.new past false }
         ensures element { (past : Past) (p : Node) (s : ℕ) (k : Kind) → Stands self.old past false → past.tree.at ≡ Some (Under p s k) → Stands self.new (past_grown End past) false }
@@ -288,8 +285,9 @@ impl Matcher {
     }
 
     /// The roles of the innermost node that are taken back already, by rising number.
+    #[inline(always)]
     pub fn ahead(&self, alloc: Global) -> Result<Given, Memory>
-        ensures { IfOk result (λ given. (past : Past) (text : Bool) (n : Node) → Stands self.now past text → Innermost past.tree text n → map (λ r. r.0) given ≡ roles_taken past.plan past.tree past.acts n) }
+        ensures { IfOk result (λ given. (past : Past) (text : Bool) (n : Node) → Stands self.now past text → IsLast past.tree text n → map (λ r. r.0) given ≡ roles_taken past.plan past.tree past.acts n) }
     {
         if self.signs.as_slice().is_empty() {
             return Ok(Given::new(alloc));

@@ -5,7 +5,7 @@ ghost use Rattle.gcx_base.specs.declared.steps.Step.{Step};
 ghost use Rattle.gcx_model.specs.Core.{PlanTree};
 ghost use Rattle.gcx_model.specs.Held.{paths_from};
 ghost use Rattle.gcx_model.specs.ItemView.{role_kind};
-ghost use Rattle.gcx_model.specs.Paths.{passes};
+ghost use Rattle.gcx_base.specs.Tests.{passes};
 ghost use Rattle.gcx_model.specs.PlanView.{plan_tree, role_row_tree, var_row_tree};
 ghost use Rattle.matcher.specs.Growing.{Below, Ends, Contexts, IsFresh, TellsMore, TellMore, Growing, Reached, Ended, path_at};
 ghost use Rattle.matcher.specs.Spots.{AreSpots, kind_with, tail_with};

@@ -25,6 +25,7 @@ impl<'a, N: NodeStore<T>, T> Clone for At<'a, N, T> {
 }
 
 impl<'a, N: NodeStore<T>, T> At<'a, N, T> {
+    #[inline(always)]
     pub fn new(store: &'a N, place: Place) -> At<'a, N, T>
         requires { IsSome (map.get (N.rows store.now) place.0) }
         ensures store { result.store.now ≡ store.entry.now }
@@ -38,6 +39,7 @@ impl<'a, N: NodeStore<T>, T> At<'a, N, T> {
     }
 
     /// The parent, or None at the root.
+    #[inline(always)]
     pub fn parent(&self) -> Option<At<'a, N, T>>
         ensures store { IfSome result (λ a. a.store.now ≡ self.now.store.now) }
         ensures place { option_map (λ a. a.place.0) result ≡ parent_of (N.rows self.now.store.now) self.now.place.0 }
@@ -93,6 +95,7 @@ impl<'a, N: NodeStore<T>, T> At<'a, N, T> {
     }
 
     /// The payload of the row there, lent as long as the store is.
+    #[inline(always)]
     pub fn payload(&self) -> &'a T
         ensures { option_map (λ e. e.payload) (map.get (N.rows self.now.store.now) self.now.place.0) ≡ Some result.now }
     {

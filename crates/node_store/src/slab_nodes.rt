@@ -118,6 +118,13 @@ impl<T> NodeStore<T> for SlabNodes<T> {
         payload
     }
 
+    fn drop_leaf(&mut self, place: Place)
+    where
+        T: Drop,
+    {
+        drop(self.unlink_leaf(place));
+    }
+
     fn parent(&self, place: Place) -> Option<Place> {
         cell_at(&self.cells, place).parent
     }

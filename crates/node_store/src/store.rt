@@ -16,8 +16,8 @@ pub struct Refused<T> {
 
 /// A tree of rows, or none. Each row has a place, a parent (but for the root), children in order and a payload.
 ///
-/// A place is in use from the call that answers it to the `unlink_leaf` that is given it. A contract sees the rows as a
-/// finite map from the places in use, besides the root and the greatest number of rows so far.
+/// A place is in use from the call that answers it to the `unlink_leaf` or `drop_leaf` that is given it. A contract sees
+/// the rows as a finite map from the places in use, besides the root and the greatest number of rows so far.
 pub trait NodeStore<T> {
     ghost rows: { Self → Rows T };
 
@@ -60,6 +60,17 @@ pub trait NodeStore<T> {
     fn unlink_leaf(&mut self, place: Place) -> T
         requires { (e : Entry T) × (map.get (rows self.old) place.0 ≡ Some e) × (e.children ≡ []) }
         ensures payload { (e : Entry T) → map.get (rows self.old) place.0 ≡ Some e → result ≡ e.payload }
+        ensures rows { rows self.new ≡ unlinked (rows self.old) place.0 }
+        ensures most { most_held self.new ≡ most_held self.old }
+        ensures root { root_of self.new ≡ (if is_some (parent_of (rows self.old) place.0) then root_of self.old else None) }
+        ensures loans { loans self.new ≡ loans self.old };
+
+    /// Takes a row without children out, and drops its payload, which no caller wants: a store may do so where it lies. As
+    /// many cells are written as by `unlink_leaf`, and no memory is taken.
+    fn drop_leaf(&mut self, place: Place)
+    where
+        T: Drop,
+        requires { (e : Entry T) × (map.get (rows self.old) place.0 ≡ Some e) × (e.children ≡ []) }
         ensures rows { rows self.new ≡ unlinked (rows self.old) place.0 }
         ensures most { most_held self.new ≡ most_held self.old }
         ensures root { root_of self.new ≡ (if is_some (parent_of (rows self.old) place.0) then root_of self.old else None) }
@@ -153,50 +164,70 @@ impl<T, N: NodeStore<T>> NodeStore<T> for &mut N {
 
     ghost written_loans = { λ s p x used. ap (λ rest. s.ghost_name ∷ rest) (N.written_loans s.now p x used) };
 
+    #[inline(always)]
     fn plant(&mut self, payload: T) -> Result<Place, Refused<T>> {
         N::plant(*self, payload)
     }
 
+    #[inline(always)]
     fn append(&mut self, parent: Place, payload: T) -> Result<Place, Refused<T>> {
         N::append(*self, parent, payload)
     }
 
+    #[inline(always)]
     fn unlink_leaf(&mut self, place: Place) -> T {
         N::unlink_leaf(*self, place)
     }
 
+    #[inline(always)]
+    fn drop_leaf(&mut self, place: Place)
+    where
+        T: Drop,
+    {
+        N::drop_leaf(*self, place);
+    }
+
+    #[inline(always)]
     fn parent(&self, place: Place) -> Option<Place> {
         N::parent(*self, place)
     }
 
+    #[inline(always)]
     fn first(&self, place: Place) -> Option<Place> {
         N::first(*self, place)
     }
 
+    #[inline(always)]
     fn last(&self, place: Place) -> Option<Place> {
         N::last(*self, place)
     }
 
+    #[inline(always)]
     fn next(&self, place: Place) -> Option<Place> {
         N::next(*self, place)
     }
 
+    #[inline(always)]
     fn prev(&self, place: Place) -> Option<Place> {
         N::prev(*self, place)
     }
 
+    #[inline(always)]
     fn payload(&self, place: Place) -> &T {
         N::payload(*self, place)
     }
 
+    #[inline(always)]
     fn payload_mut(&mut self, place: Place) -> &mut T {
         N::payload_mut(*self, place)
     }
 
+    #[inline(always)]
     fn root(&self) -> Option<Place> {
         N::root(*self)
     }
 
+    #[inline(always)]
     fn most(&self) -> usize {
         N::most(*self)
     }

@@ -14,7 +14,7 @@ ghost use Rattle.proj_tree.specs.Depths.{descendants, is_deep, roles_refusal};
 use crate::depth::{depths, is_deeper};
 use gcx_base::{Memory, Steps, VarId};
 use gcx_model::{
-    Body, Cond, Conds, Core, Item, Operand, QueryFault, RoleKind, RoleRow, RoleRows, What,
+    Body, Cond, CondList, Core, Item, Operand, QueryFault, RoleKind, RoleRow, RoleRows, What,
 };
 use std::alloc::Global;
 
@@ -104,7 +104,7 @@ fn put_cond(alloc: Global, out: &mut RoleRows, cond: &Cond) -> Result<(), Memory
 
 /// Adds the roles of the conditions, one behind another.
 #[cycle(read_conditions)]
-fn put_conds(alloc: Global, out: &mut RoleRows, conds: &Conds) -> Result<(), Memory>
+fn put_conds(alloc: Global, out: &mut RoleRows, conds: &CondList) -> Result<(), Memory>
     ensures { OnOk result (map role_row_tree out.new ≡ map role_row_tree out.old ++ conds_rows (core_conds_of (core_cond_trees conds.now))) }
 {
     for cond in conds.items() {

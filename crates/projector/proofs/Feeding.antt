@@ -13,13 +13,12 @@ use Rattle.gcx_model.specs.Tree.{Node, Under, serial_of, Tree, Token, Start, Cha
 use Rattle.gcx_model.specs.Run.{Action}
 use Rattle.gcx_model.specs.Held.{roles_given}
 use Rattle.gcx_model.specs.Growth.{may_come, level}
-use Rattle.gcx_model.specs.Past.{Past, IsPast, past_fed}
-use Rattle.gcx_laws.specs.Pasts.{Opens}
+use Rattle.gcx_model.specs.Past.{Past, IsPast, past_fed, Opens, token_for, past_grown, IsNode}
 use Rattle.node_store.specs.declared.store.Place.{Place}
-use Rattle.matcher.specs.Matcher.{Stands, token_for, past_grown}
+use Rattle.matcher.specs.Matcher.{Stands}
 use Rattle.matcher.specs.declared.matcher.Matcher.{Matcher}
 use Rattle.buf_tree.specs.declared.ahead.Ahead.{Ahead}
-use Rattle.buf_tree.specs.Rows.{is_text, IsNode}
+use Rattle.gcx_base.specs.Kinds.{is_text}
 use Rattle.buf_tree.specs.Shape.{Cell}
 use Rattle.buf_tree.specs.View.{View}
 use Rattle.buf_tree.specs.Calls.{numbers, new_row, new_roles, stays, with_new}

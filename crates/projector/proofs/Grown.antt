@@ -10,18 +10,17 @@ use Rattle.gcx_model.specs.Tree.{Node, Root, Under, Tree, Token, Start, Chars, E
 use Rattle.gcx_model.specs.Members.{In, count}
 use Rattle.gcx_model.specs.Held.{taken, roles_taken, roles_given}
 use Rattle.gcx_model.specs.Growth.{may_come}
-use Rattle.gcx_model.specs.Past.{Past, IsPast, past_fed, is_ahead, reopen, reopened}
-use Rattle.gcx_laws.specs.Pasts.{Opens}
-use Rattle.gcx_laws.proofs.Lists.{In-right, In-append, filter_same}
-use Rattle.gcx_laws.proofs.Matches.{Numbered-high, added, added_at, grow_nodes}
-use Rattle.gcx_laws.proofs.Growing.{tree_same}
-use Rattle.gcx_laws.proofs.Reopened.{added_serial}
-use Rattle.gcx_laws.proofs.Ahead.{ahead_takes, ahead_before}
-use Rattle.gcx_laws.proofs.Bases.{is_grown}
-use Rattle.gcx_laws.proofs.PastForms.{past_feeds}
-use Rattle.matcher.specs.Matcher.{Stands, Innermost, is_text, token_for, past_grown}
+use Rattle.gcx_model.specs.Past.{Past, IsPast, past_fed, is_ahead, reopen, reopened, Opens, IsLast, token_for, past_grown, IsNode}
+use Rattle.tree_laws.proofs.Lists.{In-right, In-append, filter_same}
+use Rattle.tree_laws.proofs.Matches.{Numbered-high, added, added_at, grow_nodes}
+use Rattle.tree_laws.proofs.Growing.{tree_same}
+use Rattle.need_laws.proofs.Reopened.{added_serial}
+use Rattle.past_laws.proofs.Ahead.{ahead_takes, ahead_before}
+use Rattle.past_laws.proofs.Bases.{is_grown}
+use Rattle.past_laws.proofs.PastForms.{past_feeds}
+use Rattle.gcx_base.specs.Kinds.{is_text}
+use Rattle.matcher.specs.Matcher.{Stands}
 use Rattle.matcher.specs.declared.matcher.Matcher.{Matcher}
-use Rattle.buf_tree.specs.Rows.{IsNode}
 use Rattle.buf_tree.specs.Stands.{GivenTo}
 use Rattle.projector.specs.declared.projector.Projector.{Projector}
 use Rattle.buf_tree.specs.Calls.{numbers}
@@ -62,7 +61,7 @@ module _ (past : Past) (is : IsPast past) (t : Token) where
       ∙ sym (ahead_takes past is t n o r)))
 
 -- the new node is the innermost, or the last text
-new_innermost : (P : Tree) (kind : Kind) → IsNode kind → (a : Node) → P.at ≡ Some a → (n : Node) → added (token_for kind) P ≡ n ∷ [] → Innermost (grow (token_for kind) P) (is_text kind) n
+new_innermost : (P : Tree) (kind : Kind) → IsNode kind → (a : Node) → P.at ≡ Some a → (n : Node) → added (token_for kind) P ≡ n ∷ [] → IsLast (grow (token_for kind) P) (is_text kind) n
 new_innermost P Document k a e n h = absurd k
 new_innermost P (Element v) k a e n h =
     let f : Under a (length P.nodes) (Element v) ∷ [] ≡ n ∷ [] = sym (ap (λ o. added_at o (Start v) P) e) ∙ h in
@@ -87,7 +86,7 @@ module _ (past : Past) (is : IsPast past) (kind : Kind) (k : IsNode kind) (m : m
   -- what the matcher tells of the new node is what the buffer asks
   pub given_to : (given ahead : List Role)
       → ((n : Node) → Opens past.tree (token_for kind) n → numbers given ≡ roles_given past.plan (grow (token_for kind) past.tree) n)
-      → ((n : Node) → Innermost (grow (token_for kind) past.tree) (is_text kind) n → numbers ahead ≡ roles_taken past.plan (grow (token_for kind) past.tree) (filter (is_ahead past.tree) past.acts) n)
+      → ((n : Node) → IsLast (grow (token_for kind) past.tree) (is_text kind) n → numbers ahead ≡ roles_taken past.plan (grow (token_for kind) past.tree) (filter (is_ahead past.tree) past.acts) n)
       → GivenTo past (token_for kind) given ahead
   given_to given ahead g h n e =
       let o = opens past is (token_for kind) n e in

@@ -9,9 +9,9 @@ use Rattle.gcx_model.specs.Run.{Action, Offed}
 use Rattle.gcx_model.specs.Placed.{is_own}
 use Rattle.gcx_model.specs.Held.{signed}
 use Rattle.gcx_model.specs.Past.{Past, IsPast, is_ahead, open_from, open_nodes}
-use Rattle.gcx_laws.proofs.Lists.{In-filter, In-kept}
-use Rattle.gcx_laws.proofs.Ahead.{open_above, ahead_before}
-use Rattle.gcx_laws.proofs.More.{signed_is_off}
+use Rattle.tree_laws.proofs.Lists.{In-filter, In-kept}
+use Rattle.past_laws.proofs.Ahead.{open_above, ahead_before}
+use Rattle.tree_laws.proofs.OffsSigned.{signed_is_off}
 use Rattle.matcher.specs.Matcher.{Stands, IsSign}
 use Rattle.matcher.specs.declared.matcher.Matcher.{Matcher}
 use Rattle.matcher.specs.declared.signs.Sign.{Sign}

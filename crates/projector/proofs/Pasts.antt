@@ -5,8 +5,8 @@ use Rattle.gcx_model.specs.Tree.{Node, Tree, Token}
 use Rattle.gcx_model.specs.Run.{Offed}
 use Rattle.gcx_model.specs.Growth.{may_come, may_come_at}
 use Rattle.gcx_model.specs.Past.{Past, IsPast, is_ahead, reopen, reopened}
-use Rattle.gcx_laws.proofs.Lists.{In-filter}
-use Rattle.gcx_laws.proofs.Growing.{tree_same}
+use Rattle.tree_laws.proofs.Lists.{In-filter}
+use Rattle.tree_laws.proofs.Growing.{tree_same}
 use Rattle.projector.specs.Projector.{ahead_in}
 
 -- some node is open where a token may come

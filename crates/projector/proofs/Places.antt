@@ -12,14 +12,15 @@ use Rattle.gcx_model.specs.Nodes.{Grown, Rising as NodesRise}
 use Rattle.gcx_model.specs.Growth.{level}
 use Rattle.gcx_model.specs.Held.{is_held, held}
 use Rattle.gcx_model.specs.Past.{Past, past_fed}
-use Rattle.gcx_laws.proofs.Lists.{In-filter, In-kept, In-append, In-left, In-right}
-use Rattle.gcx_laws.proofs.Matches.{Numbered-high, Numbered-same, Rising-filter}
-use Rattle.gcx_laws.proofs.Freeze.{within_self}
-use Rattle.gcx_laws.proofs.Bases.{is_grown}
+use Rattle.tree_laws.proofs.Lists.{In-filter, In-kept, In-append, In-left, In-right}
+use Rattle.tree_laws.proofs.Matches.{Numbered-high, Numbered-same, Rising-filter}
+use Rattle.tree_laws.proofs.Freeze.{within_self}
+use Rattle.past_laws.proofs.Bases.{is_grown}
 use Rattle.node_store.specs.declared.store.Place.{Place}
 use Rattle.node_store.specs.Rows.{Entry, parent_of}
 use Rattle.buf_tree.specs.declared.row.Row.{Row}
-use Rattle.buf_tree.specs.Rows.{is_text, shut_row}
+use Rattle.gcx_base.specs.Kinds.{is_text}
+use Rattle.buf_tree.specs.Rows.{shut_row}
 use Rattle.buf_tree.specs.Shape.{Store, Cell, num, Rising, Shape, at_place, at_serial, place_for, entry_in, with_at}
 use Rattle.buf_tree.specs.Purge.{is_gone}
 use Rattle.buf_tree.specs.View.{View, InUse, Innermost, num_in, level_in, serial_at}

@@ -14,9 +14,9 @@ use Rattle.gcx_model.specs.Placed.{offs_in, is_own}
 use Rattle.gcx_model.specs.Growth.{level}
 use Rattle.gcx_model.specs.Held.{path_of}
 use Rattle.gcx_model.specs.Past.{Past, IsPast, is_ahead, Awaited, awaited, waiting_offs}
-use Rattle.gcx_laws.proofs.Matches.{Matches-in}
-use Rattle.gcx_laws.proofs.Ahead.{open_nodes_are}
-use Rattle.gcx_laws.proofs.Awaited.{waiting_law}
+use Rattle.tree_laws.proofs.Matches.{Matches-in}
+use Rattle.past_laws.proofs.Ahead.{open_nodes_are}
+use Rattle.past_laws.proofs.Awaited.{waiting_law}
 use Rattle.buf_tree.specs.declared.ahead.Ahead.{Ahead}
 use Rattle.buf_tree.specs.Stands.{awaited_by}
 use Rattle.projector.specs.Signing.{AreDue, carried}

@@ -7,10 +7,9 @@ use Rattle.gcx_model.specs.Members.{In}
 use Rattle.gcx_model.specs.Growth.{may_come}
 use Rattle.gcx_model.specs.Held.{roles_given, roles_taken}
 use Rattle.gcx_model.specs.Run.{Action}
-use Rattle.gcx_model.specs.Past.{Past, is_ahead, reopened}
-use Rattle.gcx_laws.specs.Pasts.{Opens}
+use Rattle.gcx_model.specs.Past.{Past, is_ahead, reopened, Opens, IsNode, token_for}
 use Rattle.node_store.specs.declared.store.Place.{Place}
-use Rattle.matcher.specs.Matcher.{Stands, IsNode, token_for}
+use Rattle.matcher.specs.Matcher.{Stands}
 use Rattle.matcher.specs.declared.matcher.Matcher.{Matcher}
 use Rattle.buf_tree.specs.Shape.{Cell, num}
 use Rattle.buf_tree.specs.View.{View, Innermost, serial_at}

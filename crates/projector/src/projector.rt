@@ -10,11 +10,13 @@ ghost use Rattle.gcx_model.specs.Placed.{Placed};
 ghost use Rattle.gcx_model.specs.PlanView.{plan_tree};
 ghost use Rattle.gcx_model.specs.Held.{roles_given, roles_taken};
 ghost use Rattle.gcx_model.specs.Past.{Past, opening_past, past_fed};
-ghost use Rattle.gcx_laws.specs.Pasts.{Opens};
+ghost use Rattle.gcx_model.specs.Past.{Opens};
 ghost use Rattle.doc_reader.specs.Standing.{said_of};
 ghost use Rattle.gcx_base.specs.declared.kind.Kind.{Kind};
-ghost use Rattle.matcher.specs.Matcher.{Innermost as MatchersInnermost, Stands, is_text, past_grown, token_for};
-ghost use Rattle.buf_tree.specs.Rows.{IsNode};
+ghost use Rattle.gcx_base.specs.Kinds.{is_text};
+ghost use Rattle.gcx_model.specs.Past.{IsLast as MatchersInnermost, past_grown, token_for};
+ghost use Rattle.matcher.specs.Matcher.{Stands};
+ghost use Rattle.gcx_model.specs.Past.{IsNode};
 ghost use Rattle.node_store.specs.Rows.{parent_of};
 ghost use Rattle.buf_tree.specs.Shape.{Cell, Shape, at_place};
 ghost use Rattle.buf_tree.specs.View.{View, Innermost, level_in};
@@ -118,7 +120,7 @@ impl Projector {
         ensures taken { buffer.new.taken ≤ buffer.old.taken + 2 ^ 64 }
         ensures loans { buffer.new.loans ≡ buffer.old.loans }
     {
-        let text = is_text(&kind);
+        let text = kind.is_text();
         let serial = Serial(buffer.nodes());
         let parent = innermost(buffer, self.at).place;
         let (place, given) = open_below(&mut self.matcher, alloc, buffer, parent, kind)?;
@@ -141,6 +143,7 @@ impl Projector {
     }
 
     /// Closes the innermost open node, where the matcher has heard of all statements.
+    #[inline(always)]
     fn feed_end<N: NodeStore<Row>>(&mut self, buffer: &mut Buffer<N>) -> Fed
         requires place { KeepsPlace self.old.at buffer.old.rows }
         requires may { MayBeFed buffer.old End }
@@ -163,6 +166,7 @@ impl Projector {
 
     /// Leaves the innermost open node, to its parent at this place. The document node, which has none, stays open in the
     /// matcher.
+    #[inline(always)]
     fn go_up(&mut self, above: Option<Place>)
         ensures node { IsSome above → (past : Past) (p : Node) (s : ℕ) (k : Kind) → Stands self.old.matcher past false → past.tree.at ≡ Some (Under p s k) → Stands self.new.matcher (past_grown End past) false }
         ensures document { above ≡ None → self.new.matcher ≡ self.old.matcher }
@@ -205,13 +209,8 @@ fn open_below<N: NodeStore<Row>>(
     Ok((place, given))
 }
 
-fn is_text(kind: &Kind) -> bool
-    ensures { result ≡ is_text kind.now }
-{
-    matches!(kind, Kind::Text(_))
-}
-
 /// The roles of the matcher's innermost node that are taken back already. A `usize` counts them.
+#[inline(always)]
 fn roles_ahead(matcher: &Matcher, alloc: Global) -> Result<Given, Memory>
     ensures roles { IfOk result (λ given. (past : Past) (text : Bool) (n : Node) → Stands matcher.now past text → MatchersInnermost past.tree text n → numbers given ≡ roles_taken past.plan past.tree past.acts n) }
     ensures few { IfOk result (λ given. length given < 2 ^ 64) }
@@ -222,6 +221,7 @@ fn roles_ahead(matcher: &Matcher, alloc: Global) -> Result<Given, Memory>
 }
 
 /// A cursor at the innermost open node, which stands at this place, or is the root.
+#[inline(always)]
 fn innermost<'a, N: NodeStore<Row>>(buffer: &'a Buffer<N>, kept: Option<Place>) -> At<'a, N, Row>
     requires place { KeepsPlace kept buffer.now.rows }
     requires node { (past : Past) × StandsFor buffer.now past × (n : Node) × (past.tree.at ≡ Some n) }
@@ -247,6 +247,7 @@ fn root_of<N: NodeStore<Row>>(buffer: &Buffer<N>) -> Place
 }
 
 /// The place of the parent, or None at the document node.
+#[inline(always)]
 fn above<N: NodeStore<Row>>(here: &At<'_, N, Row>) -> Option<Place>
     ensures { option_map (λ p. p.0) result ≡ parent_of (N.rows here.now.store.now) here.now.place.0 }
 {

@@ -14,8 +14,8 @@ use Rattle.gcx_model.specs.Growth.{Leads, stays}
 use Rattle.gcx_model.specs.Points.{so_far, here, Frame, Rest, PointAt, Bound_in}
 use Rattle.gcx_model.specs.Copying.{CopyFrame, FinePoint}
 use Rattle.gcx_model.specs.Past.{Past, opening_past}
-use Rattle.gcx_laws.proofs.Moving.{opening_point}
-use Rattle.gcx_laws.proofs.Lists.{In-filter}
+use Rattle.move_laws.proofs.Moving.{opening_point}
+use Rattle.tree_laws.proofs.Lists.{In-filter}
 use Rattle.run_laws.proofs.Free.{plan_acts}
 use Rattle.node_store.specs.declared.store.Place.{Place}
 use Rattle.buf_tree.specs.Shape.{Cell, num}

@@ -5,10 +5,10 @@ use Rattle.std.specs.FinMap.{get}
 use Rattle.std.proofs.lemmas.Bool.{or_cases, true≢false, eqb-true, eq-eqb, cases_Bool, cases_order}
 use Rattle.gcx_base.specs.declared.kind.Kind.{Kind}
 use Rattle.gcx_model.specs.Tree.{Node, Root, Under, serial_of, above, within, Tree}
-use Rattle.gcx_laws.proofs.Lists.{In}
-use Rattle.gcx_laws.proofs.Matches.{Grown, Numbered-same}
-use Rattle.gcx_laws.proofs.Chains.{above_self, above_in, above_trans}
-use Rattle.gcx_laws.proofs.Freeze.{within_self, within_above}
+use Rattle.tree_laws.proofs.Lists.{In}
+use Rattle.tree_laws.proofs.Matches.{Grown, Numbered-same}
+use Rattle.tree_laws.proofs.Chains.{above_self, above_in, above_trans}
+use Rattle.tree_laws.proofs.Freeze.{within_self, within_above}
 use Rattle.node_store.specs.Rows.{parent_of, prev_of, last_of, children_in}
 use Rattle.buf_tree.specs.Shape.{Store, Cell, num, cells, Shape}
 use Rattle.buf_tree.specs.Walk.{low_at, high_at}

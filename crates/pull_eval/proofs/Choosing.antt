@@ -2,11 +2,11 @@
 use Rattle.std.proofs.Common.{◌≡◌, ℕ, true, false, List, refl, sym, subst, inl, inr}
 use Rattle.gcx_model.specs.Core.{CondTree, If, BodyTree}
 use Rattle.gcx_model.specs.Truth.{truth}
-use Rattle.gcx_model.specs.Truth as verdict
 use Rattle.gcx_model.specs.Points.{Frame}
 use Rattle.gcx_model.specs.Past.{Past}
-use Rattle.gcx_laws.specs.Moves.{NoneLeft}
-use Rattle.gcx_laws.proofs.Moving.{branch_waits}
+use Rattle.gcx_model.specs.declared.truth.Truth.TheVariants.{True, False, Unknown}
+use Rattle.move_laws.specs.Moves.{NoneLeft}
+use Rattle.move_laws.proofs.Moving.{branch_waits}
 use Rattle.buf_tree.specs.View.{View}
 use Rattle.pull_eval.specs.Asking.{Asked}
 use Rattle.pull_eval.specs.Acting.{Beside, IsNextItem, Chosen}
@@ -25,11 +25,11 @@ module _ (w : Position) (v : View) (past : Past) (k : ℕ) (b : Beside w v past 
     bound_to = λ r i. used_bound w v past k b (If c this other) d n begun r.var (r, i, refl);
   }
 
-  pub waits : verdict.Unknown ≡ truth c (at_item w v past k b (If c this other) d n).env past.tree → NoneLeft past.plan past.tree k false
+  pub waits : Unknown ≡ truth c (at_item w v past k b (If c this other) d n).env past.tree → NoneLeft past.plan past.tree k false
   waits e = let a = at_item w v past k b (If c this other) d n in branch_waits past.plan past.tree k c this other d a.env a.below a.point (sym e)
 
-  pub this_chosen : verdict.True ≡ truth c (at_item w v past k b (If c this other) d n).env past.tree → Chosen past.tree b.position.fs c this other this
+  pub this_chosen : True ≡ truth c (at_item w v past k b (If c this other) d n).env past.tree → Chosen past.tree b.position.fs c this other this
   this_chosen e = subst (λ (z : List Frame). Chosen past.tree z c this other this) (sym (at_item w v past k b (If c this other) d n).frames_are) (inl (sym e, refl))
 
-  pub other_chosen : verdict.False ≡ truth c (at_item w v past k b (If c this other) d n).env past.tree → Chosen past.tree b.position.fs c this other other
+  pub other_chosen : False ≡ truth c (at_item w v past k b (If c this other) d n).env past.tree → Chosen past.tree b.position.fs c this other other
   other_chosen e = subst (λ (z : List Frame). Chosen past.tree z c this other other) (sym (at_item w v past k b (If c this other) d n).frames_are) (inr (sym e, refl))

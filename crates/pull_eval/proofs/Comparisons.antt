@@ -10,10 +10,10 @@ use Rattle.gcx_model.specs.Members.{In}
 use Rattle.gcx_model.specs.Values.{Value, Bytes}
 use Rattle.gcx_model.specs.Answer.{is_any}
 use Rattle.gcx_model.specs.Truth.{node_value}
-use Rattle.gcx_laws.specs.Kept.{only}
-use Rattle.gcx_laws.proofs.Lists.{In-filter}
-use Rattle.gcx_laws.proofs.Freeze.{within_self}
-use Rattle.gcx_laws.proofs.Keeping.{first_kept, matches_kept}
+use Rattle.move_laws.specs.Kept.{only}
+use Rattle.tree_laws.proofs.Lists.{In-filter}
+use Rattle.tree_laws.proofs.Freeze.{within_self}
+use Rattle.move_laws.proofs.Keeping.{first_kept, matches_kept}
 use Rattle.buf_tree.specs.Shape.{Cell, num}
 use Rattle.buf_tree.specs.View.{InUse}
 use Rattle.pull_eval.specs.Asking.{RowsOf, PlacedAt}

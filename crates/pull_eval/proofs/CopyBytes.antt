@@ -11,8 +11,8 @@ use Rattle.gcx_model.specs.Written.{start_tag, end_tag, escape, escaped}
 use Rattle.gcx_model.specs.Run as run
 use Rattle.gcx_model.specs.Growth.{Grow, opened, added, closed, ended, Leads, stays, more}
 use Rattle.gcx_model.specs.Past.{Past, past_acted}
-use Rattle.gcx_laws.specs.Moves.{IsNext}
-use Rattle.gcx_laws.proofs.Lists.{In-append}
+use Rattle.move_laws.specs.Moves.{IsNext}
+use Rattle.tree_laws.proofs.Lists.{In-append}
 use Rattle.buf_tree.specs.View.{View}
 use Rattle.pull_eval.specs.Weight.{weight}
 use Rattle.pull_eval.specs.Acting.{Beside, Moves}

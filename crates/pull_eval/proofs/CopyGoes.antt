@@ -6,15 +6,16 @@ use Rattle.gcx_base.specs.declared.kind.Kind.TheVariants.{Document, Element, Tex
 use Rattle.gcx_base.specs.declared.steps.Axis.TheVariants.{Child}
 use Rattle.gcx_model.specs.Tree.{Node, serial_of, kind_of, Tree, is_closed}
 use Rattle.gcx_model.specs.Members.{In}
-use Rattle.gcx_model.specs.Paths.{passes, lies}
+use Rattle.gcx_base.specs.Tests.{passes}
+use Rattle.gcx_model.specs.Paths.{lies}
 use Rattle.gcx_model.specs.Nodes.{Grown}
 use Rattle.gcx_model.specs.Answer.{child_step, children}
 use Rattle.gcx_model.specs.Written.{start_tag, end_tag, escaped}
 use Rattle.gcx_model.specs.Copying.{CopyFrame, Inside, has_inside, next_children, FinePoint}
 use Rattle.gcx_model.specs.Past.{Past}
-use Rattle.gcx_laws.specs.Moves.{NoneLeft}
-use Rattle.gcx_laws.proofs.CopyMoves.{copy_steps, copy_ends, copy_waits, copy_frames_stand}
-use Rattle.gcx_laws.proofs.Public.{grown_from}
+use Rattle.move_laws.specs.Moves.{NoneLeft}
+use Rattle.move_laws.proofs.CopyMoves.{copy_steps, copy_ends, copy_waits, copy_frames_stand}
+use Rattle.tree_laws.proofs.Fed.{grown_from}
 use Rattle.buf_tree.specs.Shape.{Cell, num}
 use Rattle.buf_tree.specs.View.{View}
 use Rattle.buf_tree.specs.Match.{IsChild}

@@ -11,8 +11,8 @@ use Rattle.gcx_model.specs.Core.{Copy, BodyTree}
 use Rattle.gcx_model.specs.Points.{Frame, Rest, Bound_in}
 use Rattle.gcx_model.specs.Copying.{CopyFrame, Inside, FinePoint}
 use Rattle.gcx_model.specs.Past.{Past}
-use Rattle.gcx_laws.proofs.CopyMoves.{copy_begins}
-use Rattle.gcx_laws.proofs.Freeze.{within_self}
+use Rattle.move_laws.proofs.CopyMoves.{copy_begins}
+use Rattle.tree_laws.proofs.Freeze.{within_self}
 use Rattle.buf_tree.specs.Shape.{Cell}
 use Rattle.buf_tree.specs.View.{View, InUse}
 use Rattle.node_store.specs.declared.store.Place.{Place}

@@ -6,17 +6,18 @@ use Rattle.gcx_base.specs.declared.kind.Kind.{Kind}
 use Rattle.gcx_base.specs.declared.kind.Kind.TheVariants.{Document}
 use Rattle.gcx_base.specs.declared.steps.Axis.TheVariants.{Child}
 use Rattle.gcx_model.specs.Tree.{Node, Root, Under, serial_of, kind_of, above, Tree}
-use Rattle.gcx_model.specs.Paths.{passes, lies, reach}
+use Rattle.gcx_base.specs.Tests.{passes}
+use Rattle.gcx_model.specs.Paths.{lies, reach}
 use Rattle.gcx_model.specs.Members.{In}
 use Rattle.gcx_model.specs.Nodes.{Grown}
 use Rattle.gcx_model.specs.Answer.{child_step, children}
 use Rattle.gcx_model.specs.Core.{PlanTree}
 use Rattle.gcx_model.specs.Points.{Frame}
 use Rattle.gcx_model.specs.Copying.{CopyFrame, Inside, next_children, FinePoint}
-use Rattle.gcx_laws.proofs.Lists.{In-filter}
-use Rattle.gcx_laws.proofs.Matches.{Matches-in}
-use Rattle.gcx_laws.proofs.Chains.{hits_one}
-use Rattle.gcx_laws.proofs.CopyMoves.{copy_frames_stand}
+use Rattle.tree_laws.proofs.Lists.{In-filter}
+use Rattle.tree_laws.proofs.Matches.{Matches-in}
+use Rattle.tree_laws.proofs.Chains.{hits_one}
+use Rattle.move_laws.proofs.CopyMoves.{copy_frames_stand}
 use Rattle.buf_tree.specs.Shape.{Cell}
 use Rattle.pull_eval.specs.Asking.{PlacedAt}
 use Rattle.pull_eval.specs.Position.{IsCopy, PresentAt}

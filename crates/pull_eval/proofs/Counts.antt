@@ -1,15 +1,14 @@
 -- Lists of numbers in order are one where each number stands in both as often; and what filters of two tests have, counted.
-use Rattle.std.proofs.Common.{◌≡◌, ℕ, suc, ◌+◌, ◌<◌, ◌≤◌, Bool, true, false, cond, ◌||◌, List, [], ◌∷◌, ◌++◌, length, map, get_or, refl, sym, ◌∙◌, ap, subst, inl, inr, arith, eqb, ltb, Option, Some}
+use Rattle.std.proofs.Common.{◌≡◌, ℕ, suc, ◌+◌, ◌<◌, ◌≤◌, Bool, true, false, cond, ◌||◌, List, [], ◌∷◌, ◌++◌, length, map, get_or, refl, sym, ◌∙◌, ap, subst, inl, inr, arith, eqb, ltb, Option, Some, Ordering, Less, Equal, Greater, nat_cmp, is_lt}
 use Rattle.std.specs.List.{filter, sum_by}
 use Rattle.std.specs.List.Sorted.{IsPermutation}
 use Rattle.std.proofs.lemmas.List.Sums.{sum_by-cons}
 use Rattle.std.proofs.lemmas.List.Sorted.{sum_by-IsPermutation}
-use Rattle.std.proofs.Common.{Ordering, Less, Equal, Greater, nat_cmp, is_lt}
 use Rattle.std.specs.Ordering.{is_le, is_some_and, ordering_then, partial_ordering_then}
 use Rattle.std.proofs.lemmas.Bool.{cases_order, ne_eqb, eq-eqb, eqb-true, true≢false, false≢true, ltb-true, ltb-false}
 use Rattle.gcx_model.specs.Tree.{Node, serial_of}
-use Rattle.gcx_laws.proofs.Lists.{In}
-use Rattle.gcx_laws.proofs.Matches.{Rising}
+use Rattle.tree_laws.proofs.Lists.{In}
+use Rattle.tree_laws.proofs.Matches.{Rising}
 use Rattle.pull_eval.specs.declared.sets.Member.{Member}
 use Rattle.pull_eval.specs.Reads.{Ascends, serials}
 

@@ -4,10 +4,10 @@ use Rattle.std.specs.Prelude.{IsSome, IfSome, option_map}
 use Rattle.std.specs.FinMap.{get}
 use Rattle.gcx_base.specs.declared.kind.Kind.{Kind}
 use Rattle.gcx_base.specs.declared.kind.Kind.TheVariants.{Document, Element, Text}
-use Rattle.gcx_laws.proofs.Lists.{In}
+use Rattle.tree_laws.proofs.Lists.{In}
 use Rattle.node_store.specs.Rows.{Entry, parent_of}
 use Rattle.buf_tree.specs.declared.row.Row.{Row}
-use Rattle.buf_tree.specs.Rows.{is_text}
+use Rattle.gcx_base.specs.Kinds.{is_text}
 use Rattle.buf_tree.specs.Shape.{Store, Cell, num, at_place, Shape, Shaped}
 use Rattle.buf_tree.specs.Walk.{serial_in, low_at, high_at, rows_behind}
 use Rattle.buf_tree.specs.View.{InUse}

@@ -24,10 +24,10 @@ use Rattle.gcx_model.specs.declared.item.Off.{Off}
 use Rattle.gcx_model.specs.Points.{Frame, Rest, Round, PointAt, Bound_in}
 use Rattle.gcx_model.specs.Copying.{CopyFrame, FinePoint}
 use Rattle.gcx_model.specs.Past.{Past}
-use Rattle.gcx_laws.specs.Moves.{AtPoint}
-use Rattle.gcx_laws.proofs.Public.{grown_from}
-use Rattle.gcx_laws.proofs.Chains.{hits_one}
-use Rattle.gcx_laws.proofs.Matches.{Matches-in}
+use Rattle.move_laws.specs.Moves.{AtPoint}
+use Rattle.tree_laws.proofs.Fed.{grown_from}
+use Rattle.tree_laws.proofs.Chains.{hits_one}
+use Rattle.tree_laws.proofs.Matches.{Matches-in}
 use Rattle.buf_tree.specs.Shape.{Cell}
 use Rattle.buf_tree.specs.View.{View}
 use Rattle.pull_eval.specs.Asking.{IsBound}

@@ -3,8 +3,8 @@ use Rattle.std.proofs.Common.{◌≡◌, Bool, true, List, [], ◌∷◌, map, r
 use Rattle.gcx_model.specs.Tree.{Node, above}
 use Rattle.gcx_model.specs.Held.{held, is_held}
 use Rattle.gcx_model.specs.Past.{Past}
-use Rattle.gcx_laws.proofs.Lists.{In, In-filter, In-kept}
-use Rattle.gcx_laws.proofs.RowFacts.{held_above}
+use Rattle.tree_laws.proofs.Lists.{In, In-filter, In-kept}
+use Rattle.past_laws.proofs.RowFacts.{held_above}
 use Rattle.buf_tree.specs.Shape.{Cell}
 use Rattle.buf_tree.specs.View.{View}
 use Rattle.buf_tree.specs.Stands.{Seen, seen, told, StandsFor}

@@ -9,11 +9,11 @@ use Rattle.gcx_model.specs.Held.{held_tree, is_held}
 use Rattle.gcx_model.specs.Points.{so_far, later}
 use Rattle.gcx_model.specs.Copying.{CopyFrame, Inside, next_children, FinePoint}
 use Rattle.gcx_model.specs.Past.{Past}
-use Rattle.gcx_laws.specs.Copying.{AtFinePoint}
-use Rattle.gcx_laws.proofs.Lists.{In-filter}
-use Rattle.gcx_laws.proofs.Matches.{Matches-in}
-use Rattle.gcx_laws.proofs.CopyMoves.{inside_held, copy_frames_stand}
-use Rattle.gcx_laws.proofs.Public.{grown_from}
+use Rattle.move_laws.specs.Copying.{AtFinePoint}
+use Rattle.tree_laws.proofs.Lists.{In-filter}
+use Rattle.tree_laws.proofs.Matches.{Matches-in}
+use Rattle.move_laws.proofs.CopyMoves.{inside_held, copy_frames_stand}
+use Rattle.tree_laws.proofs.Fed.{grown_from}
 use Rattle.buf_tree.specs.Shape.{Cell, num}
 use Rattle.buf_tree.specs.View.{View, InUse}
 use Rattle.buf_tree.specs.Match.{Unreached, FirstReached, GoesFrom}

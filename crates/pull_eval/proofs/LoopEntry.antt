@@ -10,7 +10,7 @@ use Rattle.gcx_model.specs.Core.{For, BodyTree}
 use Rattle.gcx_model.specs.Truth.{Env, bind_var}
 use Rattle.gcx_model.specs.Past.{Past}
 use Rattle.gcx_model.specs.Points.{Frame, Rest, Round, PointAt, Bound_in}
-use Rattle.gcx_laws.proofs.Moving.{first_round, no_round, loop_waits}
+use Rattle.move_laws.proofs.Moving.{first_round, no_round, loop_waits}
 use Rattle.run_laws.proofs.Free.{loop_variable_free}
 use Rattle.buf_tree.specs.Shape.{Cell}
 use Rattle.buf_tree.specs.View.{View, serial_at}

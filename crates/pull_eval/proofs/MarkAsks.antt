@@ -20,12 +20,12 @@ use Rattle.gcx_model.specs.declared.cond.Operand.{Operand}
 use Rattle.gcx_model.specs.declared.cond.Operand.TheVariants as operand
 use Rattle.buf_tree.specs.Shape.{Cell}
 use Rattle.pull_eval.specs.Bindings.{Bindings}
-use Rattle.pull_eval.specs.Asking.{verdict_of, Over, Asked, MayAsk, Answers}
+use Rattle.pull_eval.specs.Asking.{Over, Asked, MayAsk, Answers}
 use Rattle.pull_eval.specs.Marks.{ask_of, answer, AreMarks, KeepsAll, AsksOf, MayFind}
 use Rattle.pull_eval.specs.Literals.{IsLiteral}
 use Rattle.pull_eval.specs.declared.mark.Ask.{Ask}
 use Rattle.pull_eval.specs.declared.marked.Marked.{Marked}
-use Rattle.pull_eval.specs.declared.truth.Truth.{Truth}
+use Rattle.gcx_model.specs.declared.truth.Truth.{Truth}
 use Rattle.pull_eval.proofs.Rows.{kept_at}
 use Rattle.pull_eval.proofs.Parts.{fold_Exists}
 use Rattle.pull_eval.proofs.Telling.{side_of, tail_of, in_left, in_right, keeps_first, keeps_left, keeps_right, any_flipped}
@@ -82,7 +82,7 @@ module _ (rows : List Cell) (nodes : ℕ) (bound : Bindings) (old new : Marked) 
   MayAskMarks c = MayAsk (Over nodes (AreMarks old)) rows bound c
 
   abbrev pub FindsOf : (x : ℕ) → List Step → Option Ask → Truth → Type 0
-  FindsOf x steps ask t = (P : Tree) (keep : Node → Bool) (n : Node) → AreMarks old P → AsksOf rows nodes bound x steps ask P keep n → (verdict_of t ≡ answer P steps ask n) × AreMarks new P
+  FindsOf x steps ask t = (P : Tree) (keep : Node → Bool) (n : Node) → AreMarks old P → AsksOf rows nodes bound x steps ask P keep n → (t ≡ answer P steps ask n) × AreMarks new P
 
   abbrev pub AnswersMarks : CondTree → Truth → Type 0
   AnswersMarks c t = Answers (Over nodes (AreMarks old)) (Over nodes (AreMarks new)) rows bound c t

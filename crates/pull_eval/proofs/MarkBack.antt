@@ -8,9 +8,9 @@ use Rattle.gcx_base.specs.declared.steps.Step.{Step}
 use Rattle.gcx_model.specs.Tree.{Node, serial_of, above, within, Tree, is_closed}
 use Rattle.gcx_model.specs.Paths.{hits, matches}
 use Rattle.gcx_model.specs.Members.{In}
-use Rattle.gcx_laws.proofs.Matches.{Grown, Matches-in}
-use Rattle.gcx_laws.proofs.Freeze.{within_self}
-use Rattle.gcx_laws.proofs.Chains.{hits_above}
+use Rattle.tree_laws.proofs.Matches.{Grown, Matches-in}
+use Rattle.tree_laws.proofs.Freeze.{within_self}
+use Rattle.tree_laws.proofs.Chains.{hits_above}
 use Rattle.buf_tree.specs.Shape.{Cell, num}
 use Rattle.pull_eval.specs.Reads.{NodeAt}
 use Rattle.pull_eval.specs.Marks.{does, is_settled, IsFound, Tried, IsOpenNow, KeepsAll, Asks, KeepsValue, LooksUpto, Searched, Settles, Found, NextAbove, IsShut, StillOpen}

@@ -7,15 +7,14 @@ use Rattle.gcx_base.specs.declared.ids.VarId.{VarId}
 use Rattle.gcx_base.specs.declared.steps.Step.{Step}
 use Rattle.gcx_model.specs.Tree.{Node, serial_of, Tree}
 use Rattle.gcx_model.specs.Members.{In}
-use Rattle.gcx_laws.proofs.Lists.{In-append}
+use Rattle.tree_laws.proofs.Lists.{In-append}
 use Rattle.buf_tree.specs.Shape.{Cell}
 use Rattle.pull_eval.specs.Bindings.{Bindings}
-use Rattle.pull_eval.specs.Asking.{verdict_of}
 use Rattle.pull_eval.specs.Marks.{AsksLiteral, answer, known, Fits, IsMark, AreMarks, Asks, AsksOf, MayTell, IsAbout, MayFind}
 use Rattle.pull_eval.specs.declared.mark.Ask.{Ask}
 use Rattle.pull_eval.specs.declared.mark.Mark.{Mark}
 use Rattle.pull_eval.specs.declared.marked.Marked.{Marked}
-use Rattle.pull_eval.specs.declared.truth.Truth.{Truth}
+use Rattle.gcx_model.specs.declared.truth.Truth.{Truth}
 
 pub new_mark : (m : Mark) → Fits m.steps m.last → AsksLiteral m.ask → m.of ≡ None → (P : Tree) → IsMark m P
 new_mark m f l o P = record { fits = f; literal = l; told = λ s e. let z : ◌≡◌ {A = Option Serial} None (Some s) = sym o ∙ e in absurd (cc) }
@@ -79,8 +78,8 @@ module _ (rows : List Cell) (nodes : ℕ) (bound : Bindings) (x : ℕ) (p s : �
 -- ---- what is told of the variable's node
 
 pub told_mark : (rows : List Cell) (nodes : ℕ) (bound : Bindings) (x : ℕ) (p s : ℕ) → Some (p, s) ≡ get bound x → (steps : List Step) (ask : Option Ask) (xs : List Mark) (i : ℕ) (m w : Mark) (v : VarId) → IsAbout m v steps ask → In m xs → (t : Option Bool)
-    → ((P : Tree) (keep : Node → Bool) (n : Node) → Asks rows nodes m.steps m.ask p P keep n → serial_of n ≡ s → IsMark m P → (answer P m.steps m.ask n ≡ known t) × IsMark w P) → (truth : Truth) → verdict_of truth ≡ known t
-    → (P : Tree) (keep : Node → Bool) (n : Node) → ((u : Mark) → In u xs → IsMark u P) → AsksOf rows nodes bound x steps ask P keep n → (verdict_of truth ≡ answer P steps ask n) × ((u : Mark) → In u (slice_set xs i w) → IsMark u P)
+    → ((P : Tree) (keep : Node → Bool) (n : Node) → Asks rows nodes m.steps m.ask p P keep n → serial_of n ≡ s → IsMark m P → (answer P m.steps m.ask n ≡ known t) × IsMark w P) → (truth : Truth) → truth ≡ known t
+    → (P : Tree) (keep : Node → Bool) (n : Node) → ((u : Mark) → In u xs → IsMark u P) → AsksOf rows nodes bound x steps ask P keep n → (truth ≡ answer P steps ask n) × ((u : Mark) → In u (slice_set xs i w) → IsMark u P)
 told_mark rows nodes bound x p s got steps ask xs i m w v about among t told truth is P keep n marks a =
     let q = asks_mark rows nodes bound x p s got steps ask m v about P keep n a in
     let h = told P keep n q.0 q.1 (marks m among) in (
@@ -102,7 +101,7 @@ module _ (rows : List Cell) (nodes : ℕ) (bound : Bindings) (v : VarId) (p s : 
       may_tell rows nodes bound v.0 p s got steps ask m v (about_at now.marks.items i m v steps ask l found e) k now f stays (at_in now.marks.items i m l e)
 
   pub told_at : (xs : List Mark) → i < length xs → FoundAt xs i v steps ask → m ≡ slice_index_or xs i m → (w : Mark) (t : Option Bool)
-      → ((P : Tree) (keep : Node → Bool) (n : Node) → Asks rows nodes m.steps m.ask p P keep n → serial_of n ≡ s → IsMark m P → (answer P m.steps m.ask n ≡ known t) × IsMark w P) → (truth : Truth) → verdict_of truth ≡ known t
-      → (P : Tree) (keep : Node → Bool) (n : Node) → ((u : Mark) → In u xs → IsMark u P) → AsksOf rows nodes bound v.0 steps ask P keep n → (verdict_of truth ≡ answer P steps ask n) × ((u : Mark) → In u (slice_set xs i w) → IsMark u P)
+      → ((P : Tree) (keep : Node → Bool) (n : Node) → Asks rows nodes m.steps m.ask p P keep n → serial_of n ≡ s → IsMark m P → (answer P m.steps m.ask n ≡ known t) × IsMark w P) → (truth : Truth) → truth ≡ known t
+      → (P : Tree) (keep : Node → Bool) (n : Node) → ((u : Mark) → In u xs → IsMark u P) → AsksOf rows nodes bound v.0 steps ask P keep n → (truth ≡ answer P steps ask n) × ((u : Mark) → In u (slice_set xs i w) → IsMark u P)
   told_at xs l found e w t told truth is P keep n marks a =
       told_mark rows nodes bound v.0 p s got steps ask xs i m w v (about_at xs i m v steps ask l found e) (at_in xs i m l e) t told truth is P keep n marks a

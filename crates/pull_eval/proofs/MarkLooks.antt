@@ -7,7 +7,7 @@ use Rattle.gcx_base.specs.declared.steps.Step.{Step}
 use Rattle.gcx_model.specs.Tree.{Node, serial_of, Tree}
 use Rattle.gcx_model.specs.Paths.{reach, hits, matches}
 use Rattle.gcx_model.specs.Members.{In}
-use Rattle.gcx_laws.proofs.Matches.{Matches-from}
+use Rattle.tree_laws.proofs.Matches.{Matches-from}
 use Rattle.node_store.specs.declared.store.Place.{Place}
 use Rattle.buf_tree.specs.Shape.{Cell, num}
 use Rattle.buf_tree.specs.Match.{Unreached, FirstReached, GoesFrom}

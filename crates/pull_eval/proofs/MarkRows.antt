@@ -9,8 +9,8 @@ use Rattle.gcx_base.specs.declared.steps.Step.{Step}
 use Rattle.gcx_model.specs.Tree.{Node, Root, Under, serial_of, above, Tree}
 use Rattle.gcx_model.specs.Paths.{reach, hits}
 use Rattle.gcx_model.specs.Members.{In}
-use Rattle.gcx_laws.proofs.Matches.{Grown}
-use Rattle.gcx_laws.proofs.Chains.{above_self, above_in, above_trans}
+use Rattle.tree_laws.proofs.Matches.{Grown}
+use Rattle.tree_laws.proofs.Chains.{above_self, above_in, above_trans}
 use Rattle.node_store.specs.Rows.{parent_of}
 use Rattle.node_store.specs.declared.store.Place.{Place}
 use Rattle.buf_tree.specs.Shape.{Store, Cell, num, cells, at_place, Shape}

@@ -7,9 +7,9 @@ use Rattle.gcx_model.specs.Tree.{Node, serial_of, above, within, Tree, opening, 
 use Rattle.gcx_model.specs.Paths.{head, reach, hits, matches}
 use Rattle.gcx_model.specs.Members.{In}
 use Rattle.gcx_model.specs.Growth.{Leads}
-use Rattle.gcx_laws.proofs.Matches.{Grown, Numbered-high, Numbered-same, Matches-in, Matches-from}
-use Rattle.gcx_laws.proofs.Freeze.{within_self}
-use Rattle.gcx_laws.proofs.Chains.{above_self, above_in, above_trans, hits_above}
+use Rattle.tree_laws.proofs.Matches.{Grown, Numbered-high, Numbered-same, Matches-in, Matches-from}
+use Rattle.tree_laws.proofs.Freeze.{within_self}
+use Rattle.tree_laws.proofs.Chains.{above_self, above_in, above_trans, hits_above}
 use Rattle.run_laws.proofs.Feeds.{open_chain}
 use Rattle.buf_tree.specs.Shape.{Cell, num}
 use Rattle.buf_tree.specs.Match.{Reached, Unreached, FirstReached}

@@ -9,7 +9,7 @@ use Rattle.gcx_model.specs.Tree.{Node, serial_of, Tree, is_closed}
 use Rattle.gcx_model.specs.Paths.{hits, matches}
 use Rattle.gcx_model.specs.Members.{In}
 use Rattle.gcx_model.specs.Truth.{settle}
-use Rattle.gcx_laws.proofs.Matches.{Grown, Numbered-high, Numbered-same, Matches-in, Matches-from}
+use Rattle.tree_laws.proofs.Matches.{Grown, Numbered-high, Numbered-same, Matches-in, Matches-from}
 use Rattle.buf_tree.specs.Shape.{Cell, num}
 use Rattle.pull_eval.specs.Asking.{RowsOf}
 use Rattle.pull_eval.specs.Reads.{NodeAt}

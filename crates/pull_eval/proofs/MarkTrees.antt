@@ -8,23 +8,26 @@ use Rattle.gcx_base.specs.declared.steps.Axis.TheVariants.{Child, Descendant}
 use Rattle.gcx_base.specs.declared.steps.Test.{Test}
 use Rattle.gcx_base.specs.declared.steps.Step.{Step}
 use Rattle.gcx_model.specs.Tree.{Node, Root, Under, serial_of, kind_of, above, within, Tree, opening, is_open_at, is_closed}
-use Rattle.gcx_model.specs.Paths.{any, passes, lies, reach, hits, matches, value}
+use Rattle.gcx_base.specs.Tests.{passes}
+use Rattle.gcx_model.specs.Paths.{any, lies, reach, hits, matches, value}
 use Rattle.gcx_model.specs.Members.{In}
 use Rattle.gcx_model.specs.Answer.{is_any, some_pair}
 use Rattle.gcx_model.specs.Core.{CondTree, Exists, Compare, Path, RoleRowTree}
 use Rattle.gcx_model.specs.Roles.{cond_rows}
 use Rattle.gcx_model.specs.Values.{Value, Bytes, compare}
-use Rattle.gcx_model.specs.Truth.{Verdict, True, False, Unknown, Env, node_value, settled_values, is_over, settle, truth}
+use Rattle.gcx_model.specs.declared.truth.Truth.{Truth}
+use Rattle.gcx_model.specs.declared.truth.Truth.TheVariants.{True, False, Unknown}
+use Rattle.gcx_model.specs.Truth.{Env, node_value, settled_values, is_over, settle, truth}
 use Rattle.gcx_model.specs.Growth.{Leads}
 use Rattle.gcx_model.specs.CondView.{operand_tree}
 use Rattle.gcx_model.specs.declared.cond.Operand.{Operand}
 use Rattle.gcx_model.specs.declared.cond.Operand.TheVariants as operand
-use Rattle.gcx_laws.proofs.Lists.{In-left, In-append, In-filter, In-kept, any_in, any_from}
-use Rattle.gcx_laws.proofs.Matches.{Grown, Numbered-same, Matches-in, Matches-from}
-use Rattle.gcx_laws.proofs.Freeze.{hits_within}
-use Rattle.gcx_laws.proofs.Chains.{above_in, hits_one}
-use Rattle.gcx_laws.proofs.Keeping.{closed_stays}
-use Rattle.gcx_laws.proofs.Public.{grown_from}
+use Rattle.tree_laws.proofs.Lists.{In-left, In-append, In-filter, In-kept, any_in, any_from}
+use Rattle.tree_laws.proofs.Matches.{Grown, Numbered-same, Matches-in, Matches-from}
+use Rattle.tree_laws.proofs.Freeze.{hits_within}
+use Rattle.tree_laws.proofs.Chains.{above_in, hits_one}
+use Rattle.move_laws.proofs.Keeping.{closed_stays}
+use Rattle.tree_laws.proofs.Fed.{grown_from}
 use Rattle.run_laws.proofs.Feeds.{nodes_grow, truth_stays}
 use Rattle.pull_eval.specs.Marks.{question, answer, known, AsksLiteral, does, is_settled, IsFound, NotFound, WasOpen, Tried, Knows, EndsAs, Fits, IsMark}
 use Rattle.pull_eval.specs.Literals.{literal_value, IsLiteral}

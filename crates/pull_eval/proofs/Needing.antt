@@ -8,10 +8,9 @@ use Rattle.gcx_model.specs.Held.{path_of, is_held, held}
 use Rattle.gcx_model.specs.Points.{so_far, Frame, Rest, PointAt}
 use Rattle.gcx_model.specs.Needs.{Needs, Item_needs, Uses}
 use Rattle.gcx_model.specs.Past.{Past}
-use Rattle.gcx_laws.proofs.Lists.{In-filter}
-use Rattle.gcx_laws.proofs.Matches.{Matches-in}
-use Rattle.gcx_laws.proofs.Public.{need_law}
-use Rattle.gcx_laws.proofs.More.{bound_law}
+use Rattle.tree_laws.proofs.Lists.{In-filter}
+use Rattle.tree_laws.proofs.Matches.{Matches-in}
+use Rattle.placed_laws.proofs.PointNeeds.{need_law, bound_law}
 use Rattle.buf_tree.specs.View.{View}
 use Rattle.pull_eval.specs.Asking.{IsBound}
 use Rattle.pull_eval.specs.Acting.{Beside, IsNextItem}

@@ -11,11 +11,12 @@ use Rattle.gcx_base.specs.declared.steps.Axis.{Axis}
 use Rattle.gcx_base.specs.declared.steps.Axis.TheVariants.{Child, Descendant}
 use Rattle.gcx_base.specs.declared.steps.Step.{Step}
 use Rattle.gcx_model.specs.Tree.{Node, Root, Under, serial_of, kind_of, above, within, Tree}
-use Rattle.gcx_model.specs.Paths.{any, passes, lies, reach, hits, matches}
-use Rattle.gcx_laws.specs.Kept.{only}
-use Rattle.gcx_laws.proofs.Lists.{In, In-append, In-left, In-right, In-filter, In-kept, any_in, any_from, filter_none, filter_same}
-use Rattle.gcx_laws.proofs.Matches.{Rising, Rising-filter}
-use Rattle.gcx_laws.proofs.Chains.{above_self, above_trans, hits_one, hits_one_from, hits_above}
+use Rattle.gcx_base.specs.Tests.{passes}
+use Rattle.gcx_model.specs.Paths.{any, lies, reach, hits, matches}
+use Rattle.move_laws.specs.Kept.{only}
+use Rattle.tree_laws.proofs.Lists.{In, In-append, In-left, In-right, In-filter, In-kept, any_in, any_from, filter_none, filter_same}
+use Rattle.tree_laws.proofs.Matches.{Rising, Rising-filter}
+use Rattle.tree_laws.proofs.Chains.{above_self, above_trans, hits_one, hits_one_from, hits_above}
 use Rattle.buf_tree.proofs.Feeding.{bools}
 use Rattle.node_store.specs.declared.store.Place.{Place}
 use Rattle.buf_tree.specs.Shape.{Cell}

@@ -7,7 +7,7 @@ use Rattle.gcx_model.specs.Core.{BodyTree, PlanTree}
 use Rattle.gcx_model.specs.Cores.{Good}
 use Rattle.gcx_model.specs.Placed.{Placed}
 use Rattle.gcx_model.specs.Held.{path_of, statement_of, given, taken, sum_taken, all_signed, on_off}
-use Rattle.gcx_laws.proofs.Lists.{filter_none}
+use Rattle.tree_laws.proofs.Lists.{filter_none}
 use Rattle.buf_tree.proofs.Starting.{none_taken}
 
 module _ (core : BodyTree) (good : Good core) (plan : PlanTree) (pl : Placed core plan) where

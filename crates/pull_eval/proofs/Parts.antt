@@ -6,24 +6,23 @@ use denote.Enum.Bare.{sameb}
 use Rattle.gcx_model.specs.declared.cond.Cond.{Cond, the_lemmas}
 use Rattle.gcx_model.specs.declared.cond.Cond as declared
 use Rattle.gcx_model.specs.declared.cond.Cond.TheViews as code
-use Rattle.gcx_model.specs.declared.cond.Conds.{Conds as CodeConds}
+use Rattle.gcx_model.specs.declared.cond.CondList.{CondList as CodeConds}
 use Rattle.gcx_model.specs.Tree.{Node, Tree}
 use Rattle.gcx_model.specs.Members.{In}
 use Rattle.gcx_base.specs.declared.ids.VarId.{VarId}
 use Rattle.gcx_base.specs.declared.steps.Step.{Step}
 use Rattle.gcx_model.specs.Core.{CondTree, Always, Exists, Not, All, Any, RoleRowTree}
 use Rattle.gcx_model.specs.CondView.{core_cond_tree, core_conds_of}
-use Rattle.gcx_model.specs.Truth.{Verdict, Env, truth, truth_all, truth_any, both, either, negate}
-use Rattle.gcx_model.specs.Truth as verdict
+use Rattle.gcx_model.specs.declared.truth.Truth.{Truth}
+use Rattle.gcx_model.specs.Truth.{Env, truth, truth_all, truth_any, both, either, negate}
 use Rattle.gcx_model.specs.Roles.{cond_rows, conds_rows}
 use Rattle.gcx_model.specs.Needs.{Cond_needs, Conds_need}
-use Rattle.gcx_laws.proofs.Lists.{In-left, In-right}
+use Rattle.gcx_model.specs.declared.truth.Truth.TheVariants.{True, False, Unknown}
+use Rattle.tree_laws.proofs.Lists.{In-left, In-right}
 use Rattle.buf_tree.specs.Shape.{Cell}
-use Rattle.pull_eval.specs.Asking.{verdict_of, Asked, MayAsk, Answers}
+use Rattle.pull_eval.specs.Asking.{Asked, MayAsk, Answers}
 use Rattle.pull_eval.specs.Bindings.{Bindings}
-use Rattle.pull_eval.specs.declared.truth.Truth.{Truth}
-use Rattle.pull_eval.specs.contracts.truth.Truth.{the_type}
-use Rattle.pull_eval.specs.declared.truth.Truth.TheVariants.{True, False, Unknown}
+use Rattle.gcx_model.specs.contracts.truth.Truth.{the_type}
 
 -- ---- what is asked of a condition is asked of its parts
 
@@ -59,27 +58,27 @@ module _ (rows : List Cell) (bound : Bindings) (P : Tree) (env : Env) where
 -- ---- how the answers of members go together
 
 -- over each tree for which the value stood, the truth of the condition is that of the rest; and the value stands for the tree
-abbrev pub Goes : (before after : Tree → Type 0) → List Cell → Bindings → CondTree → (Env → Tree → Verdict) → Type 0
+abbrev pub Goes : (before after : Tree → Type 0) → List Cell → Bindings → CondTree → (Env → Tree → Truth) → Type 0
 Goes before after rows bound c rest = (P : Tree) (env : Env) → before P → Asked rows bound c P env → (rest env P ≡ truth c env P) × after P
 
-abbrev pub rest_all : List CondTree → Env → Tree → Verdict
+abbrev pub rest_all : List CondTree → Env → Tree → Truth
 rest_all cs env P = truth_all (core_conds_of cs) env P
 
-abbrev pub rest_any : List CondTree → Env → Tree → Verdict
+abbrev pub rest_any : List CondTree → Env → Tree → Truth
 rest_any cs env P = truth_any (core_conds_of cs) env P
 
-both_true : (v w : Verdict) → v ≡ verdict.True → both v w ≡ w
+both_true : (v w : Truth) → v ≡ True → both v w ≡ w
 both_true v w e = ap (λ z. both z w) e
 
-both_other : (t : Truth) (w : Verdict) → t ≢ True → both (verdict_of t) w ≡ verdict_of t
+both_other : (t : Truth) (w : Truth) → t ≢ True → both t w ≡ t
 both_other True w d = absurd (d refl)
 both_other False w d = refl
 both_other Unknown w d = refl
 
-either_false : (v w : Verdict) → v ≡ verdict.False → either v w ≡ w
+either_false : (v w : Truth) → v ≡ False → either v w ≡ w
 either_false v w e = ap (λ z. either z w) e
 
-either_other : (t : Truth) (w : Verdict) → t ≢ False → either (verdict_of t) w ≡ verdict_of t
+either_other : (t : Truth) (w : Truth) → t ≢ False → either t w ≡ t
 either_other True w d = refl
 either_other False w d = absurd (d refl)
 either_other Unknown w d = refl
@@ -93,7 +92,7 @@ module _ (before now after : Tree → Type 0) (rows : List Cell) (bound : Bindin
   goes_any cs P env s a = (refl, s)
 
   -- a part may be asked of the value of now
-  pub may_ask : (c d : CondTree) (rest : Env → Tree → Verdict) → ((P : Tree) (env : Env) → Asked rows bound c P env → Asked rows bound d P env) → MayAsk before rows bound c → Goes before now rows bound c rest → MayAsk now rows bound d
+  pub may_ask : (c d : CondTree) (rest : Env → Tree → Truth) → ((P : Tree) (env : Env) → Asked rows bound c P env → Asked rows bound d P env) → MayAsk before rows bound c → Goes before now rows bound c rest → MayAsk now rows bound d
   may_ask c d rest part m goes = record { tree = m.tree; env = m.env; stand = (goes m.tree m.env m.stand m.asked).1; asked = part m.tree m.env m.asked }
 
   module _ (cs : List CondTree) (d : CondTree) (ds : List CondTree) (i : In d cs) (t : Truth) where
@@ -102,13 +101,13 @@ module _ (before now after : Tree → Type 0) (rows : List Cell) (bound : Bindin
     goes_all_on goes answers e P env s a =
         let g = goes P env s a in
         let r = answers P env g.1 (asked_all rows bound P env cs d i a) in
-        (sym (both_true (truth d env P) (rest_all ds env P) (sym r.0 ∙ ap verdict_of e)) ∙ g.0, r.1)
+        (sym (both_true (truth d env P) (rest_all ds env P) (sym r.0 ∙ e)) ∙ g.0, r.1)
 
     pub goes_any_on : Goes before now rows bound (Any (core_conds_of cs)) (rest_any (d ∷ ds)) → Answers now after rows bound d t → t ≡ False → Goes before after rows bound (Any (core_conds_of cs)) (rest_any ds)
     goes_any_on goes answers e P env s a =
         let g = goes P env s a in
         let r = answers P env g.1 (asked_any rows bound P env cs d i a) in
-        (sym (either_false (truth d env P) (rest_any ds env P) (sym r.0 ∙ ap verdict_of e)) ∙ g.0, r.1)
+        (sym (either_false (truth d env P) (rest_any ds env P) (sym r.0 ∙ e)) ∙ g.0, r.1)
 
     -- and of one that settles all
     pub settles_all : Goes before now rows bound (All (core_conds_of cs)) (rest_all (d ∷ ds)) → Answers now after rows bound d t → t ≢ True → Answers before after rows bound (All (core_conds_of cs)) t
@@ -130,7 +129,7 @@ module _ (before now after : Tree → Type 0) (rows : List Cell) (bound : Bindin
   pub ends_any : (cs : List CondTree) → Goes before now rows bound (Any (core_conds_of cs)) (rest_any []) → Answers before now rows bound (Any (core_conds_of cs)) False
   ends_any cs goes = goes
 
-  pub answers_not : (d : CondTree) (t u : Truth) → Answers before after rows bound d t → verdict_of u ≡ negate (verdict_of t) → Answers before after rows bound (Not d) u
+  pub answers_not : (d : CondTree) (t u : Truth) → Answers before after rows bound d t → u ≡ negate t → Answers before after rows bound (Not d) u
   answers_not d t u answers e P env s a = let r = answers P env s (asked_not rows bound P env d a) in (e ∙ ap negate r.0, r.1)
 
   pub answers_always : Answers before before rows bound Always True
@@ -198,7 +197,7 @@ module _ (before : Tree → Type 0) (rows : List Cell) (bound : Bindings) (items
       may_all : MayAsk before rows bound (All (core_conds_of trees))
       may_all = subst (λ (z : CondTree). MayAsk before rows bound z) tree m
 
-      each_all : (now : Tree → Type 0) (rest : Env → Tree → Verdict) → Goes before now rows bound (All (core_conds_of trees)) rest → MayAskEach now rows bound items
+      each_all : (now : Tree → Type 0) (rest : Env → Tree → Truth) → Goes before now rows bound (All (core_conds_of trees)) rest → MayAskEach now rows bound items
       each_all now rest goes k x h e = may_ask before now now rows bound (All (core_conds_of trees)) (core_cond_tree x) rest (λ P env a. asked_all rows bound P env trees (core_cond_tree x) (in_trees items k x h e) a) may_all goes
 
       pub all_none : AllGoes before 0
@@ -227,7 +226,7 @@ module _ (before : Tree → Type 0) (rows : List Cell) (bound : Bindings) (items
       may_any : MayAsk before rows bound (Any (core_conds_of trees))
       may_any = subst (λ (z : CondTree). MayAsk before rows bound z) tree m
 
-      each_any : (now : Tree → Type 0) (rest : Env → Tree → Verdict) → Goes before now rows bound (Any (core_conds_of trees)) rest → MayAskEach now rows bound items
+      each_any : (now : Tree → Type 0) (rest : Env → Tree → Truth) → Goes before now rows bound (Any (core_conds_of trees)) rest → MayAskEach now rows bound items
       each_any now rest goes k x h e = may_ask before now now rows bound (Any (core_conds_of trees)) (core_cond_tree x) rest (λ P env a. asked_any rows bound P env trees (core_cond_tree x) (in_trees items k x h e) a) may_any goes
 
       pub any_none : AnyGoes before 0

@@ -12,13 +12,13 @@ use Rattle.gcx_model.specs.Core.{BodyTree, Nil}
 use Rattle.gcx_model.specs.Truth.{bind_var}
 use Rattle.gcx_model.specs.Past.{Past}
 use Rattle.gcx_model.specs.Points.{Frame, Rest, Round, later, PointAt, Bound_in}
-use Rattle.gcx_laws.specs.Moves.{AtPoint}
-use Rattle.gcx_laws.proofs.Lists.{In-filter}
-use Rattle.gcx_laws.proofs.Matches.{Matches-in}
-use Rattle.gcx_laws.proofs.Bases.{is_grown}
-use Rattle.gcx_laws.proofs.Chains.{hits_one}
-use Rattle.gcx_laws.proofs.Moving.{next_round, round_waits}
-use Rattle.gcx_laws.proofs.More.{turn_law}
+use Rattle.move_laws.specs.Moves.{AtPoint}
+use Rattle.tree_laws.proofs.Lists.{In-filter}
+use Rattle.tree_laws.proofs.Matches.{Matches-in}
+use Rattle.past_laws.proofs.Bases.{is_grown}
+use Rattle.tree_laws.proofs.Chains.{hits_one}
+use Rattle.move_laws.proofs.Moving.{next_round, round_waits}
+use Rattle.placed_laws.proofs.PointNeeds.{turn_law}
 use Rattle.run_laws.proofs.Free.{round_variable_free}
 use Rattle.node_store.specs.declared.store.Place.{Place}
 use Rattle.buf_tree.specs.Shape.{Cell, num}

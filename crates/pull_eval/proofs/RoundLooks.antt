@@ -12,11 +12,11 @@ use Rattle.gcx_model.specs.Truth.{Env, bind_var}
 use Rattle.gcx_model.specs.Run.{Action, Offed, Out, idle, seq, seq_if, run_item, run}
 use Rattle.gcx_model.specs.Past.{Past}
 use Rattle.gcx_model.specs.Points.{Frame, Rest, Round, to_come, Bound_in}
-use Rattle.gcx_laws.proofs.Matches.{Matches-in}
-use Rattle.gcx_laws.proofs.Bases.{is_grown}
-use Rattle.gcx_laws.proofs.Chains.{hits_one}
-use Rattle.gcx_laws.proofs.PointForms.{seq-idle}
-use Rattle.gcx_laws.proofs.Waits.{Has}
+use Rattle.tree_laws.proofs.Matches.{Matches-in}
+use Rattle.past_laws.proofs.Bases.{is_grown}
+use Rattle.tree_laws.proofs.Chains.{hits_one}
+use Rattle.point_laws.proofs.PointForms.{seq-idle}
+use Rattle.need_laws.proofs.Waits.{Has}
 use Rattle.buf_tree.specs.Shape.{Cell, num}
 use Rattle.buf_tree.specs.Match.{GoesFrom}
 use Rattle.buf_tree.specs.View.{View}

@@ -10,8 +10,8 @@ use Rattle.gcx_model.specs.Core.{For, BodyTree}
 use Rattle.gcx_model.specs.Truth.{Env, bind_var}
 use Rattle.gcx_model.specs.Past.{Past}
 use Rattle.gcx_model.specs.Points.{Frame, Rest, Round, later, PointAt}
-use Rattle.gcx_laws.proofs.Lists.{In-filter}
-use Rattle.gcx_laws.proofs.Matches.{Matches-in}
+use Rattle.tree_laws.proofs.Lists.{In-filter}
+use Rattle.tree_laws.proofs.Matches.{Matches-in}
 use Rattle.buf_tree.specs.Shape.{num}
 use Rattle.buf_tree.specs.Match.{Unreached, FirstReached}
 use Rattle.buf_tree.specs.View.{View, InUse}

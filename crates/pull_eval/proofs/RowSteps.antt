@@ -7,15 +7,16 @@ use Rattle.gcx_base.specs.declared.steps.Axis.{Axis}
 use Rattle.gcx_base.specs.declared.steps.Axis.TheVariants.{Child, Descendant}
 use Rattle.gcx_base.specs.declared.steps.Step.{Step}
 use Rattle.gcx_model.specs.Tree.{Node, Root, Under, serial_of, kind_of, within, Tree}
-use Rattle.gcx_model.specs.Paths.{passes, lies, reach, hits, matches}
+use Rattle.gcx_base.specs.Tests.{passes}
+use Rattle.gcx_model.specs.Paths.{lies, reach, hits, matches}
 use Rattle.gcx_model.specs.Points.{later}
-use Rattle.gcx_laws.specs.Kept.{only}
-use Rattle.gcx_laws.proofs.Lists.{In, In-filter, In-kept}
-use Rattle.gcx_laws.proofs.Matches.{Rising, Rising-filter}
-use Rattle.gcx_laws.proofs.Chains.{hits_one, hits_one_from}
-use Rattle.gcx_laws.proofs.Freeze.{within_self}
-use Rattle.gcx_laws.proofs.Keeping.{matches_kept, later_kept}
-use Rattle.gcx_laws.proofs.Pruned.{filter_all}
+use Rattle.move_laws.specs.Kept.{only}
+use Rattle.tree_laws.proofs.Lists.{In, In-filter, In-kept}
+use Rattle.tree_laws.proofs.Matches.{Rising, Rising-filter}
+use Rattle.tree_laws.proofs.Chains.{hits_one, hits_one_from}
+use Rattle.tree_laws.proofs.Freeze.{within_self}
+use Rattle.move_laws.proofs.Keeping.{matches_kept, later_kept}
+use Rattle.need_laws.proofs.Pruned.{filter_all}
 use Rattle.buf_tree.specs.Shape.{Cell, num}
 use Rattle.buf_tree.specs.Match.{IsChild, Rises, Lies, Reached, Unreached, FirstReached, IsFrom}
 use Rattle.pull_eval.specs.Asking.{RowsOf}

@@ -4,10 +4,10 @@ use Rattle.std.specs.List.{filter}
 use Rattle.gcx_base.specs.declared.kind.Kind.{Kind}
 use Rattle.gcx_model.specs.Tree.{Node, Root, Under, serial_of, kind_of, above, Tree, is_open_at, is_closed}
 use Rattle.gcx_model.specs.Nodes.{Ordered}
-use Rattle.gcx_laws.proofs.Lists.{In, In-filter, In-kept}
-use Rattle.gcx_laws.proofs.Matches.{Grown, Numbered-same, Rising, Rising-filter}
-use Rattle.gcx_laws.proofs.Chains.{above_self, above_in}
-use Rattle.gcx_laws.proofs.Public.{nodes_are_numbered}
+use Rattle.tree_laws.proofs.Lists.{In, In-filter, In-kept}
+use Rattle.tree_laws.proofs.Matches.{Grown, Numbered-same, Rising, Rising-filter}
+use Rattle.tree_laws.proofs.Chains.{above_self, above_in}
+use Rattle.tree_laws.proofs.Fed.{nodes_are_numbered}
 use Rattle.buf_tree.specs.Shape.{Cell, num}
 use Rattle.buf_tree.specs.Shape as shape
 use Rattle.buf_tree.specs.Match.{IsChild}

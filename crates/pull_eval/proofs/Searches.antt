@@ -5,9 +5,9 @@ use Rattle.std.proofs.lemmas.Bool.{lt-ltb, le-ltb, ltb-true}
 use Rattle.gcx_base.specs.declared.steps.Step.{Step}
 use Rattle.gcx_model.specs.Tree.{Node, serial_of, Tree}
 use Rattle.gcx_model.specs.Paths.{hits}
-use Rattle.gcx_laws.proofs.Lists.{In}
-use Rattle.gcx_laws.proofs.Matches.{Rising, Rising-filter}
-use Rattle.gcx_laws.proofs.Pruned.{filter_all}
+use Rattle.tree_laws.proofs.Lists.{In}
+use Rattle.tree_laws.proofs.Matches.{Rising, Rising-filter}
+use Rattle.need_laws.proofs.Pruned.{filter_all}
 use Rattle.node_store.specs.declared.store.Place.{Place}
 use Rattle.buf_tree.specs.Shape.{Cell, num, at_place}
 use Rattle.buf_tree.specs.Walk.{serial_in, rows_behind, high_at}

@@ -17,14 +17,16 @@ use Rattle.gcx_model.specs.Placed.{offs_in}
 use Rattle.gcx_model.specs.Held.{statement_of, on_off, signed, sum_taken}
 use Rattle.gcx_model.specs.Past.{Past, past_acted, is_signed}
 use Rattle.gcx_model.specs.Points.{so_far, acted, Frame, Rest, PointAt, Bound_in}
-use Rattle.gcx_laws.specs.Moves.{IsNext}
-use Rattle.gcx_laws.specs.Pasts.{bases}
-use Rattle.gcx_laws.proofs.Lists.{In-right, In-filter}
-use Rattle.gcx_laws.proofs.Matches.{Numbered-same}
-use Rattle.gcx_laws.proofs.Bases.{is_grown, own_tells}
-use Rattle.gcx_laws.proofs.Moving.{off_move}
-use Rattle.gcx_laws.proofs.More.{bound_law, unsigned_law, one_statement_law, signed_is_off}
-use Rattle.gcx_laws.proofs.Public.{offs_at_matches}
+use Rattle.move_laws.specs.Moves.{IsNext}
+use Rattle.past_laws.specs.Pasts.{bases}
+use Rattle.tree_laws.proofs.Lists.{In-right, In-filter}
+use Rattle.tree_laws.proofs.Matches.{Numbered-same}
+use Rattle.past_laws.proofs.Bases.{is_grown, own_tells}
+use Rattle.move_laws.proofs.Moving.{off_move}
+use Rattle.placed_laws.proofs.PointNeeds.{bound_law, unsigned_law}
+use Rattle.placed_laws.proofs.PlanStatements.{one_statement_law}
+use Rattle.tree_laws.proofs.OffsSigned.{signed_is_off}
+use Rattle.placed_laws.proofs.Balances.{offs_at_matches}
 use Rattle.run_laws.proofs.Summing.{sums_by_act}
 use Rattle.buf_tree.specs.Shape.{Cell, num}
 use Rattle.buf_tree.specs.View.{View, InUse, capped, serial_at}

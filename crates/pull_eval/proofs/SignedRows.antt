@@ -16,12 +16,11 @@ use Rattle.gcx_model.specs.Truth.{Env}
 use Rattle.gcx_model.specs.Held.{held, live, roles_live, has_serial, departed}
 use Rattle.gcx_model.specs.Past.{Past, IsPast, is_signed, roles_signed}
 use Rattle.gcx_model.specs.Points.{Frame, later}
-use Rattle.gcx_laws.proofs.RowFacts.{row_tells}
+use Rattle.past_laws.proofs.RowFacts.{row_tells}
 use Rattle.buf_tree.specs.Shape.{Cell, num}
 use Rattle.buf_tree.specs.Calls.{role_count, left_out}
-use Rattle.buf_tree.specs.Stands.{Seen, seen, told}
+use Rattle.buf_tree.specs.Stands.{Seen, seen, told, StandsFor}
 use Rattle.buf_tree.specs.View.{View}
-use Rattle.buf_tree.specs.Stands.{StandsFor}
 use Rattle.buf_tree.proofs.Signing.{listed, in_listed}
 use Rattle.run_laws.specs.Sums.{live_at}
 use Rattle.pull_eval.specs.Asking.{PlacedAt, IsBound}

@@ -15,14 +15,14 @@ use Rattle.gcx_model.specs.Truth.{Env, settled_values, is_over, settle}
 use Rattle.gcx_model.specs.Roles.{operand_rows, cond_rows}
 use Rattle.gcx_model.specs.declared.cond.Operand.{Operand}
 use Rattle.gcx_model.specs.declared.cond.Operand.TheVariants as operand
-use Rattle.gcx_laws.proofs.Lists.{In-filter, In-right}
+use Rattle.tree_laws.proofs.Lists.{In-filter, In-right}
 use Rattle.buf_tree.specs.Shape.{Cell}
 use Rattle.pull_eval.specs.Bindings.{Bindings}
-use Rattle.pull_eval.specs.Asking.{verdict_of, Asked}
+use Rattle.pull_eval.specs.Asking.{Asked}
 use Rattle.pull_eval.specs.Literals.{literal_value, IsLiteral}
 use Rattle.pull_eval.specs.Reads.{NodeAt}
 use Rattle.pull_eval.specs.Comparing.{IsAsked, Tells, IsNodeRow, KeepsFirst, KeepsMatches, closed_values}
-use Rattle.pull_eval.specs.declared.truth.Truth.{Truth}
+use Rattle.gcx_model.specs.declared.truth.Truth.{Truth}
 use Rattle.pull_eval.proofs.Rows.{kept_at}
 
 -- ---- the rows of a condition's variables
@@ -77,16 +77,16 @@ module _ (rows : List Cell) (bound : Bindings) (P : Tree) (env : Env) where
 
 -- what is told of the row of an exists' variable
 abbrev pub TellsExists : List Cell → ℕ → List Step → Truth → Type 0
-TellsExists rows p steps t = (P : Tree) (keep : Node → Bool) (n : Node) → NodeAt rows P keep p n → KeepsFirst P keep n steps → verdict_of t ≡ settle (is_any (matches P (serial_of n) steps)) (is_closed P n)
+TellsExists rows p steps t = (P : Tree) (keep : Node → Bool) (n : Node) → NodeAt rows P keep p n → KeepsFirst P keep n steps → t ≡ settle (is_any (matches P (serial_of n) steps)) (is_closed P n)
 
 -- of two paths
 abbrev pub TellsPaths : List Cell → (p : ℕ) → List Step → Rel → (q : ℕ) → List Step → Truth → Type 0
 TellsPaths rows p left rel q right t = (P : Tree) (keep : Node → Bool) (n m : Node) → NodeAt rows P keep p n → NodeAt rows P keep q m → KeepsMatches P keep n left → KeepsMatches P keep m right
-    → verdict_of t ≡ settle (some_pair (compare rel) (closed_values P n left) (closed_values P m right)) (is_closed P n && is_closed P m)
+    → t ≡ settle (some_pair (compare rel) (closed_values P n left) (closed_values P m right)) (is_closed P n && is_closed P m)
 
 -- of a path and a literal
 abbrev pub TellsLiteral : List Cell → (p : ℕ) → List Step → Rel → Value → Truth → Type 0
-TellsLiteral rows p steps rel v t = (P : Tree) (keep : Node → Bool) (n : Node) → NodeAt rows P keep p n → KeepsMatches P keep n steps → verdict_of t ≡ settle (some_pair (compare rel) (closed_values P n steps) (v ∷ [])) (is_closed P n)
+TellsLiteral rows p steps rel v t = (P : Tree) (keep : Node → Bool) (n : Node) → NodeAt rows P keep p n → KeepsMatches P keep n steps → t ≡ settle (some_pair (compare rel) (closed_values P n steps) (v ∷ [])) (is_closed P n)
 
 pub literal_values : (P : Tree) (env : Env) (o : Operand) → IsLiteral o → settled_values P env (operand_tree o) ≡ literal_value o ∷ []
 literal_values P env (operand.Path x steps) h = absurd h
@@ -141,7 +141,7 @@ module _ (rows : List Cell) (bound : Bindings) (t : Truth) where
       ∙ (ap (λ ws. settle (some_pair (compare rel) ws vs) over) (sym (literal_values P env o lit))
       ∙ ap (λ b. settle (some_pair (compare rel) (settled_values P env (operand_tree o)) vs) (b && over)) (sym (literal_over P env o lit))))
 
-  pub literals_told : (rel : Rel) (o u : Operand) → IsLiteral o → IsLiteral u → (b : Bool) → b ≡ compare rel (literal_value o) (literal_value u) → verdict_of t ≡ settle b true → Tells rows bound (Compare (operand_tree o) rel (operand_tree u)) t
+  pub literals_told : (rel : Rel) (o u : Operand) → IsLiteral o → IsLiteral u → (b : Bool) → b ≡ compare rel (literal_value o) (literal_value u) → t ≡ settle b true → Tells rows bound (Compare (operand_tree o) rel (operand_tree u)) t
   literals_told rel o u lit mit b e is P env a =
       is ∙ (ap (λ z. settle z true) (e ∙ (or_none (compare rel (literal_value o) (literal_value u)) ∙ or_none (compare rel (literal_value o) (literal_value u) || false)))
       ∙ (ap (λ vs. settle (some_pair (compare rel) vs (literal_value u ∷ [])) true) (sym (literal_values P env o lit))

@@ -7,15 +7,16 @@ use Rattle.gcx_base.specs.declared.kind.Kind.{Kind}
 use Rattle.gcx_base.specs.declared.kind.Kind.TheVariants.{Document, Element, Text}
 use Rattle.gcx_base.specs.declared.steps.Step.{Step}
 use Rattle.gcx_model.specs.Tree.{Node, Root, Under, serial_of, kind_of, within, Tree, opening}
-use Rattle.gcx_model.specs.Paths.{passes, lies, hits, text_of, value}
+use Rattle.gcx_base.specs.Tests.{passes}
+use Rattle.gcx_model.specs.Paths.{lies, hits, text_of, value}
 use Rattle.gcx_model.specs.Growth.{Grow, opened, added, closed, ended, Leads, stays, more}
-use Rattle.gcx_laws.proofs.Lists.{In, In-append}
-use Rattle.gcx_laws.proofs.Matches.{Grown, Numbered, Numbered-low, Numbered-same}
-use Rattle.gcx_laws.proofs.Chains.{hits_one_from}
-use Rattle.gcx_laws.proofs.Freeze.{hits_within}
-use Rattle.gcx_laws.proofs.Public.{nodes_are_numbered}
+use Rattle.tree_laws.proofs.Lists.{In, In-append}
+use Rattle.tree_laws.proofs.Matches.{Grown, Numbered, Numbered-low, Numbered-same}
+use Rattle.tree_laws.proofs.Chains.{hits_one_from}
+use Rattle.tree_laws.proofs.Freeze.{hits_within}
+use Rattle.tree_laws.proofs.Fed.{nodes_are_numbered}
 use Rattle.node_store.specs.declared.store.Place.{Place}
-use Rattle.buf_tree.specs.Rows.{is_text}
+use Rattle.gcx_base.specs.Kinds.{is_text}
 use Rattle.buf_tree.specs.Shape.{Cell, num}
 use Rattle.buf_tree.specs.Match.{GoesFrom}
 use Rattle.buf_tree.specs.Walk.{high_at}

@@ -7,8 +7,8 @@ use Rattle.gcx_model.specs.Points.{Frame, Rest, Round, Part, PointAt, Bound_in}
 use Rattle.gcx_model.specs.Growth.{Leads}
 use Rattle.gcx_model.specs.Run.{Wrote}
 use Rattle.gcx_model.specs.Past.{Past, past_acted}
-use Rattle.gcx_laws.specs.Moves.{AtPoint, IsNext, NoneLeft}
-use Rattle.gcx_laws.proofs.Moving.{write_move, branch_move, empty_rest, last_round, run_is_done}
+use Rattle.move_laws.specs.Moves.{AtPoint, IsNext, NoneLeft}
+use Rattle.move_laws.proofs.Moving.{write_move, branch_move, empty_rest, last_round, run_is_done}
 use Rattle.buf_tree.specs.Shape.{Cell}
 use Rattle.buf_tree.specs.View.{View}
 use Rattle.pull_eval.specs.Asking.{IsBound}

@@ -13,10 +13,10 @@ use Rattle.gcx_model.specs.Held.{path_of, statement_of, given, is_off, signed, r
 use Rattle.gcx_model.specs.Growth.{level}
 use Rattle.gcx_model.specs.Points.{acted}
 use Rattle.gcx_model.specs.Past.{Past, past_acted, parent_serial}
-use Rattle.gcx_laws.specs.Moves.{IsNext}
-use Rattle.gcx_laws.proofs.Awaited.{waiting_law}
-use Rattle.gcx_laws.proofs.PastForms.{past_acts}
-use Rattle.gcx_laws.proofs.Stays.{any-append}
+use Rattle.move_laws.specs.Moves.{IsNext}
+use Rattle.past_laws.proofs.Awaited.{waiting_law}
+use Rattle.past_laws.proofs.PastForms.{past_acts}
+use Rattle.need_laws.proofs.Stays.{any-append}
 use Rattle.buf_tree.specs.View.{View, capped}
 use Rattle.buf_tree.specs.Stands.{Seen, told_row, StandsFor}
 use Rattle.pull_eval.specs.Position.{StandsAt}

@@ -1,9 +1,9 @@
 -- What a machine does beside a buffer (this project's).
 use Rattle.std.specs.Prelude.{◌≡◌, ◌<◌, ℕ, suc, true, false, List, [], ◌∷◌, ◌++◌, length, Option, Some, None, ◌⊎◌}
-use Rattle.gcx_model.specs.Tree.{Tree}
-use Rattle.gcx_model.specs.Tree.{Node, serial_of, is_closed}
+use Rattle.gcx_model.specs.Tree.{Tree, Node, serial_of, is_closed}
 use Rattle.gcx_model.specs.Paths.{matches}
-use Rattle.gcx_model.specs.Truth.{True, False, truth}
+use Rattle.gcx_model.specs.declared.truth.Truth.TheVariants.{True, False}
+use Rattle.gcx_model.specs.Truth.{truth}
 use Rattle.gcx_model.specs.Members.{In}
 use Rattle.gcx_model.specs.Core.{OffTree, CondTree, ItemTree, BodyTree, Then}
 use Rattle.gcx_model.specs.Run.{Action, Offed}
@@ -12,7 +12,7 @@ use Rattle.gcx_model.specs.Held.{held, departed, sum_taken}
 use Rattle.gcx_model.specs.Points.{so_far, CoreState, Frame, Rest, Round, Part, later}
 use Rattle.gcx_model.specs.Copying.{CopyFrame, Inside, next_children}
 use Rattle.gcx_model.specs.Past.{Past, past_acted}
-use Rattle.gcx_laws.specs.Moves.{IsNext, NoneLeft}
+use Rattle.move_laws.specs.Moves.{IsNext, NoneLeft}
 use Rattle.buf_tree.specs.Shape.{Cell, num}
 use Rattle.buf_tree.specs.View.{View, capped}
 use Rattle.buf_tree.specs.Stands.{StandsFor}

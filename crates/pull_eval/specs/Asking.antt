@@ -5,8 +5,8 @@ use Rattle.gcx_base.specs.declared.kind.Kind.{Kind}
 use Rattle.gcx_model.specs.Tree.{Node, serial_of, kind_of, above, Tree, opening, is_open_at}
 use Rattle.gcx_model.specs.Members.{In}
 use Rattle.gcx_model.specs.Core.{CondTree, Always, Exists, Compare, Not, All, Any, RoleRowTree}
-use Rattle.gcx_model.specs.Truth.{Verdict, Env}
-use Rattle.gcx_model.specs.Truth as verdict
+use Rattle.gcx_model.specs.declared.truth.Truth.{Truth}
+use Rattle.gcx_model.specs.Truth.{Env, truth}
 use Rattle.gcx_model.specs.Roles.{cond_rows}
 use Rattle.gcx_model.specs.Needs.{Cond_needs}
 use Rattle.gcx_model.specs.Past.{parent_serial}
@@ -14,13 +14,6 @@ use Rattle.gcx_model.specs.Growth.{Leads}
 use Rattle.buf_tree.specs.Shape.{Cell, num}
 use Rattle.buf_tree.specs.Stands.{parent_seen}
 use Rattle.pull_eval.specs.Bindings.{Bindings}
-use Rattle.pull_eval.specs.declared.truth.Truth.{Truth}
-use Rattle.pull_eval.specs.declared.truth.Truth.TheVariants as known
-
-abbrev pub verdict_of : Truth → Verdict
-verdict_of known.True = verdict.True
-verdict_of known.False = verdict.False
-verdict_of known.Unknown = verdict.Unknown
 
 -- what a row tells of its node beside its roles
 pub record Facts : Type 0 where
@@ -72,7 +65,7 @@ pub record MayAsk (stands : Tree → Type 0) (rows : List Cell) (bound : Binding
 
 -- what is answered, and that the value stands for the same trees afterwards
 abbrev pub Answers : (before after : Tree → Type 0) → List Cell → Bindings → CondTree → Truth → Type 0
-Answers before after rows bound c t = (P : Tree) (env : Env) → before P → Asked rows bound c P env → (verdict_of t ≡ verdict.truth c env P) × after P
+Answers before after rows bound c t = (P : Tree) (env : Env) → before P → Asked rows bound c P env → (t ≡ truth c env P) × after P
 
 -- it has no parts
 abbrev pub IsLeaf : CondTree → Type 0

@@ -6,15 +6,14 @@ use Rattle.gcx_model.specs.Paths.{matches, first}
 use Rattle.gcx_model.specs.Members.{In}
 use Rattle.gcx_model.specs.Core.{CondTree}
 use Rattle.gcx_model.specs.Values.{Value}
-use Rattle.gcx_model.specs.Truth.{Env, node_value}
-use Rattle.gcx_model.specs.Truth as verdict
-use Rattle.gcx_laws.specs.Kept.{only}
+use Rattle.gcx_model.specs.Truth.{Env, node_value, truth}
+use Rattle.move_laws.specs.Kept.{only}
 use Rattle.buf_tree.specs.Shape.{Cell}
 use Rattle.buf_tree.specs.View.{InUse}
 use Rattle.pull_eval.specs.Bindings.{Bindings}
-use Rattle.pull_eval.specs.Asking.{verdict_of, RowsOf, Asked}
+use Rattle.pull_eval.specs.Asking.{RowsOf, Asked}
 use Rattle.pull_eval.specs.Reads.{NodeAt, IsWhole, AreNodes}
-use Rattle.pull_eval.specs.declared.truth.Truth.{Truth}
+use Rattle.gcx_model.specs.declared.truth.Truth.{Truth}
 use Rattle.pull_eval.specs.declared.sets.Member.{Member}
 
 -- over some tree and environment the condition is asked
@@ -25,7 +24,7 @@ pub record IsAsked (rows : List Cell) (bound : Bindings) (c : CondTree) : Type 0
 
 -- its truth over each of them is told
 abbrev pub Tells : List Cell → Bindings → CondTree → Truth → Type 0
-Tells rows bound c t = (P : Tree) (env : Env) → Asked rows bound c P env → verdict_of t ≡ verdict.truth c env P
+Tells rows bound c t = (P : Tree) (env : Env) → Asked rows bound c P env → t ≡ truth c env P
 
 -- the row at the place is a node's
 pub record IsNodeRow (rows : List Cell) (p : ℕ) : Type 0 where

@@ -4,7 +4,7 @@ use Rattle.gcx_base.specs.declared.kind.Kind.{Kind}
 use Rattle.gcx_base.specs.declared.kind.Kind.TheVariants.{Document, Element, Text}
 use Rattle.gcx_model.specs.Written.{start_tag, end_tag, escaped}
 use Rattle.node_store.specs.declared.store.Place.{Place}
-use Rattle.buf_tree.specs.Rows.{is_text}
+use Rattle.gcx_base.specs.Kinds.{is_text}
 use Rattle.pull_eval.specs.declared.block.Copying.{Copying}
 
 -- with which bytes the copy of a node of this kind begins, and with which it ends

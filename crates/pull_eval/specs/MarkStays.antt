@@ -8,11 +8,12 @@ use Rattle.gcx_model.specs.Tree.{Node, serial_of, Tree, opening}
 use Rattle.gcx_model.specs.Paths.{hits, matches}
 use Rattle.gcx_model.specs.Members.{In}
 use Rattle.gcx_model.specs.Values.{Bytes, compare}
-use Rattle.gcx_model.specs.Truth.{Verdict, True, False, Unknown}
+use Rattle.gcx_model.specs.declared.truth.Truth.{Truth}
+use Rattle.gcx_model.specs.declared.truth.Truth.TheVariants.{True, False, Unknown}
 use Rattle.gcx_model.specs.Growth.{Leads}
-use Rattle.gcx_laws.proofs.Lists.{In-left, In-append, In-filter}
-use Rattle.gcx_laws.proofs.Matches.{Matches-in}
-use Rattle.gcx_laws.proofs.Keeping.{closed_stays}
+use Rattle.tree_laws.proofs.Lists.{In-left, In-append, In-filter}
+use Rattle.tree_laws.proofs.Matches.{Matches-in}
+use Rattle.move_laws.proofs.Keeping.{closed_stays}
 use Rattle.run_laws.proofs.Feeds.{nodes_grow, truth_stays}
 use Rattle.pull_eval.specs.Marks.{question, known, does, is_settled, WasOpen, Tried, Knows, IsMark}
 use Rattle.pull_eval.specs.Literals.{literal_value}
@@ -53,7 +54,7 @@ module _ (P Q : Tree) (lo : Leads opening P) (l : Leads P Q) where
       ]
       each j (inr i) low = absurd (lt_irrefl (serial_of j) (lt_of_le_of_lt low (lt_of_lt_of_le below (g.2 j (In-filter (hits n steps) j g.0 i).0))))
 
-  abbrev IsKnown : Verdict → Type 0
+  abbrev IsKnown : Truth → Type 0
   IsKnown True = Unit {0}
   IsKnown False = Unit {0}
   IsKnown Unknown = ⊥

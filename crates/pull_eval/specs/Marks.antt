@@ -11,7 +11,9 @@ use Rattle.gcx_model.specs.Members.{In}
 use Rattle.gcx_model.specs.Core.{CondTree, Exists, Compare, Path}
 use Rattle.gcx_model.specs.CondView.{operand_tree}
 use Rattle.gcx_model.specs.Values.{Bytes, compare}
-use Rattle.gcx_model.specs.Truth.{Verdict, True, False, Unknown, truth}
+use Rattle.gcx_model.specs.declared.truth.Truth.{Truth}
+use Rattle.gcx_model.specs.declared.truth.Truth.TheVariants.{True, False, Unknown}
+use Rattle.gcx_model.specs.Truth.{truth}
 use Rattle.gcx_model.specs.declared.cond.Operand.{Operand}
 use Rattle.buf_tree.specs.Shape.{Cell, num}
 use Rattle.buf_tree.specs.Match.{IsChild}
@@ -35,11 +37,11 @@ abbrev pub question : List Step → Option Ask → CondTree
 question steps None = Exists 0 steps
 question steps (Some a) = Compare (Path 0 steps) a.rel (operand_tree a.literal)
 
-abbrev pub answer : Tree → List Step → Option Ask → Node → Verdict
+abbrev pub answer : Tree → List Step → Option Ask → Node → Truth
 answer P steps ask n = truth (question steps ask) (λ x. n) P
 
 -- a truth that is known, or else none
-abbrev pub known : Option Bool → Verdict
+abbrev pub known : Option Bool → Truth
 known None = Unknown
 known (Some true) = True
 known (Some false) = False

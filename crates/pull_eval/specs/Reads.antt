@@ -6,8 +6,8 @@ use Rattle.gcx_base.specs.declared.steps.Step.{Step}
 use Rattle.gcx_model.specs.Tree.{Node, serial_of, kind_of, above, within, Tree}
 use Rattle.gcx_model.specs.Paths.{any, reach, matches, text_of, value}
 use Rattle.gcx_model.specs.Members.{In}
-use Rattle.gcx_laws.specs.Kept.{only}
-use Rattle.buf_tree.specs.Rows.{is_text}
+use Rattle.move_laws.specs.Kept.{only}
+use Rattle.gcx_base.specs.Kinds.{is_text}
 use Rattle.buf_tree.specs.Shape.{Cell, num}
 use Rattle.buf_tree.specs.Match.{IsChild}
 use Rattle.buf_tree.specs.View.{InUse}

@@ -6,10 +6,10 @@ ghost use Rattle.gcx_model.specs.CondView.{core_cond_tree};
 ghost use Rattle.pull_eval.specs.Asking.{Over, MayAsk, Answers, IsLeaf};
 
 use crate::env::Env;
-use crate::truth::{Truth, negate};
+use crate::truth::negate;
 use buf_tree::{Buffer, Row};
 use gcx_base::Memory;
-use gcx_model::Cond;
+use gcx_model::{Cond, Truth};
 use node_store::NodeStore;
 use std::alloc::Global;
 

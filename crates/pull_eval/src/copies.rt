@@ -6,7 +6,7 @@ ghost use Rattle.gcx_model.specs.Past.{Past};
 ghost use Rattle.gcx_model.specs.Answer.{child_step};
 ghost use Rattle.buf_tree.specs.Shape.{Cell, num};
 ghost use Rattle.buf_tree.specs.View.{InUse};
-ghost use Rattle.buf_tree.specs.Rows.{is_text};
+ghost use Rattle.gcx_base.specs.Kinds.{is_text};
 ghost use Rattle.buf_tree.specs.Match.{Unreached, FirstReached, IsChild, GoesFrom};
 ghost use Rattle.pull_eval.specs.Position.{items};
 ghost use Rattle.pull_eval.specs.Copies.{first_bytes, last_bytes, present_place, begun_at, come_to, risen};

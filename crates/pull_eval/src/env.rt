@@ -43,6 +43,7 @@ impl Env {
     }
 
     /// Binds the variable to the node, whatever it was bound to. After `Memory` nothing changed.
+    #[inline(always)]
     pub fn bind(&mut self, var: VarId, place: Place, serial: Serial) -> Result<(), Memory>
         ensures ok { OnOk result (self.new ≡ map.insert self.old var.0 (place.0, serial.0)) }
         ensures err { OnErr result (self.new ≡ self.old) }
@@ -65,6 +66,7 @@ impl Env {
     }
 
     /// The place and the serial of the variable's node, or None where it isn't bound.
+    #[inline(always)]
     pub fn get(&self, var: VarId) -> Option<(Place, Serial)>
         ensures { option_map (λ b. (b.0.0, b.1.0)) result ≡ map.get self.now var.0 }
     {
@@ -79,6 +81,7 @@ impl Env {
 }
 
 /// The place of a node to which a variable is bound.
+#[inline(always)]
 pub(crate) fn place_of(env: &Env, var: VarId) -> Place
     requires { (s : ℕ) × (p : ℕ) × (map.get env.now var.0 ≡ Some (p, s)) }
     ensures { (p s : ℕ) → map.get env.now var.0 ≡ Some (p, s) → result.0 ≡ p }

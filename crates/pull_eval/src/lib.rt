@@ -19,7 +19,7 @@ mod values;
 
 pub use conds::{Conds, Leaves, truth_of};
 pub use env::Env;
+pub use gcx_model::Truth;
 pub use machine::{Acted, Machine};
 pub use marked::Marked;
 pub use plain::Plain;
-pub use truth::Truth;

@@ -21,6 +21,7 @@ use gcx_model::Item;
 use node_store::{NodeStore, Place};
 
 /// The serial of the newest node.
+#[inline(always)]
 fn newest<N: NodeStore<Row>>(buffer: &Buffer<N>) -> u64
     requires { 0 < buffer.now.nodes }
     ensures { suc result ≡ buffer.now.nodes }
@@ -29,6 +30,7 @@ fn newest<N: NodeStore<Row>>(buffer: &Buffer<N>) -> u64
 }
 
 /// The first match with a serial above `seen`, up to which there is none. 0: nothing is known.
+#[inline(always)]
 fn first_match<N: NodeStore<Row>>(
     buffer: &Buffer<N>,
     context: Place,
@@ -47,6 +49,7 @@ fn first_match<N: NodeStore<Row>>(
 }
 
 /// The first match among the nodes behind this serial.
+#[inline(always)]
 fn new_match<N: NodeStore<Row>>(
     buffer: &Buffer<N>,
     context: Place,
@@ -65,6 +68,7 @@ fn new_match<N: NodeStore<Row>>(
 }
 
 /// What is found of the next match of a loop behind the one at this place.
+#[inline(always)]
 fn match_behind<N: NodeStore<Row>>(
     buffer: &Buffer<N>,
     context: Place,
@@ -83,6 +87,7 @@ fn match_behind<N: NodeStore<Row>>(
 }
 
 /// The match with which the loop goes on, if it is there.
+#[inline(always)]
 fn next_of<N: NodeStore<Row>>(
     buffer: &Buffer<N>,
     context: Place,
@@ -146,6 +151,7 @@ impl<'p> Position<'p> {
     }
 
     /// The body begins at the round's match. Where it doesn't end with a statement, the loop looks for its next match now.
+    #[inline(always)]
     fn begin_round<N: NodeStore<Row>>(
         &mut self,
         round: Round<'p>,

@@ -11,10 +11,9 @@ ghost use Rattle.pull_eval.specs.Acting.{Beside, MayAct, Acts, Moves, MovesOn, I
 
 use crate::conds::Conds;
 use crate::position::Position;
-use crate::truth::Truth;
 use buf_tree::{Buffer, Row};
 use gcx_base::{Memory, Role, Serial};
-use gcx_model::{Cond, Item, Plan};
+use gcx_model::{Cond, Item, Plan, Truth};
 use node_store::NodeStore;
 use std::alloc::Global;
 

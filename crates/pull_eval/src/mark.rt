@@ -94,6 +94,7 @@ impl Mark {
     }
 
     /// Forgets what is known, where that is of another node.
+    #[inline(always)]
     pub fn turn_to(&mut self, of: Serial)
         ensures same { self.old.of ≡ Some of → self.new ≡ self.old }
         ensures other { (self.old.of ≡ Some of → ⊥) → self.new ≡ record self.old { of = Some of; upto = of.0; waiting = None; value = None } }
@@ -107,6 +108,7 @@ impl Mark {
     }
 
     /// Whether a match of this node is closed and does.
+    #[inline(always)]
     fn does<N: NodeStore<Row>>(
         &self,
         buffer: &Buffer<N>,
@@ -127,6 +129,7 @@ impl Mark {
     }
 
     /// Whether it is settled if a match of this node does: without a literal at once, else once it is closed.
+    #[inline(always)]
     fn is_settled<N: NodeStore<Row>>(&self, buffer: &Buffer<N>, place: Place) -> bool
         requires { InUse buffer.now.rows place.0 }
         ensures { (P : Tree) (keep : Node → Bool) (m : Node) → NodeAt buffer.now.rows P keep place.0 m → result ≡ is_settled P self.now.ask m }
@@ -138,6 +141,7 @@ impl Mark {
     }
 
     /// Whether the steps lead to the row, which the last of them reaches.
+    #[inline(always)]
     fn is_match<N: NodeStore<Row>>(
         &self,
         buffer: &Buffer<N>,
@@ -157,6 +161,7 @@ impl Mark {
     }
 
     /// Looks at a new row: true where it is a match that does.
+    #[inline(always)]
     fn look_at<N: NodeStore<Row>>(
         &mut self,
         buffer: &Buffer<N>,
@@ -182,6 +187,7 @@ impl Mark {
     }
 
     /// The first row behind those that were looked at that the last step reaches.
+    #[inline(always)]
     fn first_new<N: NodeStore<Row>>(&self, buffer: &Buffer<N>, node: Place) -> Option<Place>
         requires used { InUse buffer.now.rows node.0 }
         requires some { 0 < buffer.now.nodes }
@@ -197,6 +203,7 @@ impl Mark {
     }
 
     /// Looks at the rows that are new: true where one is a match that does.
+    #[inline(always)]
     fn look_on<N: NodeStore<Row>>(
         &mut self,
         buffer: &Buffer<N>,
@@ -225,6 +232,7 @@ impl Mark {
     }
 
     /// The place of the innermost match that was open, where it is closed by now.
+    #[inline(always)]
     fn shut_by_now<N: NodeStore<Row>>(&self, buffer: &Buffer<N>, node: Place) -> Option<Place>
         requires { InUse buffer.now.rows node.0 }
         ensures { MatchOption result (StillOpen buffer.now.rows node.0 self.now.waiting) (λ p. IsShut buffer.now.rows self.now.waiting p.0) }
@@ -239,6 +247,7 @@ impl Mark {
     }
 
     /// Looks at the matches that were open and are closed now, from the innermost up: true where one does.
+    #[inline(always)]
     fn look_back<N: NodeStore<Row>>(
         &mut self,
         buffer: &Buffer<N>,
@@ -305,6 +314,7 @@ impl Mark {
     }
 
     /// Whether some match does by now, of the node that the mark is about.
+    #[inline(always)]
     fn is_found<N: NodeStore<Row>>(
         &mut self,
         buffer: &Buffer<N>,
@@ -330,6 +340,7 @@ impl Mark {
     }
 
     /// What is known of the node: true or false, or None.
+    #[inline(always)]
     pub fn ask<N: NodeStore<Row>>(
         &mut self,
         buffer: &Buffer<N>,
@@ -352,6 +363,7 @@ impl Mark {
     }
 
     /// Keeps the truth, where it is known: true once a match does, false once none does and no more come.
+    #[inline(always)]
     fn keep(&mut self, found: bool, over: bool) -> Option<bool>
         requires { self.old.value ≡ None }
         ensures kept { self.new ≡ record self.old { value = settled found over } }

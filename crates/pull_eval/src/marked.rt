@@ -5,7 +5,7 @@ ghost use Rattle.gcx_model.specs.Tree.{Node, Tree};
 ghost use Rattle.gcx_model.specs.Core.{Compare};
 ghost use Rattle.gcx_model.specs.CondView.{operand_tree};
 ghost use Rattle.gcx_model.specs.declared.cond.Operand.TheVariants as operand;
-ghost use Rattle.pull_eval.specs.Asking.{verdict_of, Over, MayAsk, Answers};
+ghost use Rattle.pull_eval.specs.Asking.{Over, MayAsk, Answers};
 ghost use Rattle.pull_eval.specs.Literals.{IsLiteral};
 ghost use Rattle.pull_eval.specs.Marks.{AsksLiteral, answer, known as told, ask_of, IsAbout, AreMarks, AsksOf, MayFind};
 ghost use Rattle.pull_eval.specs.declared.mark.Mark.{Mark as KeptMark};
@@ -14,11 +14,10 @@ use crate::conds::{Conds, Leaves, truth_of};
 use crate::env::Env;
 use crate::mark::{Ask, Mark, Room};
 use crate::plain::compare_truth;
-use crate::truth::Truth;
 use crate::values::flipped;
 use buf_tree::{Buffer, Row};
 use gcx_base::{Axis, Memory, Rel, Step, Steps, Test, VarId};
-use gcx_model::{Cond, Operand};
+use gcx_model::{Cond, Operand, Truth};
 use node_store::NodeStore;
 use std::alloc::Global;
 
@@ -45,6 +44,7 @@ impl Marked {
     }
 
     /// The number of the mark of this path and this question, which is made where there is none.
+    #[inline(always)]
     fn mark_of(
         &mut self,
         alloc: Global,
@@ -83,7 +83,7 @@ impl Marked {
     ) -> Result<Truth, Memory>
         requires { MayFind self.old buffer.now.rows buffer.now.nodes env.now var.0 steps.now (option_map (λ q. ask_of q.0 q.1.now) ask) }
         ensures { IfOk result (λ t. (P : Tree) (keep : Node → Bool) (n : Node) → AreMarks self.old P → AsksOf buffer.now.rows buffer.now.nodes env.now var.0 steps.now (option_map (λ q. ask_of q.0 q.1.now) ask.entry) P keep n
-            → (verdict_of t ≡ answer P steps.now (option_map (λ q. ask_of q.0 q.1.now) ask.entry) n) × AreMarks self.new P) }
+            → (t ≡ answer P steps.now (option_map (λ q. ask_of q.0 q.1.now) ask.entry) n) × AreMarks self.new P) }
     {
         let Some((node, of)) = env.get(var) else {
             return Ok(Truth::Unknown);
@@ -94,6 +94,7 @@ impl Marked {
     }
 
     /// The truth of a comparison: of a path and a literal by a mark.
+    #[inline(always)]
     fn compared<N: NodeStore<Row>>(
         &mut self,
         alloc: Global,
@@ -115,6 +116,7 @@ impl Marked {
     }
 
     /// The same with a path on the left.
+    #[inline(always)]
     fn compared_path<N: NodeStore<Row>>(
         &mut self,
         alloc: Global,
@@ -214,7 +216,7 @@ fn own_ask(alloc: Global, ask: Option<(Rel, &Operand)>) -> Result<Option<Ask>, M
 }
 
 fn truth_of_known(known: Option<bool>) -> Truth
-    ensures { verdict_of result ≡ told known }
+    ensures { result ≡ told known }
 {
     match known {
         Some(true) => Truth::True,
@@ -224,12 +226,14 @@ fn truth_of_known(known: Option<bool>) -> Truth
 }
 
 /// Whether the mark is that of this path and this question.
+#[inline(always)]
 fn is_of(mark: &Mark, var: VarId, steps: &Steps, ask: Option<(Rel, &Operand)>) -> bool
     ensures { result ≡ true → IsAbout mark.now var steps.now (option_map (λ q. ask_of q.0 q.1.now) ask.entry) }
 {
     mark.var == var && is_asked(&mark.ask, ask) && are_same(mark.steps.items(), steps.items())
 }
 
+#[inline(always)]
 fn is_asked(kept: &Option<Ask>, ask: Option<(Rel, &Operand)>) -> bool
     ensures { result ≡ true → kept.now ≡ option_map (λ q. ask_of q.0 q.1.now) ask.entry }
 {
@@ -240,16 +244,18 @@ fn is_asked(kept: &Option<Ask>, ask: Option<(Rel, &Operand)>) -> bool
     }
 }
 
+#[inline(always)]
 fn is_literal(kept: &Operand, literal: &Operand) -> bool
     ensures { result ≡ true → kept.now ≡ literal.now }
 {
     match (kept, literal) {
-        (Operand::Str(kept), Operand::Str(text)) => kept.as_bytes() == text.as_bytes(),
+        (Operand::Str(kept), Operand::Str(text)) => *kept == *text,
         (Operand::Num(kept), Operand::Num(units)) => kept == units,
         _ => false,
     }
 }
 
+#[inline(always)]
 fn are_same(kept: &[Step], steps: &[Step]) -> bool
     ensures { result ≡ true → kept.now ≡ steps.now }
 {
@@ -266,23 +272,26 @@ fn are_same(kept: &[Step], steps: &[Step]) -> bool
     true
 }
 
+#[inline(always)]
 fn is_step(kept: &Step, step: &Step) -> bool
     ensures { result ≡ true → kept.now ≡ step.now }
 {
     is_axis(kept.axis, step.axis) && is_test(&kept.test, &step.test)
 }
 
+#[inline(always)]
 fn is_axis(kept: Axis, axis: Axis) -> bool
     ensures { result ≡ true → kept ≡ axis }
 {
     matches!(kept, Axis::Child) == matches!(axis, Axis::Child)
 }
 
+#[inline(always)]
 fn is_test(kept: &Test, test: &Test) -> bool
     ensures { result ≡ true → kept.now ≡ test.now }
 {
     match (kept, test) {
-        (Test::Named(kept), Test::Named(name)) => kept.as_bytes() == name.as_bytes(),
+        (Test::Named(kept), Test::Named(name)) => *kept == *name,
         (Test::AnyElement, Test::AnyElement) => true,
         (Test::AnyText, Test::AnyText) => true,
         (Test::AnyNode, Test::AnyNode) => true,

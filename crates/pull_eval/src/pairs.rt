@@ -4,19 +4,17 @@ ghost use Rattle.gcx_model.specs.Tree.{Node, Tree, is_closed};
 ghost use Rattle.gcx_model.specs.Paths.{any};
 ghost use Rattle.gcx_model.specs.Values.{Bytes, compare};
 ghost use Rattle.gcx_model.specs.Answer.{some_pair};
-ghost use Rattle.gcx_model.specs.Truth as verdict;
-ghost use Rattle.gcx_model.specs.Truth.{node_value};
-ghost use Rattle.pull_eval.specs.Asking.{verdict_of};
+ghost use Rattle.gcx_model.specs.Truth.{node_value, settle};
 ghost use Rattle.pull_eval.specs.Literals.{literal_value, IsLiteral};
 ghost use Rattle.pull_eval.specs.Reads.{NodeAt};
 ghost use Rattle.pull_eval.specs.Comparing.{IsNodeRow, AreInUse, AreClosed, KeepsMatches, closed_values, Readable};
 
 use crate::sets::{Member, reached};
-use crate::truth::{Truth, settle};
+use crate::truth::settle;
 use crate::values::{satisfies, value};
 use buf_tree::{Buffer, Row};
 use gcx_base::{Memory, Rel, Step};
-use gcx_model::Operand;
+use gcx_model::{Operand, Truth};
 use node_store::{NodeStore, Place};
 use std::alloc::Global;
 use xq_values::{compare_text, holds};
@@ -100,7 +98,7 @@ pub(crate) fn paths_truth<N: NodeStore<Row>>(
     requires left { IsNodeRow buffer.now.rows left.0 }
     requires right { IsNodeRow buffer.now.rows right.0 }
     ensures { IfOk result (λ t. (P : Tree) (keep : Node → Bool) (n m : Node) → NodeAt buffer.now.rows P keep left.0 n → NodeAt buffer.now.rows P keep right.0 m → KeepsMatches P keep n left_steps.now → KeepsMatches P keep m right_steps.now
-        → verdict_of t ≡ verdict.settle (some_pair (compare rel) (closed_values P n left_steps.now) (closed_values P m right_steps.now)) (is_closed P n && is_closed P m)) }
+        → t ≡ settle (some_pair (compare rel) (closed_values P n left_steps.now) (closed_values P m right_steps.now)) (is_closed P n && is_closed P m)) }
 {
     let lefts = closed_matches(alloc, buffer, left, left_steps)?;
     let rights = closed_matches(alloc, buffer, right, right_steps)?;
@@ -142,7 +140,7 @@ pub(crate) fn literal_truth<N: NodeStore<Row>>(
     requires place { IsNodeRow buffer.now.rows place.0 }
     requires literal { IsLiteral literal.now }
     ensures { IfOk result (λ t. (P : Tree) (keep : Node → Bool) (n : Node) → NodeAt buffer.now.rows P keep place.0 n → KeepsMatches P keep n steps.now
-        → verdict_of t ≡ verdict.settle (some_pair (compare rel) (closed_values P n steps.now) (literal_value literal.now ∷ [])) (is_closed P n)) }
+        → t ≡ settle (some_pair (compare rel) (closed_values P n steps.now) (literal_value literal.now ∷ [])) (is_closed P n)) }
 {
     let set = closed_matches(alloc, buffer, place, steps)?;
     let found = some_satisfies(alloc, buffer, &set, rel, literal)?;

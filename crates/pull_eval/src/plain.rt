@@ -5,8 +5,7 @@ ghost use Rattle.gcx_model.specs.Paths.{matches};
 ghost use Rattle.gcx_model.specs.Answer.{is_any};
 ghost use Rattle.gcx_model.specs.Core.{Compare};
 ghost use Rattle.gcx_model.specs.CondView.{operand_tree};
-ghost use Rattle.gcx_model.specs.Truth as verdict;
-ghost use Rattle.pull_eval.specs.Asking.{verdict_of};
+ghost use Rattle.gcx_model.specs.Truth.{settle};
 ghost use Rattle.pull_eval.specs.Reads.{NodeAt};
 ghost use Rattle.pull_eval.specs.Comparing.{IsAsked, Tells, IsNodeRow, KeepsFirst};
 
@@ -14,11 +13,11 @@ use crate::conds::{Conds, Leaves, truth_of};
 use crate::env::{Env, place_of};
 use crate::pairs::{literal_truth, paths_truth};
 use crate::sets::reached;
-use crate::truth::{Truth, settle};
+use crate::truth::settle;
 use crate::values::{flipped, literals_satisfy};
 use buf_tree::{Buffer, Row};
 use gcx_base::{Memory, Rel, Step};
-use gcx_model::{Cond, Operand};
+use gcx_model::{Cond, Operand, Truth};
 use node_store::{NodeStore, Place};
 use std::alloc::Global;
 
@@ -75,7 +74,7 @@ fn exists_truth<N: NodeStore<Row>>(
     steps: &[Step],
 ) -> Result<Truth, Memory>
     requires { IsNodeRow buffer.now.rows place.0 }
-    ensures { IfOk result (λ t. (P : Tree) (keep : Node → Bool) (n : Node) → NodeAt buffer.now.rows P keep place.0 n → KeepsFirst P keep n steps.now → verdict_of t ≡ verdict.settle (is_any (matches P (serial_of n) steps.now)) (is_closed P n)) }
+    ensures { IfOk result (λ t. (P : Tree) (keep : Node → Bool) (n : Node) → NodeAt buffer.now.rows P keep place.0 n → KeepsFirst P keep n steps.now → t ≡ settle (is_any (matches P (serial_of n) steps.now)) (is_closed P n)) }
 {
     let set = reached(alloc, buffer, place, steps)?;
     Ok(settle(!set.is_empty(), buffer.is_closed(place)))

@@ -4,7 +4,6 @@ ghost use Rattle.gcx_model.specs.Core as tree;
 ghost use Rattle.gcx_model.specs.Core.{Write, If, CondTree, BodyTree};
 ghost use Rattle.gcx_model.specs.Members.{In};
 ghost use Rattle.gcx_model.specs.Placed.{offs_in};
-ghost use Rattle.gcx_model.specs.Placed.{is_own as takes_own};
 ghost use Rattle.gcx_model.specs.Run.{Offed};
 ghost use Rattle.buf_tree.specs.View.{View, serial_at};
 ghost use Rattle.buf_tree.specs.Calls.{Signed};
@@ -19,7 +18,7 @@ use crate::env::{Env, place_of};
 use crate::machine::Acted;
 use buf_tree::{Buffer, Row};
 use gcx_base::{Memory, Serial, Text, VarId};
-use gcx_model::{Item, Off, RoleKind};
+use gcx_model::{Item, Off};
 use node_store::{NodeStore, Place};
 use std::alloc::Global;
 
@@ -166,20 +165,9 @@ fn carry_out<N: NodeStore<Row>>(
     ensures kept { OnErr result (buffer.new ≡ buffer.old) }
     ensures loans { buffer.new.loans ≡ buffer.old.loans }
 {
-    if buffer.is_closed(place) || is_own(off) {
+    if buffer.is_closed(place) || off.is_own() {
         buffer.sign_off(alloc, place, off)
     } else {
         buffer.sign_ahead(alloc, place, off)
-    }
-}
-
-/// Whether the statement reaches its base alone.
-fn is_own(off: &Off) -> bool
-    ensures { result ≡ takes_own (off_tree off.now) }
-{
-    match off.kind {
-        RoleKind::Own => off.rel.items().is_empty(),
-        RoleKind::First => false,
-        RoleKind::Whole => false,
     }
 }

@@ -1,19 +1,12 @@
 //! What is known of a condition.
 ghost use Rattle.std.specs.Prelude.{◌≡◌};
-ghost use Rattle.gcx_model.specs.Truth as verdict;
-ghost use Rattle.pull_eval.specs.Asking.{verdict_of};
+ghost use Rattle.gcx_model.specs.Truth.{negate, settle};
 
-/// The truth of a condition over the tokens so far.
-#[derive(Clone, Copy, Debug, PartialEq, Eq)]
-pub enum Truth {
-    True,
-    False,
-    Unknown,
-}
+use gcx_model::Truth;
 
 /// True once a match does, false once none does and no more come.
 pub(crate) fn settle(found: bool, over: bool) -> Truth
-    ensures { verdict_of result ≡ verdict.settle found over }
+    ensures { result ≡ settle found over }
 {
     if found {
         Truth::True
@@ -26,7 +19,7 @@ pub(crate) fn settle(found: bool, over: bool) -> Truth
 
 /// `not`: unknown stays unknown.
 pub(crate) fn negate(truth: Truth) -> Truth
-    ensures { verdict_of result ≡ verdict.negate (verdict_of truth) }
+    ensures { result ≡ negate truth }
 {
     match truth {
         Truth::True => Truth::False,

@@ -2,7 +2,7 @@
 ghost use Rattle.std.specs.Prelude.{◌≡◌, IfOk, OnOk, MatchOption};
 ghost use Rattle.gcx_model.specs.Values.{Value, Bytes, Units, compare};
 ghost use Rattle.gcx_model.specs.Members.{In};
-ghost use Rattle.buf_tree.specs.Rows.{is_text};
+ghost use Rattle.gcx_base.specs.Kinds.{is_text};
 ghost use Rattle.buf_tree.specs.Shape.{Cell};
 ghost use Rattle.buf_tree.specs.View.{InUse};
 ghost use Rattle.pull_eval.specs.Literals.{literal_value, IsLiteral};
@@ -12,7 +12,7 @@ use buf_tree::{Buffer, Row};
 use gcx_base::{Axis, Kind, Memory, Rel, Step, Test};
 use gcx_model::Operand;
 use node_store::{NodeStore, Place};
-use xq_values::{NumText, compare_text, holds};
+use xq_values::{compare_number, compare_text, holds};
 
 /// The step to all texts below a node.
 pub(crate) fn to_texts() -> Step
@@ -98,8 +98,8 @@ pub(crate) fn value<'a, N: NodeStore<Row>>(
 fn satisfies_number(value: &[u8], rel: Rel, units: i128) -> bool
     ensures { result ≡ compare rel (Bytes value.now) (Units units) }
 {
-    match NumText::read(value) {
-        Some(number) => holds(rel, number.compare(units)),
+    match compare_number(value, units) {
+        Some(order) => holds(rel, order),
         None => false,
     }
 }

@@ -5,8 +5,8 @@ ghost use Rattle.gcx_model.specs.ItemView.{body_tree};
 ghost use Rattle.gcx_model.specs.PlanView.{var_row_tree};
 ghost use Rattle.gcx_model.specs.Variables.{var_rows};
 
-use gcx_laws::normal_is_good;
 use gcx_model::{Core, QueryFault};
+use placed_laws::normal_is_good;
 use std::alloc::Global;
 use xq_normal::normalise;
 use xq_parse::parse;

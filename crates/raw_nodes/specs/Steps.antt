@@ -1,5 +1,5 @@
 -- What one call makes of a raw store. This follows the code: only private functions speak of it.
-use Rattle.std.specs.Prelude.{◌≡◌, ◌<◌, ℕ, List, ◌∷◌, length, max, Some, None, is_some, if◌then◌else◌}
+use Rattle.std.specs.Prelude.{◌≡◌, ◌<◌, ◌-◌, ℕ, List, Option, ◌∷◌, length, max, Some, None, is_some, if◌then◌else◌}
 use Rattle.std.specs.FinMap as fin
 use denote.RawPtr.{Ptr}
 use Rattle.node_store.specs.Rows.{appended, planted, unlinked, parent_of}
@@ -42,3 +42,14 @@ module _ {T : Type 0} where
     pub root : new.root ≡ (if is_some (parent_of old.rows p) then old.root else None)
     pub most : new.most ≡ old.most
     pub cells : new.cells ≡ old.cells
+
+  -- the row's cell is the first of the free list, and the root goes with it where there is no parent
+  abbrev pub Closes : RawRows T → RawRows T → Link → Option Link → Type 0
+  Closes old new link parent =
+      new ≡ record {
+        heap = record { arena = new.heap.arena; blocks = old.heap.blocks; links = old.heap.links; alloc = old.heap.alloc };
+        free = Some link;
+        root = if is_some parent then old.root else None;
+        len = old.len - 1;
+        most = old.most;
+      }

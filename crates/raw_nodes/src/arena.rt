@@ -101,6 +101,7 @@ impl<N> Arena<N> {
     }
 
     /// What the cell at the link holds.
+    #[inline(always)]
     pub(crate) fn follow(&self, link: Link) -> &N
         requires { IsSome (found self.now.cells link.ptr) }
         ensures { found self.now.cells link.ptr ≡ Some result.now }
@@ -108,6 +109,7 @@ impl<N> Arena<N> {
         unsafe { &*(link.ptr as *const N) }
     }
 
+    #[inline(always)]
     pub(crate) fn follow_mut(&mut self, link: Link) -> &mut N
         requires { IsSome (found self.old.cells link.ptr) }
         ensures* writes_back { sem 𝓛 (lends_cell N.row self.entry link.ptr result) }

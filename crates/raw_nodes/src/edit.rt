@@ -7,6 +7,7 @@ ghost use Rattle.raw_nodes.specs.Edits.{to_first, to_last, to_prev, to_next, to_
 use crate::arena::{Arena, Link};
 use crate::node::Node;
 
+#[inline(always)]
 fn set_first<T>(arena: &mut Arena<Node<T>>, at: Link, first: Option<Link>)
     requires { IsSome (found arena.old.cells at.ptr) }
     ensures { arena.new.cells ≡ updated (to_first first) arena.old.cells at.ptr }
@@ -15,6 +16,7 @@ fn set_first<T>(arena: &mut Arena<Node<T>>, at: Link, first: Option<Link>)
     node.first = first;
 }
 
+#[inline(always)]
 pub(crate) fn set_last<T>(arena: &mut Arena<Node<T>>, at: Link, last: Option<Link>)
     requires { IsSome (found arena.old.cells at.ptr) }
     ensures { arena.new.cells ≡ updated (to_last last) arena.old.cells at.ptr }
@@ -23,6 +25,7 @@ pub(crate) fn set_last<T>(arena: &mut Arena<Node<T>>, at: Link, last: Option<Lin
     node.last = last;
 }
 
+#[inline(always)]
 fn set_prev<T>(arena: &mut Arena<Node<T>>, at: Link, prev: Option<Link>)
     requires { IsSome (found arena.old.cells at.ptr) }
     ensures { arena.new.cells ≡ updated (to_prev prev) arena.old.cells at.ptr }
@@ -31,6 +34,7 @@ fn set_prev<T>(arena: &mut Arena<Node<T>>, at: Link, prev: Option<Link>)
     node.prev = prev;
 }
 
+#[inline(always)]
 fn set_next<T>(arena: &mut Arena<Node<T>>, at: Link, next: Option<Link>)
     requires { IsSome (found arena.old.cells at.ptr) }
     ensures { arena.new.cells ≡ updated (to_next next) arena.old.cells at.ptr }
@@ -40,6 +44,7 @@ fn set_next<T>(arena: &mut Arena<Node<T>>, at: Link, next: Option<Link>)
 }
 
 /// Makes a dead cell a row without children.
+#[inline(always)]
 pub(crate) fn set_row<T>(
     arena: &mut Arena<Node<T>>,
     at: Link,
@@ -63,6 +68,7 @@ pub(crate) fn set_row<T>(
 }
 
 /// Makes a row's cell a dead one, and hands its payload out.
+#[inline(always)]
 pub(crate) fn set_dead<T>(arena: &mut Arena<Node<T>>, at: Link, next: Option<Link>) -> T
     requires { (n : Node T) × (found arena.old.cells at.ptr ≡ Some n) × IsSome n.payload }
     ensures cells { arena.new.cells ≡ updated (to_dead next) arena.old.cells at.ptr }
@@ -73,6 +79,18 @@ pub(crate) fn set_dead<T>(arena: &mut Arena<Node<T>>, at: Link, next: Option<Lin
     node.payload.take().unwrap()
 }
 
+/// Makes a row's cell a dead one, and drops its payload where it lies.
+#[inline(always)]
+pub(crate) fn set_empty<T: Drop>(arena: &mut Arena<Node<T>>, at: Link, next: Option<Link>)
+    requires { IsSome (found arena.old.cells at.ptr) }
+    ensures { arena.new.cells ≡ updated (to_dead next) arena.old.cells at.ptr }
+{
+    let node = arena.follow_mut(at);
+    node.next = next;
+    node.payload = None;
+}
+
+#[inline(always)]
 fn set_right<T>(
     arena: &mut Arena<Node<T>>,
     parent: Option<Link>,
@@ -90,6 +108,7 @@ fn set_right<T>(
     }
 }
 
+#[inline(always)]
 fn set_left<T>(
     arena: &mut Arena<Node<T>>,
     parent: Option<Link>,
@@ -108,6 +127,7 @@ fn set_left<T>(
 }
 
 /// Makes `left` and `right` neighbours below the parent, where None is the list's end.
+#[inline(always)]
 pub(crate) fn join<T>(
     arena: &mut Arena<Node<T>>,
     parent: Option<Link>,

@@ -34,6 +34,7 @@ impl<T> Node<T> {
         }
     }
 
+    #[inline(always)]
     pub(crate) fn payload(&self) -> &T
         requires { IsSome self.now.payload }
         ensures { self.now.payload ≡ Some result.now }
@@ -44,6 +45,7 @@ impl<T> Node<T> {
         }
     }
 
+    #[inline(always)]
     pub(crate) fn payload_mut(&mut self) -> &mut T
         requires { IsSome self.old.payload }
         ensures* writes_back { sem 𝓛 (lends_payload T.row self.entry result) }

@@ -95,6 +95,7 @@ impl<T> NodeStore<T> for RawNodes<T> {
 
     /// The same as the trait's. A dead cell is used before a block is made: where `cells` is above the number of rows,
     /// no memory is taken.
+    #[inline(always)]
     fn append(&mut self, parent: Place, payload: T) -> Result<Place, Refused<T>>
         requires { IsSome (map.get self.old.rows parent.0) }
         ensures free { IfOk result (λ p. map.get self.old.rows p.0 ≡ None) }
@@ -110,6 +111,7 @@ impl<T> NodeStore<T> for RawNodes<T> {
     }
 
     /// The same as the trait's. The cell is dead then, and the next one that is used. No block is freed.
+    #[inline(always)]
     fn unlink_leaf(&mut self, place: Place) -> T
         requires { (e : Entry T) × (map.get self.old.rows place.0 ≡ Some e) × (e.children ≡ []) }
         ensures payload { (e : Entry T) → map.get self.old.rows place.0 ≡ Some e → result ≡ e.payload }
@@ -121,39 +123,63 @@ impl<T> NodeStore<T> for RawNodes<T> {
         self.rows.unlink_leaf(place)
     }
 
+    /// The same as the trait's: the payload is dropped in its cell. The cell is dead then, and the next one that is used.
+    /// No block is freed.
+    #[inline(always)]
+    fn drop_leaf(&mut self, place: Place)
+    where
+        T: Drop,
+        requires { (e : Entry T) × (map.get self.old.rows place.0 ≡ Some e) × (e.children ≡ []) }
+        ensures rows { self.new.rows ≡ unlinked self.old.rows place.0 }
+        ensures most { self.new.most ≡ self.old.most }
+        ensures root { self.new.root ≡ (if is_some (parent_of self.old.rows place.0) then self.old.root else None) }
+        ensures cells { self.new.cells ≡ self.old.cells }
+    {
+        self.rows.drop_leaf(place);
+    }
+
+    #[inline(always)]
     fn parent(&self, place: Place) -> Option<Place> {
         self.rows.place_at(self.rows.node(place).parent)
     }
 
+    #[inline(always)]
     fn first(&self, place: Place) -> Option<Place> {
         self.rows.place_at(self.rows.node(place).first)
     }
 
+    #[inline(always)]
     fn last(&self, place: Place) -> Option<Place> {
         self.rows.place_at(self.rows.node(place).last)
     }
 
+    #[inline(always)]
     fn next(&self, place: Place) -> Option<Place> {
         self.rows.place_at(self.rows.node(place).next)
     }
 
+    #[inline(always)]
     fn prev(&self, place: Place) -> Option<Place> {
         self.rows.place_at(self.rows.node(place).prev)
     }
 
+    #[inline(always)]
     fn payload(&self, place: Place) -> &T {
         self.rows.node(place).payload()
     }
 
+    #[inline(always)]
     fn payload_mut(&mut self, place: Place) -> &mut T {
         let link = self.rows.link(place);
         self.rows.heap.arena.follow_mut(link).payload_mut()
     }
 
+    #[inline(always)]
     fn root(&self) -> Option<Place> {
         self.rows.place_at(self.rows.root)
     }
 
+    #[inline(always)]
     fn most(&self) -> usize {
         self.rows.most
     }

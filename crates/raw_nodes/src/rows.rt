@@ -1,15 +1,16 @@
 //! The fields of a raw store, and the steps that keep its rows.
-ghost use Rattle.std.specs.Prelude.{◌≡◌, ◌<◌, ℕ, Some, None, [], IfOk, IfErr, OnErr, IsOk, IsSome, IfSome, option_map, length, is_some, if◌then◌else◌};
+ghost use Rattle.std.specs.Prelude.{◌≡◌, ◌<◌, ◌≤◌, ℕ, Some, None, [], IfOk, IfErr, OnErr, IsOk, IsSome, IfSome, option_map, length, is_some, if◌then◌else◌};
 ghost use Rattle.std.specs.FinMap as fin;
 ghost use Rattle.node_store.specs.Rows.{Entry};
 ghost use Rattle.node_store.specs.Links.{linked_at};
 ghost use Rattle.raw_nodes.specs.Spots.{found};
 ghost use Rattle.raw_nodes.specs.Nodes.{place_of, index_in, Keeps};
 ghost use Rattle.raw_nodes.specs.Raw.{raw_of, IsRaw};
-ghost use Rattle.raw_nodes.specs.Steps.{Ready, Appends, Plants, Unlinks};
+ghost use Rattle.raw_nodes.specs.Edits.{join_put};
+ghost use Rattle.raw_nodes.specs.Steps.{Ready, Appends, Plants, Unlinks, Closes};
 
 use crate::arena::Link;
-use crate::edit::{join, set_dead, set_last, set_row};
+use crate::edit::{join, set_dead, set_empty, set_last, set_row};
 use crate::heap::Heap;
 use crate::node::Node;
 use node_store::{Place, Refused};
@@ -59,6 +60,7 @@ impl<T> RawRows<T> {
     }
 
     /// The link to a cell.
+    #[inline(always)]
     pub(crate) fn link(&self, place: Place) -> Link
         requires raw { IsRaw self.now }
         requires used { IsSome (fin.get (raw_of self.now).rows place.0) }
@@ -69,6 +71,7 @@ impl<T> RawRows<T> {
     }
 
     /// The number of a cell.
+    #[inline(always)]
     pub(crate) fn place(&self, link: Link) -> Place
         requires raw { IsRaw self.now }
         requires found { IsSome (found self.now.heap.arena.cells link.ptr) }
@@ -78,6 +81,7 @@ impl<T> RawRows<T> {
     }
 
     /// A dead cell: the first of the free list, or else that of a new block.
+    #[inline(always)]
     fn dead_cell(&mut self) -> Result<Link, AllocError>
         requires { IsRaw self.old }
         ensures ok { IfOk result (λ link. Ready self.old self.new link) }
@@ -115,6 +119,7 @@ impl<T> RawRows<T> {
     }
 
     /// Makes a last child of the row at `parent`.
+    #[inline(always)]
     pub(crate) fn append(&mut self, parent: Place, payload: T) -> Result<Place, Refused<T>>
         requires raw { IsRaw self.old }
         requires used { IsSome (fin.get (raw_of self.old).rows parent.0) }
@@ -142,6 +147,7 @@ impl<T> RawRows<T> {
     }
 
     /// Takes a row without children out.
+    #[inline(always)]
     pub(crate) fn unlink_leaf(&mut self, place: Place) -> T
         requires raw { IsRaw self.old }
         requires leaf { (e : Entry T) × (fin.get (raw_of self.old).rows place.0 ≡ Some e) × (e.children ≡ []) }
@@ -153,16 +159,53 @@ impl<T> RawRows<T> {
         let leaf = self.heap.arena.follow(link);
         let (parent, prev, next) = (leaf.parent, leaf.prev, leaf.next);
         let payload = set_dead(&mut self.heap.arena, link, self.free);
+        self.close_gap(link, parent, prev, next);
+        payload
+    }
+
+    /// Takes a row without children out, and drops its payload where it lies.
+    #[inline(always)]
+    pub(crate) fn drop_leaf(&mut self, place: Place)
+    where
+        T: Drop,
+        requires raw { IsRaw self.old }
+        requires leaf { (e : Entry T) × (fin.get (raw_of self.old).rows place.0 ≡ Some e) × (e.children ≡ []) }
+        ensures raw { IsRaw self.new }
+        ensures left { Unlinks (raw_of self.old) (raw_of self.new) place.0 }
+    {
+        let link = self.link(place);
+        let leaf = self.heap.arena.follow(link);
+        let (parent, prev, next) = (leaf.parent, leaf.prev, leaf.next);
+        set_empty(&mut self.heap.arena, link, self.free);
+        self.close_gap(link, parent, prev, next);
+    }
+
+    // Makes the neighbours of a cell that is dead now neighbours of each other, and the cell the first of the free list.
+    #[inline(always)]
+    fn close_gap(
+        &mut self,
+        link: Link,
+        parent: Option<Link>,
+        prev: Option<Link>,
+        next: Option<Link>,
+    )
+        requires parent { IfSome parent (λ l. IsSome (found self.old.heap.arena.cells l.ptr)) }
+        requires left { IfSome prev (λ l. IsSome (found self.old.heap.arena.cells l.ptr)) }
+        requires right { IfSome next (λ l. IsSome (found self.old.heap.arena.cells l.ptr)) }
+        requires some { 1 ≤ self.old.len }
+        ensures cells { self.new.heap.arena.cells ≡ join_put parent prev next self.old.heap.arena.cells }
+        ensures fields { Closes self.old self.new link parent }
+    {
         self.free = Some(link);
         join(&mut self.heap.arena, parent, prev, next);
         self.root = root_left(parent, self.root);
         self.len -= 1;
-        payload
     }
 }
 
 impl<T> RawRows<T> {
     /// The node of a row.
+    #[inline(always)]
     pub(crate) fn node(&self, place: Place) -> &Node<T>
         requires raw { IsRaw self.now }
         requires used { IsSome (fin.get (raw_of self.now).rows place.0) }
@@ -172,6 +215,7 @@ impl<T> RawRows<T> {
     }
 
     /// The number of the cell that a link leads to, where it leads to a row.
+    #[inline(always)]
     pub(crate) fn place_at(&self, link: Option<Link>) -> Option<Place>
         requires raw { IsRaw self.now }
         requires used { IfSome link (λ l. IsSome (fin.get (raw_of self.now).rows (place_of self.now.heap.arena.cells l.ptr))) }
@@ -185,6 +229,7 @@ impl<T> RawRows<T> {
 }
 
 // The root that stays where a row is taken out of the one below this parent.
+#[inline(always)]
 fn root_left(parent: Option<Link>, root: Option<Link>) -> Option<Link>
     ensures { result ≡ (if is_some parent then root else None) }
 {

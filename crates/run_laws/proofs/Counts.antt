@@ -12,10 +12,11 @@ use Rattle.gcx_model.specs.Held.{is_held, held}
 use Rattle.gcx_model.specs.Growth.{Leads, stays, more, may_come, may_all}
 use Rattle.gcx_model.specs.Points.{actions, so_far}
 use Rattle.gcx_model.specs.Demand.{peak_from, peak_of}
-use Rattle.gcx_laws.proofs.Matches.{added, added_at, grow_nodes}
-use Rattle.gcx_laws.proofs.Growing.{grows, leads}
-use Rattle.gcx_laws.proofs.More.{held_by_feed, held_by_act}
-use Rattle.gcx_laws.proofs.Public.{prefix_law, root_from}
+use Rattle.tree_laws.proofs.Matches.{added, added_at, grow_nodes}
+use Rattle.tree_laws.proofs.Growing.{grows, leads}
+use Rattle.placed_laws.proofs.HeldChanges.{held_by_feed, held_by_act}
+use Rattle.point_laws.proofs.RunForms.{prefix_law}
+use Rattle.tree_laws.proofs.Fed.{root_from}
 use Rattle.run_laws.specs.Peaks.{PeakStep, HeldCounts, PeakWithin}
 
 -- The peak

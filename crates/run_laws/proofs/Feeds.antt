@@ -11,17 +11,19 @@ use Rattle.gcx_model.specs.Nodes.{Numbered, Grown}
 use Rattle.gcx_model.specs.Answer.{is_any}
 use Rattle.gcx_model.specs.Core.{OperandTree, Path, Str, Num, CondTree, CondTrees, Always, Exists, Compare, Not, All, Any, no_cond, more_conds, First, Whole, RoleRowTree}
 use Rattle.gcx_model.specs.Roles.{operand_rows, cond_rows, conds_rows}
-use Rattle.gcx_model.specs.Truth.{Verdict, Unknown, Env, settled_values, is_over, settle, negate, both, either, truth, truth_all, truth_any}
+use Rattle.gcx_model.specs.declared.truth.Truth.{Truth}
+use Rattle.gcx_model.specs.declared.truth.Truth.TheVariants.{Unknown}
+use Rattle.gcx_model.specs.Truth.{Env, settled_values, is_over, settle, negate, both, either, truth, truth_all, truth_any}
 use Rattle.gcx_model.specs.Growth.{Leads}
 use Rattle.gcx_model.specs.Past.{open_from}
-use Rattle.gcx_laws.proofs.Lists.{In-left, In-right, In-filter}
-use Rattle.gcx_laws.proofs.Matches.{Numbered-low, Numbered-high, Numbered-same, added, grow_nodes, Grown-grow, Grown-all}
-use Rattle.gcx_laws.proofs.Chains.{above_self, above_in}
-use Rattle.gcx_laws.proofs.Prefix.{Firmer, Kept, Learnt, truth_firmer}
-use Rattle.gcx_laws.proofs.Growing.{fed_all}
-use Rattle.gcx_laws.proofs.Public.{grown_from}
-use Rattle.gcx_laws.proofs.Keeping.{root_of}
-use Rattle.gcx_laws.proofs.Ahead.{open_nodes_are}
+use Rattle.tree_laws.proofs.Lists.{In-left, In-right, In-filter}
+use Rattle.tree_laws.proofs.Matches.{Numbered-low, Numbered-high, Numbered-same, added, grow_nodes, Grown-grow, Grown-all}
+use Rattle.tree_laws.proofs.Chains.{above_self, above_in}
+use Rattle.point_laws.proofs.Prefix.{Firmer, Kept, Learnt, truth_firmer}
+use Rattle.tree_laws.proofs.Growing.{fed_all}
+use Rattle.tree_laws.proofs.Fed.{grown_from}
+use Rattle.move_laws.proofs.Keeping.{root_of}
+use Rattle.past_laws.proofs.Ahead.{open_nodes_are}
 use Rattle.run_laws.specs.Feeding.{NodesGrow, MatchesGrow, TruthStays, OpenChain}
 
 -- Nodes and matches
@@ -101,11 +103,11 @@ mutual
 abbrev Low : Env → ℕ → Type 0
 Low env n = (x : ℕ) → serial_of (env x) < n
 
-firm_is : (a b k : Verdict) → Firmer a b → a ≡ k → (k ≡ Unknown → ⊥) → b ≡ k
+firm_is : (a b k : Truth) → Firmer a b → a ≡ k → (k ≡ Unknown → ⊥) → b ≡ k
 firm_is a b k (Kept e) f n = sym e ∙ f
 firm_is a b k (Learnt e) f n = absurd (n (sym f ∙ e))
 
-truth_stays_all : (ts : List Token) (P : Tree) → Grown P → (c : CondTree) (env : Env) (k : Verdict) → Low env (length P.nodes) → truth c env P ≡ k → (k ≡ Unknown → ⊥) → truth c env (grow_all ts P) ≡ k
+truth_stays_all : (ts : List Token) (P : Tree) → Grown P → (c : CondTree) (env : Env) (k : Truth) → Low env (length P.nodes) → truth c env P ≡ k → (k ≡ Unknown → ⊥) → truth c env (grow_all ts P) ≡ k
 truth_stays_all [] P w c env k b e n = e
 truth_stays_all (t ∷ ts) P w c env k b e n =
     let l = ap length (grow_nodes t P) ∙ length-append P.nodes (added t P) in

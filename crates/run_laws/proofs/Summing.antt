@@ -14,23 +14,23 @@ use Rattle.gcx_model.specs.Placed.{offs_in, Placed}
 use Rattle.gcx_model.specs.Held.{given, roles_given, taken, live, roles_live, is_live, is_held, roles_taken, sum_given, sum_taken, path_of, statement_of, is_off, signed, reaches, all_signed, on_off}
 use Rattle.gcx_model.specs.Growth.{Leads, stays, more, may_come}
 use Rattle.gcx_model.specs.Points.{actions}
-use Rattle.gcx_model.specs.Past.{Past, past_acted, IsPast}
-use Rattle.gcx_laws.specs.Laws.{AllClosed}
-use Rattle.gcx_laws.specs.Pasts.{bases, Opens}
-use Rattle.gcx_laws.proofs.Lists.{In-filter, any_from, filter_same}
-use Rattle.gcx_laws.proofs.Matches.{added, grow_nodes}
-use Rattle.gcx_laws.proofs.Growing.{grows}
-use Rattle.gcx_laws.proofs.Freeze.{within_self}
-use Rattle.gcx_laws.proofs.Plans.{In-count, Once-filter}
-use Rattle.gcx_laws.proofs.Bridge.{length-count}
-use Rattle.gcx_laws.proofs.More.{given_stays}
-use Rattle.gcx_laws.proofs.Ahead.{new_node, all_same}
-use Rattle.gcx_laws.proofs.Stays.{any-append}
+use Rattle.gcx_model.specs.Past.{Past, past_acted, IsPast, Opens}
+use Rattle.tree_laws.specs.Growth.{AllClosed}
+use Rattle.past_laws.specs.Pasts.{bases}
+use Rattle.tree_laws.proofs.Lists.{In-filter, any_from, filter_same}
+use Rattle.tree_laws.proofs.Matches.{added, grow_nodes}
+use Rattle.tree_laws.proofs.Growing.{grows}
+use Rattle.tree_laws.proofs.Freeze.{within_self}
+use Rattle.need_laws.proofs.Plans.{In-count, Once-filter}
+use Rattle.placed_laws.proofs.Bridge.{length-count}
+use Rattle.need_laws.proofs.Lasting.{given_stays}
+use Rattle.past_laws.proofs.Ahead.{new_node, all_same}
+use Rattle.need_laws.proofs.Stays.{any-append}
 use Rattle.std.proofs.Math.Bool.{or-false}
-use Rattle.gcx_laws.proofs.Changes.{live_by_feed, roles_by_act}
-use Rattle.gcx_laws.proofs.RowFacts.{row_tells}
-use Rattle.gcx_laws.proofs.PastForms.{past_acts}
-use Rattle.gcx_laws.proofs.Public.{balance_law}
+use Rattle.past_laws.proofs.Changes.{live_by_feed, roles_by_act}
+use Rattle.past_laws.proofs.RowFacts.{row_tells}
+use Rattle.past_laws.proofs.PastForms.{past_acts}
+use Rattle.placed_laws.proofs.Balances.{balance_law}
 use Rattle.run_laws.proofs.Counts.{filter_few}
 use Rattle.run_laws.specs.Sums.{SumsByFeed, live_at, SumsByAct, TakenIsGiven}
 

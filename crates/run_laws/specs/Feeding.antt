@@ -5,7 +5,8 @@ use Rattle.gcx_model.specs.Tree.{Node, serial_of, above, Tree, opening, is_close
 use Rattle.gcx_model.specs.Paths.{hits, matches}
 use Rattle.gcx_model.specs.Members.{In}
 use Rattle.gcx_model.specs.Core.{CondTree, RoleRowTree}
-use Rattle.gcx_model.specs.Truth.{Unknown, Env, truth}
+use Rattle.gcx_model.specs.declared.truth.Truth.TheVariants.{Unknown}
+use Rattle.gcx_model.specs.Truth.{Env, truth}
 use Rattle.gcx_model.specs.Roles.{cond_rows}
 use Rattle.gcx_model.specs.Growth.{Leads}
 

@@ -9,9 +9,9 @@ use Rattle.gcx_model.specs.Placed.{offs_in, Placed}
 use Rattle.gcx_model.specs.Held.{live, held, roles_given, roles_taken, sum_given, sum_taken}
 use Rattle.gcx_model.specs.Growth.{Leads, may_come}
 use Rattle.gcx_model.specs.Points.{actions}
-use Rattle.gcx_model.specs.Past.{Past, IsPast}
-use Rattle.gcx_laws.specs.Laws.{AllClosed}
-use Rattle.gcx_laws.specs.Pasts.{Opens, bases}
+use Rattle.gcx_model.specs.Past.{Past, IsPast, Opens}
+use Rattle.tree_laws.specs.Growth.{AllClosed}
+use Rattle.past_laws.specs.Pasts.{bases}
 
 -- A token that opens a node adds the roles that this one is given, and those of them that are taken back in advance; another token adds none.
 abbrev pub SumsByFeed : Type 0

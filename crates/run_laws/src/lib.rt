@@ -1,4 +1,5 @@
-//! The laws on the definitions of `gcx_model` that an evaluator and an engine need beside those of `gcx_laws`. Each is the contract of a function that does nothing: who calls it knows the law.
+//! The laws on runs that an evaluator and an engine need beside those of the crates below. Each is the contract of a
+//! function that does nothing: who calls it knows the law.
 #![tactic(auto)]
 
 mod bindings;

@@ -10,8 +10,8 @@ ghost use Rattle.signoff_place.specs.Sized.{IsSized};
 ghost use Rattle.gcx_model.specs.Refusals.{UnlessMemory};
 
 use crate::place::place;
-use gcx_laws::{normal_is_good, placed_once};
 use gcx_model::{Plan, Query, QueryFault};
+use placed_laws::{normal_is_good, placed_once};
 use proj_tree::roles;
 use std::alloc::Global;
 use var_tree::var_tree;

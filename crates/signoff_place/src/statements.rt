@@ -1,13 +1,13 @@
 //! The statements of a core's roles, by the bodies at whose ends they stand.
 ghost use Rattle.std.specs.Prelude.{◌≡◌, ℕ, ◌≤◌, ◌<◌, ◌++◌, ◌∷◌, [], suc, map, length, IfOk, OnOk, slice_index_or, ◌==◌, if◌then◌else◌};
 ghost use Rattle.gcx_model.specs.ItemView.{off_tree};
-ghost use Rattle.gcx_model.specs.Placed.{at_end, is_empty, is_own};
+ghost use Rattle.gcx_model.specs.Placed.{at_end, is_empty};
 ghost use Rattle.gcx_model.specs.PlanView.{role_row_tree, var_row_tree};
 ghost use Rattle.signoff_place.specs.Ends.{ends_of};
 ghost use Rattle.signoff_place.specs.Spread.{Within, base_at, ends_at, rel_next, stated, all_stated, tables, with_rels};
 
 use gcx_base::{Memory, Role, Step, Steps, VarId};
-use gcx_model::{Off, RoleKind, RoleRow, VarIds, VarRow};
+use gcx_model::{Off, RoleRow, VarIds, VarRow};
 use std::alloc::Global;
 use std::marker::Model;
 
@@ -144,16 +144,6 @@ fn statement(alloc: Global, known: &Known, role: Role, row: &RoleRow) -> Result<
     })
 }
 
-/// Whether the statement takes back its base's own role.
-fn is_own(off: &Off) -> bool
-    ensures { result ≡ is_own (off_tree off.now) }
-{
-    match off.kind {
-        RoleKind::Own => off.rel.items().is_empty(),
-        RoleKind::First | RoleKind::Whole => false,
-    }
-}
-
 /// Adds the statement at the end of its base's list.
 fn add(ends: &mut [Offs], off: Off) -> Result<(), Memory>
     requires { off.base.0 < length ends.old }
@@ -177,7 +167,7 @@ fn add_role(
     ensures count { OnOk result (length ends.new ≡ length ends.old) }
 {
     let off = statement(alloc, known, role, row)?;
-    if is_own(&off) == own {
+    if off.is_own() == own {
         add(ends, off)
     } else {
         Ok(())

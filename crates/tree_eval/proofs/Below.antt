@@ -6,7 +6,8 @@ use Rattle.std.proofs.lemmas.List.Elements.{filter-append}
 use Rattle.std.proofs.lemmas.Bool.{cases_lt, ne_eqb, eq-eqb, eqb-true, or_cases, or_left, or_right, false≢true}
 use Rattle.gcx_base.specs.declared.steps.Test.{Test}
 use Rattle.gcx_model.specs.Tree.{Node, Root, serial_of, kind_of, above, within}
-use Rattle.gcx_model.specs.Paths.{any, passes}
+use Rattle.gcx_base.specs.Tests.{passes}
+use Rattle.gcx_model.specs.Paths.{any}
 use Rattle.tree_eval.specs.declared.row.Row.{Row}
 use Rattle.tree_eval.specs.Rows.{kind_in, node_at, nodes_of, no_row, parent_in, end_at, IsNested}
 use Rattle.tree_eval.specs.Sets.{members, passing, to_descendants, below, stepped}

@@ -6,14 +6,16 @@ use Rattle.std.proofs.lemmas.Bool.{cases_lt, cases_order, ne_eqb, eq-eqb, falseâ
 use Rattle.gcx_base.specs.declared.steps.Axis.TheVariants.{Child}
 use Rattle.gcx_base.specs.declared.steps.Test.TheVariants.{AnyNode}
 use Rattle.gcx_model.specs.Tree.{Node, Root, serial_of, kind_of, Tree}
-use Rattle.gcx_model.specs.Paths.{passes, reach, hits}
+use Rattle.gcx_base.specs.Tests.{passes}
+use Rattle.gcx_model.specs.Paths.{reach, hits}
 use Rattle.gcx_model.specs.Members.{In}
 use Rattle.gcx_model.specs.Written.{start_tag, end_tag, escaped}
 use Rattle.gcx_model.specs.Answer.{children, child_step, copied, copied_with, copy_of}
 use Rattle.tree_eval.specs.declared.row.Content.{Content}
 use Rattle.tree_eval.specs.declared.row.Content.TheVariants as content
 use Rattle.tree_eval.specs.declared.row.Row.{Row}
-use Rattle.tree_eval.specs.Rows.{kind_in, is_text, node_at, nodes_of, tree_of_rows, no_row, parent_in, IsNested, IsBehind}
+use Rattle.gcx_base.specs.Kinds.{is_text}
+use Rattle.tree_eval.specs.Rows.{kind_in, node_at, nodes_of, tree_of_rows, no_row, parent_in, IsNested, IsBehind}
 use Rattle.tree_eval.specs.Copies.{whole, kids, bytes_below}
 use Rattle.tree_eval.proofs.Nodes.{Rises, are_nodes, length-nodes_of}
 use Rattle.tree_eval.proofs.Steps.{hits_one, lies_low}

@@ -12,7 +12,8 @@ use Rattle.std.proofs.lemmas.Grind.{flat_map-append}
 use Rattle.std.proofs.lemmas.Bool.{cases_order, ne_eqb, eq-eqb, false≢true}
 use Rattle.gcx_base.specs.declared.steps.Test.{Test}
 use Rattle.gcx_model.specs.Tree.{Node, Root, Under, serial_of}
-use Rattle.gcx_model.specs.Paths.{passes, reach}
+use Rattle.gcx_base.specs.Tests.{passes}
+use Rattle.gcx_model.specs.Paths.{reach}
 use Rattle.tree_eval.specs.declared.row.Row.{Row}
 use Rattle.tree_eval.specs.Rows.{kind_in, node_at, nodes_of, no_row, parent_in, IsNested}
 use Rattle.tree_eval.specs.Sets.{members, to_children, stepped}

@@ -5,7 +5,8 @@ use Rattle.gcx_base.specs.declared.steps.Axis.{Axis}
 use Rattle.gcx_base.specs.declared.steps.Axis.TheVariants.{Child, Descendant}
 use Rattle.gcx_base.specs.declared.steps.Step.{Step}
 use Rattle.gcx_model.specs.Tree.{Node, Root, Under, serial_of, kind_of, above, within}
-use Rattle.gcx_model.specs.Paths.{any, passes, lies, reach, hits}
+use Rattle.gcx_base.specs.Tests.{passes}
+use Rattle.gcx_model.specs.Paths.{any, lies, reach, hits}
 use Rattle.tree_eval.specs.Sets.{along, stepped}
 use Rattle.tree_eval.proofs.Nodes.{Rises}
 

@@ -6,7 +6,8 @@ use Rattle.std.proofs.lemmas.Bool.{cases_lt, cases_order, or_cases, or_left, or_
 use Rattle.gcx_model.specs.Tree.{Node, Root, Under, serial_of, kind_of, within, Tree, Start, Chars, End, grow}
 use Rattle.tree_eval.specs.declared.row.Row.{Row}
 use Rattle.tree_eval.specs.declared.row.Content.TheVariants as content
-use Rattle.tree_eval.specs.Rows.{kind_in, node_at, with_row, nodes_from, nodes_of, tree_of_rows, no_row, parent_in, parent_of, end_in, end_at, closed_at, with_end, is_text, IsOpen, IsBehind, IsNested, IsTree}
+use Rattle.gcx_base.specs.Kinds.{is_text}
+use Rattle.tree_eval.specs.Rows.{kind_in, node_at, with_row, nodes_from, nodes_of, tree_of_rows, no_row, parent_in, parent_of, end_in, end_at, closed_at, with_end, IsOpen, IsBehind, IsNested, IsTree}
 use Rattle.tree_eval.proofs.Nodes.{Rises, are_nodes, nodes_of-push, length-nodes_of, node_of_row}
 use Rattle.tree_eval.proofs.Steps.{within_low}
 use Rattle.tree_eval.proofs.Order.{within_self, inside}

@@ -1,8 +1,9 @@
 -- Rows of nodes, each with its parent's number, as the nodes of an open tree.
-use Rattle.std.specs.Prelude.{◌≡◌, ℕ, zero, suc, ◌≤◌, ◌<◌, Bool, true, false, List, [], ◌∷◌, ◌++◌, length, set, Option, Some, None, option_map, unwrap_or, is_some, not}
+use Rattle.std.specs.Prelude.{◌≡◌, ℕ, zero, suc, ◌≤◌, ◌<◌, true, false, List, [], ◌∷◌, ◌++◌, length, set, Option, Some, None, option_map, unwrap_or, is_some, not}
 use Rattle.std.proofs.Common.{get_or}
 use Rattle.gcx_base.specs.declared.kind.Kind.{Kind}
-use Rattle.gcx_base.specs.declared.kind.Kind.TheVariants.{Document, Element, Text}
+use Rattle.gcx_base.specs.declared.kind.Kind.TheVariants.{Element, Text}
+use Rattle.gcx_base.specs.Kinds.{is_text}
 use Rattle.gcx_model.specs.Tree.{Node, Root, Under, kind_of, within, is_open_at}
 use Rattle.gcx_model.specs.Tree as model
 use Rattle.tree_eval.specs.declared.row.Content.{Content}
@@ -65,11 +66,6 @@ closed_at r n = record { parent = r.parent; end = Some n; content = r.content }
 abbrev pub with_end : List Row → ℕ → List Row
 with_end rows zero = rows
 with_end rows (suc k) = set rows k (closed_at (get_or rows k no_row) (length rows))
-
-abbrev pub is_text : Kind → Bool
-is_text Document = false
-is_text (Element name) = false
-is_text (Text bytes) = true
 
 -- the node that may get a child: no text, and nothing stands behind an open node that isn't in it
 pub record IsOpen (rows : List Row) (p : ℕ) : Type 0 where

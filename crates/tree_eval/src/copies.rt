@@ -2,7 +2,8 @@
 ghost use Rattle.std.specs.Prelude.{◌≡◌, ◌≤◌, ◌<◌, ◌+◌, ◌++◌, IfOk, OnOk, length, true, false, suc};
 ghost use Rattle.gcx_model.specs.Tree.{kind_of};
 ghost use Rattle.gcx_model.specs.Answer.{copy_of};
-ghost use Rattle.tree_eval.specs.Rows.{is_text, node_at, nodes_of, IsNested, IsBehind};
+ghost use Rattle.gcx_base.specs.Kinds.{is_text};
+ghost use Rattle.tree_eval.specs.Rows.{node_at, nodes_of, IsNested, IsBehind};
 ghost use Rattle.tree_eval.specs.Copies.{whole, bytes_below};
 
 use crate::row::{Content, Row};

@@ -1,7 +1,8 @@
 //! Sets of nodes, as their numbers in document order.
 ghost use Rattle.std.specs.Prelude.{◌≡◌, ◌≤◌, ◌++◌, Bool, [], IfOk, OnOk, length};
 ghost use Rattle.gcx_model.specs.Tree.{Node, serial_of};
-ghost use Rattle.gcx_model.specs.Paths.{passes, reach, hits};
+ghost use Rattle.gcx_base.specs.Tests.{passes};
+ghost use Rattle.gcx_model.specs.Paths.{reach, hits};
 ghost use Rattle.tree_eval.specs.Rows.{kind_in, node_at, nodes_of, IsNested};
 ghost use Rattle.tree_eval.specs.Sets.{members, passing, to_children, to_descendants, stepped};
 
@@ -10,7 +11,7 @@ use gcx_base::{Axis, Memory, Step, Test};
 use std::alloc::Global;
 
 /// Whether a node passes a test.
-fn passes(test: &Test, content: &Content) -> bool
+fn content_passes(test: &Test, content: &Content) -> bool
     ensures { result ≡ passes test.now (kind_in content.now) }
 {
     match (test, content) {
@@ -35,7 +36,7 @@ fn put_children(
     let end = end_of(rows, node);
     let mut next = node;
     while next < end {
-        if passes(test, &rows[next].content) {
+        if content_passes(test, &rows[next].content) {
             found.push(next + 1)?;
         }
         next = end_of(rows, next + 1);
@@ -72,7 +73,7 @@ fn put_passing(
     ensures { OnOk result (found.new.items ≡ found.old.items ++ passing test.now rows.now from end) }
 {
     for index in from..end {
-        if passes(test, &rows[index].content) {
+        if content_passes(test, &rows[index].content) {
             found.push(index + 1)?;
         }
     }

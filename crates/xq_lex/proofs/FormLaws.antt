@@ -4,6 +4,7 @@ use Rattle.std.specs.List.{list_all}
 use Rattle.std.proofs.lemmas.Bool.{and_parts, true≢false, false≢true}
 use Rattle.std.proofs.lemmas.List.{append_cancel_left}
 use Rattle.gcx_model.specs.Values.{is_digit, is_numeral}
+use Rattle.base_laws.proofs.Lists.{cons_tail, cons_head}
 use Rattle.xq_lex.specs.declared.sign.Sign.{Sign}
 use Rattle.xq_lex.specs.Sign.{begins, sign_chars, sign_at, opens_comment}
 use Rattle.xq_lex.specs.Names.{is_query_name, name_at, parts_at}
@@ -57,9 +58,6 @@ found_nothing (c ∷ cs) rest good e = let k : (c ∷ cs) ++ parts_at rest ≡ [
 
 -- ---- Variables
 
-pub tails : (c d : ℕ) (x y : List ℕ) → c ∷ x ≡ d ∷ y → x ≡ y
-tails c d x y e = cc (e)
-
 pub variable_begins : (cs : List ℕ) (d : ℕ) (ds : List ℕ) → name_at cs ≡ d ∷ ds → (rest : List ℕ) × BeginsWith (36 ∷ cs) (variable (d ∷ ds)) rest
 variable_begins cs d ds found = (h.rest, record { chars = front; good = h.good; longest = λ other more e g. no_longer other more (record { chars = e; good = g }) })
   where
@@ -74,7 +72,7 @@ variable_begins cs d ds found = (h.rest, record { chars = front; good = h.good; 
 
     no_longer : (other : Form) (more : List ℕ) → Begins (36 ∷ cs) other more → length h.rest ≤ length more
     no_longer (name xs) more b = let k : of_variable ≡ of_name = same_kind (36 ∷ cs) _ (name xs) _ more this b in cc (k)
-    no_longer (variable xs) more b = name_short cs (d ∷ ds) h.rest xs more h.front found b.good (tails 36 36 cs (xs ++ more) b.chars)
+    no_longer (variable xs) more b = name_short cs (d ∷ ds) h.rest xs more h.front found b.good (cons_tail 36 36 cs (xs ++ more) b.chars)
     no_longer (number m w f) more b = let k : of_variable ≡ of_number = same_kind (36 ∷ cs) _ (number m w f) _ more this b in cc (k)
     no_longer (string q ps) more b = let k : of_variable ≡ of_string = same_kind (36 ∷ cs) _ (string q ps) _ more this b in cc (k)
     no_longer (sign s) more b = let k : of_variable ≡ of_sign = same_kind (36 ∷ cs) _ (sign s) _ more this b in cc (k)
@@ -84,7 +82,7 @@ no_variable cs kind none f rest e g = by f (record { chars = e; good = g })
   where
     by : (f : Form) → Begins (36 ∷ cs) f rest → ⊥
     by (name xs) b = let k : of_name ≡ of_variable = kind_here (36 ∷ cs) (name xs) rest of_variable kind b in cc (k)
-    by (variable xs) b = found_nothing xs rest b.good (ap name_at (sym (tails 36 36 cs (xs ++ rest) b.chars)) ∙ none)
+    by (variable xs) b = found_nothing xs rest b.good (ap name_at (sym (cons_tail 36 36 cs (xs ++ rest) b.chars)) ∙ none)
     by (number m w fr) b = let k : of_number ≡ of_variable = kind_here (36 ∷ cs) (number m w fr) rest of_variable kind b in cc (k)
     by (string q ps) b = let k : of_string ≡ of_variable = kind_here (36 ∷ cs) (string q ps) rest of_variable kind b in cc (k)
     by (sign s) b = let k : of_sign ≡ of_variable = kind_here (36 ∷ cs) (sign s) rest of_variable kind b in cc (k)
@@ -122,7 +120,7 @@ number_short : (minus m : Bool) (text w f rest w' f' more : List ℕ) → unsign
 number_short true false text w f rest w' f' more found e good good' h = minus_digit w' text (fraction_chars f' ++ more) (and_parts (is_numeral w') _ good').0 (h ∙ regroup false w' f' more)
 number_short false true text w f rest w' f' more found e good good' h = minus_digit w (w' ++ (fraction_chars f' ++ more)) (fraction_chars f ++ rest) (and_parts (is_numeral w) _ good).0 (sym (h ∙ regroup true w' f' more) ∙ e)
 number_short true true text w f rest w' f' more found e good good' h =
-    at_most true text w f rest w' f' more found e (tails 45 45 text _ (h ∙ regroup true w' f' more)) (number_longer true w' f' more good')
+    at_most true text w f rest w' f' more found e (cons_tail 45 45 text _ (h ∙ regroup true w' f' more)) (number_longer true w' f' more good')
 number_short false false text w f rest w' f' more found e good good' h =
     at_most false text w f rest w' f' more found e (h ∙ regroup false w' f' more) (number_longer false w' f' more good')
 
@@ -178,7 +176,7 @@ begins_minus text x b e = true≢false (ap (begins 45) (sym e) ∙ b)
 -- no digit, so no number
 none_of : (minus m : Bool) (text w f rest : List ℕ) → (minus ≡ false → begins 45 text ≡ false) → unsigned_at minus text ≡ None → is_number w f ≡ true → minus_chars minus ++ text ≡ number_chars m w f ++ rest → ⊥
 none_of true true text w f rest unsigned none good e =
-    let same : text ≡ w ++ (fraction_chars f ++ rest) = tails 45 45 text _ (e ∙ regroup true w f rest) in
+    let same : text ≡ w ++ (fraction_chars f ++ rest) = cons_tail 45 45 text _ (e ∙ regroup true w f rest) in
     none_longer true w f rest (subst (λ (o : Option Form). LongerNumber true w f rest o) (ap (unsigned_at true) (sym same) ∙ none) (number_longer true w f rest good))
 none_of true false text w f rest unsigned none good e = minus_digit w text (fraction_chars f ++ rest) (and_parts (is_numeral w) _ good).0 (e ∙ regroup false w f rest)
 none_of false true text w f rest unsigned none good e = begins_minus text (w ++ (fraction_chars f ++ rest)) (unsigned refl) (e ∙ regroup true w f rest)
@@ -235,14 +233,11 @@ no_sign text kind none form rest e g = by form (record { chars = e; good = g })
 
 -- ---- Strings
 
-pub heads : (c d : ℕ) (x y : List ℕ) → c ∷ x ≡ d ∷ y → c ≡ d
-heads c d x y e = cc (e)
-
 pub string_of : (q p : ℕ) (cs : List ℕ) (ps : List Part) (rest : List ℕ) → q ∷ cs ≡ p ∷ parts_chars p ps (p ∷ rest) → AreParts p ps → begins p rest ≡ false → HasString q cs ps rest
-string_of q p cs ps rest e good single = by q (heads q p _ _ e) e
+string_of q p cs ps rest e good single = by q (cons_head q p _ _ e) e
   where
     by : (q : ℕ) → q ≡ p → q ∷ cs ≡ p ∷ parts_chars p ps (p ∷ rest) → HasString q cs ps rest
-    by q same e = subst (λ (x : ℕ). HasString x cs ps rest) (sym same) (record { good = good; chars = tails q p _ _ e; single = single })
+    by q same e = subst (λ (x : ℕ). HasString x cs ps rest) (sym same) (record { good = good; chars = cons_tail q p _ _ e; single = single })
 
 pub string_begins : (q : ℕ) (cs : List ℕ) (ps : List Part) (rest : List ℕ) → is_quote q ≡ true → HasString q cs ps rest → BeginsWith (q ∷ cs) (string q ps) rest
 string_begins q cs ps rest quote h = record { chars = front; good = good; longest = λ other more e g. no_longer other more (record { chars = e; good = g }) }

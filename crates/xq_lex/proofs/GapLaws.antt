@@ -3,6 +3,7 @@ use Rattle.std.proofs.Common.{ℕ, zero, suc, ◌≡◌, ◌≢◌, ◌+◌, ◌
 use Rattle.std.proofs.lemmas.Bool.{and_parts, or_parts, or_from, cond-true, cond-false, true≢false, false≢true}
 use Rattle.std.proofs.lemmas.List.{drop-drop}
 use Rattle.gcx_base.specs.Characters.{is_char, is_white}
+use Rattle.base_laws.proofs.Lists.{cons_tail, cons_head}
 use Rattle.xq_lex.specs.Sign.{opens_comment}
 use Rattle.xq_lex.specs.Gap.{Inside, nothing, char, nested, closed_chars, is_mark, IsInside, Gap, empty, white, comment, gap_chars, IsGap, begins_white, EndsGap, HasGap}
 use Rattle.xq_lex.specs.Closing.{opens, closes, closing, behind_comment, IsWhite, IsComment, HasGapPart}
@@ -127,16 +128,10 @@ comment_found text rest e = by (found text 0 None rest tt e)
     by : Closes zero text rest → IsComment (40 ∷ 58 ∷ text) rest
     by (inner, (inside, h)) = record { inner = inner; good = inside; chars = ap (λ (x : List ℕ). 40 ∷ 58 ∷ x) h }
 
-tails : (c d : ℕ) (x y : List ℕ) → c ∷ x ≡ d ∷ y → x ≡ y
-tails c d x y e = cc (e)
-
-heads : (c d : ℕ) (x y : List ℕ) → c ∷ x ≡ d ∷ y → c ≡ d
-heads c d x y e = cc (e)
-
 -- nothing else ends a gap
 pub no_comment : (text rest : List ℕ) → behind_comment 0 None text ≡ None → (inner : Inside) → IsInside inner → (40 ∷ 58 ∷ text) ≢ 40 ∷ 58 ∷ closed_chars inner rest
 no_comment text rest e inner good h =
-    let same : text ≡ closed_chars inner rest = tails 58 58 text _ (tails 40 40 (58 ∷ text) _ h) in
+    let same : text ≡ closed_chars inner rest = cons_tail 58 58 text _ (cons_tail 40 40 (58 ∷ text) _ h) in
     let k : None ≡ Some rest = sym e ∙ (ap (λ (x : List ℕ). behind_comment 0 None x) same ∙ comment_closed inner rest good) in
     cc (k)
 
@@ -146,19 +141,19 @@ closed_same i k x y g h e =
     cc (same)
 
 white_no_paren : {X : Type 0} (c : ℕ) (x y : List ℕ) → is_white c ≡ true → c ∷ x ≡ 40 ∷ y → X
-white_no_paren c x y e h = absurd (false≢true (subst (λ (d : ℕ). is_white d ≡ true) (heads c 40 x y h) e))
+white_no_paren c x y e h = absurd (false≢true (subst (λ (d : ℕ). is_white d ≡ true) (cons_head c 40 x y h) e))
 
 gap_same : (g h : Gap) (r s : List ℕ) → IsGap g → IsGap h → EndsGap r → EndsGap s → gap_chars g r ≡ gap_chars h s → r ≡ s
 gap_same empty empty r s a b p q e = e
 gap_same empty (white c more) r s a b p q e = absurd (true≢false (sym b.0 ∙ (ap begins_white (sym e) ∙ p.no_white)))
 gap_same empty (comment i more) r s a b p q e = absurd (p.no_comment i (gap_chars more s) b.0 e)
 gap_same (white c more) empty r s a b p q e = absurd (true≢false (sym a.0 ∙ (ap begins_white e ∙ q.no_white)))
-gap_same (white c more) (white d more') r s a b p q e = gap_same more more' r s a.1 b.1 p q (tails c d _ _ e)
+gap_same (white c more) (white d more') r s a b p q e = gap_same more more' r s a.1 b.1 p q (cons_tail c d _ _ e)
 gap_same (white c more) (comment i more') r s a b p q e = white_no_paren c _ _ a.0 e
 gap_same (comment i more) empty r s a b p q e = absurd (q.no_comment i (gap_chars more r) a.0 (sym e))
 gap_same (comment i more) (white c more') r s a b p q e = white_no_paren c _ _ b.0 (sym e)
 gap_same (comment i more) (comment k more') r s a b p q e =
-    gap_same more more' r s a.1 b.1 p q (closed_same i k _ _ a.0 b.0 (tails 58 58 _ _ (tails 40 40 (58 ∷ closed_chars i (gap_chars more r)) (58 ∷ closed_chars k (gap_chars more' s)) e)))
+    gap_same more more' r s a.1 b.1 p q (closed_same i k _ _ a.0 b.0 (cons_tail 58 58 _ _ (cons_tail 40 40 (58 ∷ closed_chars i (gap_chars more r)) (58 ∷ closed_chars k (gap_chars more' s)) e)))
 
 pub one_gap : (text r s : List ℕ) → HasGap text r → HasGap text s → r ≡ s
 one_gap text r s a b = gap_same a.gap b.gap r s a.good b.good a.whole b.whole (sym a.chars ∙ b.chars)

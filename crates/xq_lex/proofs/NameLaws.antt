@@ -2,7 +2,7 @@
 use Rattle.std.proofs.Common.{ℕ, ◌≡◌, ◌==◌, Bool, true, false, not, ◌&&◌, ◌||◌, cond, List, [], ◌∷◌, ◌++◌, length, take, refl, sym, ap, ◌∙◌, subst}
 use Rattle.std.specs.List.{list_all}
 use Rattle.std.specs.Str.{encode_utf8_all}
-use Rattle.std.proofs.lemmas.Bool.{and_parts, and_from, or_from, cond-true, true≢false, false≢true, not_from_false}
+use Rattle.std.proofs.lemmas.Bool.{and_parts, and_from, or_from, cond-true, not_from_false, or_parts, not-true, or_left}
 use Rattle.std.proofs.Math.Seq.{take-append_seam}
 use Rattle.gcx_base.specs.Characters.{is_start_char, is_part_char}
 use Rattle.gcx_base.specs.Name.{is_name, IsNameBytes}
@@ -19,14 +19,6 @@ abbrev are_parts : (chars rest : List ℕ) → Bool
 are_parts [] rest = true
 are_parts (c ∷ cs) rest = may_go c (cs ++ rest) && are_parts cs rest
 
-or_parts : (a b : Bool) → (a || b) ≡ false → (a ≡ false) × (b ≡ false)
-or_parts true b e = absurd (true≢false e)
-or_parts false b e = (refl, e)
-
-not_false : (b : Bool) → not b ≡ true → b ≡ false
-not_false true e = sym e
-not_false false e = refl
-
 parts_from : (cs rest : List ℕ) → list_all is_part_char cs ≡ true → has_pair cs rest ≡ false → are_parts cs rest ≡ true
 unfolding may_go_on
 parts_from [] rest all apart = refl
@@ -42,15 +34,11 @@ parts_all (c ∷ cs) rest good =
     let both : (may_go c (cs ++ rest) ≡ true) × (are_parts cs rest ≡ true) = and_parts (may_go c (cs ++ rest)) (are_parts cs rest) good in
     let here : (is_part_char c ≡ true) × (not (is_pair (c ∷ (cs ++ rest))) ≡ true) = and_parts (is_part_char c) (not (is_pair (c ∷ (cs ++ rest)))) both.0 in
     let more : (list_all is_part_char cs ≡ true) × (has_pair cs rest ≡ false) = parts_all cs rest both.1 in
-    (and_from (is_part_char c) (list_all is_part_char cs) here.0 more.0, or_from (is_pair (c ∷ (cs ++ rest))) (has_pair cs rest) (not_false (is_pair (c ∷ (cs ++ rest))) here.1) more.1)
-
-start_goes_on : (a b : Bool) → a ≡ true → (a || b) ≡ true
-start_goes_on true b e = refl
-start_goes_on false b e = absurd (false≢true e)
+    (and_from (is_part_char c) (list_all is_part_char cs) here.0 more.0, or_from (is_pair (c ∷ (cs ++ rest))) (has_pair cs rest) (not-true (is_pair (c ∷ (cs ++ rest))) here.1) more.1)
 
 part_begins : (c : ℕ) → may_begin c ≡ true → may_go_on c ≡ true
 unfolding may_begin may_go_on
-part_begins c e = start_goes_on (is_start_char c) _ e
+part_begins c e = or_left (is_start_char c) _ e
 
 -- A query's name, by its first character and its parts.
 pub record IsParted (c : ℕ) (cs rest : List ℕ) : Type 0 where
@@ -63,7 +51,7 @@ unfolding may_begin
 name_parts c cs rest good =
     let both : (is_name (c ∷ cs) ≡ true) × (not (has_pair (c ∷ cs) rest) ≡ true) = and_parts (is_name (c ∷ cs)) (not (has_pair (c ∷ cs) rest)) good in
     let name : (is_start_char c ≡ true) × (list_all is_part_char cs ≡ true) = and_parts (is_start_char c) (list_all is_part_char cs) both.0 in
-    let apart : (is_pair (c ∷ (cs ++ rest)) ≡ false) × (has_pair cs rest ≡ false) = or_parts (is_pair (c ∷ (cs ++ rest))) (has_pair cs rest) (not_false (has_pair (c ∷ cs) rest) both.1) in
+    let apart : (is_pair (c ∷ (cs ++ rest)) ≡ false) × (has_pair cs rest ≡ false) = or_parts (is_pair (c ∷ (cs ++ rest))) (has_pair cs rest) (not-true (has_pair (c ∷ cs) rest) both.1) in
     record {
       begins = name.0;
       parts = and_from (may_go c (cs ++ rest)) (are_parts cs rest) (and_from (may_go_on c) (not (is_pair (c ∷ (cs ++ rest)))) (part_begins c name.0) (not_from_false (is_pair (c ∷ (cs ++ rest))) apart.0)) (parts_from cs rest name.1 apart.1);

@@ -9,6 +9,7 @@ use Rattle.std.proofs.Math.Seq.{take-length}
 use Rattle.gcx_model.specs.Values.{is_numeral}
 use Rattle.gcx_model.specs.declared.fault.QueryFault.{QueryFault}
 use Rattle.gcx_model.specs.declared.fault.QueryFault.TheVariants.{Utf8, Lex, Syntax, UnknownVar, TagMismatch, DescendantNotLast, IntegerWide, TooLarge, Memory}
+use Rattle.base_laws.proofs.Lists.{cons_tail, cons_head}
 use Rattle.xq_lex.specs.declared.sign.Sign.{Sign}
 use Rattle.xq_lex.specs.declared.token.Tok.{Tok}
 use Rattle.xq_lex.specs.Sign.{sign_chars, sign_at, opens_comment}
@@ -21,7 +22,7 @@ use Rattle.xq_lex.specs.Lex.{Reads, ReadsAll, LexesAs, StopsAt, IsNoToken, HasWi
 use Rattle.xq_lex.proofs.NumberLaws.{LongerNumber, number_longer}
 use Rattle.xq_lex.proofs.SignLaws.{IsLonger, sign_longer}
 use Rattle.xq_lex.proofs.StringLaws.{SameParts, string_same}
-use Rattle.xq_lex.proofs.FormLaws.{Begins, same_kind, regroup, number_parts, minus_digit, string_of, heads, tails}
+use Rattle.xq_lex.proofs.FormLaws.{Begins, same_kind, regroup, number_parts, minus_digit, string_of}
 use Rattle.xq_lex.proofs.GapLaws.{one_gap}
 use Rattle.xq_lex.proofs.LexemeLaws.{form_front, form_some}
 
@@ -30,8 +31,8 @@ append_same [] [] r s e h = (refl, e)
 append_same [] (y ∷ b) r s e h = absurd (omega (arith, ap length e, length-append b s))
 append_same (x ∷ a) [] r s e h = absurd (omega (arith, ap length e, length-append a r))
 append_same (x ∷ a) (y ∷ b) r s e h =
-    let more : (a ≡ b) × (r ≡ s) = append_same a b r s (tails x y _ _ e) h in
-    let first : x ≡ y = heads x y _ _ e in
+    let more : (a ≡ b) × (r ≡ s) = append_same a b r s (cons_tail x y _ _ e) h in
+    let first : x ≡ y = cons_head x y _ _ e in
     let same : a ≡ b = more.0 in
     (cc (first, same), more.1)
 
@@ -102,17 +103,17 @@ names_same text c d r s a b =
 
 variables_same : (text c d r s : List ℕ) → BeginsWith text (variable c) r → BeginsWith text (variable d) s → SameForm (variable c) (variable d) r s
 variables_same text c d r s a b =
-    let same : (c ≡ d) × (r ≡ s) = append_same c d r s (tails 36 36 (c ++ r) (d ++ s) (sym a.chars ∙ b.chars)) (as_long text (variable c) (variable d) r s a b) in
+    let same : (c ≡ d) × (r ≡ s) = append_same c d r s (cons_tail 36 36 (c ++ r) (d ++ s) (sym a.chars ∙ b.chars)) (as_long text (variable c) (variable d) r s a b) in
     record { form = ap variable same.0; rest = same.1 }
 
 strings_same : (text : List ℕ) (p q : ℕ) (ps qs : List Part) (r s : List ℕ) → BeginsWith text (string p ps) r → BeginsWith text (string q qs) s → SameForm (string p ps) (string q qs) r s
 strings_same text p q ps qs r s a b =
     let all : p ∷ parts_chars p ps (p ∷ r) ≡ q ∷ parts_chars q qs (q ∷ s) = sym a.chars ∙ b.chars in
-    let quote : p ≡ q = heads p q _ _ all in
+    let quote : p ≡ q = cons_head p q _ _ all in
     let own : HasString p (parts_chars p ps (p ∷ r)) ps r = record { good = a.good.1; chars = refl; single = a.good.2 } in
     let other : HasString p (parts_chars p ps (p ∷ r)) qs s = string_of p q (parts_chars p ps (p ∷ r)) qs s all b.good.1 b.good.2 in
     let same : SameParts ps qs (p ∷ r) (p ∷ s) = string_same p (parts_chars p ps (p ∷ r)) ps qs r s a.good.0 own other in
-    record { form = (λ i. string (quote i) (same.parts i)); rest = tails p p r s same.rest }
+    record { form = (λ i. string (quote i) (same.parts i)); rest = cons_tail p p r s same.rest }
 
 as_begins : (text : List ℕ) (f : Form) (r : List ℕ) → BeginsWith text f r → Begins text f r
 as_begins text f r a = record { chars = a.chars; good = a.good }

@@ -5,6 +5,7 @@ use Rattle.std.specs.Str.{encode_utf8_all}
 use Rattle.std.proofs.lemmas.Bool.{true≢false}
 use Rattle.std.proofs.lemmas.List.{drop-drop, take-append-drop, append_cancel_left}
 use Rattle.gcx_base.specs.Characters.{is_char}
+use Rattle.base_laws.proofs.Lists.{cons_tail, cons_head}
 use Rattle.doc_chars.specs.Reference.{Refers, lt, BeginsReference, NeverRefers}
 use Rattle.xq_lex.specs.Sign.{begins}
 use Rattle.xq_lex.specs.Strings.{plain, doubled, reference, is_quote, part_chars, parts_chars, parts_value, BeginsWithNoPart}
@@ -30,12 +31,6 @@ data Nested (a b : List ℕ) : Type 0 where
   longer : (m : List ℕ) → a ≡ b ++ m → Nested a b
   shorter : (m : List ℕ) → b ≡ a ++ m → Nested a b
 
-tails : (c d : ℕ) (x y : List ℕ) → c ∷ x ≡ d ∷ y → x ≡ y
-tails c d x y e = cc (e)
-
-heads : (c d : ℕ) (x y : List ℕ) → c ∷ x ≡ d ∷ y → c ≡ d
-heads c d x y e = cc (e)
-
 with_head : (x y : ℕ) (a b : List ℕ) → x ≡ y → Nested a b → Nested (x ∷ a) (y ∷ b)
 with_head x y a b e (longer m h) = longer m (ap (λ (z : ℕ). z ∷ a) e ∙ ap (λ (z : List ℕ). y ∷ z) h)
 with_head x y a b e (shorter m h) = shorter m (ap (λ (z : ℕ). z ∷ b) (sym e) ∙ ap (λ (z : List ℕ). x ∷ z) h)
@@ -43,7 +38,7 @@ with_head x y a b e (shorter m h) = shorter m (ap (λ (z : ℕ). z ∷ b) (sym e
 nested : (a b r s : List ℕ) → a ++ r ≡ b ++ s → Nested a b
 nested [] b r s e = shorter b refl
 nested (x ∷ a) [] r s e = longer (x ∷ a) refl
-nested (x ∷ a) (y ∷ b) r s e = with_head x y a b (heads x y _ _ e) (nested a b r s (tails x y _ _ e))
+nested (x ∷ a) (y ∷ b) r s e = with_head x y a b (cons_head x y _ _ e) (nested a b r s (cons_tail x y _ _ e))
 
 -- the text is what was read, then a character, with which no reference begins any more
 pub never : (text read : List ℕ) (c : ℕ) (rest : List ℕ) → text ≡ read ++ c ∷ rest → BeginsReference read → NeverRefers (read ++ c ∷ []) → BeginsWithNoReference text
@@ -53,7 +48,7 @@ never text read c rest e g bad t r v h same = by (nested read t (c ∷ rest) r (
     behind : (m : List ℕ) → t ≡ read ++ m → m ++ r ≡ c ∷ rest → ⊥
     behind [] k n = goes_none read t [] v g (sym (append-nil read) ∙ (sym k ∙ sym (append-nil t))) h
     behind (d ∷ m) k n =
-        let first : c ≡ d = sym (heads d c (m ++ r) rest n) in
+        let first : c ≡ d = sym (cons_head d c (m ++ r) rest n) in
         let here : t ≡ (read ++ c ∷ []) ++ m = k ∙ (ap (λ (x : ℕ). read ++ x ∷ m) (sym first) ∙ sym (append_assoc read (c ∷ []) m)) in
         bad m v (subst (λ (x : List ℕ). Refers x v) here h)
 
@@ -113,17 +108,17 @@ no_part_single q c text rest quote e same b =
     subst (λ (x : List ℕ). BeginsWithNoPart q x) (sym (e ∙ ap (λ (x : ℕ). x ∷ rest) (eqb-true c q same))) (no_part q rest quote b)
 
 differ : {X : Type 0} (c d : ℕ) (x y : List ℕ) → (c == d) ≡ false → c ∷ x ≡ d ∷ y → X
-differ c d x y n e = absurd (true≢false (sym (eq-eqb c d (heads c d x y e)) ∙ n))
+differ c d x y n e = absurd (true≢false (sym (eq-eqb c d (cons_head c d x y e)) ∙ n))
 
 pub no_part_reference : (q c : ℕ) (text rest : List ℕ) → text ≡ c ∷ rest → (c == q) ≡ false → (c == 38) ≡ true → BeginsWithNoReference rest → BeginsWithNoPart q text
 no_part_reference q c text rest e n same none (plain d) more g h =
     differ d 38 more rest g.2 (sym h ∙ (e ∙ ap (λ (x : ℕ). x ∷ rest) (eqb-true c 38 same)))
 no_part_reference q c text rest e n same none doubled more g h = differ c q rest (q ∷ more) n (sym e ∙ h)
-no_part_reference q c text rest e n same none (reference t v) more g h = none t more v g (tails c 38 rest (t ++ more) (sym e ∙ h))
+no_part_reference q c text rest e n same none (reference t v) more g h = none t more v g (cons_tail c 38 rest (t ++ more) (sym e ∙ h))
 
 pub no_part_other : (q c : ℕ) (text rest : List ℕ) → text ≡ c ∷ rest → (c == q) ≡ false → (c == 38) ≡ false → is_char c ≡ false → BeginsWithNoPart q text
 no_part_other q c text rest e n a bad (plain d) more g h =
-    true≢false (sym g.0 ∙ (ap is_char (heads d c more rest (sym h ∙ e)) ∙ bad))
+    true≢false (sym g.0 ∙ (ap is_char (cons_head d c more rest (sym h ∙ e)) ∙ bad))
 no_part_other q c text rest e n a bad doubled more g h = differ c q rest (q ∷ more) n (sym e ∙ h)
 no_part_other q c text rest e n a bad (reference t v) more g h = differ c 38 rest (t ++ more) a (sym e ∙ h)
 

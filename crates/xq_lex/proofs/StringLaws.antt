@@ -1,44 +1,39 @@
 -- A text begins with one string at most, and reading it part by part finds it.
 use Rattle.std.proofs.Common.{ℕ, ◌≡◌, ◌==◌, true, false, List, [], ◌∷◌, ◌++◌, refl, sym, ap, ◌∙◌, subst, eq-eqb}
 use Rattle.std.proofs.lemmas.Bool.{true≢false, false≢true}
+use Rattle.base_laws.proofs.Lists.{cons_head, cons_tail}
 use Rattle.xq_lex.specs.Sign.{begins}
 use Rattle.xq_lex.specs.Strings.{Part, plain, doubled, reference, is_quote, part_chars, IsPart, part_value, parts_chars, AreParts, parts_value, BeginsWithNoPart, HasString}
 use Rattle.xq_lex.proofs.ReferenceLaws.{reference_same}
 
-heads : (c d : ℕ) (x y : List ℕ) → c ∷ x ≡ d ∷ y → c ≡ d
-heads c d x y e = cc (e)
-
-tails : (c d : ℕ) (x y : List ℕ) → c ∷ x ≡ d ∷ y → x ≡ y
-tails c d x y e = cc (e)
-
 differ : {X : Type 0} (c d : ℕ) (x y : List ℕ) → (c == d) ≡ false → c ∷ x ≡ d ∷ y → X
-differ c d x y n e = absurd (true≢false (sym (eq-eqb c d (heads c d x y e)) ∙ n))
+differ c d x y n e = absurd (true≢false (sym (eq-eqb c d (cons_head c d x y e)) ∙ n))
 
 not_ampersand : {X : Type 0} (q : ℕ) (x y : List ℕ) → is_quote q ≡ true → q ∷ x ≡ 38 ∷ y → X
-not_ampersand q x y h e = absurd (false≢true (subst (λ (c : ℕ). is_quote c ≡ true) (heads q 38 x y e) h))
+not_ampersand q x y h e = absurd (false≢true (subst (λ (c : ℕ). is_quote c ≡ true) (cons_head q 38 x y e) h))
 
 pub record SamePart (p s : Part) (x y : List ℕ) : Type 0 where
   pub part : p ≡ s
   pub rest : x ≡ y
 
 part_same : (q : ℕ) (p s : Part) (x y : List ℕ) → is_quote q ≡ true → IsPart q p → IsPart q s → part_chars q p x ≡ part_chars q s y → SamePart p s x y
-part_same q (plain c) (plain d) x y h g k e = record { part = ap plain (heads c d x y e); rest = tails c d x y e }
+part_same q (plain c) (plain d) x y h g k e = record { part = ap plain (cons_head c d x y e); rest = cons_tail c d x y e }
 part_same q (plain c) doubled x y h g k e = differ c q x (q ∷ y) g.1 e
 part_same q (plain c) (reference t d) x y h g k e = differ c 38 x (t ++ y) g.2 e
 part_same q doubled (plain d) x y h g k e = differ d q y (q ∷ x) k.1 (sym e)
-part_same q doubled doubled x y h g k e = record { part = refl; rest = tails q q x y (tails q q (q ∷ x) (q ∷ y) e) }
+part_same q doubled doubled x y h g k e = record { part = refl; rest = cons_tail q q x y (cons_tail q q (q ∷ x) (q ∷ y) e) }
 part_same q doubled (reference t d) x y h g k e = not_ampersand q (q ∷ x) (t ++ y) h e
 part_same q (reference t c) (plain d) x y h g k e = differ d 38 y (t ++ x) k.2 (sym e)
 part_same q (reference t c) doubled x y h g k e = not_ampersand q (q ∷ y) (t ++ x) h (sym e)
 part_same q (reference t c) (reference s d) x y h g k e =
-    let same : (t ≡ s) × (c ≡ d) × (x ≡ y) = reference_same t s c d x y g k (tails 38 38 (t ++ x) (s ++ y) e) in
+    let same : (t ≡ s) × (c ≡ d) × (x ≡ y) = reference_same t s c d x y g k (cons_tail 38 38 (t ++ x) (s ++ y) e) in
     record { part = cc (same.0, same.1); rest = same.2 }
 
 -- a single delimiter begins no part
 delimiter : {X : Type 0} (q : ℕ) (p : Part) (x rest : List ℕ) → is_quote q ≡ true → IsPart q p → begins q rest ≡ false → part_chars q p x ≡ q ∷ rest → X
 delimiter q (plain c) x rest h g b e = differ c q x rest g.1 e
 delimiter q doubled x rest h g b e =
-    let next : q ∷ x ≡ rest = tails q q (q ∷ x) rest e in
+    let next : q ∷ x ≡ rest = cons_tail q q (q ∷ x) rest e in
     absurd (false≢true (sym b ∙ (ap (begins q) (sym next) ∙ eq-eqb q q refl)))
 delimiter q (reference t c) x rest h g b e = not_ampersand q rest (t ++ x) h (sym e)
 

@@ -7,8 +7,8 @@ use Rattle.gcx_model.specs.declared.fault.What.TheVariants.{Loops, Steps, Condit
 use Rattle.gcx_model.specs.Core.{BodyTree}
 use Rattle.gcx_model.specs.Query.{ExprTree, exprs_of}
 use Rattle.gcx_model.specs.Normal.{all_loops, no_names, normal}
-use Rattle.gcx_laws.proofs.Bridge.{length-count}
-use Rattle.gcx_laws.proofs.Moved.{vars-exprs}
+use Rattle.placed_laws.proofs.Bridge.{length-count}
+use Rattle.placed_laws.proofs.Moved.{vars-exprs}
 use Rattle.xq_normal.specs.Shapes.{capped}
 use Rattle.gcx_model.specs.Refusals.{UnlessMemory}
 use Rattle.xq_normal.specs.Sums.{condition_bytes, condition_steps, conditions_refusal, loops_of, refusal}

@@ -7,7 +7,7 @@ ghost use Rattle.xq_normal.specs.Scopes.{names_of};
 
 use crate::scope::{Binding, start_of};
 use gcx_base::Memory;
-use gcx_model::{Cond, Conds, Operand, PathExpr, QCond, QConds, QOperand};
+use gcx_model::{Cond, CondList, Operand, PathExpr, QCond, QConds, QOperand};
 use std::alloc::Global;
 
 fn core_operand(alloc: Global, scope: &[Binding<'_>], operand: &QOperand) -> Result<Operand, Memory>
@@ -62,10 +62,10 @@ pub(crate) fn core_cond(alloc: Global, scope: &[Binding<'_>], cond: &QCond) -> R
 }
 
 #[cycle(core_conditions)]
-fn core_conds(alloc: Global, scope: &[Binding<'_>], conds: &QConds) -> Result<Conds, Memory>
+fn core_conds(alloc: Global, scope: &[Binding<'_>], conds: &QConds) -> Result<CondList, Memory>
     ensures { IfOk result (λ cs. core_conds_of (core_cond_trees cs) ≡ normal_conds (conds_of (cond_trees conds.now)) (names_of scope.now)) }
 {
-    let mut members = Conds::new(alloc);
+    let mut members = CondList::new(alloc);
     for cond in conds.items() {
         let member = core_cond(alloc, scope, cond)?;
         members.push(member)?;

@@ -9,7 +9,7 @@ ghost use Rattle.xq_normal.specs.Sums.{cond_bytes, cond_steps, condition_bytes, 
 use crate::shape::Shape;
 use crate::text::put_cond;
 use gcx_base::Memory;
-use gcx_model::{Body, Cond, Conds, Item, Operand};
+use gcx_model::{Body, Cond, CondList, Item, Operand};
 use std::alloc::Global;
 
 /// What the conditions of a core come to. The counts stand still at their type's end.
@@ -48,7 +48,7 @@ fn cond_steps(cond: &Cond) -> u64
 }
 
 #[cycle(steps)]
-fn member_steps(conds: &Conds) -> u64
+fn member_steps(conds: &CondList) -> u64
     ensures { result ≡ capped (conds_steps (core_conds_of (core_cond_trees conds.now))) }
 {
     let mut count: u64 = 0;

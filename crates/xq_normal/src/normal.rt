@@ -18,8 +18,8 @@ use crate::measure::{Tally, measure};
 use crate::moves::moved;
 use crate::rows::put_rows;
 use gcx_base::Memory;
-use gcx_laws::normal_law;
 use gcx_model::{Body, Core, Query, QueryFault, VarRows, What};
+use placed_laws::normal_law;
 use std::alloc::Global;
 
 /// The most loops of a core.

@@ -7,7 +7,7 @@ ghost use Rattle.std.specs.Fmt.{decimal};
 ghost use Rattle.gcx_model.specs.Core.{Path};
 
 use gcx_base::{Axis, Memory, Rel, Step, VarId};
-use gcx_model::{Cond, Conds, Operand};
+use gcx_model::{Cond, CondList, Operand};
 use xq_print::{put_number, put_string, put_test, put_where, rel_text};
 
 fn axis_text(axis: Axis) -> &'static str
@@ -139,7 +139,7 @@ pub fn put_cond(out: &mut String, cond: &Cond) -> Result<(), Memory>
 }
 
 #[cycle(print_conditions)]
-fn put_members(out: &mut String, members: &Conds) -> Result<(), Memory>
+fn put_members(out: &mut String, members: &CondList) -> Result<(), Memory>
     ensures { OnOk result (string_bytes out.new ≡ string_bytes out.old ++ joined (codes ", ") (cond_texts (core_conds_of (core_cond_trees members.now)))) }
 {
     let mut later = false;

@@ -7,12 +7,13 @@ use Rattle.std.proofs.lemmas.List.{append_cancel_left}
 use Rattle.std.proofs.lemmas.Str.{IsUtf8-append, encodes-append, chars_from_encodes}
 use Rattle.gcx_base.specs.Characters.{is_part_char}
 use Rattle.gcx_base.specs.Name.{is_name}
+use Rattle.base_laws.proofs.Lists.{cons_tail}
 use Rattle.xq_lex.specs.declared.token.TokKind.TheVariants as kinds
 use Rattle.xq_lex.specs.Sign.{begins}
 use Rattle.xq_lex.specs.Names.{may_go_on, is_pair, has_pair, is_query_name, parts_at, name_at}
 use Rattle.xq_lex.specs.Form.{name, variable, BeginsWith}
 use Rattle.xq_lex.proofs.NameLaws.{name_at-append}
-use Rattle.xq_lex.proofs.FormLaws.{name_begins, variable_begins, tails}
+use Rattle.xq_lex.proofs.FormLaws.{name_begins, variable_begins}
 use Rattle.xq_print.proofs.Forms.{ends_word, Fits}
 use Rattle.xq_print.proofs.Names.{name_utf8}
 
@@ -54,7 +55,7 @@ variable_whole [] rest good ends = absurd (false≢true good)
 variable_whole (c ∷ cs) rest good ends = by (variable_begins ((c ∷ cs) ++ rest) c cs (found (c ∷ cs) rest good ends))
   where
     by : (r : List ℕ) × BeginsWith (36 ∷ ((c ∷ cs) ++ rest)) (variable (c ∷ cs)) r → BeginsWith (36 ∷ ((c ∷ cs) ++ rest)) (variable (c ∷ cs)) rest
-    by (r, b) = subst (λ (x : List ℕ). BeginsWith (36 ∷ ((c ∷ cs) ++ rest)) (variable (c ∷ cs)) x) (sym (append_cancel_left (c ∷ cs) rest r (tails 36 36 ((c ∷ cs) ++ rest) ((c ∷ cs) ++ r) b.chars))) b
+    by (r, b) = subst (λ (x : List ℕ). BeginsWith (36 ∷ ((c ∷ cs) ++ rest)) (variable (c ∷ cs)) x) (sym (append_cancel_left (c ∷ cs) rest r (cons_tail 36 36 ((c ∷ cs) ++ rest) ((c ∷ cs) ++ r) b.chars))) b
 
 -- ---- Both, by the bytes of a name
 

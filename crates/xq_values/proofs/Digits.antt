@@ -41,7 +41,7 @@ is_digit-≤ d e = (grind (arith, nat_tests), grind (arith, nat_tests))
 under_step : (n e q : ℕ) → e ≤ 9 → (n * 10 + e + 1) * q ≤ (n + 1) * (q * 10)
 under_step n e q small = let most : q * (n * 10 + e + 1) ≤ q * (n * 10 + 10) = mul-le-mul_left q (omega arith) in omega (arith, most)
 
-digits_from-< : (n : ℕ) (ds : List ℕ) → list_all is_digit ds ≡ true → digits_from n ds < (n + 1) * 10 ^ length ds
+pub digits_from-< : (n : ℕ) (ds : List ℕ) → list_all is_digit ds ≡ true → digits_from n ds < (n + 1) * 10 ^ length ds
 digits_from-< n [] all = omega arith
 digits_from-< n (d ∷ ds) all =
     let parts : (is_digit d ≡ true) × (list_all is_digit ds ≡ true) = and_parts (is_digit d) (list_all is_digit ds) all in

@@ -4,5 +4,5 @@
 mod number;
 mod rel;
 
-pub use number::NumText;
+pub use number::{NumText, compare_number};
 pub use rel::{compare_text, holds};

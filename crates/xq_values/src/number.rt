@@ -1,6 +1,7 @@
-ghost use Rattle.std.specs.Prelude.{◌≡◌, ◌≤◌, ◌<◌, ◌-◌, ◌*◌, ◌^◌, ◌++◌, [], ◌∷◌, ◌==◌, ◌↔◌, length, MatchOption, position, true};
+ghost use Rattle.std.specs.Prelude.{◌≡◌, IfSome, option_map, pos, ◌*ℤ◌, ◌≤◌, ◌<◌, ◌-◌, ◌*◌, ◌^◌, ◌++◌, [], ◌∷◌, ◌==◌, ◌↔◌, length, MatchOption, position, true};
 ghost use Rattle.std.specs.List.{list_all};
-ghost use Rattle.std.specs.Ordering.{nat_cmp};
+ghost use Rattle.std.specs.Ordering.{nat_cmp, int_cmp};
+ghost use Rattle.xq_values.specs.Wholes.{IsWhole};
 ghost use Rattle.gcx_base.specs.Characters.{is_white};
 ghost use Rattle.gcx_model.specs.Values.{against, CountsAs, Decimal, decimal_of, digits_from, fraction_of, is_digit, is_negative, is_point, number, trimmed, whole_of, without_front, without_sign};
 
@@ -225,4 +226,43 @@ impl<'a> NumText<'a> {
             compare_sizes(self.whole, self.fraction, size)
         }
     }
+}
+
+/// The number that the text writes, where it is 1 to 18 digits and nothing else.
+#[inline(always)]
+fn whole_number(text: &[u8]) -> Option<u64>
+    ensures { IfSome result (λ n. IsWhole text.now n) }
+{
+    if text.is_empty() || text.len() > PLACES {
+        return None;
+    }
+    let mut number = 0;
+    for digit in text {
+        if !is_digit(*digit) {
+            return None;
+        }
+        number = number * 10 + u64::from(*digit - b'0');
+    }
+    Some(number)
+}
+
+/// Compares a whole number with a literal in units of 10^-18.
+#[inline(always)]
+fn compare_whole(number: u64, units: i128) -> Ordering
+    ensures { result ≡ int_cmp (pos number *ℤ pos (10 ^ 18)) units }
+{
+    (i128::from(number) * 1_000_000_000_000_000_000).cmp(&units)
+}
+
+/// Compares the number as which the value counts with a literal in units of 10^-18, exactly, whatever its length. None
+/// where the value counts as none. Up to 18 digits alone, which most numbers are, are one machine word. Takes no memory.
+#[inline(always)]
+pub fn compare_number(value: &[u8], units: i128) -> Option<Ordering>
+    ensures { result ≡ option_map (λ d. against d units) (number value.now) }
+{
+    if let Some(whole) = whole_number(value) {
+        return Some(compare_whole(whole, units));
+    }
+    let number = NumText::read(value)?;
+    Some(number.compare(units))
 }

@@ -125,3 +125,56 @@ fn two_thousand_roles(rt: HostRuntime) -> Result<(), Fail> {
         want.as_str(),
     )
 }
+
+/// `for $x in /a return if (C) then <y/> else ()`, where C asks for each of the elements `b2` to `b299`, so that the plan
+/// has 300 roles.
+fn asking_for_each(alloc: Global) -> Result<String, Fail> {
+    let mut query = String::from_str(alloc, "for $x in /a return if (exists($x/b2)")?;
+    put_numbers(&mut query, " and exists($x/b", 3, 300, ")")?;
+    query.push_str(") then <y/> else ()")?;
+    Ok(query)
+}
+
+/// An element `a` with each of the elements.
+fn one_of_each(alloc: Global) -> Result<String, Fail> {
+    let mut document = String::from_str(alloc, "<a>")?;
+    put_numbers(&mut document, "<b", 2, 300, "/>")?;
+    document.push_str("</a>")?;
+    Ok(document)
+}
+
+/// Closes each element, takes back the role of each condition, and then the other.
+fn one_role_script(alloc: Global) -> Result<String, Fail> {
+    let mut script = String::from_str(alloc, "597")?;
+    put_numbers(&mut script, " o", 2, 300, "@1")?;
+    script.push_str(" o1@1 2 ?")?;
+    Ok(script)
+}
+
+fn one_role_told(alloc: Global) -> Result<String, Fail> {
+    let mut want = String::from_str(alloc, "+0{0} +1{1}")?;
+    for number in 2..300u32 {
+        write!(want, " +{number}{{{number}}} -{number}")?;
+    }
+    put_numbers(&mut want, " o ~1 x", 2, 300, "")?;
+    want.push_str(" o ~1 -1 x1 -0 ( 0 h1 n300 t299 w0 ) most 300")?;
+    Ok(want)
+}
+
+/// Each node has one role of its own, those from 64 on too.
+#[test]
+fn three_hundred_roles_of_one_node_each(rt: HostRuntime) -> Result<(), Fail> {
+    let alloc = rt.alloc();
+    let query = asking_for_each(alloc)?;
+    let document = one_of_each(alloc)?;
+    let script = one_role_script(alloc)?;
+    let want = one_role_told(alloc)?;
+    is_told(
+        &rt,
+        alloc,
+        query.as_bytes(),
+        document.as_bytes(),
+        script.as_str(),
+        want.as_str(),
+    )
+}

@@ -15,7 +15,7 @@ use super::name::name_front;
 use super::tag::{behind_tag, empty_element, open_element};
 use crate::bytes::begins;
 use crate::mode::{Mode, Quote};
-use gcx_base::{Limits, Memory};
+use gcx_base::{Limits, Memory, same_bytes};
 
 /// A start tag without attributes is whole.
 #[inline(always)]
@@ -80,20 +80,6 @@ fn whole_start(m: &mut Scan, limits: &Limits, rest: &str) -> Result<usize, Memor
     }
 }
 
-/// Whether both have the same bytes. They are few.
-#[inline(always)]
-fn are_same(left: &[u8], right: &[u8]) -> bool
-    requires { length left.now ≡ length right.now }
-    ensures { IsTrue result ↔ (left.now ≡ right.now) }
-{
-    for i in 0..left.len() {
-        if left[i] != right[i] {
-            return false;
-        }
-    }
-    true
-}
-
 /// Whether a name stands at the front, and `>` behind it.
 #[inline(always)]
 fn closes(bytes: &[u8], name: &[u8]) -> bool
@@ -103,7 +89,7 @@ fn closes(bytes: &[u8], name: &[u8]) -> bool
     if n >= bytes.len() || bytes[n] != b'>' {
         return false;
     }
-    are_same(&bytes[..n], name)
+    same_bytes(&bytes[..n], name)
 }
 
 /// Reads an end tag without white space, and says how many bytes it takes.

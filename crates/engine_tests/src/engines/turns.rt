@@ -10,7 +10,7 @@ ghost use Rattle.gcx_model.specs.PlanView.{plan_tree};
 ghost use Rattle.gcx_model.specs.Tree.{opening};
 ghost use Rattle.doc_reader.specs.Standing.{Stands, said_of};
 ghost use Rattle.pull_eval.specs.Acting.{Beside};
-ghost use Rattle.engine.specs.Turns.{AreWithin};
+ghost use Rattle.gcx_model.specs.Seen.{AreWithin};
 
 use super::{marked, plan_of};
 use buf_tree::{Buffer, Row};

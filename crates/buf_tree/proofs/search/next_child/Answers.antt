@@ -1,5 +1,5 @@
 use Rattle.std.proofs.Common.{sym, ◌∙◌, ap, Some, None}
-use Rattle.gcx_model.specs.Paths.{passes}
+use Rattle.gcx_base.specs.Tests.{passes}
 use Rattle.buf_tree.specs.declared.row.Row.{Row}
 use Rattle.buf_tree.specs.Shape.{num, cells}
 use Rattle.buf_tree.specs.Match.{IsChild}

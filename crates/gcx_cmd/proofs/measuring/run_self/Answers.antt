@@ -1,5 +1,6 @@
 use Rattle.std.proofs.Common.{rules, ◌≡◌, refl, ◌∙◌, ap}
 use Rattle.engine.specs.declared.report.Ended.TheVariants as end
+use Rattle.gcx_io.specs.SureSource.{SureSourceState}
 use Rattle.gcx_model.specs.Query.{query_trees}
 use Rattle.gcx_cmd.specs.Status.{ended_status}
 use Rattle.gcx_cmd.proofs.Queries.{plan_placed}
@@ -19,5 +20,5 @@ returns c =
       | in-Ok-matches w ↦ w.in-Ok-matches.is
       | in_default-matches w ↦ let no : ⊥ = let a = c.if-not-matches.false in let b = w.matches-is in cc in absurd no
     ] in
-    self_runs c.args.seed c.args.count c.new-source.result q report (ended_status report.ended) _ _ _ c.bytes.result.now _ _ told.accepts (c.new-source.ensures ∙ c.in_ok-bytes.ensures)
+    self_runs c.args.seed c.args.count c.new-source.result.left q report (ended_status report.ended) _ _ _ c.bytes.result.now _ _ told.accepts (ap (λ (s : SureSourceState). s.left) c.new-source.ensures ∙ c.in_ok-bytes.ensures)
     c.in_ok-answer.ensures.empty c.bytes.ensures (ap ended_status ok) (c.run_plan-report.ensures.numbers q told.plan_is refl ok) (c.run_plan-report.ensures.ran q told.plan_is)

@@ -3,5 +3,5 @@ use Rattle.std.specs.Prelude.{map}
 use Rattle.gcx_model.specs.CondView.{core_cond_tree, core_cond_trees}
 use Rattle.gcx_model.proofs.cond.+copy_core_conditions.Given as goal
 
-abbrev pub invariant-Conds::copy-loop-cond : goal.invariant-Conds::copy-loop-cond
-invariant-Conds::copy-loop-cond l = core_cond_trees l.copied ≡ map core_cond_tree (take l.cond-index l.cond-items)
+abbrev pub invariant-CondList::copy-loop-cond : goal.invariant-CondList::copy-loop-cond
+invariant-CondList::copy-loop-cond l = core_cond_trees l.copied ≡ map core_cond_tree (take l.cond-index l.cond-items)

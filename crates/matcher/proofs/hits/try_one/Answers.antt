@@ -1,6 +1,6 @@
 use Rattle.std.proofs.Common.{◌≡◌, true, refl, sym, ◌∙◌, subst}
 use Rattle.std.proofs.lemmas.Bool.{false≢true}
-use Rattle.gcx_model.specs.Paths.{passes}
+use Rattle.gcx_base.specs.Tests.{passes}
 use Rattle.matcher.specs.declared.spots.Spot.{Spot}
 use Rattle.matcher.specs.Rows.{Passes}
 use Rattle.matcher.proofs.Gaining.{gains_none, gains_push}

@@ -2,7 +2,7 @@ use Rattle.std.proofs.Common.{◌≡◌, ◌<◌, ℕ, List, [], ◌∷◌, ◌+
 use Rattle.std.specs.Prelude.{slice_get}
 use Rattle.gcx_base.specs.declared.kind.Kind.TheVariants.{Text}
 use Rattle.gcx_model.specs.Held.{paths_from}
-use Rattle.gcx_model.specs.Paths.{passes}
+use Rattle.gcx_base.specs.Tests.{passes}
 use Rattle.gcx_model.specs.PlanView.{plan_tree, role_row_tree, var_row_tree}
 use Rattle.gcx_model.specs.declared.plan.RoleRow.{RoleRow}
 use Rattle.gcx_model.specs.declared.plan.VarRow.{VarRow}

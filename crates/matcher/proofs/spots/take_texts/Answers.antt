@@ -2,7 +2,7 @@ use Rattle.std.proofs.Common.{◌≡◌, get_or, sym, subst, inl, inr, arith, fa
 use Rattle.std.specs.Prelude.{slice_get}
 use Rattle.std.proofs.lemmas.Option.{slice_get_within, slice_get-get_or}
 use Rattle.gcx_base.specs.declared.kind.Kind.TheVariants.{Text}
-use Rattle.gcx_model.specs.Paths.{passes}
+use Rattle.gcx_base.specs.Tests.{passes}
 use Rattle.matcher.specs.declared.spots.Spot.{Spot}
 use Rattle.matcher.proofs.Climbing.{less_or}
 use Rattle.matcher.proofs.Looking.{one_at}

@@ -1,7 +1,7 @@
 use Rattle.std.proofs.Common.{◌≡◌, ◌<◌, ℕ, List, Some, false}
 use Rattle.std.specs.Prelude.{slice_get}
 use Rattle.gcx_base.specs.declared.kind.Kind.TheVariants.{Text}
-use Rattle.gcx_model.specs.Paths.{passes}
+use Rattle.gcx_base.specs.Tests.{passes}
 use Rattle.matcher.specs.declared.spots.Spot.{Spot}
 use Rattle.matcher.proofs.spots.take_texts.Given as goal
 

@@ -1,6 +1,6 @@
-use Rattle.std.proofs.Common.{true, false}
+use Rattle.std.proofs.Common.{false}
 use Rattle.gcx_model.specs.ItemView.{body_tree}
-use Rattle.proj_tree.proofs.Falls.{few_roles, deep_roles, none_passed, many_passed, deep_passed}
+use Rattle.proj_tree.proofs.Falls.{few_roles, deep_roles, none_passed}
 use Rattle.proj_tree.proofs.rows.roles.Goals as goal
 
 pub returns-clause-within : goal.returns-clause-within

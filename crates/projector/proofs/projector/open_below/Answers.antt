@@ -4,7 +4,8 @@ use Rattle.gcx_base.specs.declared.ids.Role.{Role}
 use Rattle.gcx_model.specs.Growth.{may_come}
 use Rattle.gcx_model.specs.Past.{Past}
 use Rattle.node_store.specs.declared.store.Place.{Place}
-use Rattle.matcher.specs.Matcher.{is_text, token_for, past_grown}
+use Rattle.gcx_base.specs.Kinds.{is_text}
+use Rattle.gcx_model.specs.Past.{token_for, past_grown}
 use Rattle.buf_tree.specs.View.{View}
 use Rattle.buf_tree.specs.Calls.{Opened, numbers}
 use Rattle.buf_tree.specs.Stands.{StandsFor, GivenTo}

@@ -4,7 +4,7 @@ use Rattle.gcx_model.specs.CondView.{core_cond_tree, core_conds_of}
 use Rattle.gcx_model.specs.Truth.{negate, truth}
 use Rattle.gcx_model.specs.declared.cond.Cond.{the_lemmas}
 use Rattle.pull_eval.specs.Asking.{Asked, Over}
-use Rattle.pull_eval.specs.declared.truth.Truth.TheVariants.{True, False}
+use Rattle.gcx_model.specs.declared.truth.Truth.TheVariants.{True, False}
 use Rattle.pull_eval.proofs.Parts.{fold_All, fold_Any, apart, alike, asked_not, all_none, all_on, all_settled, all_end, any_none, any_on, any_settled, any_end}
 use Rattle.pull_eval.proofs.conds.+truth_of.Goals as goal
 

@@ -1,5 +1,5 @@
 use Rattle.std.proofs.Common.{sym, ◌∙◌, ap}
-use Rattle.buf_tree.specs.Rows.{is_text}
+use Rattle.gcx_base.specs.Kinds.{is_text}
 use Rattle.pull_eval.proofs.copies.is_text.Goals as goal
 
 pub returns-in-Text : goal.returns-in-Text

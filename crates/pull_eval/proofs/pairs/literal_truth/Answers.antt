@@ -4,7 +4,7 @@ use Rattle.gcx_model.specs.Tree.{serial_of, is_closed}
 use Rattle.gcx_model.specs.Paths.{matches}
 use Rattle.gcx_model.specs.Values.{compare}
 use Rattle.gcx_model.specs.Answer.{some_pair}
-use Rattle.gcx_model.specs.Truth as verdict
+use Rattle.gcx_model.specs.Truth.{settle}
 use Rattle.pull_eval.specs.Literals.{literal_value}
 use Rattle.pull_eval.specs.Comparing.{AreInUse, closed_values, Readable}
 use Rattle.pull_eval.specs.declared.sets.Member.{Member}
@@ -20,5 +20,5 @@ returns g c P keep n at kn =
     let found : c.in_ok-found.found ≡ some_pair (compare c.args.rel) (closed_values P n c.args.steps.now) (literal_value c.args.literal.now ∷ []) =
     c.in_ok-found.ensures P keep (filter (is_closed P) (matches P (serial_of n) c.args.steps.now))
     (subst (λ (z : List Member). Readable c.args.buffer.now.rows P keep z (filter (is_closed P) (matches P (serial_of n) c.args.steps.now))) (sym c.deref.ensures.value) set) in
-    c.settle.ensures ∙ (ap (λ b. verdict.settle b c.is_closed.result) found
-    ∙ ap (verdict.settle (some_pair (compare c.args.rel) (closed_values P n c.args.steps.now) (literal_value c.args.literal.now ∷ []))) (shut_told c.args.buffer.now.rows c.args.place.0 c.is_closed.result c.is_closed.ensures P keep n at))
+    c.settle.ensures ∙ (ap (λ b. settle b c.is_closed.result) found
+    ∙ ap (settle (some_pair (compare c.args.rel) (closed_values P n c.args.steps.now) (literal_value c.args.literal.now ∷ []))) (shut_told c.args.buffer.now.rows c.args.place.0 c.is_closed.result c.is_closed.ensures P keep n at))

@@ -4,7 +4,7 @@ use Rattle.gcx_model.specs.Tree.{serial_of, is_closed}
 use Rattle.gcx_model.specs.Paths.{matches}
 use Rattle.gcx_model.specs.Values.{compare}
 use Rattle.gcx_model.specs.Answer.{some_pair}
-use Rattle.gcx_model.specs.Truth as verdict
+use Rattle.gcx_model.specs.Truth.{settle}
 use Rattle.pull_eval.specs.Comparing.{AreInUse, closed_values, Readable}
 use Rattle.pull_eval.specs.declared.sets.Member.{Member}
 use Rattle.pull_eval.proofs.Comparisons.{row_used, shut_told, closed_read, both_shut, one_open}
@@ -38,4 +38,4 @@ returns g c P keep n m at bt kn km =
       | else-is_closed w ↦
           one_open c.if-is_closed.settle c.is_closed.result (is_closed P n) (is_closed P m) w.if-is_closed.false (w.settle-is ∙ w.if-is_closed.false) (shut_told c.args.buffer.now.rows c.args.left.0 c.is_closed.result c.is_closed.ensures P keep n at)
     ] in
-    c.settle.ensures ∙ (ap (λ b. verdict.settle b c.if-is_closed.settle) found ∙ ap (verdict.settle (some_pair (compare c.args.rel) (closed_values P n c.args.left_steps.now) (closed_values P m c.args.right_steps.now))) over)
+    c.settle.ensures ∙ (ap (λ b. settle b c.if-is_closed.settle) found ∙ ap (settle (some_pair (compare c.args.rel) (closed_values P n c.args.left_steps.now) (closed_values P m c.args.right_steps.now))) over)

@@ -1,5 +1,5 @@
 use Rattle.std.proofs.Common.{sym, ◌∙◌, ap}
-use Rattle.buf_tree.specs.Rows.{is_text}
+use Rattle.gcx_base.specs.Kinds.{is_text}
 use Rattle.node_store.specs.declared.store.Place.{Place}
 use Rattle.pull_eval.proofs.Cursors.{kind_here, no_text_kind}
 use Rattle.pull_eval.proofs.values.is_text.Goals as goal

@@ -1,32 +1,37 @@
-use Rattle.std.proofs.Common.{length, arith, subst, sym, List, ℕ, ap, ◌∙◌, ◌≡◌, true, false}
-use Rattle.std.specs.FinSet.{len, insert, from_list, from_list_push, nat_cmp-IsAntisymmetric, contains, contains-from_list_nat}
-use Rattle.std.specs.Ordering.{nat_cmp}
-use Rattle.std.specs.Cmp.{nat_cmp_total}
-use Rattle.role_set.proofs.Sets.{insert_member, once-push}
+use Rattle.std.specs.Result.{OnOk, OnErr}
+use Rattle.std.specs.Prelude.{Result, Ok, Err}
+use Rattle.gcx_base.specs.declared.memory.Memory.{Memory}
+use Rattle.std.proofs.Common.{[], ◌∷◌, ◌++◌, ap, sym, subst, ◌∙◌, ◌≡◌, true, false}
+use Rattle.std.specs.FinSet.{insert, contains}
+use Rattle.role_set.specs.Words.{roles_of, AllHigh, high_numbers}
+use Rattle.role_set.proofs.Sets.{insert_member}
+use Rattle.role_set.proofs.Roles.{insert_low, insert_high, high_member, no_high, all_high-push}
 use Rattle.role_set.proofs.RoleSet.give.Goals as goal
 
-pub returns-then-contains-clause-ok : goal.returns-then-contains-clause-ok
-returns-then-contains-clause-ok c =
-    let members = contains-from_list_nat c.self.inside.numbers.items c.args.role.0 in
-    let has : contains c.args.self.now c.args.role.0 ≡ true = cc (c.contains.ensures.value, c.as_slice.ensures, c.self.view_is, members, c.if-contains.true) in
-    insert_member _ _ has
+pub returns-then-role-lt-WORD_BITS-clause-ok : goal.returns-then-role-lt-WORD_BITS-clause-ok
+returns-then-role-lt-WORD_BITS-clause-ok c = insert_low c.self.inside.low _ c.args.role.0 _ c.if-role-lt-WORD_BITS.true c.with_bit-self-inside.ensures ∙ ap (λ s. insert s c.args.role.0) c.self.view_is
 
-pub returns-in_err-push-clause-has : goal.returns-in_err-push-clause-has
-returns-in_err-push-clause-has c has =
-    let members = contains-from_list_nat c.self.inside.numbers.items c.args.role.0 in
-    let bad : true ≡ false = cc (c.contains.ensures.value, c.as_slice.ensures, c.self.view_is, members, c.if-contains.false, has) in
-    cc
-
-pub returns-clause-ok : goal.returns-clause-ok
-returns-clause-ok c =
-    ap from_list c.in_ok-push.ensures.ok
-    ∙ from_list_push nat_cmp_total nat_cmp-IsAntisymmetric _ _
-    ∙ ap (λ s. insert s c.args.role.0) c.self.view_is
+pub returns-then-has-clause-ok : goal.returns-then-has-clause-ok
+returns-then-has-clause-ok c = insert_member _ _ (ap (λ s. contains s c.args.role.0) (sym c.self.view_is) ∙ high_member c.self.inside.low _ c.args.role.0 c.if-role-lt-WORD_BITS.false ∙ sym c.has.ensures ∙ c.if-has.true)
 
 pub invariant_of-self-2 : goal.invariant_of-self-2
-invariant_of-self-2 c =
-    let members = contains-from_list_nat c.self.inside.numbers.items c.args.role.0 in
-    let new : contains (from_list {R = nat_cmp} c.self.inside.numbers.items) c.args.role.0 ≡ false = cc (c.contains.ensures.value, c.as_slice.ensures, members, c.if-contains.false) in
-    let once : len (from_list {R = nat_cmp} c.push.new.self.items) ≡ length c.push.new.self.items =
-    subst (λ (xs : List ℕ). len (from_list {R = nat_cmp} xs) ≡ length xs) (sym c.in_ok-push.ensures.ok) (once-push c.self.inside.numbers.items c.args.role.0 new c.self.invariant.0) in
-    (once, omega (arith, c.self.invariant.1, c.in_ok-push.ensures.capacity))
+invariant_of-self-2 c = (c.add.ensures.high, by c.add.result c.add.ensures.ok c.add.ensures.err)
+  where
+    by : (r : Result (Unit {0}) Memory) → OnOk r (high_numbers c.add.new.self ≡ high_numbers c.self.inside.high ++ c.args.role.0 ∷ []) → OnErr r (high_numbers c.add.new.self ≡ high_numbers c.self.inside.high) → AllHigh (high_numbers c.add.new.self)
+    by (Ok u) ok err = subst AllHigh (sym ok) (all_high-push (high_numbers c.self.inside.high) c.args.role.0 c.self.invariant.1 c.if-role-lt-WORD_BITS.false)
+    by (Err e) ok err = subst AllHigh (sym err) c.self.invariant.1
+
+pub returns-clause-ok : goal.returns-clause-ok
+returns-clause-ok c = by c.add.result c.add.ensures.ok
+  where
+    by : (r : Result (Unit {0}) Memory) → OnOk r (high_numbers c.add.new.self ≡ high_numbers c.self.inside.high ++ c.args.role.0 ∷ []) → OnOk r (roles_of c.self.inside.low (high_numbers c.add.new.self) ≡ insert c.args.self.now c.args.role.0)
+    by (Ok u) ok = ap (roles_of c.self.inside.low) ok ∙ insert_high c.self.inside.low c.args.role.0 (high_numbers c.self.inside.high) ∙ ap (λ s. insert s c.args.role.0) c.self.view_is
+    by (Err e) ok = tt
+
+pub returns-clause-has : goal.returns-clause-has
+returns-clause-has c has =
+    let bad : true ≡ false = sym (ap (λ s. contains s c.args.role.0) c.self.view_is ∙ has) ∙ high_member c.self.inside.low (high_numbers c.self.inside.high) c.args.role.0 c.if-role-lt-WORD_BITS.false ∙ sym c.has.ensures ∙ c.if-has.false in
+    cc
+
+pub returns-clause-first : goal.returns-clause-first
+returns-clause-first c none = c.add.ensures.first (no_high c.self.inside.low (high_numbers c.self.inside.high) c.self.invariant.1 (λ k has. none k (ap (λ s. contains s k) (sym c.self.view_is) ∙ has)))

@@ -1,11 +1,19 @@
-use Rattle.std.proofs.Common.{rules, ap, sym, ◌∙◌, ◌≡◌, length}
-use Rattle.std.specs.FinSet.{from_list}
-use Rattle.std.specs.Ordering.{nat_cmp}
-use Rattle.role_set.proofs.Sets.{empty_list, nil_of_length}
+use Rattle.std.proofs.Common.{rules, sym, ◌∙◌, ◌≡◌, [], arith}
+use Rattle.role_set.specs.Words.{roles_of, high_numbers}
+use Rattle.role_set.proofs.Roles.{empty_roles, parts_of_empty}
 use Rattle.role_set.proofs.RoleSet.is_empty.Goals as goal
 
-pub returns : goal.returns
-returns c = (
-  λ is. let none : length c.self.inside.numbers.items ≡ 0 = search rules in sym c.self.view_is ∙ ap (λ xs. from_list {R = nat_cmp} xs) (nil_of_length _ none),
-  λ is. let none = ap length (empty_list c.self.inside.numbers.items (c.self.view_is ∙ is)) in search rules,
+pub returns-then-self-eq0 : goal.returns-then-self-eq0
+returns-then-self-eq0 c = (
+  λ is. let none : high_numbers c.self.inside.high ≡ [] = c.is_empty.ensures.0 is in
+      sym c.self.view_is ∙ (λ i. roles_of (c.if-self-eq0.true i) (none i)) ∙ empty_roles,
+  λ is. let parts = parts_of_empty c.self.inside.low (high_numbers c.self.inside.high) (omega arith) c.self.invariant.1 (c.self.view_is ∙ is) in
+      c.is_empty.ensures.1 parts.1,
+)
+
+pub returns-else-self-eq0 : goal.returns-else-self-eq0
+returns-else-self-eq0 c = (
+  λ is. let zero : c.self.inside.low ≡ 0 = search rules in absurd (c.if-self-eq0.false zero),
+  λ is. let parts = parts_of_empty c.self.inside.low (high_numbers c.self.inside.high) (omega arith) c.self.invariant.1 (c.self.view_is ∙ is) in
+      absurd (c.if-self-eq0.false parts.0),
 )

@@ -1,17 +1,16 @@
-use Rattle.std.proofs.Common.{rules, length, ◌≡◌, arith, subst, sym, List, ℕ, ap, ◌∙◌, not, ◌==◌}
-use Rattle.std.specs.FinSet.{len, remove, from_list}
-use Rattle.std.specs.Ordering.{nat_cmp}
-use Rattle.role_set.proofs.Sets.{filter-from_retain, once-filter, from_list-filter}
+use Rattle.std.proofs.Common.{ap, sym, subst, ◌∙◌}
+use Rattle.std.specs.FinSet.{remove}
+use Rattle.role_set.specs.Words.{roles_of, AllHigh}
+use Rattle.role_set.proofs.Roles.{remove_low, remove_high, all_high-filter}
 use Rattle.role_set.proofs.RoleSet.take.Goals as goal
 
-pub returns : goal.returns
-returns c =
-    let kept = filter-from_retain _ (λ x. not (x == c.args.role.0)) _ (λ x b f' y called. search rules) _ _ c.retain.ensures.filtered in
-    ap (λ xs. from_list {R = nat_cmp} xs) kept ∙ from_list-filter _ _ ∙ ap (λ s. remove s c.args.role.0) c.self.view_is
+pub returns-then-role-lt-WORD_BITS : goal.returns-then-role-lt-WORD_BITS
+returns-then-role-lt-WORD_BITS c =
+    remove_low c.self.inside.low _ c.args.role.0 _ c.self.invariant.1 c.if-role-lt-WORD_BITS.true c.without_bit-self-inside.ensures ∙ ap (λ s. remove s c.args.role.0) c.self.view_is
 
-pub invariant_of-self : goal.invariant_of-self
-invariant_of-self c =
-    let kept = filter-from_retain _ (λ x. not (x == c.args.role.0)) _ (λ x b f' y called. search rules) _ _ c.retain.ensures.filtered in
-    let once : len (from_list {R = nat_cmp} c.retain.new.self.items) ≡ length c.retain.new.self.items =
-    subst (λ (xs : List ℕ). len (from_list {R = nat_cmp} xs) ≡ length xs) (sym kept) (once-filter (λ x. not (x == c.args.role.0)) _ c.self.invariant.0) in
-    (once, omega (arith, c.self.invariant.1, c.retain.ensures.capacity))
+pub returns-else-role-lt-WORD_BITS : goal.returns-else-role-lt-WORD_BITS
+returns-else-role-lt-WORD_BITS c =
+    ap (roles_of c.self.inside.low) c.remove.ensures.value ∙ remove_high c.self.inside.low c.args.role.0 _ c.if-role-lt-WORD_BITS.false ∙ ap (λ s. remove s c.args.role.0) c.self.view_is
+
+pub invariant_of-self-else-role-lt-WORD_BITS : goal.invariant_of-self-else-role-lt-WORD_BITS
+invariant_of-self-else-role-lt-WORD_BITS c = (c.remove.ensures.high, subst AllHigh (sym c.remove.ensures.value) (all_high-filter _ _ c.self.invariant.1))

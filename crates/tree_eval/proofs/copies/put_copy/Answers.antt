@@ -1,7 +1,8 @@
 use Rattle.std.proofs.Common.{◌≡◌, ◌++◌, sym, ◌∙◌, ap, arith}
 use Rattle.gcx_model.specs.Tree.{kind_of}
 use Rattle.gcx_model.specs.Answer.{copy_of}
-use Rattle.tree_eval.specs.Rows.{is_text, node_at, nodes_of}
+use Rattle.gcx_base.specs.Kinds.{is_text}
+use Rattle.tree_eval.specs.Rows.{node_at, nodes_of}
 use Rattle.tree_eval.specs.Copies.{whole}
 use Rattle.tree_eval.proofs.Nodes.{are_nodes}
 use Rattle.tree_eval.proofs.Copying.{root_copy, no_node_copy}

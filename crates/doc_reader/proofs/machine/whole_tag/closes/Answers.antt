@@ -8,4 +8,4 @@ returns c = λ is.
     let bytes = c.args.bytes.now in
     let n = length name in
     let byte : get_or bytes n 0 ≡ 62 = search rules in
-    (drop (n + 1) bytes, closes_is bytes name n refl (omega arith) byte (c.are_same.ensures.0 is))
+    (drop (n + 1) bytes, closes_is bytes name n refl (omega arith) byte (c.same_bytes.ensures.same.0 is))

@@ -27,4 +27,4 @@ returns-clause-rest c =
     let set : slice_set c.self.inside.openings.items c.args.handle.0 c.read.new.self ≡ read_at c.self.inside.openings.items c.args.handle.0 c.read.result =
     ap (λ (o : Opening). slice_set c.self.inside.openings.items c.args.handle.0 o) c.read.ensures.rest
     ∙ read_set c.self.inside.openings.items c.args.handle.0 c.read.result c.index_mut.result.now given c.index_mut.ensures.value in
-    rw (← c.self.view_is) (ap (λ (l : List Opening). record { files = c.self.inside.entries.items; openings = l; whole = c.self.inside.whole }) set)
+    rw (← c.self.view_is) (ap (λ (l : List Opening). record { files = c.self.inside.entries.items; openings = l; whole = c.self.inside.whole; refused = c.self.inside.misses.list }) set)

@@ -2,7 +2,7 @@ use Rattle.std.proofs.Common.{◌≡◌, List, ◌<◌, map, length, sym, subst,
 use Rattle.std.specs.Prelude.{slice_get}
 use Rattle.gcx_base.specs.declared.ids.Role.{Role}
 use Rattle.gcx_model.specs.Tree.{Root}
-use Rattle.gcx_laws.proofs.Public.{grown_from, root_from}
+use Rattle.tree_laws.proofs.Fed.{grown_from, root_from}
 use Rattle.matcher.specs.declared.row.Row.{Row}
 use Rattle.matcher.proofs.Looking.{read_at}
 use Rattle.matcher.proofs.GivenRoles.{roles_are, root_above}

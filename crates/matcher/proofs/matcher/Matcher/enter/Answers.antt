@@ -6,12 +6,13 @@ use Rattle.gcx_base.specs.declared.ids.Role.{Role}
 use Rattle.gcx_model.specs.Tree.{Node, grow}
 use Rattle.gcx_model.specs.Held.{roles_given}
 use Rattle.gcx_model.specs.Past.{Past}
-use Rattle.gcx_laws.specs.Pasts.{Opens}
+use Rattle.gcx_model.specs.Past.{Opens}
 use Rattle.matcher.specs.Lists.{Climbs, Holds}
 use Rattle.matcher.specs.Parts.{hits_at, pending_at, whole_at}
 use Rattle.matcher.specs.Rows.{HitsBelow}
 use Rattle.matcher.specs.Stacks.{innermost_row}
-use Rattle.matcher.specs.Matcher.{Stands, past_grown, token_for}
+use Rattle.matcher.specs.Matcher.{Stands}
+use Rattle.gcx_model.specs.Past.{past_grown, token_for}
 use Rattle.matcher.specs.Entering.{AreHits, Goes, IsIdle, IsIdled}
 use Rattle.matcher.specs.declared.matcher.Matcher.{Matcher}
 use Rattle.matcher.specs.declared.row.Row.{Row}
@@ -44,7 +45,7 @@ pub returns-then-is_idle-clause-stands : goal.returns-then-is_idle-clause-stands
 returns-then-is_idle-clause-stands c =
     let m = c.args.self.now in
     let kind = c.args.kind.now in
-    let e = c.is_text_kind-text.ensures in
+    let e = c.is_text-text.ensures in
     on_ok_weaker c.enter_idle.result (λ d past S may few.
     let G : Goes m past kind = record { stands = S; node = c.requires.kind; may = may } in
     let q = idle_goes m past kind G (subst (λ (z : Bool). IsIdle m z) e (c.is_idle.ensures.yes c.if-is_idle.true)) in
@@ -56,7 +57,7 @@ returns-then-is_idle-clause-given c =
     let kind = c.args.kind.now in
     IfOk-weaker c.enter_idle.result _ _ (λ (given : List Role) (h : Told m given) past n S may op.
     let G : Goes m past kind = record { stands = S; node = c.requires.kind; may = may } in
-    let q = idle_goes m past kind G (subst (λ (z : Bool). IsIdle m z) c.is_text_kind-text.ensures (c.is_idle.ensures.yes c.if-is_idle.true)) in
+    let q = idle_goes m past kind G (subst (λ (z : Bool). IsIdle m z) c.is_text-text.ensures (c.is_idle.ensures.yes c.if-is_idle.true)) in
     told m past kind G q.0 given h n op) c.enter_idle.ensures.given
 
 pub returns-in_err-find_below-clause-err : goal.returns-in_err-find_below-clause-err
@@ -72,7 +73,7 @@ returns-then-not-is_empty-clause-stands c =
     let hits : AreHits m kind = λ row at. subst (λ (z : List Spot). Holds c.find_below.new.hits.items (HitsBelow z (hits_at c.args.self.now.rows row) (pending_at c.args.self.now.rows row) kind)) c.deref.ensures.value (c.in_ok-find_below.ensures row at) in
     on_ok_weaker c.enter_hit.result (λ d past S may few.
     let G : Goes m past kind = goes_as c.args.self.now m past kind refl refl refl refl refl (record { stands = S; node = c.requires.kind; may = may }) in
-    subst (λ (z : Bool). Stands c.enter_hit.new.self (past_grown (token_for kind) past) z) c.is_text_kind-text.ensures (d past kind G (sym c.is_text_kind-text.ensures) idle hits)) c.enter_hit.ensures.stands
+    subst (λ (z : Bool). Stands c.enter_hit.new.self (past_grown (token_for kind) past) z) c.is_text-text.ensures (d past kind G (sym c.is_text-text.ensures) idle hits)) c.enter_hit.ensures.stands
 
 pub returns-then-not-is_empty-clause-given : goal.returns-then-not-is_empty-clause-given
 returns-then-not-is_empty-clause-given c =
@@ -100,10 +101,10 @@ returns-then-text-clause-stands c =
     on_ok_weaker c.enter_idle-then-text.result (λ d past S may few.
     let G : Goes m past kind = goes_as c.args.self.now m past kind refl refl refl refl refl (record { stands = S; node = c.requires.kind; may = may }) in
     let q : Quiet m past kind G = elim c.then-text.branch [
-      | then-text-via-then-text w ↦ inr (sym c.is_text_kind-text.ensures ∙ w.if-text.true, idle)
+      | then-text-via-then-text w ↦ inr (sym c.is_text-text.ensures ∙ w.if-text.true, idle)
       | then-text-via-else-text+then-not-is_pending w ↦ inl (quiet_row m past kind G (w.is_pending.ensures w.if-not-is_pending.true (last m past kind G).row (last m past kind G).at))
     ] in
-    idle_stands m past kind G (unled_below m past kind G idle (lead past G)) q few c.enter_idle-then-text.new.self (subst (λ (z : Bool). IsIdled m c.enter_idle-then-text.new.self z) c.is_text_kind-text.ensures d)) c.enter_idle-then-text.ensures.idled
+    idle_stands m past kind G (unled_below m past kind G idle (lead past G)) q few c.enter_idle-then-text.new.self (subst (λ (z : Bool). IsIdled m c.enter_idle-then-text.new.self z) c.is_text-text.ensures d)) c.enter_idle-then-text.ensures.idled
 
 pub returns-then-text-clause-given : goal.returns-then-text-clause-given
 returns-then-text-clause-given c =
@@ -133,7 +134,7 @@ returns-clause-stands c =
     λ past G. subst (λ (z : List ℕ). Holds z (HitsBelow m.spots.spots.items (hits_at m.rows (last m past kind G).row) (pending_at m.rows (last m past kind G).row) kind)) none (hits (last m past kind G).row (last m past kind G).at) in
     on_ok_weaker c.enter_bare.result (λ d past S may few.
     let G : Goes m past kind = goes_as c.args.self.now m past kind refl refl refl refl refl (record { stands = S; node = c.requires.kind; may = may }) in
-    bare_stands m past kind G idle (lead past G) c.enter_bare.new.self d (sym c.is_text_kind-text.ensures ∙ c.if-text.false)) c.enter_bare.ensures.bared
+    bare_stands m past kind G idle (lead past G) c.enter_bare.new.self d (sym c.is_text-text.ensures ∙ c.if-text.false)) c.enter_bare.ensures.bared
 
 pub returns-clause-given : goal.returns-clause-given
 returns-clause-given c =

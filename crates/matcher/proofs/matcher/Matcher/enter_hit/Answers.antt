@@ -7,13 +7,14 @@ use Rattle.gcx_base.specs.declared.ids.Role.{Role}
 use Rattle.gcx_model.specs.Tree.{Under, grow}
 use Rattle.gcx_model.specs.Held.{roles_given}
 use Rattle.gcx_model.specs.Past.{Past}
-use Rattle.gcx_laws.proofs.Lists.{In}
+use Rattle.tree_laws.proofs.Lists.{In}
 use Rattle.matcher.specs.Lists.{Climbs, From, Gains, Holds}
 use Rattle.matcher.specs.Parts.{hits_at, pending_at, whole_at}
 use Rattle.matcher.specs.Row.{IsFound}
 use Rattle.matcher.specs.Rows.{AreRoles, HitsBelow}
 use Rattle.matcher.specs.Stacks.{IsAdded, of_row}
-use Rattle.matcher.specs.Matcher.{Stands, past_grown, token_for}
+use Rattle.matcher.specs.Matcher.{Stands}
+use Rattle.gcx_model.specs.Past.{past_grown, token_for}
 use Rattle.matcher.specs.Entering.{AreHits, Firsts, FoundNoted, Goes}
 use Rattle.matcher.specs.declared.matcher.Matcher.{Matcher}
 use Rattle.matcher.specs.declared.row.Context.{Context}

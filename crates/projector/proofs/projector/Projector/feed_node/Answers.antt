@@ -1,7 +1,7 @@
 use Rattle.std.proofs.Common.{refl, ◌∙◌}
 use Rattle.std.specs.Prelude.{option_map}
 use Rattle.node_store.specs.declared.store.Place.{Place}
-use Rattle.matcher.specs.Matcher.{token_for}
+use Rattle.gcx_model.specs.Past.{token_for}
 use Rattle.projector.specs.Projector.{HasHeard}
 use Rattle.projector.proofs.Pasts.{is_open}
 use Rattle.projector.proofs.Places.{level_is, shallow}

@@ -1,7 +1,8 @@
 use Rattle.std.proofs.Common.{false, sym, ◌∙◌, subst}
 use Rattle.std.proofs.lemmas.Bool.{true≢false}
 use Rattle.gcx_model.specs.Tree.{End}
-use Rattle.matcher.specs.Matcher.{Stands, past_grown}
+use Rattle.matcher.specs.Matcher.{Stands}
+use Rattle.gcx_model.specs.Past.{past_grown}
 use Rattle.projector.specs.declared.projector.Projector.{Projector}
 use Rattle.projector.proofs.projector.Projector.go_up.Goals as goal
 use Rattle.projector.proofs.projector.Projector.go_up.Goals.{then-is_some, else-is_some}

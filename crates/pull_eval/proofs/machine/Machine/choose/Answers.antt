@@ -1,8 +1,7 @@
-use Rattle.std.proofs.Common.{refl, sym, ◌∙◌, ap}
+use Rattle.std.proofs.Common.{refl, sym, ◌∙◌}
 use Rattle.std.proofs.lemmas.Result.{IfOk-weaker}
 use Rattle.gcx_model.specs.CondView.{core_cond_tree}
 use Rattle.gcx_model.specs.Core.{If}
-use Rattle.pull_eval.specs.Asking.{verdict_of}
 use Rattle.pull_eval.specs.Position.{items}
 use Rattle.pull_eval.proofs.Frames.{at_item}
 use Rattle.pull_eval.proofs.Choosing.{asked, waits, this_chosen, other_chosen}
@@ -30,7 +29,7 @@ returns-in-Unknown-clause-moved g c = λ past k out b s.
     let rest = items c.args.rest.now in
     let a = at_item c.args.self.now.position c.args.buffer.now past k b (If cond this other) rest c.requires.next in
     let t = c.in_ok-truth.ensures past.tree a.env (s, sym b.buffer.nodes) (asked c.args.self.now.position c.args.buffer.now past k b cond this other rest c.requires.next c.requires.begun) in
-    ((waits c.args.self.now.position c.args.buffer.now past k b cond this other rest c.requires.next (sym (ap verdict_of c.in-Unknown.is) ∙ t.0), refl, refl, b), t.1.0)
+    ((waits c.args.self.now.position c.args.buffer.now past k b cond this other rest c.requires.next (sym c.in-Unknown.is ∙ t.0), refl, refl, b), t.1.0)
 
 pub returns-in-True-clause-moved : goal.returns-in-True-clause-moved
 returns-in-True-clause-moved g c =
@@ -41,7 +40,7 @@ returns-in-True-clause-moved g c =
     IfOk-weaker c.begin_branch.result _ _ (λ x moved past k out b s.
     let a = at_item c.args.self.now.position c.args.buffer.now past k b (If cond this other) rest c.requires.next in
     let t = c.in_ok-truth.ensures past.tree a.env (s, sym b.buffer.nodes) (asked c.args.self.now.position c.args.buffer.now past k b cond this other rest c.requires.next c.requires.begun) in
-    (moved cond this other c.args.buffer.now past k out c.requires.next b (this_chosen c.args.self.now.position c.args.buffer.now past k b cond this other rest c.requires.next (sym (ap verdict_of c.in-True.is) ∙ t.0)), t.1.0))
+    (moved cond this other c.args.buffer.now past k out c.requires.next b (this_chosen c.args.self.now.position c.args.buffer.now past k b cond this other rest c.requires.next (sym c.in-True.is ∙ t.0)), t.1.0))
     c.begin_branch.ensures.moved
 
 pub returns-in-False-clause-moved : goal.returns-in-False-clause-moved
@@ -53,5 +52,5 @@ returns-in-False-clause-moved g c =
     IfOk-weaker c.begin_branch-in-False.result _ _ (λ x moved past k out b s.
     let a = at_item c.args.self.now.position c.args.buffer.now past k b (If cond this other) rest c.requires.next in
     let t = c.in_ok-truth.ensures past.tree a.env (s, sym b.buffer.nodes) (asked c.args.self.now.position c.args.buffer.now past k b cond this other rest c.requires.next c.requires.begun) in
-    (moved cond this other c.args.buffer.now past k out c.requires.next b (other_chosen c.args.self.now.position c.args.buffer.now past k b cond this other rest c.requires.next (sym (ap verdict_of c.in-False.is) ∙ t.0)), t.1.0))
+    (moved cond this other c.args.buffer.now past k out c.requires.next b (other_chosen c.args.self.now.position c.args.buffer.now past k b cond this other rest c.requires.next (sym c.in-False.is ∙ t.0)), t.1.0))
     c.begin_branch-in-False.ensures.moved

@@ -1,0 +1,54 @@
+ghost use Rattle.std.specs.Prelude.{◌≡◌, ◌<◌, ◌∷◌, ◌++◌, [], length};
+ghost use Rattle.std.specs.Io.{ReadsAtMost};
+ghost use Rattle.gcx_io.specs.Bytes.{Moves};
+ghost use Rattle.gcx_io.specs.Calls.{read_call, write_call};
+ghost use Rattle.gcx_io.specs.FileShelf.{stream_calls};
+
+use crate::Failed;
+use crate::stream::Stream;
+use call_history::Name;
+use gcx_base::Text;
+use std::marker::Model;
+
+/// A handle of the file system: a stream, and the name that it was opened by.
+#[derive(Drop)]
+pub(crate) struct FileHandle {
+    name: Name,
+    stream: Stream,
+}
+
+impl Model for FileHandle {
+    ghost use Rattle.gcx_io.specs.Views.{HandleCalls};
+    ghost use Rattle.gcx_io.specs.FileShelf.{stream_calls};
+
+    ghost Value = { HandleCalls };
+
+    ghost view = { λ h. record { name = h.name.bytes; calls = stream_calls h.stream } };
+}
+
+impl FileHandle {
+    /// The stream was opened by this name.
+    pub fn new(name: &Text, stream: Stream) -> FileHandle
+        ensures { result ≡ record { name = name.now; calls = stream_calls stream } }
+    {
+        FileHandle {
+            name: Name::of(name.as_bytes()),
+            stream,
+        }
+    }
+
+    pub fn read(&mut self, buf: &mut [u8]) -> Result<usize, Failed>
+        ensures bound { ReadsAtMost result buf.new }
+        ensures notes { self.new ≡ record self.old { calls = self.old.calls ++ read_call result buf.new ∷ [] } }
+    {
+        self.stream.read(buf)
+    }
+
+    pub fn write(&mut self, piece: &[u8]) -> Result<usize, Failed>
+        requires { 0 < length piece.now }
+        ensures bound { Moves result piece.now }
+        ensures notes { self.new ≡ record self.old { calls = self.old.calls ++ write_call result piece.now ∷ [] } }
+    {
+        self.stream.write(piece)
+    }
+}

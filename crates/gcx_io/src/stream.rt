@@ -1,0 +1,65 @@
+ghost use Rattle.std.specs.Prelude.{◌≡◌, ◌<◌, ◌∷◌, ◌++◌, [], length};
+ghost use Rattle.std.specs.Io.{ReadsAtMost};
+ghost use Rattle.gcx_io.specs.Bytes.{Moves};
+ghost use Rattle.gcx_io.specs.Calls.{read_call, write_call};
+ghost use Rattle.gcx_io.specs.FileShelf.{stream_calls};
+
+use crate::Failed;
+use crate::noting::Noting;
+use either::Either;
+use std::fs::File;
+use std::io::Stdin;
+
+/// What a handle of the file system reads from or writes to. A call of the other kind fails.
+#[derive(Drop)]
+pub(crate) enum Stream {
+    Reading(Noting<Either<File, Stdin>>),
+    Writing(Noting<File>),
+}
+
+impl Stream {
+    pub fn file(file: File) -> Stream
+        ensures { stream_calls result ≡ [] }
+    {
+        Stream::Reading(Noting::new(Either::Left(file)))
+    }
+
+    pub fn standard(input: Stdin) -> Stream
+        ensures { stream_calls result ≡ [] }
+    {
+        Stream::Reading(Noting::new(Either::Right(input)))
+    }
+
+    pub fn made(file: File) -> Stream
+        ensures { stream_calls result ≡ [] }
+    {
+        Stream::Writing(Noting::new(file))
+    }
+
+    pub fn read(&mut self, buf: &mut [u8]) -> Result<usize, Failed>
+        ensures bound { ReadsAtMost result buf.new }
+        ensures notes { stream_calls self.new ≡ stream_calls self.old ++ read_call result buf.new ∷ [] }
+    {
+        match self {
+            Stream::Reading(stream) => stream.read(buf),
+            Stream::Writing(stream) => {
+                stream.fail(buf);
+                Err(Failed)
+            }
+        }
+    }
+
+    pub fn write(&mut self, piece: &[u8]) -> Result<usize, Failed>
+        requires { 0 < length piece.now }
+        ensures bound { Moves result piece.now }
+        ensures notes { stream_calls self.new ≡ stream_calls self.old ++ write_call result piece.now ∷ [] }
+    {
+        match self {
+            Stream::Writing(stream) => stream.write(piece),
+            Stream::Reading(stream) => {
+                stream.fail(piece);
+                Err(Failed)
+            }
+        }
+    }
+}

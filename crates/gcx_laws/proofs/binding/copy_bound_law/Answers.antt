@@ -1,5 +1,0 @@
-use Rattle.gcx_laws.proofs.Bindings as from
-use Rattle.gcx_laws.proofs.binding.copy_bound_law.Goals as goal
-
-pub returns : goal.returns
-returns c = from.copy_bound_law

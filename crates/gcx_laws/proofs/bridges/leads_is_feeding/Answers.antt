@@ -1,5 +1,0 @@
-use Rattle.gcx_laws.proofs.Public as from
-use Rattle.gcx_laws.proofs.bridges.leads_is_feeding.Goals as goal
-
-pub returns : goal.returns
-returns c = from.leads_is_feeding

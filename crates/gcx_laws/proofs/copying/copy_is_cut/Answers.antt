@@ -1,5 +1,0 @@
-use Rattle.gcx_laws.proofs.CopyCut as from
-use Rattle.gcx_laws.proofs.copying.copy_is_cut.Goals as goal
-
-pub returns : goal.returns
-returns c = from.copy_is_cut

@@ -1,5 +1,0 @@
-use Rattle.gcx_laws.proofs.CopyMoves as from
-use Rattle.gcx_laws.proofs.copying.copy_steps.Goals as goal
-
-pub returns : goal.returns
-returns c = from.copy_steps

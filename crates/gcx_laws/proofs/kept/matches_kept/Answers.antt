@@ -1,5 +1,0 @@
-use Rattle.gcx_laws.proofs.Keeping as from
-use Rattle.gcx_laws.proofs.kept.matches_kept.Goals as goal
-
-pub returns : goal.returns
-returns c = from.matches_kept

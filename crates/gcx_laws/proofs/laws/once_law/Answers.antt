@@ -1,5 +1,0 @@
-use Rattle.gcx_laws.proofs.Public as from
-use Rattle.gcx_laws.proofs.laws.once_law.Goals as goal
-
-pub returns : goal.returns
-returns c = from.once_law

@@ -1,5 +1,0 @@
-use Rattle.gcx_laws.proofs.Spelling as from
-use Rattle.gcx_laws.proofs.line_texts.line_by_text.Goals as goal
-
-pub returns : goal.returns
-returns c = from.line_by_text

@@ -1,5 +1,0 @@
-use Rattle.gcx_laws.proofs.Straight as from
-use Rattle.gcx_laws.proofs.loop_rules.path_by_loop.Goals as goal
-
-pub returns : goal.returns
-returns c = from.path_by_loop

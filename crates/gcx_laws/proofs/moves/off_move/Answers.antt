@@ -1,5 +1,0 @@
-use Rattle.gcx_laws.proofs.Moving as from
-use Rattle.gcx_laws.proofs.moves.off_move.Goals as goal
-
-pub returns : goal.returns
-returns c = from.off_move

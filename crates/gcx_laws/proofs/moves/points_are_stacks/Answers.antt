@@ -1,5 +1,0 @@
-use Rattle.gcx_laws.proofs.Moving as from
-use Rattle.gcx_laws.proofs.moves.points_are_stacks.Goals as goal
-
-pub returns : goal.returns
-returns c = from.points_are_stacks

@@ -1,5 +1,0 @@
-use Rattle.gcx_laws.proofs.Ahead as from
-use Rattle.gcx_laws.proofs.pasts.ahead_takes.Goals as goal
-
-pub returns : goal.returns
-returns c = from.ahead_takes

@@ -1,5 +1,0 @@
-use Rattle.gcx_laws.proofs.PastForms as from
-use Rattle.gcx_laws.proofs.pasts.core_state_past.Goals as goal
-
-pub returns : goal.returns
-returns c = from.core_state_past

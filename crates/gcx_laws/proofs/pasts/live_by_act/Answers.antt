@@ -1,5 +1,0 @@
-use Rattle.gcx_laws.proofs.Changes as from
-use Rattle.gcx_laws.proofs.pasts.live_by_act.Goals as goal
-
-pub returns : goal.returns
-returns c = from.live_by_act

@@ -1,5 +1,0 @@
-use Rattle.gcx_laws.proofs.Ahead as from
-use Rattle.gcx_laws.proofs.pasts.new_unsigned.Goals as goal
-
-pub returns : goal.returns
-returns c = from.new_unsigned

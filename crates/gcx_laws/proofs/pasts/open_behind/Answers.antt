@@ -1,5 +1,0 @@
-use Rattle.gcx_laws.proofs.RowFacts as from
-use Rattle.gcx_laws.proofs.pasts.open_behind.Goals as goal
-
-pub returns : goal.returns
-returns c = from.open_behind

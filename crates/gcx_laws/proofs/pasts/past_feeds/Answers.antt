@@ -1,5 +1,0 @@
-use Rattle.gcx_laws.proofs.PastForms as from
-use Rattle.gcx_laws.proofs.pasts.past_feeds.Goals as goal
-
-pub returns : goal.returns
-returns c = from.past_feeds

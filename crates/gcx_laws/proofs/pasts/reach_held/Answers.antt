@@ -1,5 +1,0 @@
-use Rattle.gcx_laws.proofs.Bases as from
-use Rattle.gcx_laws.proofs.pasts.reach_held.Goals as goal
-
-pub returns : goal.returns
-returns c = from.reach_held

@@ -1,5 +1,0 @@
-use Rattle.gcx_laws.proofs.Awaited as from
-use Rattle.gcx_laws.proofs.pasts.waiting_law.Goals as goal
-
-pub returns : goal.returns
-returns c = from.waiting_law

@@ -1,5 +1,0 @@
-use Rattle.gcx_laws.proofs.Unmoved as from
-use Rattle.gcx_laws.proofs.quiet.quiet_token.Goals as goal
-
-pub returns : goal.returns
-returns c = from.quiet_token

@@ -1,0 +1,5 @@
+use Rattle.move_laws.proofs.CopyMoves as from
+use Rattle.move_laws.proofs.copying.copy_ends.Goals as goal
+
+pub returns : goal.returns
+returns c = from.copy_ends

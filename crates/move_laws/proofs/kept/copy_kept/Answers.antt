@@ -1,0 +1,5 @@
+use Rattle.move_laws.proofs.Keeping as from
+use Rattle.move_laws.proofs.kept.copy_kept.Goals as goal
+
+pub returns : goal.returns
+returns c = from.copy_kept

@@ -1,0 +1,5 @@
+use Rattle.move_laws.proofs.Keeping as from
+use Rattle.move_laws.proofs.kept.first_kept.Goals as goal
+
+pub returns : goal.returns
+returns c = from.first_kept

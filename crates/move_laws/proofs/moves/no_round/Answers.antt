@@ -1,0 +1,5 @@
+use Rattle.move_laws.proofs.Moving as from
+use Rattle.move_laws.proofs.moves.no_round.Goals as goal
+
+pub returns : goal.returns
+returns c = from.no_round

@@ -1,0 +1,16 @@
+pub mod Balance
+pub mod CoreStates
+pub mod Evaluator
+pub mod Frames
+pub mod Lasting
+pub mod Local
+pub mod Need
+pub mod Needed
+pub mod Once
+pub mod Plans
+pub mod Pruned
+pub mod Reopened
+pub mod Signs
+pub mod Stays
+pub mod Waits
+pub mod Writes

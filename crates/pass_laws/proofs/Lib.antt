@@ -1,0 +1,5 @@
+mod Rounds
+mod Guards
+mod Settled
+mod Stay
+mod LoopFacts

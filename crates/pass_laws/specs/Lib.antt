@@ -1,0 +1,4 @@
+pub mod Idle
+pub mod Turns
+pub mod Scopes
+pub mod ValueLists

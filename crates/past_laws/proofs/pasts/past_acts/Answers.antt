@@ -1,0 +1,5 @@
+use Rattle.past_laws.proofs.PastForms as from
+use Rattle.past_laws.proofs.pasts.past_acts.Goals as goal
+
+pub returns : goal.returns
+returns c = from.past_acts

@@ -1,0 +1,5 @@
+use Rattle.past_laws.proofs.Changes as from
+use Rattle.past_laws.proofs.pasts.signed_by_act.Goals as goal
+
+pub returns : goal.returns
+returns c = from.signed_by_act

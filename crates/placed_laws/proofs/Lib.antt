@@ -1,0 +1,16 @@
+pub mod Balances
+pub mod Bindings
+pub mod Bridge
+pub mod Ends
+pub mod FromPlans
+pub mod HeldChanges
+pub mod Meaning
+pub mod Moved
+pub mod Placed
+pub mod PlanStatements
+pub mod PlanWriting
+pub mod PointNeeds
+pub mod Rows
+pub mod Straight
+pub mod Told
+pub mod Unique

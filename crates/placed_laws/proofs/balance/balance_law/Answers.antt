@@ -1,0 +1,5 @@
+use Rattle.placed_laws.proofs.Balances as from
+use Rattle.placed_laws.proofs.balance.balance_law.Goals as goal
+
+pub returns : goal.returns
+returns c = from.balance_law

@@ -1,0 +1,24 @@
+//! The laws on plans that are placed for a core: balance, what points need, what is written. Each is the contract
+//! of a function that does nothing: who calls it knows the law.
+#![tactic(auto)]
+
+mod balance;
+mod binding;
+mod loop_rules;
+mod needs;
+mod normal;
+mod plans;
+
+pub use balance::{
+    balance_law, empty_at_end, gone_stays, held_by_act, held_by_feed, offs_at_matches, once_law,
+    taken_stays,
+};
+pub use binding::copy_bound_law;
+pub use loop_rules::{fsa_by_loop, path_by_loop, straight_by_loop, variables_of_loops};
+pub use needs::{
+    bound_law, copy_held, loop_held, need_law, truth_held, turn_law, turns_held, unsigned_law,
+};
+pub use normal::{known_is_front, normal_is_good, normal_law};
+pub use plans::{
+    one_statement, paths_by_rows, placed_once, plan_bytes, plan_writes, signed_by_role,
+};

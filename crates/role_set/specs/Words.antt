@@ -1,0 +1,41 @@
+-- A set of roles as a word of bits and a list. This follows the code: only private functions and the set's model speak
+-- of it. All definitions here are this project's.
+use Rattle.std.specs.Prelude.{◌≡◌, ◌<◌, ◌≤◌, ◌==◌, ℕ, zero, suc, Bool, not, ◌&&◌, ◌||◌, cond, List, [], ◌∷◌, ◌++◌, length}
+use Rattle.std.specs.Int.{bit_at}
+use Rattle.std.specs.Ordering.{nat_cmp}
+use Rattle.std.specs.FinSet as set
+use Rattle.role_set.specs.declared.high.HighRoles.{HighRoles}
+use Rattle.role_set.specs.declared.high.HighRoles.TheVariants.{Empty, One, Many}
+
+-- the word has the number
+abbrev pub has_bit : ℕ → ℕ → Bool
+has_bit word number = bit_at word number == 1
+
+pub record AddsBit (word number result : ℕ) : Type 0 where
+  pub bits : (k : ℕ) → k < 64 → has_bit result k ≡ ((k == number) || has_bit word k)
+
+pub record DropsBit (word number result : ℕ) : Type 0 where
+  pub bits : (k : ℕ) → k < 64 → has_bit result k ≡ (not (k == number) && has_bit word k)
+
+-- the numbers below w that the word has
+unfoldable pub bits_below : ℕ → ℕ → List ℕ
+bits_below word zero = []
+bits_below word (suc k) = cond (has_bit word k) (k ∷ bits_below word k) (bits_below word k)
+
+abbrev pub high_numbers : HighRoles → List ℕ
+high_numbers Empty = []
+high_numbers (One n) = n ∷ []
+high_numbers (Many ns) = ns.value.items
+
+-- a list is kept for some number
+abbrev pub IsHigh : HighRoles → Type 0
+IsHigh Empty = Unit {0}
+IsHigh (One n) = Unit {0}
+IsHigh (Many ns) = 0 < length ns.value.items
+
+abbrev pub AllHigh : List ℕ → Type 0
+AllHigh [] = Unit {0}
+AllHigh (n ∷ ns) = (64 ≤ n) × AllHigh ns
+
+unfoldable pub roles_of : ℕ → List ℕ → set.FinSet nat_cmp
+roles_of low high = set.from_list (bits_below low 64 ++ high)

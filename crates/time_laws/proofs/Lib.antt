@@ -1,0 +1,11 @@
+mod Begun
+mod Cuts
+mod Truths
+mod Runs
+mod Clocks
+mod LastOffs
+mod Lives
+mod Traces
+mod Starts
+mod Judged
+mod InOrder

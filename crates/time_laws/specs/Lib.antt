@@ -1,0 +1,4 @@
+pub mod Times
+pub mod Leaving
+pub mod Checking
+pub mod Laws

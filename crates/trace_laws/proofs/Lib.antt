@@ -1,0 +1,4 @@
+pub mod Goes
+pub mod Rows
+pub mod Traces
+pub mod TurnsReached

@@ -1,0 +1,15 @@
+pub mod Chains
+pub mod Departures
+pub mod Documents
+pub mod Equal
+pub mod Fed
+pub mod Freeze
+pub mod Growing
+pub mod Held
+pub mod Hitting
+pub mod Lists
+pub mod Matches
+pub mod OffsSigned
+pub mod Order
+pub mod Reading
+pub mod Spelling
