@@ -1,8 +1,11 @@
-//! The help text, and when it is asked for. It is no part of what is proved.
+//! The texts of help and version, and when they are asked for. They are no part of what is proved.
 use gcx_base::Text;
 
+/// What `--version` writes.
+const VERSION: &str = "gcx 0.1.0\n";
+
 /// What `--help` writes.
-pub(crate) const HELP: &str = "\
+const HELP: &str = "\
 gcx answers a query over an XML document while it reads it.
 
 Usage:
@@ -13,19 +16,25 @@ Usage:
   gcx gen SEED N                            write a document of N items
   gcx selfrun SEED N                        run a query over that document
 
-QUERY and DOC are names of files; - is standard input. Behind -- every word is
-a name or a number. SEED is 0 to 4294967295, N is 1 to 100000.
+QUERY and DOC are names of files; - is standard input. After -- all arguments
+are names or numbers. SEED is 0 to 4294967295, N is 1 to 100000.
+A query on the command line, in bash:  gcx run <(echo '/bib/book/title') bib.xml
 
 Options of run:
   --trace      write on standard error when each node comes and goes
   --ahead K    feed up to K tokens before the next write, 1 to 1000; not with --trace
+
+--help, -h or help as the first word, or --help or -h after a command, prints
+this text; --version or -V as the first word prints the version. Both end
+with 2.
 
 Exit status:
   0  all was written          2  the words are not a command line
   3  QUERY is not accepted    4  DOC is not accepted
   5  read fault               6  write fault
   7  out of memory
-Where it isn't 0, one line on standard error says why.
+Where it isn't 0, one line on standard error says why. The language, and what
+each line means: man gcx.
 ";
 
 /// The names of the commands.
@@ -39,27 +48,31 @@ fn is_command(word: &Text) -> bool {
     found
 }
 
-/// Whether `--help` is among the words; behind `--` it is a name.
+/// Whether `--help` or `-h` is among the words; behind `--` it is a name.
 fn has_help(words: &[Text]) -> bool {
     for word in words {
-        if word.as_str() == "--" {
+        let word = word.as_str();
+        if word == "--" {
             return false;
         }
-        if word.as_str() == "--help" {
+        if word == "--help" || word == "-h" {
             return true;
         }
     }
     false
 }
 
-/// Whether words that are no command line ask for help: by their first word, or by `--help` behind a command.
-pub(crate) fn asks_for_help(words: &[Text]) -> bool {
-    let Some((first, rest)) = words.split_first() else {
-        return false;
-    };
+/// The text that words ask for which are no command line: that of the version by their first word, that of help by their
+/// first word, or by `--help` or `-h` behind a command.
+pub(crate) fn text_asked_for(words: &[Text]) -> Option<&'static str> {
+    let (first, rest) = words.split_first()?;
     let word = first.as_str();
-    if word == "--help" || word == "-h" || word == "help" {
-        return true;
+    if word == "--version" || word == "-V" {
+        return Some(VERSION);
     }
-    is_command(first) && has_help(rest)
+    let is_asked = word == "--help" || word == "-h" || word == "help";
+    if is_asked || (is_command(first) && has_help(rest)) {
+        return Some(HELP);
+    }
+    None
 }

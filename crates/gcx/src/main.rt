@@ -6,7 +6,7 @@ mod help;
 use gcx_base::Text;
 use gcx_cmd::{Status, gcx_main};
 use gcx_io::{FileShelf, StdErr, StdOut};
-use help::{HELP, asks_for_help};
+use help::text_asked_for;
 use raw_nodes::RawNodes;
 use std::env;
 use std::io::{ErrorKind, Write};
@@ -50,9 +50,11 @@ fn main(rt: HostRuntime) -> ExitCode {
         Err(code) => return ExitCode::from(code),
     };
     let status = run(rt, &words);
-    if matches!(status, Status::Usage) && asks_for_help(&words) {
+    if matches!(status, Status::Usage)
+        && let Some(text) = text_asked_for(&words)
+    {
         // A fault of standard output changes nothing: the words are no command line.
-        let _ = rt.stdout().write_all(HELP.as_bytes());
+        let _ = rt.stdout().write_all(text.as_bytes());
     }
     ExitCode::from(status.code())
 }
