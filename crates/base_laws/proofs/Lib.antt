@@ -1,3 +1,5 @@
 pub mod Bools
+pub mod Counts
 pub mod Lists
 pub mod Members
+pub mod Numbers

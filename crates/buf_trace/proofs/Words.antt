@@ -1,23 +1,24 @@
 -- A text is cut at its first space, and no number, kind or name has one.
 use Rattle.std.proofs.Common.{◌≡◌, ℕ, zero, suc, ◌+◌, ◌-◌, ◌<◌, ◌≤◌, ◌^◌, ◌%◌, Bool, true, false, List, [], ◌∷◌, ◌++◌, length, get_or, take, drop, Option, Some, None, refl, sym, ◌∙◌, ap, subst, inl, inr, ◌⊎◌, arith, nat_lt}
 use Rattle.std.specs.Borrow.{Bor}
-use Rattle.std.specs.List.{list_all, position, position_or_len}
+use Rattle.std.specs.List.{position, position_or_len}
 use Rattle.std.specs.Fmt.{decimal}
 use lib.Utf8.{encode, encodes}
 use Rattle.std.proofs.Math.Seq.{take-length}
 use Rattle.std.proofs.lemmas.List.{append-nil, length-drop}
 use Rattle.std.proofs.lemmas.List.Sums.{split_at_first, fails_before_first, passes_at_first}
 use Rattle.std.proofs.lemmas.Option.{cond_some}
-use Rattle.std.proofs.lemmas.Bool.{and_parts, and_from, or_left, false≢true}
+use Rattle.std.proofs.lemmas.Bool.{false≢true}
 use Rattle.std.proofs.lemmas.Bool.Decides.{nat_tests}
 use Rattle.std.proofs.lemmas.Str.{inside_one}
 use Rattle.std.proofs.lemmas.Fmt.{decimal_by_steps}
-use Rattle.gcx_base.specs.Characters.{is_start_char, is_part_char}
-use Rattle.gcx_base.specs.Name.{is_name, IsNameBytes}
+use Rattle.gcx_base.specs.Characters.{is_part_char}
+use Rattle.gcx_base.specs.Name.{IsNameBytes}
 use Rattle.gcx_model.specs.Members.{In}
 use Rattle.gcx_model.specs.Demand.{kind_text}
 use Rattle.base_laws.proofs.Members.{list_all_at, place_of}
 use Rattle.tree_laws.proofs.Lists.{In-append}
+use Rattle.tree_laws.proofs.Spelling.{all_parts}
 use Rattle.buf_trace.specs.declared.line.LineKind.{LineKind}
 use Rattle.buf_trace.specs.declared.line.LineKind.TheVariants.{Document, Element, Text}
 use Rattle.buf_trace.specs.Lines.{IsKind, kind_tree}
@@ -109,10 +110,6 @@ space_in (c ∷ cs) i = elim (In-append 32 (encode c) (encodes cs) i) [
       inl (inside_one c [] (encode c) r.0 (sym (append-nil (encode c))) r.1 small ∙ r.2))
   | inr j ↦ inr (space_in cs j)
 ]
-
-all_parts : (cs : List ℕ) → is_name cs ≡ true → list_all is_part_char cs ≡ true
-all_parts [] h = absurd (false≢true h)
-all_parts (c ∷ cs) h = let a = and_parts (is_start_char c) (list_all is_part_char cs) h in and_from _ _ (or_left (is_start_char c) _ a.0) a.1
 
 name_word : (name : List ℕ) → IsNameBytes name → IsWord name
 name_word name n i = false≢true (list_all_at is_part_char 32 n.chars (all_parts n.chars n.name) (space_in n.chars (subst (λ (z : List ℕ). In 32 z) (sym n.parts) i)))

@@ -12,6 +12,8 @@ use Rattle.gcx_model.specs.Placed.{offs_in, is_own}
 use Rattle.gcx_model.specs.Run.{Offed}
 use Rattle.gcx_model.specs.Held.{held, is_held, live}
 use Rattle.gcx_model.specs.Past.{Past, past_acted, is_ahead, waiting_offs}
+use Rattle.base_laws.proofs.Bools.{same_bools}
+use Rattle.base_laws.proofs.Members.{in_map, from_map}
 use Rattle.past_laws.specs.Pasts.{bases}
 use Rattle.tree_laws.proofs.Lists.{In, In-filter}
 use Rattle.past_laws.proofs.Awaited.{waiting_law}
@@ -30,9 +32,8 @@ use Rattle.buf_tree.specs.Sweep.{taken_by}
 use Rattle.buf_tree.specs.Withdraw.{Taking, Withdrawn}
 use Rattle.buf_tree.specs.Stands.{Seen, seen, told, StandsFor, awaited_by, Due, IsAhead, IsBehind}
 use Rattle.buf_tree.proofs.Shaping.{at_place_is, rising_same}
-use Rattle.buf_tree.proofs.Changes.{In-map, In-mapped, map-map, g_num, g_place, g_parent}
+use Rattle.buf_tree.proofs.Changes.{map-map, g_num, g_place, g_parent}
 use Rattle.buf_tree.proofs.Keeping.{ready_changed, cells_changed}
-use Rattle.buf_tree.proofs.Feeding.{bools}
 use Rattle.buf_tree.proofs.Bridging.{cell_node}
 use Rattle.buf_tree.proofs.Signing.{sign_cell, rows_signed}
 use Rattle.buf_tree.proofs.Losing as losing
@@ -62,10 +63,10 @@ module _ (k p : ℕ) where
 
   tidy_signed : (xs : List Cell) → Tidy xs → Tidy (map g xs)
   tidy_signed xs t c i =
-      let x = In-map g c xs i in
+      let x = from_map g c xs i in
       subst (λ (z : Cell). Keeps (map g xs) z) x.2 (elim (t x.0 x.1) [
         | inl alive ↦ inl (λ dead. alive (g_dead x.0 dead))
-        | inr d ↦ inr (g d.0, In-mapped g d.0 xs d.1, (λ q. not (same_num k p d.0 q == 0) && (g_parent (signed_for k) p (keeps_signed k) d.0 q == same_num k p x.0 q)) ∙ d.2)
+        | inr d ↦ inr (g d.0, in_map g d.0 xs d.1, (λ q. not (same_num k p d.0 q == 0) && (g_parent (signed_for k) p (keeps_signed k) d.0 q == same_num k p x.0 q)) ∙ d.2)
       ])
 
   same_count : (r : ℕ) (xs : List Cell) → role_count r (map g xs) ≡ role_count r xs
@@ -105,8 +106,8 @@ pub record Between (v w : View) (k p : ℕ) : Type 0 where
 pub signed_by : (v u w : View) (k p : ℕ) (loses : Cell → Bool) → Rising v.rows → Rising u.rows → Between v u k p → Withdrawn u w loses k → ((c : Cell) → In c u.rows → loses c ≡ true → set.contains c.row.roles k ≡ true) → Signed v w k
 signed_by v u w k p loses rise rise' b h has = record {
   places = λ c i.
-      let x = In-map (bare loses k) c u.rows (In-filter (λ (x : Cell). not (is_gone h.leaves.left x)) c (taken_by loses k u.rows) (subst (λ (zs : List Cell). In c zs) h.leaves.purged.leaves.rows i)).0 in
-      let y = In-map (with_at (signed_for k) p) x.0 v.rows (subst (λ (zs : List Cell). In x.0 zs) b.rows x.1) in (
+      let x = from_map (bare loses k) c u.rows (In-filter (λ (x : Cell). not (is_gone h.leaves.left x)) c (taken_by loses k u.rows) (subst (λ (zs : List Cell). In c zs) h.leaves.purged.leaves.rows i)).0 in
+      let y = from_map (with_at (signed_for k) p) x.0 v.rows (subst (λ (zs : List Cell). In x.0 zs) b.rows x.1) in (
         y.0,
         y.1,
         sym (g_place (signed_for k) p (keeps_signed k) y.0) ∙ ap (λ (z : Cell). z.place) y.2 ∙ (bare_alike loses k x.0).place ∙ ap (λ (z : Cell). z.place) x.2,
@@ -193,7 +194,7 @@ module _ (m0 m1 : Store) (v : View) (p : ℕ) (off : Off) (e0 : cells m0 ≡ v.r
           → (keeps (num c) ≡ live past.plan past.tree (past.acts ++ Offed (off_tree off) (serial_of node.0) ∷ []) n off.role.0) × ((c.place == p) ≡ (serial_of node.0 == serial_of n))
       each c n i j e = (
         ap keeps (ap (λ (z : Seen). z.serial) e) ∙ losing.stays_is past st.is_past m0 h.shape h.ordered.nested rows0 off stated c0 here p at node.0 node.1 node.2 base n (in_tree n j),
-        bools (c.place == p) (serial_of node.0 == serial_of n)
+        same_bools (c.place == p) (serial_of node.0 == serial_of n)
             (λ q. eq-eqb _ _ (sym (ap (λ (z : Seen). z.serial) node.2) ∙ ap num (h.shape.apart c0 c here i (at ∙ sym (eqb-true c.place p q))) ∙ ap (λ (z : Seen). z.serial) e))
             (λ q. eq-eqb c.place p (ap (λ (z : Cell). z.place) (rising_same (cells m0) h.shape.rising c c0 i here (ap (λ (z : Seen). z.serial) e ∙ sym (eqb-true _ _ q) ∙ sym (ap (λ (z : Seen). z.serial) node.2))) ∙ at)),
       )

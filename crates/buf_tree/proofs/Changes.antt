@@ -6,6 +6,7 @@ use Rattle.std.specs.Ordering.{nat_cmp, eq_by_cmp}
 use Rattle.std.specs.Cmp.{nat_cmp_total, unsigned_tied}
 use Rattle.std.specs.FinMap.{get, insert, remove, get-insert, get-remove}
 use Rattle.std.proofs.lemmas.Bool.{and_parts, and_from, true≢false, false≢true, eqb-true, eq-eqb, ne_eqb, false_from_ne_true}
+use Rattle.base_laws.proofs.Members.{filter_all, in_map, from_map}
 use Rattle.tree_laws.proofs.Lists.{In, In-filter, In-kept}
 use Rattle.node_store.specs.Rows.{Entry, without_child, changed, changed_at, parent_of, left_by, unlinked, paid_by}
 use Rattle.buf_tree.specs.declared.row.Row.{Row}
@@ -41,16 +42,6 @@ pub none_either : {X : Type 0} (b : Bool) → ◌≡◌ {A = Option X} (cond b N
 none_either true = refl
 none_either false = refl
 
-pub In-map : {X Y : Type 0} (f : X → Y) (y : Y) (xs : List X) → In y (map f xs) → (x : X) × In x xs × (f x ≡ y)
-In-map f y [] h = absurd h
-In-map f y (x ∷ xs) (inl e) = (x, inl refl, e)
-In-map f y (x ∷ xs) (inr i) = let r = In-map f y xs i in (r.0, inr r.1, r.2)
-
-pub In-mapped : {X Y : Type 0} (f : X → Y) (x : X) (xs : List X) → In x xs → In (f x) (map f xs)
-In-mapped f x [] h = absurd h
-In-mapped f x (y ∷ ys) (inl e) = inl (ap f e)
-In-mapped f x (y ∷ ys) (inr i) = inr (In-mapped f x ys i)
-
 map_alike : {X Y : Type 0} (f g : X → Y) (xs : List X) → ((x : X) → f x ≡ g x) → map f xs ≡ map g xs
 map_alike f g [] h = refl
 map_alike f g (x ∷ xs) h = λ t. h x t ∷ map_alike f g xs h t
@@ -58,10 +49,6 @@ map_alike f g (x ∷ xs) h = λ t. h x t ∷ map_alike f g xs h t
 pub map-map : {X Y Z : Type 0} (f : X → Y) (g : Y → Z) (xs : List X) → map g (map f xs) ≡ map (λ x. g (f x)) xs
 map-map f g [] = refl
 map-map f g (x ∷ xs) = ap (λ z. g (f x) ∷ z) (map-map f g xs)
-
-filter_keeps : {X : Type 0} (p : X → Bool) (xs : List X) → ((x : X) → In x xs → p x ≡ true) → filter p xs ≡ xs
-filter_keeps p [] h = refl
-filter_keeps p (x ∷ xs) h = rw (h x (inl refl)) (ap (λ z. x ∷ z) (filter_keeps p xs (λ y i. h y (inr i))))
 
 pub Rising-filtered : (p : Cell → Bool) (xs : List Cell) → Rising xs → Rising (filter p xs)
 Rising-filtered p [] r = tt
@@ -150,11 +137,11 @@ module _ (f : Row → Row) (p : ℕ) (keeps : (r : Row) → ((f r).serial ≡ r.
     gets = λ r. get_changed (paid_by f) p m r ∙ (rw (s.gets r) (each r (at_place r xs) refl)) ∙ ap (option_map (entry_in (map g xs))) (sym (at_place-g r xs));
     rising = rise xs s.rising;
     apart = λ a b i j e.
-        let x = In-map g a xs i in
-        let y = In-map g b xs j in
+        let x = from_map g a xs i in
+        let y = from_map g b xs j in
         let same : x.0 ≡ y.0 = s.apart x.0 y.0 x.1 y.1 (sym (g_place x.0) ∙ ap (λ (z : Cell). z.place) x.2 ∙ e ∙ sym (ap (λ (z : Cell). z.place) y.2) ∙ g_place y.0) in
         sym x.2 ∙ ap g same ∙ y.2;
-    up = λ a i. let x = In-map g a xs i in subst (λ (z : Cell). (num z ≡ 0) ⊎ Above (map g xs) z) x.2 (upper x.0 (s.up x.0 x.1));
+    up = λ a i. let x = from_map g a xs i in subst (λ (z : Cell). (num z ≡ 0) ⊎ Above (map g xs) z) x.2 (upper x.0 (s.up x.0 x.1));
   }
     where
       each : (r : ℕ) (o : Option Cell) → at_place r xs ≡ o → cond (r == p) (option_map (paid_by f) (option_map (entry_in xs) o)) (option_map (entry_in xs) o) ≡ option_map (entry_in (map g xs)) (option_map g o)
@@ -168,14 +155,14 @@ module _ (f : Row → Row) (p : ℕ) (keeps : (r : Row) → ((f r).serial ≡ r.
 
       rise : (ys : List Cell) → Rising ys → Rising (map g ys)
       rise [] r = tt
-      rise (y ∷ ys) r = (λ z i. let x = In-map g z ys i in let l = r.0 x.0 x.1 in let a = g_num y in let b = g_num x.0 in let d = ap num x.2 in omega arith, rise ys r.1)
+      rise (y ∷ ys) r = (λ z i. let x = from_map g z ys i in let l = r.0 x.0 x.1 in let a = g_num y in let b = g_num x.0 in let d = ap num x.2 in omega arith, rise ys r.1)
 
       upper : (x : Cell) → (num x ≡ 0) ⊎ Above xs x → (num (g x) ≡ 0) ⊎ Above (map g xs) (g x)
       upper x (inl e) = inl (g_num x ∙ e)
       upper x (inr h) =
           let a = g_num h.0 in
           let b = g_num x in
-          inr (g h.0, In-mapped g h.0 xs h.1, a ∙ h.2 ∙ sym (g_parent x), omega (arith, h.3))
+          inr (g h.0, in_map g h.0 xs h.1, a ∙ h.2 ∙ sym (g_parent x), omega (arith, h.3))
 
 -- ---- a leaf less
 
@@ -224,8 +211,8 @@ module _ (m : Store) (xs : List Cell) (s : Shape m xs) (c0 : Cell) (i0 : In c0 x
   -- a row that isn't the leaf's parent keeps its children
   same_children : (c : Cell) → is_under (num c) c0 ≡ false → without_child c0.place (entry_in xs c) ≡ entry_in xs c
   same_children c n = ap (λ z. record { parent = place_for xs c.row; children = z; payload = c.row })
-      (filter_keeps (λ q. not (q == c0.place)) (map (λ (d : Cell). d.place) (filter (is_under (num c)) xs)) (λ q i.
-      let r = In-map (λ (d : Cell). d.place) q (filter (is_under (num c)) xs) i in
+      (filter_all (λ q. not (q == c0.place)) (map (λ (d : Cell). d.place) (filter (is_under (num c)) xs)) (λ q i.
+      let r = from_map (λ (d : Cell). d.place) q (filter (is_under (num c)) xs) i in
       let f = In-filter (is_under (num c)) r.0 xs r.1 in
       ap not (ne_eqb q c0.place (λ e.
       let is : r.0 ≡ c0 = s.apart r.0 c0 f.0 i0 (r.2 ∙ e) in

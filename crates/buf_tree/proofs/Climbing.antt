@@ -11,6 +11,7 @@ use Rattle.gcx_base.specs.declared.kind.Kind.{Kind}
 use Rattle.gcx_base.specs.declared.steps.Step.{Step}
 use Rattle.gcx_model.specs.Tree.{Node, Root, Under, serial_of, above, within}
 use Rattle.gcx_model.specs.Paths.{hits}
+use Rattle.base_laws.proofs.Bools.{same_bools}
 use Rattle.tree_laws.proofs.Lists.{In, any_in, any_from}
 use Rattle.tree_laws.proofs.Chains.{above_self, above_trans}
 use Rattle.tree_laws.proofs.Freeze.{hits_within}
@@ -19,7 +20,6 @@ use Rattle.buf_tree.specs.declared.row.Row.{Row}
 use Rattle.buf_tree.specs.Shape.{Store, Cell, num, cells, Rising, Shaped}
 use Rattle.buf_tree.specs.Walk.{low_at}
 use Rattle.buf_tree.specs.Ways.{Tells, NodeOf, Descends, is_same, leads, Flags}
-use Rattle.buf_tree.proofs.Feeding.{bools}
 use Rattle.buf_tree.proofs.Shaping.{rising_same}
 use Rattle.buf_tree.proofs.Kin.{row_of_place, parent_row, no_parent}
 use Rattle.buf_tree.proofs.Seeking.{same_place, serial_at_place, cell_row}
@@ -123,7 +123,7 @@ within_some n (Under p s k) h = elim (or_cases (s == n) (within n p) h) [
 
 -- steps that lead to n itself
 pub leads_same : (a : ℕ) (steps : List Step) (n : Node) → Descends n → leads (is_same n) a steps n ≡ hits a steps n
-leads_same a steps n d = bools _ _ to from
+leads_same a steps n d = same_bools _ _ to from
   where
     to : leads (is_same n) a steps n ≡ true → hits a steps n ≡ true
     to h =

@@ -1,8 +1,8 @@
 -- What a token makes of the rows that a buffer stands for.
-use Rattle.std.proofs.Common.{◌≡◌, ◌==◌, ℕ, ◌≤◌, Bool, true, false, cond, ◌||◌, List, [], ◌∷◌, ◌++◌, length, map, drop, refl, sym, ◌∙◌, ap, subst, inl, inr, arith, Some, None, Option, eqb}
+use Rattle.std.proofs.Common.{◌≡◌, ◌==◌, ℕ, Bool, true, false, cond, ◌||◌, List, [], ◌∷◌, ◌++◌, length, map, drop, refl, sym, ◌∙◌, ap, subst, inl, inr, arith, Some, None, Option}
 use Rattle.std.specs.List.{filter}
 use Rattle.std.proofs.lemmas.List.{append-nil}
-use Rattle.std.proofs.lemmas.Bool.{or_cases, or_left, false≢true, eqb-true, eq-eqb, ne_eqb, cases_eq, false_from_ne_true}
+use Rattle.std.proofs.lemmas.Bool.{or_left, false≢true, eqb-true, eq-eqb, ne_eqb, cases_eq, false_from_ne_true}
 use Rattle.gcx_base.specs.declared.kind.Kind.{Kind}
 use Rattle.gcx_model.specs.Tree.{Tree, Token, Start, Chars, End, Node, Root, Under, serial_of, within, is_open_at, grow, grow_at}
 use Rattle.gcx_model.specs.Growth.{may_come, level}
@@ -12,7 +12,7 @@ use Rattle.tree_laws.proofs.Lists.{In, In-left, In-right, In-append, In-filter, 
 use Rattle.tree_laws.proofs.Matches.{Grown, Grown-grow, added, added_at, grow_nodes}
 use Rattle.tree_laws.proofs.Freeze.{within_self}
 use Rattle.past_laws.proofs.Changes.{live_by_feed}
-use Rattle.past_laws.proofs.Awaited.{waiting_law}
+use Rattle.past_laws.proofs.Awaited.{waiting_law, within_low}
 use Rattle.past_laws.proofs.PastForms.{past_feeds}
 use Rattle.past_laws.proofs.Bases.{is_grown}
 use Rattle.placed_laws.proofs.HeldChanges.{held_by_feed}
@@ -26,11 +26,6 @@ use Rattle.buf_tree.proofs.Shaping.{rising_same}
 use Rattle.buf_tree.proofs.Changes.{map-map}
 use Rattle.buf_tree.proofs.Standing.{pair_left, rows_held, held_up}
 
-pub bools : (a b : Bool) → (a ≡ true → b ≡ true) → (b ≡ true → a ≡ true) → a ≡ b
-bools true b f g = sym (f refl)
-bools false true f g = g refl
-bools false false f g = refl
-
 pub map_both : {S X Y R : Type 0} (f : X → S) (g : Y → S) (f' : X → R) (g' : Y → R) (xs : List X) (ys : List Y) → map f xs ≡ map g ys → ((x : X) (y : Y) → In x xs → In y ys → f x ≡ g y → f' x ≡ g' y) → map f' xs ≡ map g' ys
 map_both f g f' g' [] [] e h = refl
 map_both f g f' g' [] (y ∷ ys) e h = absurd (cc)
@@ -39,13 +34,6 @@ map_both f g f' g' (x ∷ xs) (y ∷ ys) e h =
     let a : f x ≡ g y = cc in
     let b : map f xs ≡ map g ys = cc in
     λ t. h x y (inl refl) (inl refl) a t ∷ map_both f g f' g' xs ys b (λ s u i j. h s u (inr i) (inr j)) t
-
-pub within_low : (P : Tree) → Grown P → (k : ℕ) (q : Node) → In q P.nodes → within k q ≡ true → k ≤ serial_of q
-within_low P w k Root i h = let e = eqb-true 0 k h in omega arith
-within_low P w k (Under q s kd) i h = elim (or_cases (eqb s k) (within k q) h) [
-  | inl e ↦ (let f = eqb-true s k e in omega arith)
-  | inr e ↦ (let l = within_low P w k q (w.upward q s kd i) e in let b = w.below q s kd i in omega arith)
-]
 
 pub at_held : (past : Past) → IsPast past → (a : Node) → past.tree.at ≡ Some a → In a (held past.plan past.tree past.acts)
 at_held past is a e =

@@ -2,7 +2,7 @@
 use Rattle.std.proofs.Common.{◌≡◌, ◌==◌, ℕ, ◌<◌, true, false, List, sym, ◌∙◌, ap, subst, inl, inr, ◌⊎◌, arith, Some, None, Option}
 use Rattle.std.specs.Prelude.{IsSome}
 use Rattle.std.specs.FinMap.{get}
-use Rattle.std.proofs.lemmas.Bool.{false≢true, eqb-true, eq-eqb}
+use Rattle.std.proofs.lemmas.Bool.{false≢true, eqb-true, eq-eqb, cases_lt}
 use Rattle.gcx_base.specs.declared.steps.Axis.{Axis}
 use Rattle.gcx_base.specs.declared.steps.Axis.TheVariants.{Child, Descendant}
 use Rattle.gcx_base.specs.declared.steps.Test.{Test}
@@ -14,7 +14,7 @@ use Rattle.buf_tree.specs.Walk.{Nested, Inside, Within, Climbs, JustBehind, Behi
 use Rattle.buf_tree.specs.Match.{IsChild, IsFrom}
 use Rattle.buf_tree.proofs.Shaping.{rising_same}
 use Rattle.buf_tree.proofs.Kin.{row_of_place, first_kid, no_first_kid, next_kid, no_next_kid, parent_row, no_parent}
-use Rattle.buf_tree.proofs.Lines.{before_or, within_trans, child_inside, behind_first, climbs_start, behind_sibling, climbs_on}
+use Rattle.buf_tree.proofs.Lines.{within_trans, child_inside, behind_first, climbs_start, behind_sibling, climbs_on}
 use Rattle.buf_tree.proofs.Seeking.{same_place, serial_at_place, rows_fewer, Answer, below_lies, child_lies}
 
 -- the rows just behind are the first of those below
@@ -127,7 +127,7 @@ module _ (xs : List Cell) (R : Cell → Type 0) (t : Test) (bound : ℕ) (same :
     num b.2.0,
     (let l = b.1 in let h = b.2.4 in omega arith),
     next,
-    λ x i r l h q. elim (before_or b.0 (num x)) [
+    λ x i r l h q. elim (cases_lt b.0 (num x)) [
       | inl hi ↦ (
           let z = b.2.5 x i r hi in
           let is : x ≡ b.2.0 = same x b.2.0 i b.2.1 (omega arith) in
@@ -144,14 +144,14 @@ module _ (xs : List Cell) (R : Cell → Type 0) (t : Test) (bound : ℕ) (same :
     b.2.3,
     e,
     (let l = b.1 in let h = b.2.4 in omega arith),
-    λ x i r l q. elim (before_or b.0 (num x)) [
+    λ x i r l q. elim (cases_lt b.0 (num x)) [
       | inl hi ↦ b.2.5 x i r hi
       | inr lo ↦ absurd (b.3 x i r l lo q)
     ],
   )
 
   pub on_end : On xs R t bound None → Answer xs R t bound None
-  on_end b x i r l q = elim (before_or b.0 (num x)) [ inl hi ↦ b.2 x i r hi | inr lo ↦ b.3 x i r l lo q ]
+  on_end b x i r l q = elim (cases_lt b.0 (num x)) [ inl hi ↦ b.2 x i r hi | inr lo ↦ b.3 x i r l lo q ]
 
 -- from where it goes on
 pub from_kid : (xs : List Cell) (axis : Axis) (c h : Cell) → axis ≡ Child → IsFrom xs axis c h → (c ≡ h) ⊎ IsChild c h

@@ -16,12 +16,13 @@ use Rattle.gcx_base.specs.Kinds.{is_text}
 use Rattle.buf_tree.specs.Rows.{shut_row, untaken, IsDead, serials, is_bare}
 use Rattle.gcx_base.specs.declared.kind.Kind.{Kind}
 use Rattle.gcx_base.specs.declared.ids.Serial.{Serial}
+use Rattle.base_laws.proofs.Members.{in_map, from_map}
 use Rattle.buf_tree.specs.Purge.{is_gone, Keeps, Tidy, TidyBut, Purged, Cleared}
 use Rattle.buf_tree.specs.View.{View, Ordered, Kept, Ready, Innermost, num_in}
 use Rattle.buf_tree.specs.Calls.{HasRole, Left}
 use Rattle.buf_tree.proofs.Shaping.{cells_is, shaped, get_of, at_place_is, rows_number}
 use Rattle.buf_tree.proofs.Grown.{shape_appended, shape_planted, Rising-push}
-use Rattle.buf_tree.proofs.Changes.{shape_changed, In-map, In-mapped, g_num, get_changed}
+use Rattle.buf_tree.proofs.Changes.{shape_changed, g_num, get_changed}
 
 length-map : {X Y : Type 0} (f : X → Y) (xs : List X) → length (map f xs) ≡ length xs
 length-map f [] = refl
@@ -71,16 +72,16 @@ module _ (f : Row → Row) (keeps : (r : Row) → ((f r).serial ≡ r.serial) ×
   ordered_changed : (xs : List Cell) → Ordered xs → Ordered (map (with_at f p) xs)
   ordered_changed xs o = record {
     nested = λ b c j k l n.
-        let x = In-map (with_at f p) b xs j in
-        let y = In-map (with_at f p) c xs k in
+        let x = from_map (with_at f p) b xs j in
+        let y = from_map (with_at f p) c xs k in
         let a1 = sym (g_num f p keeps x.0) ∙ ap num x.2 in
         let a2 = sym (g_num f p keeps y.0) ∙ ap num y.2 in
         let b1 = sym (par x.0) ∙ ap (λ (z : Cell). z.row.parent) x.2 in
         let b2 = sym (par y.0) ∙ ap (λ (z : Cell). z.row.parent) y.2 in
         let z = o.nested x.0 y.0 x.1 y.1 (omega arith) (omega arith) in omega arith;
     open_last = λ a b j k op l.
-        let x = In-map (with_at f p) a xs j in
-        let y = In-map (with_at f p) b xs k in
+        let x = from_map (with_at f p) a xs j in
+        let y = from_map (with_at f p) b xs k in
         let a1 = sym (g_num f p keeps x.0) ∙ ap num x.2 in
         let a2 = sym (g_num f p keeps y.0) ∙ ap num y.2 in
         let b2 = sym (par y.0) ∙ ap (λ (z : Cell). z.row.parent) y.2 in
@@ -104,12 +105,12 @@ module _ (f : Row → Row) (keeps : (r : Row) → ((f r).serial ≡ r.serial) ×
   -- all but the changed row are kept as before
   pub tidy_changed : Tidy (cells m) → TidyBut (Some p) (map (with_at f p) (cells m))
   tidy_changed t c i n =
-      let r = In-map (with_at f p) c (cells m) i in
+      let r = from_map (with_at f p) c (cells m) i in
       elim (cases_eq r.0.place p) [
         | inl e ↦ absurd (n (ap (λ z. Some z) (sym e ∙ sym (place_same r.0) ∙ ap (λ (z : Cell). z.place) r.2)))
         | inr d ↦ subst (λ (z : Cell). Keeps (map (with_at f p) (cells m)) z) (sym (kept_as r.0 d) ∙ r.2) (elim (t r.0 r.1) [
           | inl alive ↦ inl alive
-          | inr k ↦ inr (with_at f p k.0, In-mapped (with_at f p) k.0 (cells m) k.1, under_same (num r.0) k.0 ∙ k.2)
+          | inr k ↦ inr (with_at f p k.0, in_map (with_at f p) k.0 (cells m) k.1, under_same (num r.0) k.0 ∙ k.2)
         ])
       ]
     where
@@ -144,7 +145,7 @@ module _ (f : Row → Row) (keeps : (r : Row) → ((f r).serial ≡ r.serial) ×
         held = ap length is ∙ length-map (with_at f p) (cells m) ∙ k.held;
         room = k.room;
         below = λ d j.
-            let r = In-map (with_at f p) d (cells m) (subst (λ (zs : List Cell). In d zs) is j) in
+            let r = from_map (with_at f p) d (cells m) (subst (λ (zs : List Cell). In d zs) is j) in
             let l = k.below r.0 r.1 in
             let a = g_num f p keeps r.0 in
             let b = ap num r.2 in
@@ -283,10 +284,6 @@ ready_untaken m m' xs p k gone cap count nodes e f h i =
 
 pub cells_untaken : (m m' : Store) (xs : List Cell) (p k : ℕ) → cells m ≡ xs → m' ≡ changed_at (paid_by (untaken k)) p m → Shaped m → cells m' ≡ map (with_at (untaken k) p) xs
 cells_untaken m m' xs p k e f s = ap cells f ∙ cells_changed (untaken k) (keeps_untaken k) (λ r o. o) m p s ∙ ap (map (with_at (untaken k) p)) e
-
-pub map_each : {X Y : Type 0} (f g : X → Y) (xs : List X) → ((x : X) → In x xs → f x ≡ g x) → map f xs ≡ map g xs
-map_each f g [] h = refl
-map_each f g (x ∷ xs) h = λ t. h x (inl refl) t ∷ map_each f g xs (λ y i. h y (inr i)) t
 
 -- a payload written back as it was
 pub row_again : (m : Store) (p : ℕ) (x y : Row) → option_map (λ (e : Entry Row). e.payload) (get m p) ≡ Some y → x ≡ y → changed_at (with_payload x) p m ≡ m

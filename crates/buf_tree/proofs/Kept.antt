@@ -3,7 +3,7 @@ use Rattle.std.proofs.Common.{◌≡◌, ℕ, ◌<◌, Bool, true, false, ◌&&�
 use Rattle.std.proofs.Math.ListN.{replicate}
 use Rattle.std.specs.Prelude.{option_map}
 use Rattle.std.specs.FinMap.{get}
-use Rattle.std.proofs.lemmas.Bool.{false≢true, and_from, ne_eqb, eq-eqb}
+use Rattle.std.proofs.lemmas.Bool.{false≢true, and_from, ne_eqb, eq-eqb, cases_lt}
 use Rattle.gcx_base.specs.declared.kind.Kind.{Kind}
 use Rattle.gcx_model.specs.declared.item.Off.{Off}
 use Rattle.gcx_model.specs.ItemView.{off_tree, role_kind}
@@ -16,7 +16,6 @@ use Rattle.node_store.specs.Rows.{Entry, parent_of}
 use Rattle.buf_tree.specs.declared.row.Row.{Row}
 use Rattle.buf_tree.specs.Shape.{Store, Cell, cells, Shaped}
 use Rattle.buf_tree.specs.Ways.{Tells, NodeOf, Descends, Flags, FlagsBut, TreeOf, IsKept, is_waiting, is_same, is_whole, tail_steps, tail_ends, ends_at}
-use Rattle.buf_tree.proofs.Lines.{before_or}
 use Rattle.buf_tree.proofs.Seeking.{cell_row}
 use Rattle.buf_tree.proofs.Ways.{flags_start, but_start, flags_last, chain_low, above_low, descends_above}
 use Rattle.buf_tree.proofs.Climbing.{tells_descends, one_row, parent_node, no_parent_node}
@@ -101,7 +100,7 @@ module _ (m : Store) (s : Shaped m) (T : Tree) (tree : TreeOf (cells m) T) (off 
         ]
       where
         low : (b : Node) → In b (above n) → In b (above l.0) ⊎ (serial_of l.0 < serial_of b)
-        low b i = elim (before_or (serial_of l.0) (serial_of b)) [ inl x ↦ inr x | inr x ↦ inl (chain_low n l.0 b d l.2 i x) ]
+        low b i = elim (cases_lt (serial_of l.0) (serial_of b)) [ inl x ↦ inr x | inr x ↦ inl (chain_low n l.0 b d l.2 i x) ]
     keeping_on (Some q) e r f none tails' rels' a b =
         let k = parent_node m s p q l.0 l.1 (sym e) r f in
         let i : In (Under k.0 (serial_of l.0) r.kind) (above n) = subst (λ (x : Node). In x (above n)) k.1 l.2 in (
@@ -110,7 +109,7 @@ module _ (m : Store) (s : Shaped m) (T : Tree) (tree : TreeOf (cells m) T) (off 
           above_trans k.0 (Under k.0 (serial_of l.0) r.kind) n (inr (above_self k.0)) i,
           a k.0 (serial_of l.0) i (tail_up (role_kind off.kind) n k.0 (serial_of l.0) r.kind d i) l.3,
           b k.0 (serial_of l.0) i keeping_flags,
-          λ x c u j t w y. elim (before_or (serial_of l.0) (serial_of c)) [
+          λ x c u j t w y. elim (cases_lt (serial_of l.0) (serial_of c)) [
             | inl z ↦ l.5 x c u j z w y
             | inr z ↦ elim (subst (λ (x : Node). In c (above x)) k.1 (chain_low n l.0 c d l.2 j z)) [
               | inl g ↦ here r f none x c u (sym g ∙ sym k.1) w y
@@ -118,7 +117,3 @@ module _ (m : Store) (s : Shaped m) (T : Tree) (tree : TreeOf (cells m) T) (off 
             ]
           ],
         )
-
-pub and_none : (a b : Bool) → b ≡ false → (a && b) ≡ false
-and_none true b e = e
-and_none false b e = refl

@@ -1,17 +1,11 @@
 -- Document order among the rows: what stands below a row, and what stands next to it.
 use Rattle.std.proofs.Common.{◌≡◌, ℕ, zero, suc, ◌<◌, ◌≤◌, refl, sym, ap, subst, inl, inr, ◌⊎◌, arith, List}
-use Rattle.std.proofs.lemmas.Bool.{cases_eq}
+use Rattle.std.proofs.lemmas.Bool.{cases_eq, cases_lt}
 use Rattle.tree_laws.proofs.Lists.{In}
 use Rattle.buf_tree.specs.Shape.{Cell, num, Rising, Above}
 use Rattle.buf_tree.specs.Walk.{Nested, Inside, Within, Deeper, IsLast, JustBefore, JustBehind, Climbs}
 use Rattle.buf_tree.specs.Match.{IsChild, Rises}
 use Rattle.buf_tree.proofs.Shaping.{rising_same}
-
-pub before_or : (a b : ℕ) → (a < b) ⊎ (b ≤ a)
-before_or zero zero = inr (omega arith)
-before_or zero (suc b) = inl (omega arith)
-before_or (suc a) zero = inr (omega arith)
-before_or (suc a) (suc b) = elim (before_or a b) [ inl x ↦ inl (omega arith) | inr x ↦ inr (omega arith) ]
 
 module _ (xs : List Cell) (rise : Rising xs) (nest : Nested xs) (up : (c : Cell) → In c xs → (num c ≡ 0) ⊎ Above xs c) where
   -- the parent's row
@@ -39,7 +33,7 @@ module _ (xs : List Cell) (rise : Rising xs) (nest : Nested xs) (up : (c : Cell)
   pub inside_trans : (c e d : Cell) → Inside xs c e → Inside xs e d → Inside xs c d
   inside_trans c e d a b = record {
     behind = let x = a.behind in let y = b.behind in omega arith;
-    block = λ x t l n. elim (before_or (num e) (num x)) [
+    block = λ x t l n. elim (cases_lt (num e) (num x)) [
       | inl m ↦ (let g = b.block x t m n in let h = a.behind in omega arith)
       | inr m ↦ a.block x t l m
     ];
@@ -100,7 +94,7 @@ module _ (xs : List Cell) (rise : Rising xs) (nest : Nested xs) (up : (c : Cell)
   }
     where
       high : (u : Cell) → In u xs → num l < num u → num t ≤ u.row.parent → num l ≤ u.row.parent
-      high u v a b = elim (before_or u.row.parent (num l)) [
+      high u v a b = elim (cases_lt u.row.parent (num l)) [
         | inl lo ↦ elim (lower_or (num t) u.row.parent b) [
           | inl e ↦ (let q = k.1 in let z = last u v (sym e, omega arith) in absurd (omega arith))
           | inr e ↦ (let g = nest l u j v lo a in let q = k.0 in absurd (omega arith))
@@ -111,7 +105,7 @@ module _ (xs : List Cell) (rise : Rising xs) (nest : Nested xs) (up : (c : Cell)
   pub last_end : (c t : Cell) → In t xs → Deeper xs c t → ((d : Cell) → In d xs → IsChild t d → ⊥) → IsLast xs c t
   last_end c t i d none = record {
     here = d.here;
-    rest = λ x j k. elim (before_or (num t) (num x)) [
+    rest = λ x j k. elim (cases_lt (num t) (num x)) [
       | inl l ↦ (let e = inside_child t x i j (d.rest x j k l) in absurd (none e.0 e.1 e.2))
       | inr l ↦ l
     ];
@@ -124,7 +118,7 @@ module _ (xs : List Cell) (rise : Rising xs) (nest : Nested xs) (up : (c : Cell)
     where
       under : Within xs b t → num t < num h
       under (inl e) = let f = ap num e in omega arith
-      under (inr k) = elim (before_or (num t) (num h)) [
+      under (inr k) = elim (cases_lt (num t) (num h)) [
         | inl y ↦ y
         | inr y ↦ (let g = k.block h ih low y in let q = kh.0 in let w = kb.1 in absurd (omega arith))
       ]
@@ -134,7 +128,7 @@ module _ (xs : List Cell) (rise : Rising xs) (nest : Nested xs) (up : (c : Cell)
           let q = kh.0 in
           let w = kb.1 in
           let g = nest y h j ih (omega arith) z in
-          elim (before_or y.row.parent (num b)) [
+          elim (cases_lt y.row.parent (num b)) [
             | inl lo ↦ elim (lower_or (num p) y.row.parent (omega arith)) [
               | inl e ↦ (let v = last y j (sym e, omega arith) z in absurd (omega arith))
               | inr e ↦ (let v = nest b y ib j lo a in let r = kb.0 in absurd (omega arith))
@@ -143,7 +137,7 @@ module _ (xs : List Cell) (rise : Rising xs) (nest : Nested xs) (up : (c : Cell)
           ]
 
       none : (x : Cell) → In x xs → num x < num h → num x ≤ num t
-      none x i y = elim (before_or (num b) (num x)) [
+      none x i y = elim (cases_lt (num b) (num x)) [
         | inl z ↦ l.rest x i (record { behind = z; block = λ u v a c. high u v a (omega arith) })
         | inr z ↦ (let w = least l.here in omega arith)
       ]
@@ -155,7 +149,7 @@ module _ (xs : List Cell) (rise : Rising xs) (nest : Nested xs) (up : (c : Cell)
   pub before_first : (p h : Cell) → In p xs → In h xs → IsChild p h → ((d : Cell) → In d xs → IsChild p d → num d < num h → ⊥) → JustBefore xs p h
   before_first p h ip ih k none = record {
     low = k.1;
-    none = λ x i l. elim (before_or (num p) (num x)) [
+    none = λ x i l. elim (cases_lt (num p) (num x)) [
       | inl m ↦ (
           let inner : Inside xs p x = record { behind = m; block = λ y j a b. (let q = k.0 in let g = nest y h j ih (omega arith) (omega arith) in omega arith) } in
           let e = inside_child p x ip i inner in
@@ -170,7 +164,7 @@ module _ (xs : List Cell) (rise : Rising xs) (nest : Nested xs) (up : (c : Cell)
   pub behind_first : (h g : Cell) → In h xs → In g xs → IsChild h g → ((d : Cell) → In d xs → IsChild h d → num g ≤ num d) → JustBehind xs h g
   behind_first h g ih ig k least = record {
     high = k.1;
-    none = λ x i l. elim (before_or (num x) (num g)) [
+    none = λ x i l. elim (cases_lt (num x) (num g)) [
       | inl m ↦ (
           let inner : Inside xs h x = record { behind = l; block = λ y j a b. (let q = k.0 in let z = nest y g j ig (omega arith) (omega arith) in omega arith) } in
           let e = inside_child h x ih i inner in
@@ -190,7 +184,7 @@ module _ (xs : List Cell) (rise : Rising xs) (nest : Nested xs) (up : (c : Cell)
 
   -- a row from which p's child t stays the last before x
   between : (p t : Cell) → In t xs → IsChild p t → (y : Cell) → In y xs → num t < num y → num p ≤ y.row.parent → (IsChild p y → ⊥) → num t ≤ y.row.parent
-  between p t it k y j a g other = elim (before_or y.row.parent (num t)) [
+  between p t it k y j a g other = elim (cases_lt y.row.parent (num t)) [
     | inl lo ↦ elim (lower_or (num p) y.row.parent g) [
       | inl e ↦ (let w = k.1 in absurd (other (sym e, omega arith)))
       | inr e ↦ (let v = nest t y it j lo a in let r = k.0 in absurd (omega arith))
@@ -207,13 +201,13 @@ module _ (xs : List Cell) (rise : Rising xs) (nest : Nested xs) (up : (c : Cell)
     where
       high : Within xs t h → num h < num g
       high (inl e) = let f = ap num e in omega arith
-      high (inr k) = elim (before_or (num h) (num g)) [
+      high (inr k) = elim (cases_lt (num h) (num g)) [
         | inl y ↦ y
         | inr y ↦ (let z = k.block g ig l y in let q = kg.0 in let w = kt.1 in absurd (omega arith))
       ]
 
       none : (x : Cell) → In x xs → num h < num x → num g ≤ num x
-      none x i a = elim (before_or (num x) (num g)) [
+      none x i a = elim (cases_lt (num x) (num g)) [
         | inl m ↦ (
             let b = within_le t h r.here in
             let k : Inside xs t x = record {

@@ -5,7 +5,7 @@ use Rattle.std.specs.Ordering.{nat_cmp}
 use Rattle.std.specs.Cmp.{nat_cmp_total, unsigned_tied}
 use Rattle.std.specs.FinSet as set
 use Rattle.std.specs.FinSet.{FinSet, same_set, contains-remove, nat_cmp-IsAntisymmetric}
-use Rattle.std.proofs.lemmas.Bool.{and_parts, and_from, false≢true, not-true, eqb-true, eq-eqb, ne_eqb, cases_eq, cases_Bool, false_from_ne_true}
+use Rattle.std.proofs.lemmas.Bool.{and_parts, and_from, false≢true, not-true, eqb-true, eq-eqb, ne_eqb, cases_eq, cases_Bool, false_from_ne_true, cases_lt}
 use Rattle.gcx_base.specs.declared.steps.Step.{Step}
 use Rattle.gcx_model.specs.declared.item.Off.{Off}
 use Rattle.gcx_model.specs.ItemView.{off_tree, role_kind}
@@ -15,6 +15,7 @@ use Rattle.gcx_model.specs.Placed.{offs_in, is_own, is_own_kind, is_empty}
 use Rattle.gcx_model.specs.Run.{Offed}
 use Rattle.gcx_model.specs.Held.{held, held_tree, is_held, live, reaches, gives}
 use Rattle.gcx_model.specs.Past.{Past, IsPast}
+use Rattle.base_laws.proofs.Members.{in_map, from_map, map_same}
 use Rattle.past_laws.specs.Pasts.{bases}
 use Rattle.tree_laws.proofs.Lists.{In, In-filter}
 use Rattle.tree_laws.proofs.Matches.{Numbered-same, Matches-in}
@@ -29,9 +30,7 @@ use Rattle.buf_tree.specs.Sweep.{Loses, taken_by}
 use Rattle.buf_tree.specs.Withdraw.{Taking}
 use Rattle.buf_tree.specs.Stands.{Seen, seen, told}
 use Rattle.buf_tree.proofs.Shaping.{rising_same}
-use Rattle.buf_tree.proofs.Changes.{In-map, In-mapped, map-map}
-use Rattle.buf_tree.proofs.Keeping.{map_each}
-use Rattle.buf_tree.proofs.Lines.{before_or}
+use Rattle.buf_tree.proofs.Changes.{map-map}
 use Rattle.buf_tree.proofs.Climbing.{tells_serial, tells_descends, tells_same}
 use Rattle.buf_tree.proofs.Ways.{chain_low}
 use Rattle.buf_tree.proofs.Reaching.{gives_above}
@@ -148,10 +147,10 @@ module _ (past : Past) (is : IsPast past) (m0 : Store) (s0 : Shaped m0) (nest0 :
     gn = g_num (cells m0) s0.rising s0.apart off p
 
     in_now : (d : Cell) → In d (cells m0) → In (g d) (cells m1)
-    in_now d i = subst (λ (zs : List Cell). In (g d) zs) (sym e1) (In-mapped g d (cells m0) i)
+    in_now d i = subst (λ (zs : List Cell). In (g d) zs) (sym e1) (in_map g d (cells m0) i)
 
     was : (d : Cell) → In d (cells m1) → (c : Cell) × In c (cells m0) × (g c ≡ d)
-    was d i = In-map g d (cells m0) (subst (λ (zs : List Cell). In d zs) e1 i)
+    was d i = from_map g d (cells m0) (subst (λ (zs : List Cell). In d zs) e1 i)
 
     tells_then : (d : Cell) (n : Node) → In n ns → seen d ≡ told past n → Tells (cells m0) d n
     tells_then = tells past is (cells m0) s0.rising rows
@@ -209,7 +208,7 @@ module _ (past : Past) (is : IsPast past) (m0 : Store) (s0 : Shaped m0) (nest0 :
           let bt = tree_then.told b.place b.base b.at in
           let bup : In b.base (above n) = gives_above m0 s0 T tree_then b.base n off.rel off.tail (role_kind off.kind) bt ni b.reached in
           let desc = tells_descends (cells m0) d n (tells_then d n ni e) in
-          elim (before_or (serial_of m) (serial_of b.base)) [
+          elim (cases_lt (serial_of m) (serial_of b.base)) [
             | inl lo ↦ inr (b.at.cell, b.at.among, inner c0 b.at.cell m b.base i0 b.at.among (tells_then c0 m mi me) b.at.tells (chain_low n b.base m desc bup up (omega arith)) (λ z. b.other (sym z)), b.waits)
             | inr hi ↦ inl (b.at.cell, b.at.among, inner b.at.cell c0 b.base m b.at.among i0 b.at.tells (tells_then c0 m mi me) (chain_low n m b.base desc up bup hi) b.other, b.waits)
           ]
@@ -285,7 +284,7 @@ module _ (past : Past) (is : IsPast past) (m0 : Store) (s0 : Shaped m0) (nest0 :
 
   -- the rows then, each with the roles that are left
   pub rows_then : map (sign_cell (λ c. stays (num c)) p off.role.0) (cells m0) ≡ taken_by loses off.role.0 (map (with_at (signed_for off.role.0) p) (cells m0))
-  rows_then = map_each (sign_cell (λ c. stays (num c)) p off.role.0) (λ c. t (with_at (signed_for off.role.0) p c)) (cells m0) (λ c i. each c)
+  rows_then = map_same (sign_cell (λ c. stays (num c)) p off.role.0) (λ c. t (with_at (signed_for off.role.0) p c)) (cells m0) (λ c i. each c)
       ∙ sym (map-map (with_at (signed_for off.role.0) p) t (cells m0))
     where
       t : Cell → Cell

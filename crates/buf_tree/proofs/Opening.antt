@@ -1,6 +1,6 @@
 -- A new node in the rows that a buffer stands for.
-use Rattle.std.proofs.Common.{◌≡◌, ◌==◌, ℕ, zero, suc, add-one, ◌+◌, ◌<◌, Bool, true, false, cond, not, ◌&&◌, ◌||◌, List, [], ◌∷◌, ◌++◌, length, map, drop, refl, sym, ◌∙◌, ap, subst, inl, inr, arith, Some, None, Option}
-use Rattle.std.specs.Prelude.{is_some, flat_map}
+use Rattle.std.proofs.Common.{◌≡◌, ◌==◌, ℕ, suc, add-one, ◌+◌, ◌<◌, Bool, true, false, cond, not, ◌&&◌, ◌||◌, List, [], ◌∷◌, ◌++◌, length, map, drop, refl, sym, ◌∙◌, ap, subst, inl, inr, arith, Some, None, Option}
+use Rattle.std.specs.Prelude.{is_some}
 use Rattle.std.specs.List.{filter, list_any}
 use Rattle.std.specs.Ordering.{nat_cmp}
 use Rattle.std.specs.FinSet as set
@@ -20,20 +20,23 @@ use Rattle.gcx_model.specs.Run.{Action, Wrote, Offed}
 use Rattle.gcx_model.specs.Placed.{is_own}
 use Rattle.gcx_model.specs.Held.{given, taken, live, roles_live, is_live, is_held, held}
 use Rattle.gcx_model.specs.Past.{Past, past_fed, open_nodes, awaited, waiting_offs, roles_signed, IsNode, past_grown, token_for}
-use Rattle.tree_laws.proofs.Lists.{In, In-filter, In-kept, any_in, any_from}
+use Rattle.tree_laws.proofs.Lists.{In, In-filter, In-kept, any_in, any_from, filter_same}
 use Rattle.tree_laws.proofs.Matches.{Grown, added, added_at, grow_nodes, Numbered-high, Numbered-same}
 use Rattle.past_laws.proofs.Bases.{is_grown}
 use Rattle.past_laws.proofs.Changes.{filter_both, live_by_feed}
 use Rattle.past_laws.proofs.Ahead.{new_unsigned}
 use Rattle.past_laws.proofs.PastForms.{past_feeds}
 use Rattle.past_laws.proofs.RowFacts.{open_behind}
+use Rattle.past_laws.proofs.Awaited.{within_low}
 use Rattle.gcx_base.specs.Kinds.{is_text}
+use Rattle.base_laws.proofs.Members.{in_drop, flat_map_same, filter_all}
+use Rattle.base_laws.proofs.Bools.{same_bools}
 use Rattle.buf_tree.specs.Shape.{Cell, num, at_place}
 use Rattle.buf_tree.specs.View.{View, Innermost, num_in, level_in}
 use Rattle.buf_tree.specs.Calls.{Opened, numbers, less, new_roles, new_row, stays, with_new}
 use Rattle.buf_tree.specs.Stands.{Seen, seen, told, StandsFor, GivenTo, awaited_by}
 use Rattle.buf_tree.proofs.Standing.{pair_left, none_kept, none_passes, empty_list}
-use Rattle.buf_tree.proofs.Feeding.{bools, map_both, within_low, held_fed, row_same, top_is}
+use Rattle.buf_tree.proofs.Feeding.{map_both, held_fed, row_same, top_is}
 
 -- ---- lists
 
@@ -49,31 +52,14 @@ in_listed (x ∷ xs) r h = elim (or_cases (x == r) (list_any (λ y. y == r) xs) 
   | inr k ↦ inr (in_listed xs r k)
 ]
 
-filter_agree : {X : Type 0} (p q : X → Bool) (xs : List X) → ((x : X) → In x xs → p x ≡ q x) → filter p xs ≡ filter q xs
-filter_agree p q [] h = refl
-filter_agree p q (x ∷ xs) h = λ t. cond (h x (inl refl) t) (x ∷ filter_agree p q xs (λ y i. h y (inr i)) t) (filter_agree p q xs (λ y i. h y (inr i)) t)
-
-filter_every : {X : Type 0} (p : X → Bool) (xs : List X) → ((x : X) → In x xs → p x ≡ true) → filter p xs ≡ xs
-filter_every p [] h = refl
-filter_every p (x ∷ xs) h = rw (h x (inl refl)) (ap (λ z. x ∷ z) (filter_every p xs (λ y i. h y (inr i))))
-
-flat_map_same : {X Y : Type 0} (f g : X → List Y) (xs : List X) → ((x : X) → In x xs → f x ≡ g x) → flat_map f xs ≡ flat_map g xs
-flat_map_same f g [] h = refl
-flat_map_same f g (x ∷ xs) h = λ t. h x (inl refl) t ++ flat_map_same f g xs (λ y i. h y (inr i)) t
-
-in_drop : {X : Type 0} (k : ℕ) (x : X) (xs : List X) → In x (drop k xs) → In x xs
-in_drop zero x xs i = i
-in_drop (suc k) x [] i = i
-in_drop (suc k) x (y ∷ ys) i = inr (in_drop k x ys i)
-
 -- those that pass the one test and not the other
 less_filtered : (g t : ℕ → Bool) (cs : List ℕ) → less (filter g cs) (filter t cs) ≡ filter (λ r. g r && not (t r)) cs
 less_filtered g t cs =
-    filter_agree (λ r. not (list_any (λ y. y == r) (filter t cs))) (λ r. not (t r)) (filter g cs) (λ r i. ap not (found r (In-filter g r cs i).0))
+    filter_same (λ r. not (list_any (λ y. y == r) (filter t cs))) (λ r. not (t r)) (filter g cs) (λ r i. ap not (found r (In-filter g r cs i).0))
     ∙ sym (filter_both (λ r. not (t r)) g (λ r. g r && not (t r)) cs (λ r. refl))
   where
     found : (r : ℕ) → In r cs → list_any (λ y. y == r) (filter t cs) ≡ t r
-    found r i = bools (list_any (λ y. y == r) (filter t cs)) (t r) (λ h. (In-filter t r cs (in_listed (filter t cs) r h)).1) (λ h. listed (filter t cs) r (In-kept t r cs i h))
+    found r i = same_bools (list_any (λ y. y == r) (filter t cs)) (t r) (λ h. (In-filter t r cs (in_listed (filter t cs) r h)).1) (λ h. listed (filter t cs) r (In-kept t r cs i h))
 
 -- ---- the new node
 
@@ -227,7 +213,7 @@ module _ (v u : View) (q : ℕ) (at : Option ℕ) (kind : Kind) (gs as_ : List R
 
   -- the new node is held where it is open or a role is live at it
   kept_new : kept node ≡ (not (is_text kind) || is_live past.plan Q past.acts node)
-  kept_new = ap (λ b. b || any (λ x. within (length P.nodes) x && is_live past.plan Q past.acts x) Q.nodes) (new_open P w top.0 top.1 kind k) ∙ ap (λ b. not (is_text kind) || b) (bools _ _ fwd bwd)
+  kept_new = ap (λ b. b || any (λ x. within (length P.nodes) x && is_live past.plan Q past.acts x) Q.nodes) (new_open P w top.0 top.1 kind k) ∙ ap (λ b. not (is_text kind) || b) (same_bools _ _ fwd bwd)
     where
       bwd : is_live past.plan Q past.acts node ≡ true → any (λ x. within (length P.nodes) x && is_live past.plan Q past.acts x) Q.nodes ≡ true
       bwd l = any_from (λ (x : Node). within (length P.nodes) x && is_live past.plan Q past.acts x) node Q.nodes in_now (and_from _ _ (or_left _ _ (eq-eqb (length P.nodes) (length P.nodes) refl)) l)
@@ -252,7 +238,7 @@ module _ (v u : View) (q : ℕ) (at : Option ℕ) (kind : Kind) (gs as_ : List R
   none_len xs e = ap (λ (ys : List ℕ). set.len (from_list {R = nat_cmp} ys) == 0) e ∙ eq-eqb _ 0 (len-empty nat_cmp)
 
   live_len : (set.len (new_roles gs as_) == 0) ≡ not (is_live past.plan Q past.acts node)
-  live_len = bools _ _
+  live_len = same_bools _ _
       (λ e. ap not (none_passes (live past.plan Q past.acts node) cs (sym roles_now ∙ len_zero (less (numbers gs) (numbers as_)) e)))
       (λ e. none_len (less (numbers gs) (numbers as_)) (roles_now ∙ none_kept (live past.plan Q past.acts node) cs (flip _ e)))
     where
@@ -273,7 +259,7 @@ module _ (v u : View) (q : ℕ) (at : Option ℕ) (kind : Kind) (gs as_ : List R
   held_now =
       ap (λ z. filter kept (ns ++ z)) (added_new P w top.0 top.1 kind k)
       ∙ filter-append kept ns (node ∷ [])
-      ∙ (λ z. filter_every kept ns still z ++ cond ((kept_stays ∙ sym c.held) z) (node ∷ []) [])
+      ∙ (λ z. filter_all kept ns still z ++ cond ((kept_stays ∙ sym c.held) z) (node ∷ []) [])
 
   rows_now : (o : Option ℕ) → map seen (with_new o (new_row v q kind gs as_) v.rows) ≡ map (told (past_fed t past)) (ns ++ cond (is_some o) (node ∷ []) [])
   rows_now None = old_rows ∙ ap (map (told (past_fed t past))) (sym (append-nil ns))

@@ -3,7 +3,7 @@ use Rattle.std.proofs.Common.{◌≡◌, ℕ, ◌≤◌, Bool, true, false, List
 use Rattle.std.specs.Prelude.{option_map, IsSome, ◌↔◌, ◌⊎◌}
 use Rattle.std.specs.FinSet.{contains}
 use Rattle.std.specs.FinMap.{get}
-use Rattle.std.proofs.lemmas.Bool.{false≢true}
+use Rattle.std.proofs.lemmas.Bool.{false≢true, cases_lt}
 use Rattle.gcx_model.specs.declared.item.Off.{Off}
 use Rattle.tree_laws.proofs.Lists.{In}
 use Rattle.node_store.specs.Rows.{Entry, parent_of}
@@ -13,7 +13,7 @@ use Rattle.buf_tree.specs.Walk.{Nested, Inside, Within, BeforeIn}
 use Rattle.buf_tree.specs.Ways.{is_waiting, BaseAbove, BaseBelow}
 use Rattle.buf_tree.proofs.Shaping.{rising_same}
 use Rattle.buf_tree.proofs.Kin.{parent_row, no_parent}
-use Rattle.buf_tree.proofs.Lines.{before_or, child_inside, inside_trans, parent_within}
+use Rattle.buf_tree.proofs.Lines.{child_inside, inside_trans, parent_within}
 use Rattle.buf_tree.proofs.Seeking.{cell_row}
 
 -- on the way up from h: a base above is this row or above it
@@ -64,7 +64,7 @@ module _ (m : Store) (s : Shaped m) (nest : Nested (cells m)) (off : Off) where
   backwards_on c p b r f w o next = (
     num b.1.0,
     next,
-    λ x i k l y. elim (before_or (num x) b.0) [
+    λ x i k l y. elim (cases_lt (num x) b.0) [
       | inl lo ↦ (
           let z = b.1.5 x i k lo in
           let is : x ≡ b.1.0 = rising_same (cells m) s.rising x b.1.0 i b.1.1 (omega arith) in
@@ -74,7 +74,7 @@ module _ (m : Store) (s : Shaped m) (nest : Nested (cells m)) (off : Off) where
   )
 
   pub backwards_end : (c : Cell) → Backwards (cells m) off c None → BaseBelow (cells m) off c → ⊥
-  backwards_end c b x = elim (before_or (num x.0) b.0) [ inl lo ↦ b.1 x.0 x.1 x.2 lo | inr hi ↦ b.2 x.0 x.1 x.2 hi x.3 ]
+  backwards_end c b x = elim (cases_lt (num x.0) b.0) [ inl lo ↦ b.1 x.0 x.1 x.2 lo | inr hi ↦ b.2 x.0 x.1 x.2 hi x.3 ]
 
 pub either_below : (own above below : Bool) (A B : Type 0) → own ≡ false → ((above ≡ true) ↔ A) → above ≡ false → ((below ≡ true) ↔ B) → (below ≡ true) ↔ ((own ≡ false) × (A ⊎ B))
 either_below own above below A B e a f b = (

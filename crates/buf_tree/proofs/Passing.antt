@@ -2,7 +2,7 @@
 use Rattle.std.proofs.Common.{◌≡◌, ◌==◌, ℕ, zero, suc, ◌<◌, ◌≤◌, true, false, List, refl, sym, ◌∙◌, ap, subst, inl, inr, arith, Some, None, Option}
 use Rattle.std.specs.Prelude.{IsSome}
 use Rattle.std.specs.FinMap.{get}
-use Rattle.std.proofs.lemmas.Bool.{false≢true, eqb-true, eq-eqb, cases_eq}
+use Rattle.std.proofs.lemmas.Bool.{false≢true, eqb-true, eq-eqb, cases_eq, cases_lt}
 use Rattle.gcx_base.specs.declared.steps.Step.{Step}
 use Rattle.gcx_model.specs.Tree.{Node, Root, Under, serial_of, above}
 use Rattle.gcx_model.specs.Paths.{hits}
@@ -13,7 +13,7 @@ use Rattle.buf_tree.specs.Walk.{Nested, Inside, Within, BehindIn}
 use Rattle.buf_tree.specs.Match.{Rises}
 use Rattle.buf_tree.specs.Ways.{Tells, NodeOf, NoneBefore}
 use Rattle.buf_tree.proofs.Shaping.{rising_same}
-use Rattle.buf_tree.proofs.Lines.{before_or, child_inside, within_trans, inside_rises}
+use Rattle.buf_tree.proofs.Lines.{child_inside, within_trans, inside_rises}
 use Rattle.buf_tree.proofs.Seeking.{used_there}
 use Rattle.buf_tree.proofs.Ways.{above_low}
 use Rattle.buf_tree.proofs.Climbing.{tells_serial, tells_descends, one_row}
@@ -136,7 +136,7 @@ module _ (m : Store) (s : Shaped m) (nest : Nested (cells m)) where
               omega arith,
               λ x j w under h.
                   let g = tells_serial (cells m) w.cell j w.tells in
-                  elim (before_or (serial_of j) (num l.0)) [
+                  elim (cases_lt (serial_of j) (num l.0)) [
                     | inl y ↦ l.4 x j w under y
                     | inr y ↦ elim (cases_eq (num w.cell) (num l.0)) [
                       | inl z ↦ (

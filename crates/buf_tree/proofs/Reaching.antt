@@ -9,13 +9,14 @@ use Rattle.gcx_model.specs.Paths.{any, hits, reach, first, head, matches}
 use Rattle.gcx_model.specs.Core.{RoleKind, Own, First, Whole}
 use Rattle.gcx_model.specs.Held.{is_node, gives}
 use Rattle.gcx_model.specs.Nodes.{Rising}
+use Rattle.base_laws.proofs.Bools.{same_bools}
+use Rattle.base_laws.proofs.Members.{head_in}
 use Rattle.tree_laws.proofs.Lists.{In, any_in, any_from, In-filter, In-kept}
-use Rattle.past_laws.proofs.Bases.{head_in, node_is}
+use Rattle.past_laws.proofs.Bases.{node_is}
 use Rattle.tree_laws.proofs.Freeze.{within_above, hits_within}
 use Rattle.tree_laws.proofs.Chains.{above_trans}
 use Rattle.buf_tree.specs.Shape.{Store, Cell, cells, Shaped}
 use Rattle.buf_tree.specs.Ways.{Tells, Descends, is_same, leads, TreeOf, NoneBefore, Flags, tail_ends, tail_steps, ends_at}
-use Rattle.buf_tree.proofs.Feeding.{bools}
 use Rattle.buf_tree.proofs.Ways.{chain_within, leads_none}
 use Rattle.buf_tree.proofs.Climbing.{within_some, tells_serial, tells_descends, tells_above, tells_same, leads_same}
 use Rattle.buf_tree.proofs.Shaping.{rising_same}
@@ -87,7 +88,7 @@ module _ (m : Store) (s : Shaped m) (T : Tree) (tree : TreeOf (cells m) T) where
 
   -- n is the first match where it is one and none is before it
   pub first_rows : (a n : Node) (tail : List Step) → In a T.nodes → In n T.nodes → (f : Bool) → ((f ≡ true) ↔ NoneBefore (cells m) a n tail) → (hits (serial_of a) tail n && f) ≡ is_node (serial_of n) (first T (serial_of a) tail)
-  first_rows a n tail i j f e = bools _ _ to from
+  first_rows a n tail i j f e = same_bools _ _ to from
     where
       to : (hits (serial_of a) tail n && f) ≡ true → is_node (serial_of n) (first T (serial_of a) tail) ≡ true
       to h =
@@ -108,7 +109,7 @@ module _ (m : Store) (s : Shaped m) (T : Tree) (tree : TreeOf (cells m) T) where
   -- a statement reaches n where the steps from its base lead to a node from which the tail leads to n
   pub gives_leads : (b n : Node) (rel tail : List Step) (k : RoleKind) → In b T.nodes → In n T.nodes → gives T (serial_of b) rel tail k n ≡ leads (ends_at T k tail n) (serial_of b) rel n
   gives_leads b n rel tail Own i j = sym (leads_same (serial_of b) rel n (tree_descends n j))
-  gives_leads b n rel tail First i j = bools _ _ to from
+  gives_leads b n rel tail First i j = same_bools _ _ to from
     where
       to : any (λ (x : Node). is_node (serial_of n) (first T (serial_of x) tail)) (matches T (serial_of b) rel) ≡ true → leads (ends_at T First tail n) (serial_of b) rel n ≡ true
       to h =
@@ -123,7 +124,7 @@ module _ (m : Store) (s : Shaped m) (T : Tree) (tree : TreeOf (cells m) T) where
           let x = any_in (λ (y : Node). ends_at T First tail n y && hits (serial_of b) rel y) (above n) h in
           let p = and_parts (ends_at T First tail n x.0) (hits (serial_of b) rel x.0) x.2 in
           any_from (λ (x : Node). is_node (serial_of n) (first T (serial_of x) tail)) x.0 (matches T (serial_of b) rel) (In-kept (hits (serial_of b) rel) x.0 T.nodes (tree_above n x.0 j x.1) p.1) p.0
-  gives_leads b n rel tail Whole i j = bools _ _ to from
+  gives_leads b n rel tail Whole i j = same_bools _ _ to from
     where
       d : Descends n
       d = tree_descends n j

@@ -2,7 +2,7 @@
 use Rattle.std.proofs.Common.{◌≡◌, ◌==◌, ℕ, zero, suc, ◌<◌, ◌≤◌, Bool, true, false, cond, List, [], ◌∷◌, refl, sym, ◌∙◌, ap, subst, inl, inr, arith, Some, None, Option, ltb, length}
 use Rattle.std.specs.List.{filter}
 use Rattle.std.specs.Prelude.{MatchOption, option_map, IsSome}
-use Rattle.std.proofs.lemmas.Bool.{ltb-true, ltb-false, true≢false, false≢true, cases_Bool, eqb-true, eq-eqb}
+use Rattle.std.proofs.lemmas.Bool.{ltb-true, ltb-false, true≢false, false≢true, cases_Bool, eqb-true, eq-eqb, cases_lt}
 use Rattle.node_store.specs.declared.store.Place.{Place}
 use Rattle.std.specs.FinMap.{get}
 use Rattle.gcx_base.specs.declared.steps.Axis.{Axis}
@@ -18,7 +18,7 @@ use Rattle.buf_tree.specs.Walk.{Nested, Inside, Deeper, IsLast, JustBefore, Befo
 use Rattle.buf_tree.specs.Match.{IsChild, Lies, Unreached, FirstReached}
 use Rattle.buf_tree.proofs.Shaping.{get_of, at_place_is, rising_same}
 use Rattle.buf_tree.proofs.Kin.{in_store, row_of_place, last_kid, no_last_kid, prev_kid, no_prev_kid, parent_row, no_parent}
-use Rattle.buf_tree.proofs.Lines.{before_or, deeper_start, deeper_on, last_end, before_sibling, before_first, rises_inside, inside_rises}
+use Rattle.buf_tree.proofs.Lines.{deeper_start, deeper_on, last_end, before_sibling, before_first, rises_inside, inside_rises}
 
 module _ (m : Store) (s : Shaped m) where
   abbrev xs : List Cell
@@ -54,7 +54,7 @@ module _ (m : Store) (s : Shaped m) where
       (z.0, z.1, z.3, subst (λ (y : Cell). IsChild y z.0) is z.2, z.4, λ x t y l. z.5 x t (subst (λ (w : Cell). IsChild w x) (sym is) y) l)
 
 -- fewer rows are behind a later row
-fewer : (p q : Cell → Bool) (zs : List Cell) → ((d : Cell) → p d ≡ true → q d ≡ true) → length (filter p zs) ≤ length (filter q zs)
+pub fewer : (p q : Cell → Bool) (zs : List Cell) → ((d : Cell) → p d ≡ true → q d ≡ true) → length (filter p zs) ≤ length (filter q zs)
 fewer p q [] h = omega arith
 fewer p q (z ∷ zs) h = go (p z) (q z) refl refl (fewer p q zs h)
   where
@@ -146,7 +146,7 @@ module _ (xs : List Cell) (R : Cell → Type 0) (t : Test) (bound : ℕ) (same :
 
       pick : (yes : Bool) → passes t b.1.0.row.kind ≡ yes → (f : Option ℕ) → Found xs R t bound b.0 f → Found xs R t bound (num b.1.0) (cond yes (Some p) f)
       pick true e f g = (b.1.0, b.1.1, b.1.2, b.1.3, e, l, omega arith, λ x i r k q. k)
-      pick false e None g = λ x i r k q. elim (before_or (num x) b.0) [
+      pick false e None g = λ x i r k q. elim (cases_lt (num x) b.0) [
         | inl lo ↦ (
             let z = b.1.5 x i r lo in
             let is : x ≡ b.1.0 = same x b.1.0 i b.1.1 (omega arith) in
@@ -161,7 +161,7 @@ module _ (xs : List Cell) (R : Cell → Type 0) (t : Test) (bound : ℕ) (same :
         g.4,
         g.5,
         (let a = b.1.4 in let z = g.6 in omega arith),
-        λ x i r k v. elim (before_or (num x) b.0) [
+        λ x i r k v. elim (cases_lt (num x) b.0) [
           | inl lo ↦ (
               let z = b.1.5 x i r lo in
               let is : x ≡ b.1.0 = same x b.1.0 i b.1.1 (omega arith) in
@@ -182,11 +182,11 @@ module _ (xs : List Cell) (R : Cell → Type 0) (t : Test) (bound : ℕ) where
 
   -- no row is left,
   pub back_end : (f : Option ℕ) → Back xs R t bound None f → Answer xs R t bound f
-  back_end f b = found_all b.0 f b.2 (λ x i r l. elim (before_or (num x) b.0) [ inl lo ↦ absurd (b.1 x i r lo) | inr hi ↦ hi ])
+  back_end f b = found_all b.0 f b.2 (λ x i r l. elim (cases_lt (num x) b.0) [ inl lo ↦ absurd (b.1 x i r lo) | inr hi ↦ hi ])
 
   -- or the next one isn't above the bound
   pub back_stop : (p : ℕ) (f : Option ℕ) → (b : Back xs R t bound (Some p) f) → num b.1.0 ≤ bound → Answer xs R t bound f
-  back_stop p f b low = found_all b.0 f b.2 (λ x i r l. elim (before_or (num x) b.0) [ inl lo ↦ (let z = b.1.5 x i r lo in absurd (omega arith)) | inr hi ↦ hi ])
+  back_stop p f b low = found_all b.0 f b.2 (λ x i r l. elim (cases_lt (num x) b.0) [ inl lo ↦ (let z = b.1.5 x i r lo in absurd (omega arith)) | inr hi ↦ hi ])
 
 -- ---- in the words of the clauses
 
@@ -267,7 +267,7 @@ module _ (m : Store) (s : Shaped m) where
   row_before c h t p i j e k b n = (t, j, e, inner, b.low, λ x y w l. b.none x y l)
     where
       behind : num c < num t
-      behind = elim (before_or (num c) (num t)) [
+      behind = elim (cases_lt (num c) (num t)) [
         | inl l ↦ l
         | inr l ↦ (let a = b.none c i k.behind in absurd (n (rising_same (cells m) s.rising c t i j (omega arith))))
       ]

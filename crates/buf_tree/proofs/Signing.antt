@@ -12,6 +12,7 @@ use Rattle.gcx_model.specs.Run.{Offed}
 use Rattle.gcx_model.specs.Placed.{offs_in}
 use Rattle.gcx_model.specs.Held.{live, roles_live, is_held, held}
 use Rattle.gcx_model.specs.Past.{Past, IsPast, past_acted, is_signed, roles_signed}
+use Rattle.base_laws.proofs.Bools.{same_bools}
 use Rattle.past_laws.specs.Pasts.{bases}
 use Rattle.tree_laws.proofs.Lists.{In, In-filter, In-kept}
 use Rattle.past_laws.proofs.Bases.{is_grown, live_by_bases}
@@ -25,7 +26,7 @@ use Rattle.buf_tree.specs.Purge.{Purged}
 use Rattle.buf_tree.specs.Stands.{Seen, seen, told}
 use Rattle.buf_tree.proofs.Changes.{map-map}
 use Rattle.buf_tree.proofs.Standing.{rows_held, held_up}
-use Rattle.buf_tree.proofs.Feeding.{bools, map_both}
+use Rattle.buf_tree.proofs.Feeding.{map_both}
 
 -- the row signed for the role k, where `here`, and without the role, unless it stays
 abbrev pub sign_row : (here stays : Bool) → ℕ → Row → Row
@@ -51,8 +52,8 @@ in_listed (x ∷ xs) q h = elim (or_cases (eq_by_cmp nat_cmp q x) (list_any (eq_
   | inr k ↦ inr (in_listed xs q k)
 ]
 
-has_listed : (xs : List ℕ) (q : ℕ) (b : Bool) → (In q xs → b ≡ true) → (b ≡ true → In q xs) → set.contains (from_list {R = nat_cmp} xs) q ≡ b
-has_listed xs q b to from = contains-from_list nat_cmp_total xs q ∙ bools _ b (λ h. to (in_listed xs q h)) (λ h. listed xs q (from h))
+pub has_listed : (xs : List ℕ) (q : ℕ) (b : Bool) → (In q xs → b ≡ true) → (b ≡ true → In q xs) → set.contains (from_list {R = nat_cmp} xs) q ≡ b
+has_listed xs q b to from = contains-from_list nat_cmp_total xs q ∙ same_bools _ b (λ h. to (in_listed xs q h)) (λ h. listed xs q (from h))
 
 module _ (past : Past) (is : IsPast past) (s : OffTree) (stated : In s (offs_in past.plan.body)) (m : Node) (base : In m (bases past s)) where
   abbrev now : Past

@@ -7,12 +7,12 @@ use Rattle.std.specs.FinSet.{contains-insert}
 use Rattle.std.proofs.lemmas.Bool.{and_parts, or_left, false≢true, eqb-true, eq-eqb, cases_Bool}
 use Rattle.gcx_model.specs.declared.item.Off.{Off}
 use Rattle.gcx_model.specs.Tree.{Tree, Node, Root, Under}
+use Rattle.base_laws.proofs.Members.{in_map, from_map}
 use Rattle.tree_laws.proofs.Lists.{In}
 use Rattle.buf_tree.specs.Rows.{signed_for}
 use Rattle.buf_tree.specs.Shape.{Cell, num, Rising, with_at}
 use Rattle.buf_tree.specs.Ways.{Tells, NodeOf, TreeOf, is_waiting, IsKept, IsKeptBut}
 use Rattle.buf_tree.proofs.Shaping.{rising_same}
-use Rattle.buf_tree.proofs.Changes.{In-map, In-mapped}
 use Rattle.buf_tree.proofs.Climbing.{tells_serial}
 
 -- rows that keep their serials, parents and kinds tell of the same nodes
@@ -24,13 +24,13 @@ module _ (g : Cell → Cell) (n_ : (c : Cell) → num (g c) ≡ num c) (p_ : (c 
       let l = e.2.1 in
       let a = n_ c in
       let b = n_ e.0 in
-      (n_ c ∙ t.0, k_ c ∙ t.1, (g e.0, In-mapped g e.0 xs e.1, (p_ c ∙ e.2.0 ∙ sym (n_ e.0), omega arith), tells_map e.0 p e.3))
+      (n_ c ∙ t.0, k_ c ∙ t.1, (g e.0, in_map g e.0 xs e.1, (p_ c ∙ e.2.0 ∙ sym (n_ e.0), omega arith), tells_map e.0 p e.3))
 
   pub tells_unmap : (c : Cell) (n : Node) → Tells (map g xs) (g c) n → Tells xs c n
   tells_unmap c Root t = (sym (n_ c) ∙ t.0, sym (k_ c) ∙ t.1)
   tells_unmap c (Under p s k) t =
       let e = t.2 in
-      let x = In-map g e.0 xs e.1 in
+      let x = from_map g e.0 xs e.1 in
       let same : num e.0 ≡ num x.0 = sym (ap num x.2) ∙ n_ x.0 in
       let l = e.2.1 in
       let a = n_ c in
@@ -81,11 +81,11 @@ module _ (xs : List Cell) (rise : Rising xs) (apart : (a b : Cell) → In a xs �
 
   node_back : (q : ℕ) (b : Node) → (u : NodeOf (map g xs) q b) → (x : Cell) × In x xs × (g x ≡ u.cell) × Tells xs x b
   node_back q b u =
-      let x = In-map g u.cell xs u.among in
+      let x = from_map g u.cell xs u.among in
       (x.0, x.1, x.2, tells_unmap g g_num g_parent g_kind xs x.0 b (subst (λ (y : Cell). Tells (map g xs) y b) (sym x.2) u.tells))
 
   abbrev node_on : (q : ℕ) (b : Node) → NodeOf xs q b → NodeOf (map g xs) q b
-  node_on q b u = record { cell = g u.cell; among = In-mapped g u.cell xs u.among; place = g_place u.cell ∙ u.place; tells = tells_map g g_num g_parent g_kind xs u.cell b u.tells }
+  node_on q b u = record { cell = g u.cell; among = in_map g u.cell xs u.among; place = g_place u.cell ∙ u.place; tells = tells_map g g_num g_parent g_kind xs u.cell b u.tells }
 
   pub tree_signed : (T : Tree) → TreeOf xs T → TreeOf (map g xs) T
   tree_signed T t = record {

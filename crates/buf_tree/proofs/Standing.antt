@@ -11,6 +11,7 @@ use Rattle.gcx_model.specs.Paths.{any}
 use Rattle.gcx_model.specs.Members.{count}
 use Rattle.gcx_model.specs.Held.{is_live, is_held, live, roles_live}
 use Rattle.gcx_model.specs.Past.{Past, parent_serial}
+use Rattle.base_laws.proofs.Lists.{nil_cons, cons_tail, cons_head}
 use Rattle.tree_laws.proofs.Lists.{In, In-filter, In-kept, any_in, any_from}
 use Rattle.tree_laws.proofs.Matches.{Grown, Numbered-same, Numbered-high}
 use Rattle.tree_laws.proofs.Freeze.{within_self, within_trans, open_up_at}
@@ -29,15 +30,6 @@ empty_list (x ∷ xs) e =
     let has : contains (from_list {R = nat_cmp} (x ∷ xs)) x ≡ true = contains-from_list nat_cmp_total (x ∷ xs) x ∙ ap (λ b. b || list_any (eq_by_cmp nat_cmp x) xs) own in
     let none : false ≡ true = sym (contains-empty nat_cmp x) ∙ ap (λ s. contains s x) (sym e) ∙ has in
     cc
-
-cons_head : {X : Type 0} (x y : X) (xs ys : List X) → x ∷ xs ≡ y ∷ ys → x ≡ y
-cons_head x y xs ys e = cc
-
-cons_tail : {X : Type 0} (x y : X) (xs ys : List X) → x ∷ xs ≡ y ∷ ys → xs ≡ ys
-cons_tail x y xs ys e = cc
-
-nil_cons : {X : Type 0} (y : X) (ys : List X) → ◌≡◌ {A = List X} [] (y ∷ ys) → ⊥
-nil_cons y ys e = cc
 
 module _ {S X Y : Type 0} (f : X → S) (g : Y → S) where
   pub pair_left : (xs : List X) (ys : List Y) → map f xs ≡ map g ys → (x : X) → In x xs → (y : Y) × In y ys × (f x ≡ g y)

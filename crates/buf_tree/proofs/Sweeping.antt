@@ -5,11 +5,11 @@ use Rattle.std.specs.Prelude.{◌↔◌}
 use Rattle.std.specs.FinMap.{get}
 use Rattle.std.specs.FinSet as set
 use Rattle.std.proofs.lemmas.List.{append-nil}
-use Rattle.std.proofs.lemmas.Bool.{and_parts, or_cases, false≢true, eqb-true, eq-eqb, ne_eqb, cases_eq, cases_Bool}
+use Rattle.std.proofs.lemmas.Bool.{and_parts, or_cases, false≢true, eqb-true, eq-eqb, ne_eqb, cases_eq, cases_Bool, cases_lt}
 use Rattle.gcx_model.specs.declared.item.Off.{Off}
 use Rattle.gcx_model.specs.Tree.{Tree, Node, serial_of}
+use Rattle.base_laws.proofs.Members.{in_map, from_map, map_same}
 use Rattle.tree_laws.proofs.Lists.{In, In-append, In-filter, In-kept, any_in, filter_same}
-use Rattle.need_laws.proofs.Pruned.{map_same}
 use Rattle.node_store.specs.Rows.{Entry, changed_at, paid_by, unlinked}
 use Rattle.buf_tree.specs.declared.row.Row.{Row}
 use Rattle.buf_tree.specs.Rows.{IsSpare, untaken}
@@ -19,9 +19,8 @@ use Rattle.buf_tree.specs.Walk.{Nested, Inside, Within}
 use Rattle.buf_tree.specs.Ways.{Tells, NodeOf, TreeOf, IsKept}
 use Rattle.buf_tree.specs.Sweep.{taken_by, LosesBy, Shed, Swept}
 use Rattle.buf_tree.proofs.Shaping.{rising_same, cells_is}
-use Rattle.buf_tree.proofs.Changes.{In-map, In-mapped, g_num, g_place, shape_changed}
+use Rattle.buf_tree.proofs.Changes.{g_num, g_place, shape_changed}
 use Rattle.buf_tree.proofs.Purging.{leaves_none, not_spare, the, keeps_less, shape_less, leaves_less, cells_less}
-use Rattle.buf_tree.proofs.Lines.{before_or}
 use Rattle.buf_tree.proofs.Seeking.{used_there}
 use Rattle.buf_tree.proofs.Climbing.{tells_serial, tells_descends, tells_same}
 use Rattle.buf_tree.proofs.Upto.{Upto, Alike, Thinned, tells_there, nested_thinned, thin, thin_tree, kept_same}
@@ -89,7 +88,7 @@ module _ (m0 : Store) (s0 : Shaped m0) (nest0 : Nested (cells m0)) (off : Off) (
     now_upto le = record {
       there = λ x l i.
           let is = bare_not w.lost k_ x (not_lost x l) in
-          let a : In x (taken_by w.lost k_ xs) = subst (λ (d : Cell). In d (taken_by w.lost k_ xs)) is (In-mapped (bare w.lost k_) x xs i) in
+          let a : In x (taken_by w.lost k_ xs) = subst (λ (d : Cell). In d (taken_by w.lost k_ xs)) is (in_map (bare w.lost k_) x xs i) in
           subst (λ (zs : List Cell). In x zs) (sym w.leaves.rows) (In-kept (λ (d : Cell). not (is_gone w.left d)) x (taken_by w.lost k_ xs) a (ap not (not_gone x (omega arith))));
       back = λ x l i.
           let a = In-filter (λ (d : Cell). not (is_gone w.left d)) x (taken_by w.lost k_ xs) (subst (λ (zs : List Cell). In x zs) w.leaves.rows i) in
@@ -126,7 +125,7 @@ module _ (m0 : Store) (s0 : Shaped m0) (nest0 : Nested (cells m0)) (off : Off) (
 
     -- a row from h on is h or behind the edge
     here_or : (d : Cell) → In d xs → num h ≤ num d → (d ≡ h) ⊎ (k ≤ num d)
-    here_or d j l = elim (before_or (num d) k) [
+    here_or d j l = elim (cases_lt (num d) k) [
       | inl a ↦ (let b = last.1 d j a in inl (same_cell d h j i0 (omega arith)))
       | inr a ↦ inr a
     ]
@@ -208,7 +207,7 @@ module _ (m0 : Store) (s0 : Shaped m0) (nest0 : Nested (cells m0)) (off : Off) (
         ];
         high = w.high;
         kept = λ d j b.
-            let x = In-map (with_at (untaken k_) p) d (cells m) (subst (λ (zs : List Cell). In d zs) cells_taken j) in
+            let x = from_map (with_at (untaken k_) p) d (cells m) (subst (λ (zs : List Cell). In d zs) cells_taken j) in
             let e = ap num x.2 in
             let f = g_num (untaken k_) p keeps x.0 in
             subst (λ (zs : List Cell). Keeps zs d) (sym cells_taken) (subst (λ (z : Cell). Keeps (map (with_at (untaken k_) p) (cells m)) z) x.2
@@ -263,7 +262,7 @@ module _ (m0 : Store) (s0 : Shaped m0) (nest0 : Nested (cells m0)) (off : Off) (
       still_there m' e = elim (cases_eq r 1) [
         | inl y ↦ (
           with_at (untaken k_) p h,
-          subst (λ (zs : List Cell). In (with_at (untaken k_) p h) zs) (sym cells_taken ∙ ap cells (sym (e ∙ ap (λ b. cond b taken_at m) (eq-eqb r 1 y)))) (In-mapped (with_at (untaken k_) p) h (cells m) i),
+          subst (λ (zs : List Cell). In (with_at (untaken k_) p h) zs) (sym cells_taken ∙ ap cells (sym (e ∙ ap (λ b. cond b taken_at m) (eq-eqb r 1 y)))) (in_map (with_at (untaken k_) p) h (cells m) i),
           g_place (untaken k_) p keeps h ∙ at,
           g_num (untaken k_) p keeps h,
         )
@@ -286,7 +285,7 @@ module _ (m0 : Store) (s0 : Shaped m0) (nest0 : Nested (cells m0)) (off : Off) (
     d_or x v l =
         let z = (now_thinned m k (num h) g n w).each x v in
         let e = z.2.serial in
-        elim (before_or (num x) k) [
+        elim (cases_lt (num x) k) [
           | inl a ↦ (let b = last.1 z.0 z.1 (omega arith) in inl (rising_same (cells m) w.shape.rising x d v j (omega arith)))
           | inr a ↦ inr a
         ]
@@ -383,12 +382,12 @@ module _ (m0 : Store) (s0 : Shaped m0) (nest0 : Nested (cells m0)) (off : Off) (
         w.gone,
         record {
           leaves = subst (λ (zs : List Cell). Leaves zs (cells m) w.left) (map_same (bare w.lost k_) (bare loses k_) xs (λ x i. ap (λ b. cond b (record { place = x.place; row = untaken k_ x.row }) x) (all x i))) w.leaves;
-          tidy = λ x i o. elim (before_or (num x) (num c)) [
+          tidy = λ x i o. elim (cases_lt (num x) (num c)) [
             | inl l ↦ w.kept x i (inr l)
             | inr l ↦ (
                 let z = (now_thinned m k (num c) g n w).each x i in
                 let f = z.2.serial in
-                elim (before_or (num x) k) [
+                elim (cases_lt (num x) k) [
                   | inl a ↦ (
                       let b = last.1 z.0 z.1 (omega arith) in
                       let is : x ≡ d = rising_same (cells m) w.shape.rising x d i j (omega arith) in
@@ -409,7 +408,7 @@ module _ (m0 : Store) (s0 : Shaped m0) (nest0 : Nested (cells m0)) (off : Off) (
     }
       where
         all : (x : Cell) → In x xs → w.lost x ≡ loses x
-        all x i = elim (before_or (num x) (num c)) [
+        all x i = elim (cases_lt (num x) (num c)) [
           | inl l ↦ not_lost m k (num c) g n w x l ∙ sym (before x i l)
           | inr l ↦ w.right T loses tree by x i l
         ]

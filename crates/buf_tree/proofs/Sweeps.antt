@@ -3,8 +3,10 @@ use Rattle.std.proofs.Common.{◌≡◌, ◌==◌, ℕ, suc, ◌+◌, ◌<◌, �
 use Rattle.std.specs.Prelude.{◌↔◌, option_map, IsSome, MatchOption}
 use Rattle.std.specs.FinMap.{get}
 use Rattle.std.specs.FinSet as set
+use Rattle.std.proofs.lemmas.Bool.{cases_lt}
 use Rattle.gcx_model.specs.declared.item.Off.{Off}
 use Rattle.gcx_model.specs.Tree.{Tree, Node}
+use Rattle.base_laws.proofs.Lists.{filter_few}
 use Rattle.tree_laws.proofs.Lists.{In}
 use Rattle.node_store.specs.declared.store.Place.{Place}
 use Rattle.node_store.specs.Rows.{Entry, changed_at, paid_by}
@@ -15,11 +17,10 @@ use Rattle.buf_tree.specs.Purge.{Tidy}
 use Rattle.buf_tree.specs.Walk.{Nested, Inside, Within, BeforeIn, low_at}
 use Rattle.buf_tree.specs.Ways.{NodeOf, TreeOf, IsKept}
 use Rattle.buf_tree.specs.Sweep.{LosesBy, Shed, Swept}
-use Rattle.buf_tree.proofs.Lines.{before_or}
 use Rattle.buf_tree.proofs.Purging.{length_less, some_entry}
 use Rattle.buf_tree.proofs.Seeking.{used_there, serial_at_place}
 use Rattle.buf_tree.proofs.Upto.{Upto, Thinned, inside_thinned}
-use Rattle.buf_tree.proofs.Taking.{length_kept, some_member}
+use Rattle.buf_tree.proofs.Taking.{some_member}
 use Rattle.buf_tree.proofs.Sweeping.{Sweeping, LastBefore, now_thinned, now_nested, now_upto, sweep_start, withdrawn, still_there, as_many, shed, ended}
 
 -- the row at the place is the last one behind c and before the edge, or there is none
@@ -96,7 +97,7 @@ module _ (m0 : Store) (s0 : Shaped m0) (nest0 : Nested (cells m0)) (off : Off) (
       cell = s.base;
       there = (upto None s).there s.base s.top s.among;
       at = s.here;
-      last = (s.top, λ x i l. elim (before_or (num s.base) (num x)) [ inl b ↦ absurd (s.walk x ((upto None s).there x l i) b l) | inr b ↦ b ]);
+      last = (s.top, λ x i l. elim (cases_lt (num s.base) (num x)) [ inl b ↦ absurd (s.walk x ((upto None s).there x l i) b l) | inr b ↦ b ]);
       below = inl refl;
     }
 
@@ -121,7 +122,7 @@ module _ (m0 : Store) (s0 : Shaped m0) (nest0 : Nested (cells m0)) (off : Off) (
           shape = then.shape;
           nested = now_nested m0 s0 nest0 off others s.base g0 m' s.edge (num t.cell) g (n + r) then;
           used = used_there m' then.shape then_row.0 then_row.1 p then_row.2;
-          few = (let a = then.taken in let b = length_kept then.lost (cells m0) in omega arith);
+          few = (let a = then.taken in let b = filter_few then.lost (cells m0) in omega arith);
           many = as_many m0 s0 nest0 off others s.base g0 m s.edge g n s.sweep t.cell t.there t.last t.below p r t.at few tells m' is;
           some = some_member then_row.0 (cells m') then_row.1;
         }
@@ -138,7 +139,7 @@ module _ (m0 : Store) (s0 : Shaped m0) (nest0 : Nested (cells m0)) (off : Off) (
           at = s.walk.2;
           last = (
             s.walk.4,
-            λ x i l. elim (before_or (num s.base) (num x)) [
+            λ x i l. elim (cases_lt (num s.base) (num x)) [
               | inl b ↦ s.walk.5 x ((upto (Some p) s).there x l i) b l
               | inr b ↦ (let a = s.walk.3 in omega arith)
             ],

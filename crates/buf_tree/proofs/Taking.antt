@@ -1,15 +1,15 @@
 -- Rows from which a role is taken, one by one.
-use Rattle.std.proofs.Common.{◌≡◌, ◌≢◌, ◌==◌, ℕ, suc, ◌+◌, ◌<◌, ◌≤◌, Bool, true, false, cond, not, ◌&&◌, ◌||◌, List, [], ◌∷◌, length, map, refl, sym, ◌∙◌, ap, subst, inl, inr, arith}
+use Rattle.std.proofs.Common.{◌≡◌, ◌≢◌, ◌==◌, ℕ, suc, ◌+◌, ◌<◌, Bool, true, false, cond, not, ◌&&◌, ◌||◌, List, [], ◌∷◌, length, map, refl, sym, ◌∙◌, ap, subst, inl, inr, arith}
 use Rattle.std.specs.List.{filter}
 use Rattle.std.proofs.lemmas.Bool.{false≢true, eqb-true, eq-eqb, ne_eqb}
+use Rattle.base_laws.proofs.Members.{in_map, from_map, map_same}
 use Rattle.tree_laws.proofs.Lists.{In, filter_same}
-use Rattle.need_laws.proofs.Pruned.{map_same}
 use Rattle.buf_tree.specs.declared.row.Row.{Row}
 use Rattle.buf_tree.specs.Rows.{IsDead, untaken}
 use Rattle.buf_tree.specs.Shape.{Cell, num, Rising, is_under, with_at}
 use Rattle.buf_tree.specs.Purge.{is_gone, Keeps, Leaves}
 use Rattle.buf_tree.specs.Sweep.{taken_by}
-use Rattle.buf_tree.proofs.Changes.{In-map, In-mapped, g_num, g_parent}
+use Rattle.buf_tree.proofs.Changes.{g_num, g_parent}
 use Rattle.buf_tree.proofs.Upto.{Alike}
 
 filter_map : {X Y : Type 0} (f : X → Y) (p : Y → Bool) (xs : List X) → filter p (map f xs) ≡ map f (filter (λ x. p (f x)) xs)
@@ -23,14 +23,6 @@ filter_map f p (x ∷ xs) = go (p (f x)) (filter_map f p xs)
 pub length_map : {X Y : Type 0} (f : X → Y) (xs : List X) → length (map f xs) ≡ length xs
 length_map f [] = refl
 length_map f (x ∷ xs) = ap suc (length_map f xs)
-
-pub length_kept : {X : Type 0} (p : X → Bool) (xs : List X) → length (filter p xs) ≤ length xs
-length_kept p [] = omega arith
-length_kept p (x ∷ xs) = go (p x) (length_kept p xs)
-  where
-    go : (b : Bool) → length (filter p xs) ≤ length xs → length (cond b (x ∷ filter p xs) (filter p xs)) ≤ suc (length xs)
-    go true h = omega arith
-    go false h = omega arith
 
 pub some_member : {X : Type 0} (x : X) (xs : List X) → In x xs → 0 < length xs
 some_member x [] i = absurd i
@@ -54,7 +46,7 @@ module _ (lost : Cell → Bool) (k : ℕ) where
   bare_not c e = ap (λ b. cond b (record { place = c.place; row = untaken k c.row }) c) e
 
   pub was_bare : (d : Cell) (xs : List Cell) → In d (taken_by lost k xs) → (c : Cell) × In c xs × (bare c ≡ d)
-  was_bare d xs i = In-map bare d xs i
+  was_bare d xs i = from_map bare d xs i
 
   pub bare_rising : (xs : List Cell) → Rising xs → Rising (taken_by lost k xs)
   bare_rising [] r = tt
@@ -174,19 +166,19 @@ module _ (f : Row → Row) (p : ℕ) (keeps : (r : Row) → ((f r).serial ≡ r.
         ap (map g) (l.rows ∙ filter_same (λ c. not (is_gone gone c)) (λ c. not (is_gone gone (g c))) xs (λ c i. sym (ap not (gone_g gone c))))
         ∙ sym (filter_map g (λ c. not (is_gone gone c)) xs);
     dead = λ c i e.
-        let x = In-map g c xs i in
+        let x = from_map g c xs i in
         let d : is_gone gone x.0 ≡ true = sym (gone_g gone x.0) ∙ ap (is_gone gone) x.2 ∙ e in
         subst (λ (z : Cell). IsDead z.row) (sym (g_not x.0 (n x.0 x.1 d)) ∙ x.2) (l.dead x.0 x.1 d);
     down = λ c d i j e u.
-        let x = In-map g c xs i in
-        let y = In-map g d xs j in
+        let x = from_map g c xs i in
+        let y = from_map g d xs j in
         let a : is_gone gone x.0 ≡ true = sym (gone_g gone x.0) ∙ ap (is_gone gone) x.2 ∙ e in
         let b : is_under (num x.0) y.0 ≡ true = sym (under_g x.0 y.0) ∙ (λ t. is_under (num (x.2 t)) (y.2 t)) ∙ u in
         ap (is_gone gone) (sym y.2) ∙ gone_g gone y.0 ∙ l.down x.0 y.0 x.1 y.1 a b;
     falling = l.falling;
-    known = λ k i. let c = l.known k i in (g c.0, In-mapped g c.0 xs c.1, g_num f p keeps c.0 ∙ c.2);
+    known = λ k i. let c = l.known k i in (g c.0, in_map g c.0 xs c.1, g_num f p keeps c.0 ∙ c.2);
   }
 
   pub keeps_changed : (ys : List Cell) (d : Cell) → d.place ≢ p → Keeps ys d → Keeps (map g ys) (g d)
   keeps_changed ys d n (inl alive) = inl (subst (λ (z : Cell). IsDead z.row → ⊥) (sym (g_not d n)) alive)
-  keeps_changed ys d n (inr e) = inr (g e.0, In-mapped g e.0 ys e.1, under_g d e.0 ∙ e.2)
+  keeps_changed ys d n (inr e) = inr (g e.0, in_map g e.0 ys e.1, under_g d e.0 ∙ e.2)

@@ -11,8 +11,9 @@ use Rattle.gcx_model.specs.Paths.{any, hits, first, head, matches}
 use Rattle.gcx_model.specs.Core.{RoleKind, Own, First, Whole}
 use Rattle.gcx_model.specs.Held.{is_node, gives}
 use Rattle.gcx_model.specs.Nodes.{Rising as NodesRising}
+use Rattle.base_laws.proofs.Members.{head_in}
 use Rattle.tree_laws.proofs.Lists.{In, any_in, any_from, In-filter, In-kept}
-use Rattle.past_laws.proofs.Bases.{head_in, node_is}
+use Rattle.past_laws.proofs.Bases.{node_is}
 use Rattle.tree_laws.proofs.Freeze.{hits_within}
 use Rattle.buf_tree.specs.Shape.{Cell, num, Rising, Above}
 use Rattle.buf_tree.specs.Walk.{Nested, Inside}

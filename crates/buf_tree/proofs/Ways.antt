@@ -12,11 +12,11 @@ use Rattle.gcx_base.specs.declared.steps.Step.{Step}
 use Rattle.gcx_model.specs.Tree.{Node, Root, Under, serial_of, kind_of, above, within}
 use Rattle.gcx_base.specs.Tests.{passes}
 use Rattle.gcx_model.specs.Paths.{hits, reach, lies}
+use Rattle.base_laws.proofs.Bools.{same_bools}
 use Rattle.tree_laws.proofs.Lists.{In, any_in, any_from}
 use Rattle.tree_laws.proofs.Freeze.{within_self, within_above, hits_within}
 use Rattle.tree_laws.proofs.Chains.{above_self, above_trans}
 use Rattle.buf_tree.specs.Ways.{Descends, leads, Flags, FlagsBut, goes_on, flag_up}
-use Rattle.buf_tree.proofs.Feeding.{bools}
 
 -- ---- the nodes above one node
 
@@ -125,7 +125,7 @@ below_child n p (Under q t v) s k d i j l =
 module _ (ends : Node → Bool) (n : Node) (d : Descends n) where
   -- to the node itself leads no step at all
   pub leads_none : (a : Node) → In a (above n) → leads ends (serial_of a) [] n ≡ ends a
-  leads_none a i = bools _ _ to from
+  leads_none a i = same_bools _ _ to from
     where
       to : leads ends (serial_of a) [] n ≡ true → ends a ≡ true
       to h =
@@ -155,7 +155,7 @@ module _ (ends : Node → Bool) (n : Node) (d : Descends n) where
   -- from the parent: the first step is to the child on the way, or on below it
   pub leads_up : (p : Node) (s : ℕ) (k : Kind) (st : Step) (rest : List Step) → In (Under p s k) (above n)
       → leads ends (serial_of p) (st ∷ rest) n ≡ ((leads ends s rest n && passes st.test k) || (leads ends s (st ∷ rest) n && goes_on st.axis))
-  leads_up p s k st rest i = bools _ _ to from
+  leads_up p s k st rest i = same_bools _ _ to from
     where
       at : ℕ → List Step → Node → Bool
       at a steps j = ends j && hits a steps j

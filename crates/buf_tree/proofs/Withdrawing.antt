@@ -2,7 +2,7 @@
 use Rattle.std.proofs.Common.{◌≡◌, ◌==◌, ℕ, zero, suc, ◌+◌, ◌-◌, ◌<◌, ◌≤◌, Bool, true, false, cond, not, ◌&&◌, ◌||◌, List, [], ◌∷◌, ◌++◌, length, map, refl, sym, ◌∙◌, ap, subst, inl, inr, ◌⊎◌, arith, Some, append_assoc}
 use Rattle.std.specs.Prelude.{◌↔◌, IsSome, reverse}
 use Rattle.std.specs.List.{filter, list_any}
-use Rattle.std.proofs.lemmas.List.{append-nil, length-append, reverse-append, map-append}
+use Rattle.std.proofs.lemmas.List.{append-nil, length-append, map-append}
 use Rattle.std.specs.Ordering.{nat_cmp}
 use Rattle.std.specs.Cmp.{nat_cmp_total, unsigned_tied}
 use Rattle.std.specs.FinSet as set
@@ -10,7 +10,7 @@ use Rattle.std.specs.FinSet.{contains-remove, contains-empty}
 use Rattle.std.specs.FinMap.{get}
 use Rattle.std.proofs.lemmas.Bool.{or_cases, or_left, or_right, and_parts, true≢false, false≢true, not-true, eqb-true, eq-eqb, cases_eq, cases_Bool, false_from_ne_true}
 use Rattle.gcx_model.specs.Paths.{any}
-use Rattle.tree_laws.proofs.Lists.{In, In-left, In-right, In-append, In-filter, In-kept, filter_none, filter_same, any_in, any_from}
+use Rattle.tree_laws.proofs.Lists.{In, In-append, In-filter, In-kept, filter_none, filter_same, any_in, any_from, In-reversed, In-reverse}
 use Rattle.tree_laws.specs.Departing as trace
 use Rattle.tree_laws.proofs.Departures.{falling_same}
 use Rattle.node_store.specs.Rows.{Entry, changed_at, paid_by}
@@ -20,15 +20,17 @@ use Rattle.buf_tree.specs.Shape.{Store, Cell, num, cells, Rising, is_under, entr
 use Rattle.buf_tree.specs.Purge.{is_gone, Tidy, TidyBut, Falling, Purged, PurgedBut, Cleared}
 use Rattle.buf_tree.specs.Sweep.{taken_by, Swept}
 use Rattle.gcx_model.specs.declared.item.Off.{Off}
+use Rattle.base_laws.proofs.Lists.{reverse_cons}
+use Rattle.base_laws.proofs.Bools.{same_bools}
+use Rattle.base_laws.proofs.Members.{in_map, from_map, map_same}
 use Rattle.buf_tree.specs.Withdraw.{Taking, Withdrawn}
 use Rattle.buf_tree.specs.View.{View, Ordered, Kept, Ready, capped}
 use Rattle.buf_tree.specs.Calls.{role_count, left_out}
 use Rattle.buf_tree.proofs.Shaping.{get_of, held_in, shaped}
-use Rattle.buf_tree.proofs.Changes.{In-map, In-mapped, Rising-filtered, shape_changed}
+use Rattle.buf_tree.proofs.Changes.{Rising-filtered, shape_changed}
 use Rattle.buf_tree.proofs.Purging.{filter-filter, starts, some_entry}
 use Rattle.buf_tree.proofs.Taking.{length_map, some_member, bare, bare_alike}
-use Rattle.buf_tree.proofs.Keeping.{ordered_part, tidy_changed, cells_untaken, map_each}
-use Rattle.buf_tree.proofs.Feeding.{bools}
+use Rattle.buf_tree.proofs.Keeping.{ordered_part, tidy_changed, cells_untaken}
 
 -- ---- lists
 
@@ -165,16 +167,16 @@ module _ (loses : Cell → Bool) (k : ℕ) where
   t_ordered : (xs : List Cell) → Ordered xs → Ordered (taken_by loses k xs)
   t_ordered xs o = record {
     nested = λ b c i j l n.
-        let x = In-map (bare loses k) b xs i in
-        let y = In-map (bare loses k) c xs j in
+        let x = from_map (bare loses k) b xs i in
+        let y = from_map (bare loses k) c xs j in
         let a1 = (bare_alike loses k x.0).serial ∙ ap num x.2 in
         let a2 = (bare_alike loses k y.0).serial ∙ ap num y.2 in
         let b1 = (bare_alike loses k x.0).parent ∙ ap (λ (z : Cell). z.row.parent) x.2 in
         let b2 = (bare_alike loses k y.0).parent ∙ ap (λ (z : Cell). z.row.parent) y.2 in
         let z = o.nested x.0 y.0 x.1 y.1 (omega arith) (omega arith) in omega arith;
     open_last = λ a b i j op l.
-        let x = In-map (bare loses k) a xs i in
-        let y = In-map (bare loses k) b xs j in
+        let x = from_map (bare loses k) a xs i in
+        let y = from_map (bare loses k) b xs j in
         let a1 = (bare_alike loses k x.0).serial ∙ ap num x.2 in
         let a2 = (bare_alike loses k y.0).serial ∙ ap num y.2 in
         let b2 = (bare_alike loses k y.0).parent ∙ ap (λ (z : Cell). z.row.parent) y.2 in
@@ -223,26 +225,11 @@ as_falling : (ks : List ℕ) → Falling ks → trace.Falling ks
 as_falling [] f = tt
 as_falling (k ∷ ks) f = (f.0, as_falling ks f.1)
 
-turned : {X : Type 0} (x : X) (xs : List X) → reverse (x ∷ xs) ≡ reverse xs ++ x ∷ []
-turned x xs = reverse-append (x ∷ []) xs
-
-In-reverse : {X : Type 0} (m : X) (xs : List X) → In m (reverse xs) → In m xs
-In-reverse m [] i = i
-In-reverse {X} m (x ∷ xs) i = elim (In-append m (reverse xs) (x ∷ []) (subst (λ (z : List X). In m z) (turned x xs) i)) [
-  | inl j ↦ inr (In-reverse m xs j)
-  | inr j ↦ elim j [ inl e ↦ inl e | inr k ↦ absurd k ]
-]
-
-In-turned : {X : Type 0} (m : X) (xs : List X) → In m xs → In m (reverse xs)
-In-turned m [] i = i
-In-turned {X} m (x ∷ xs) (inl e) = subst (λ (z : List X). In m z) (sym (turned x xs)) (In-right m (reverse xs) (x ∷ []) (inl e))
-In-turned {X} m (x ∷ xs) (inr i) = subst (λ (z : List X). In m z) (sym (turned x xs)) (In-left m (reverse xs) (x ∷ []) (In-turned m xs i))
-
 reverse_falls : (xs : List Cell) → Rising xs → Falling (map num (reverse xs))
 reverse_falls [] r = tt
-reverse_falls (x ∷ xs) r = subst (λ (z : List ℕ). Falling z) (sym (ap (map num) (turned x xs) ∙ map-append num (reverse xs) (x ∷ [])))
+reverse_falls (x ∷ xs) r = subst (λ (z : List ℕ). Falling z) (sym (ap (map num) (reverse_cons x xs) ∙ map-append num (reverse xs) (x ∷ [])))
     (Falling-both (map num (reverse xs)) (num x ∷ []) (reverse_falls xs r.1) (λ j i. absurd i, tt) (λ k j i e. elim e [
-      | inl f ↦ (let m = In-map num k (reverse xs) i in let l = r.0 m.0 (In-reverse m.0 xs m.1) in let z = m.2 in omega arith)
+      | inl f ↦ (let m = from_map num k (reverse xs) i in let l = r.0 m.0 (In-reverse m.0 xs m.1) in let z = m.2 in omega arith)
       | inr n ↦ absurd n
     ]))
 
@@ -270,22 +257,22 @@ left_is f same xs zs left r r' u = falling_same left (left_out xs zs) (as_fallin
     to : (s : ℕ) → In s left → In s (left_out xs zs)
     to s i =
         let x = u.leaves.known s i in
-        let c = In-map f x.0 xs x.1 in
+        let c = from_map f x.0 xs x.1 in
         let e : num c.0 ≡ s = sym (same c.0) ∙ ap num c.2 ∙ x.2 in
         let n : list_any (λ (d : Cell). num d == num c.0) zs ≡ false = false_from_ne_true _ (λ h.
         let d = listed_any zs (num c.0) h in
         let g = stays d.0 d.1 in
         false≢true (sym (ap not (in_is_gone left d.0 (subst (λ (z : ℕ). In z left) (sym (d.2 ∙ e)) i))) ∙ g.1)) in
-        subst (λ (z : ℕ). In z (left_out xs zs)) e (In-mapped num c.0 (reverse (filter out xs)) (In-turned c.0 (filter out xs) (In-kept out c.0 xs c.1 (ap not n))))
+        subst (λ (z : ℕ). In z (left_out xs zs)) e (in_map num c.0 (reverse (filter out xs)) (In-reversed c.0 (filter out xs) (In-kept out c.0 xs c.1 (ap not n))))
 
     from : (s : ℕ) → In s (left_out xs zs) → In s left
     from s i =
-        let c = In-map num s (reverse (filter out xs)) i in
+        let c = from_map num s (reverse (filter out xs)) i in
         let g = In-filter out c.0 xs (In-reverse c.0 (filter out xs) c.1) in
         elim (cases_Bool (is_gone left (f c.0))) [
           | inl e ↦ subst (λ (z : ℕ). In z left) (same c.0 ∙ c.2) (is_gone_in left (f c.0) e)
           | inr e ↦ (
-              let k : In (f c.0) zs = subst (λ (w : List Cell). In (f c.0) w) (sym u.leaves.rows) (In-kept (λ (x : Cell). not (is_gone left x)) (f c.0) (map f xs) (In-mapped f c.0 xs g.0) (ap not e)) in
+              let k : In (f c.0) zs = subst (λ (w : List Cell). In (f c.0) w) (sym u.leaves.rows) (In-kept (λ (x : Cell). not (is_gone left x)) (f c.0) (map f xs) (in_map f c.0 xs g.0) (ap not e)) in
               absurd (true≢false (sym (any_listed zs (f c.0) (num c.0) k (same c.0)) ∙ not-true _ g.1)))
         ]
 
@@ -303,7 +290,7 @@ ready_swept m0 m1 p loses k g0 g1 res cap0 cap1 held left n h w e l f =
       held = omega (arith, e, f, longer, h.held);
       room = omega (arith, e, f, longer, h.held, h.room, l);
       below = λ d i.
-          let r = In-map (bare loses k) d (cells m0) (part d i) in
+          let r = from_map (bare loses k) d (cells m0) (part d i) in
           let b = h.below r.0 r.1 in
           let x = (bare_alike loses k r.0).serial in
           let y = ap num r.2 in
@@ -353,7 +340,7 @@ own_swept m m' p k c loses g0 res s tidy i at each taken rows = go (set.contains
         let f' : res ≡ 1 = f ∙ ap (λ b. cond b 1 0) e in
         let h' : m' ≡ changed_at (paid_by (untaken k)) p m = h ∙ ap (λ b. cond b (changed_at (paid_by (untaken k)) p m) m) e in
         let is : cells m' ≡ map (with_at (untaken k) p) (cells m) = cells_untaken m m' (cells m) p k refl h' s in
-        let same : map (with_at (untaken k) p) (cells m) ≡ taken_by loses k (cells m) = map_each (with_at (untaken k) p) (bare loses k) (cells m) (λ d j. ap (λ b. cond b (record { place = d.place; row = untaken k d.row }) d) (bools (d.place == p) (loses d)
+        let same : map (with_at (untaken k) p) (cells m) ≡ taken_by loses k (cells m) = map_same (with_at (untaken k) p) (bare loses k) (cells m) (λ d j. ap (λ b. cond b (record { place = d.place; row = untaken k d.row }) d) (same_bools (d.place == p) (loses d)
         (λ q. (each d j).1 (s.apart c d i j (at ∙ sym (eqb-true d.place p q)), ap (λ (x : Cell). set.contains x.row.roles k) (sym (s.apart c d i j (at ∙ sym (eqb-true d.place p q)))) ∙ e))
         (λ q. eq-eqb d.place p (ap (λ (x : Cell). x.place) (sym ((each d j).0 q).0) ∙ at)))) in
         let shape : Shape m' (map (with_at (untaken k) p) (cells m)) = subst (λ (z : Store). Shape z (map (with_at (untaken k) p) (cells m))) (sym h') shape_now in
@@ -365,7 +352,7 @@ own_swept m m' p k c loses g0 res s tidy i at each taken rows = go (set.contains
         there : (z : Store) → Shape z (map (with_at (untaken k) p) (cells m)) → IsSome (get z p)
         there z sh =
             let w : (with_at (untaken k) p c).place ≡ p = placed (c.place == p) in
-            subst (λ o. IsSome o) (sym (ap (get z) (sym w) ∙ get_of z (map (with_at (untaken k) p) (cells m)) sh (with_at (untaken k) p c) (In-mapped (with_at (untaken k) p) c (cells m) i))) refl
+            subst (λ o. IsSome o) (sym (ap (get z) (sym w) ∙ get_of z (map (with_at (untaken k) p) (cells m)) sh (with_at (untaken k) p c) (in_map (with_at (untaken k) p) c (cells m) i))) refl
           where
             placed : (b : Bool) → (cond b (record { place = c.place; row = untaken k c.row }) c).place ≡ p
             placed true = at

@@ -2,7 +2,7 @@
 use Rattle.std.proofs.Common.{ℕ, ◌≡◌, ◌≤◌, inl, inr, Bool, true, false, ◌||◌, eqb, List, [], ◌∷◌, ◌++◌, refl, sym, ap, ◌∙◌, subst, arith, eqb-true, leb-true}
 use Rattle.std.specs.Prelude.{nat_le}
 use Rattle.std.specs.List.{list_all}
-use Rattle.std.proofs.lemmas.Bool.{false≢true}
+use Rattle.std.proofs.lemmas.Bool.{false≢true, and_parts, and_from, or_cases}
 use Rattle.gcx_base.specs.Characters.{between, is_char, is_white, is_ascii_start, is_wide_start, is_start_char, is_part_char}
 use Rattle.gcx_base.specs.declared.limits.Limits.{Limits}
 use Rattle.gcx_model.specs.References.{Entity, less_than, greater_than, ampersand, apostrophe, quotation, entity_name, Digits, no_digit, digit, digits_spelling, is_decimal, is_hexadecimal, AreDigits, Reference, named, decimal, hexadecimal, reference_spelling, IsReference}
@@ -10,17 +10,17 @@ use Rattle.gcx_model.specs.Attributes.{is_name, is_blank_text, is_gap, is_quote,
 use Rattle.gcx_model.specs.Markup.{CommentText, blank_comment, plain, dashed, comment_spelling, IsCommentText, CDSect, blank_cdsect, further, cdsect_spelling, IsCDSect, InstructionData, blank_data, data_char, data_spelling, IsInstructionData, Declaration, blank_declaration, doc_char, literal, declaration_spelling, IsDeclaration, is_literal_char, comment_start, cdata_start, doc_start}
 use Rattle.gcx_model.specs.Grammar.{Content, nothing, mark, space, char, reference, cdata, comment, bare, instruction, doctype, single, tagged, start_tag, end_tag, spelling, IsContent, Viable}
 use Rattle.gcx_model.specs.Faults.{Comes, AtSyntax, size}
-use Rattle.doc_laws.proofs.Tests.{and_true, true_and, or_cases, all_append, gap_blank}
+use Rattle.doc_laws.proofs.Tests.{all_append, gap_blank}
 use Rattle.doc_laws.proofs.References.{low_char, middle_char, high_char}
 
 in_low : (l h c : ℕ) → 32 ≤ l → h ≤ 55295 → between l h c ≡ true → is_char c ≡ true
-in_low l h c a b e = let both = and_true (nat_le l c) (nat_le c h) e in let p = leb-true l c both.0 in let q = leb-true c h both.1 in low_char c (omega (arith, p, a)) (omega (arith, q, b))
+in_low l h c a b e = let both = and_parts (nat_le l c) (nat_le c h) e in let p = leb-true l c both.0 in let q = leb-true c h both.1 in low_char c (omega (arith, p, a)) (omega (arith, q, b))
 
 in_middle : (l h c : ℕ) → 57344 ≤ l → h ≤ 65533 → between l h c ≡ true → is_char c ≡ true
-in_middle l h c a b e = let both = and_true (nat_le l c) (nat_le c h) e in let p = leb-true l c both.0 in let q = leb-true c h both.1 in middle_char c (omega (arith, p, a)) (omega (arith, q, b))
+in_middle l h c a b e = let both = and_parts (nat_le l c) (nat_le c h) e in let p = leb-true l c both.0 in let q = leb-true c h both.1 in middle_char c (omega (arith, p, a)) (omega (arith, q, b))
 
 in_high : (l h c : ℕ) → 65536 ≤ l → h ≤ 1114111 → between l h c ≡ true → is_char c ≡ true
-in_high l h c a b e = let both = and_true (nat_le l c) (nat_le c h) e in let p = leb-true l c both.0 in let q = leb-true c h both.1 in high_char c (omega (arith, p, a)) (omega (arith, q, b))
+in_high l h c a b e = let both = and_parts (nat_le l c) (nat_le c h) e in let p = leb-true l c both.0 in let q = leb-true c h both.1 in high_char c (omega (arith, p, a)) (omega (arith, q, b))
 
 is_one : (c n : ℕ) → is_char n ≡ true → eqb c n ≡ true → is_char c ≡ true
 is_one c n h e = ap is_char (eqb-true c n e) ∙ h
@@ -75,24 +75,24 @@ known h = record { chars = h }
 
 all : (p : ℕ → Bool) → ((c : ℕ) → p c ≡ true → is_char c ≡ true) → (l : List ℕ) → list_all p l ≡ true → Chars l
 all p h [] e = known refl
-all p h (c ∷ l) e = let both = and_true (p c) (list_all p l) e in known (true_and (is_char c) _ (h c both.0) (all p h l both.1).chars)
+all p h (c ∷ l) e = let both = and_parts (p c) (list_all p l) e in known (and_from (is_char c) _ (h c both.0) (all p h l both.1).chars)
 
 both : (a b : List ℕ) → Chars a → Chars b → Chars (a ++ b)
 both a b h k = known (all_append is_char a b h.chars k.chars)
 
 front : (a b : List ℕ) → Chars (a ++ b) → Chars a
 front [] b h = known refl
-front (c ∷ a) b h = let k = and_true (is_char c) (list_all is_char (a ++ b)) h.chars in known (true_and (is_char c) _ k.0 (front a b (known k.1)).chars)
+front (c ∷ a) b h = let k = and_parts (is_char c) (list_all is_char (a ++ b)) h.chars in known (and_from (is_char c) _ k.0 (front a b (known k.1)).chars)
 
 cons : (c : ℕ) (l : List ℕ) → is_char c ≡ true → Chars l → Chars (c ∷ l)
-cons c l h k = known (true_and (is_char c) _ h k.chars)
+cons c l h k = known (and_from (is_char c) _ h k.chars)
 
 one : (c : ℕ) → is_char c ≡ true → Chars (c ∷ [])
 one c h = cons c [] h (known refl)
 
 name_chars : (n : List ℕ) → is_name n ≡ true → Chars n
 name_chars [] h = known refl
-name_chars (c ∷ n) h = let k = and_true (is_start_char c) (list_all is_part_char n) h in cons c n (start_is_char c k.0) (all is_part_char part_is_char n k.1)
+name_chars (c ∷ n) h = let k = and_parts (is_start_char c) (list_all is_part_char n) h in cons c n (start_is_char c k.0) (all is_part_char part_is_char n k.1)
 
 blank_chars : (l : List ℕ) → is_blank_text l ≡ true → Chars l
 blank_chars l h = all is_white white_is_char l h
@@ -101,7 +101,7 @@ gap_chars : (l : List ℕ) → is_gap l ≡ true → Chars l
 gap_chars l h = blank_chars l (gap_blank l h)
 
 text_is_char : (c : ℕ) → is_text_char c ≡ true → is_char c ≡ true
-text_is_char c h = (and_true (is_char c) _ h).0
+text_is_char c h = (and_parts (is_char c) _ h).0
 
 entity_chars : (e : Entity) → Chars (entity_name e)
 entity_chars less_than = known refl
@@ -127,7 +127,7 @@ reference_chars (hexadecimal ds) g = cons 38 _ refl (cons 35 _ refl (cons 120 _ 
 
 value_chars : (q : ℕ) (v : Value) → IsValue q v → Chars (value_spelling v)
 value_chars q blank_value g = known refl
-value_chars q (value_char v c) g = both (value_spelling v) (c ∷ []) (value_chars q v g.0) (one c (text_is_char c (and_true (is_text_char c) _ g.1).0))
+value_chars q (value_char v c) g = both (value_spelling v) (c ∷ []) (value_chars q v g.0) (one c (text_is_char c (and_parts (is_text_char c) _ g.1).0))
 value_chars q (value_reference v r) g = both (value_spelling v) (reference_spelling r) (value_chars q v g.0) (reference_chars r g.1)
 
 attributes_chars : (ats : Attributes) → IsAttributes ats → Chars (attributes_spelling ats)
@@ -155,11 +155,11 @@ instruction_chars (data_char d c) g = both (data_spelling d) (c ∷ []) (instruc
 
 declaration_chars : (d : Declaration) → IsDeclaration d → Chars (declaration_spelling d)
 declaration_chars blank_declaration g = known refl
-declaration_chars (doc_char d c) g = both (declaration_spelling d) (c ∷ []) (declaration_chars d g.0) (one c (and_true (is_char c) _ g.1).0)
+declaration_chars (doc_char d c) g = both (declaration_spelling d) (c ∷ []) (declaration_chars d g.0) (one c (and_parts (is_char c) _ g.1).0)
 declaration_chars (literal d q l) g =
     let quote = quote_is_char q g.1 in
     both (declaration_spelling d) _ (declaration_chars d g.0)
-    (cons q _ quote (both l (q ∷ []) (all (is_literal_char q) (λ c h. (and_true (is_char c) _ h).0) l g.2) (one q quote)))
+    (cons q _ quote (both l (q ∷ []) (all (is_literal_char q) (λ c h. (and_parts (is_char c) _ h).0) l g.2) (one q quote)))
 
 tag_chars : (n : List ℕ) (ats : Attributes) (sp more : List ℕ) → is_name n ≡ true → is_blank_text sp ≡ true → IsAttributes ats → Chars more → Chars (60 ∷ (n ++ (attributes_spelling ats ++ (sp ++ more))))
 tag_chars n ats sp more h b g k = cons 60 _ refl (both n _ (name_chars n h) (both (attributes_spelling ats) _ (attributes_chars ats g) (both sp more (blank_chars sp b) k)))
@@ -191,8 +191,8 @@ pub not_char_bad : (b : List ℕ) (c : ℕ) → is_char c ≡ false → Viable (
 not_char_bad b c h v = false≢true (sym h ∙ last b (viable_chars (b ++ (c ∷ [])) v).chars)
   where
     last : (b : List ℕ) → list_all is_char (b ++ (c ∷ [])) ≡ true → is_char c ≡ true
-    last [] k = (and_true (is_char c) true k).0
-    last (d ∷ b) k = last b (and_true (is_char d) (list_all is_char (b ++ (c ∷ []))) k).1
+    last [] k = (and_parts (is_char c) true k).0
+    last (d ∷ b) k = last b (and_parts (is_char d) (list_all is_char (b ++ (c ∷ []))) k).1
 
 pub not_char_comes : (lim : Limits) (b : List ℕ) (c : ℕ) → is_char c ≡ false → Comes lim b c (AtSyntax (size b))
 not_char_comes lim b c h = (refl, not_char_bad b c h)

@@ -2,7 +2,7 @@
 use Rattle.std.proofs.Common.{ℕ, ◌≡◌, ◌+◌, ◌<◌, ◌≤◌, Result, Ok, Err, ltb-true, ltb-false, leb-true, le-leb, lt-ltb, ◌⊎◌, inl, inr, Bool, true, false, not, ◌&&◌, eqb, cond, List, [], ◌∷◌, ◌++◌, length, Option, Some, None, refl, sym, ap, ◌∙◌, subst, append_assoc, append-nil, arith}
 use Rattle.std.specs.Prelude.{nat_le, nat_lt}
 use Rattle.std.specs.Char.{len_utf8}
-use Rattle.std.proofs.lemmas.Bool.{le-ltb, false≢true}
+use Rattle.std.proofs.lemmas.Bool.{le-ltb, false≢true, and_parts, and_from, false_from_ne_true, cond-true, cond-false}
 use lib.Utf8.{encode, encodes}
 use Rattle.gcx_base.specs.Characters.{is_char, is_white, is_start_char, is_part_char}
 use Rattle.gcx_base.specs.declared.limits.Limits.{Limits}
@@ -15,7 +15,7 @@ use Rattle.gcx_model.specs.Faults.{Refusal, AtSyntax, AtDepth, AtName, AtText, s
 use Rattle.doc_laws.specs.Machine.{Referred, More, Done, Bad, Referring, Mode, Opening, Between, Less, StartName, StartSpace, AttributeName, AttributeSpace, Equals, InValue, InValueReference, ValueEnd, Slash, EndName, EndSpace, Question, Target, TargetMark, InInstruction, DocWord, DocSpace, Doc, DocLiteral, Bang, BangDash, Comment, CommentDash, CommentEnd, CDSectWord, InCDSect, InReference, State, start, begun, on_between, on_tag, on_named, on_ended, on_referred, refer, behind, to_end_name, on_end, on_word, on_mode, steps, step, go_on}
 use Rattle.doc_laws.specs.States.{part_mode, piece_mode, is_opening, rooted, state_of, Fronts}
 use Rattle.doc_laws.specs.Judging.{naming_by, begins_deep, is_deep, deep_place, judged_by, judged, on_ok, judged_steps, Told}
-use Rattle.doc_laws.proofs.Tests.{and_true, true_and, not_false, on_cond, off_cond, at}
+use Rattle.doc_laws.proofs.Tests.{at}
 use Rattle.doc_laws.proofs.Moves.{steps_append, may_rooted, m_started, m_attr}
 use Rattle.doc_laws.proofs.Fronts.{some_is, first, last}
 use Rattle.doc_laws.proofs.Theorems.{start_fronts, step_more, fronts_lead, Fronts_viable, step_bad}
@@ -163,22 +163,22 @@ deep_true lim front c k s f h = elim h.1 [ inl q ↦ of_tag q.0 q.1 | inr q ↦ 
         let is : state_of w.frames w.content less ≡ s = fronts_one front _ s (opens_fronts front w.frames w.content less w.opens) f in
         let within : lim.depth ≤ length (names w.frames) = omega (arith, depth_names w.frames, w.full) in
         subst (λ (u : State). (is_deep lim u c ≡ true) × (deep_place (size front) u.mode ≡ k)) is
-        (true_and (is_start_char c) _ h.0 (le-leb lim.depth (length (names w.frames)) within), omega (arith, e))
+        (and_from (is_start_char c) _ h.0 (le-leb lim.depth (length (names w.frames)) within), omega (arith, e))
 
     of_attribute : IsFullAttribute lim front → k ≡ size front → (is_deep lim s c ≡ true) × (deep_place (size front) s.mode ≡ k)
     of_attribute w e =
         let is : state_of w.frames w.content (tag w.name w.ats (spaced w.gap)) ≡ s = fronts_one front _ s (opens_fronts front w.frames w.content (tag w.name w.ats (spaced w.gap)) w.opens) f in
         let within : lim.depth ≤ length (names w.frames) + 1 = omega (arith, depth_names w.frames, w.full) in
         subst (λ (u : State). (is_deep lim u c ≡ true) × (deep_place (size front) u.mode ≡ k)) is
-        (true_and (is_start_char c) _ h.0 (le-leb lim.depth (length (names w.frames) + 1) within), sym e)
+        (and_from (is_start_char c) _ h.0 (le-leb lim.depth (length (names w.frames) + 1) within), sym e)
 
 -- behind '<' a name begins where an element may
 name_may : (fs : Frames) (x : Content) (c : ℕ) (t : State) → is_start_char c ≡ true → step (state_of fs x less) c ≡ Some t → may_open (inside fs) (has_element x) ≡ true
 name_may fs x c t h e =
     elim (first (is_start_char c && may_open (inside fs) (rooted fs x)) _ t _ e) [
-      | inl b ↦ sym (may_rooted (inside fs) (has_element x)) ∙ (and_true (is_start_char c) _ b).1
+      | inl b ↦ sym (may_rooted (inside fs) (has_element x)) ∙ (and_parts (is_start_char c) _ b).1
       | inr k ↦ elim (first (eqb c 47 && inside fs) _ t _ k.1) [
-        | inl b ↦ no 47 refl (and_true (eqb c 47) (inside fs) b).0
+        | inl b ↦ no 47 refl (and_parts (eqb c 47) (inside fs) b).0
         | inr k2 ↦ elim (first (eqb c 33) _ t _ k2.1) [
           | inl b ↦ no 33 refl b
           | inr k3 ↦ no 63 refl (last (eqb c 63) _ t k3.1)
@@ -204,12 +204,12 @@ deep_found lim front c s t f e h =
 
     by : (fs : Frames) (x : Content) (p : Piece) → IsFront fs x p → front_spelling fs x p ≡ front → step (state_of fs x p) c ≡ Some t → is_deep lim (state_of fs x p) c ≡ true → IsDeep lim front c (deep_place (size front) (piece_mode fs x p))
     by fs x less g sp e d =
-        let both = and_true (is_start_char c) (nat_le lim.depth (length (names fs))) d in
+        let both = and_parts (is_start_char c) (nat_le lim.depth (length (names fs))) d in
         let le = leb-true lim.depth (length (names fs)) both.1 in
         let sized : size front ≡ size (frames_spelling fs ++ spelling x) + 1 = ap size (sym sp) ∙ size_more (frames_spelling fs ++ spelling x) 60 in
         (both.0, inl (record { frames = fs; content = x; opens = record { good = g; spelled = sp }; may = name_may fs x c t both.0 e; full = omega (arith, le, depth_names fs) }, omega (arith, sized)))
     by fs x (tag n ats (spaced gap)) g sp e d =
-        let both = and_true (is_start_char c) (nat_le lim.depth (length (names fs) + 1)) d in
+        let both = and_parts (is_start_char c) (nat_le lim.depth (length (names fs) + 1)) d in
         let le = leb-true lim.depth (length (names fs) + 1) both.1 in
         (both.0, inr (record { frames = fs; content = x; name = n; ats = ats; gap = gap; opens = record { good = g; spelled = sp }; full = omega (arith, le, depth_names fs) }, refl))
     by fs x (tag n ats p) g sp e d = never (is_start_char c) d
@@ -234,7 +234,7 @@ comes_refusal lim front c s (AtDepth k) g short h = elim h.1 [ inl q ↦ of_tag 
     go : (u : State) → step s c ≡ Some u → u.run ≡ s.run → judged lim (size front) s c ≡ Err (AtDepth k)
     go u d e =
         judged_is lim (size front) s c (Some u) _ d
-        (off_cond _ _ _ (le-ltb lim.text (length u.run) (subst (λ l. length l ≤ lim.text) (sym e) short)) ∙ on_cond _ _ _ deep.0 ∙ ap (λ n. Err (AtDepth n)) deep.1)
+        (cond-false _ _ _ (le-ltb lim.text (length u.run) (subst (λ l. length l ≤ lim.text) (sym e) short)) ∙ cond-true _ _ _ deep.0 ∙ ap (λ n. Err (AtDepth n)) deep.1)
 
     of_tag : IsFullTag lim front → judged lim (size front) s c ≡ Err (AtDepth k)
     of_tag w =
@@ -255,14 +255,14 @@ comes_refusal lim front c s (AtName k) g short h =
     let d = opens_step front c s r.frames r.content r.piece g r.opens in
     let is = naming_is r.frames r.content r.piece in
     let long : lim.name < length (naming_by u.mode u) = subst (λ l. lim.name < length l) (sym is) r.is in
-    let shallow : is_deep lim s c ≡ false = not_false (is_deep lim s c) (λ e. h.2 (deep_place (size front) s.mode) (deep_found lim front c s u g d e)) in
+    let shallow : is_deep lim s c ≡ false = false_from_ne_true (is_deep lim s c) (λ e. h.2 (deep_place (size front) s.mode) (deep_found lim front c s u g d e)) in
     judged_is lim (size front) s c (Some u) _ d
-    (off_cond _ _ _ (named_short lim s u c d short (long_some lim (naming_by u.mode u) long)) ∙ off_cond _ _ _ shallow ∙ on_cond _ _ _ (lt-ltb lim.name _ long) ∙ ap (λ n. Err (AtName n)) (sym h.0))
+    (cond-false _ _ _ (named_short lim s u c d short (long_some lim (naming_by u.mode u) long)) ∙ cond-false _ _ _ shallow ∙ cond-true _ _ _ (lt-ltb lim.name _ long) ∙ ap (λ n. Err (AtName n)) (sym h.0))
 comes_refusal lim front c s (AtText k) g short h =
     let r = h.1 in
     let u = state_of r.frames r.content r.piece in
     let d = opens_step front c s r.frames r.content r.piece g r.opens in
-    judged_is lim (size front) s c (Some u) _ d (on_cond _ _ _ (lt-ltb lim.text (length (piece_run r.content r.piece)) r.is) ∙ ap (λ n. Err (AtText n)) (sym h.0))
+    judged_is lim (size front) s c (Some u) _ d (cond-true _ _ _ (lt-ltb lim.text (length (piece_run r.content r.piece)) r.is) ∙ ap (λ n. Err (AtText n)) (sym h.0))
 
 -- no fault comes where the judged step goes on
 pub none_comes : (lim : Limits) (front : List ℕ) (c : ℕ) (s t : State) (f : Refusal) → Fronts front s → length s.run ≤ lim.text → judged lim (size front) s c ≡ Ok t → Comes lim front c f → ⊥

@@ -1,6 +1,6 @@
 -- All bytes have a fault, or none comes: it is found.
 use Rattle.std.proofs.Common.{ℕ, zero, suc, ◌≡◌, ◌+◌, ◌<◌, ◌≤◌, ◌^◌, ◌⊎◌, inl, inr, Bool, true, false, ◌&&◌, eqb, List, [], ◌∷◌, ◌++◌, length, take, drop, Option, Some, None, Result, Ok, Err, refl, sym, ap, ◌∙◌, subst, append_assoc, append-nil, arith, length-append, eqb-true, eq-eqb}
-use Rattle.std.proofs.lemmas.Bool.{true≢false, false≢true}
+use Rattle.std.proofs.lemmas.Bool.{true≢false, false≢true, and_parts, and_from, cases_lt}
 use lib.Utf8.{scalar, scalars, encode, encodes, scalar_fits}
 use Rattle.gcx_base.specs.declared.limits.Limits.{Limits}
 use Rattle.gcx_model.specs.References.{is_front}
@@ -17,11 +17,10 @@ use Rattle.doc_laws.proofs.Words.{scalars_front}
 use Rattle.gcx_model.specs.Faults.{ComesFirst, Refusal, fault_of, size, IsCharFront, IsNotUtf8, Decodes, IsBad, FaultWithin, by_character, by_sequence, by_cut, by_end, none_yet, none_whole, FaultIs, within_limit, before_limit, past_limit}
 use Rattle.doc_laws.specs.Machine.{State, start, is_whole}
 use Rattle.doc_laws.specs.Judging.{judged_steps}
-use Rattle.doc_laws.proofs.Tests.{and_true, true_and}
 use Rattle.doc_laws.proofs.Moves.{some_bytes}
 use Rattle.doc_laws.proofs.Theorems.{whole_spells, not_whole}
 use Rattle.doc_laws.proofs.Faults.{comes_refusal, Reads, Said, judged_says, start_reads}
-use Rattle.doc_laws.proofs.Pieces.{Stands, bad_more, less_or}
+use Rattle.doc_laws.proofs.Pieces.{Stands, bad_more}
 
 -- the numbers below n are tried
 tried : (p : ℕ → Bool) (n : ℕ) → ((c : ℕ) × (p c ≡ true)) ⊎ ((c : ℕ) → c < n → p c ≡ false)
@@ -34,20 +33,20 @@ tried p (suc n) =
   where
     by : (b : Bool) → p n ≡ b → ((c : ℕ) → c < n → p c ≡ false) → ((c : ℕ) × (p c ≡ true)) ⊎ ((c : ℕ) → c < suc n → p c ≡ false)
     by true e h = inl (n, e)
-    by false e h = inr (λ c k. elim (less_or c n) [ inl l ↦ h c l | inr l ↦ let is : c ≡ n = omega arith in ap p is ∙ e ])
+    by false e h = inr (λ c k. elim (cases_lt c n) [ inl l ↦ h c l | inr l ↦ let is : c ≡ n = omega arith in ap p is ∙ e ])
 
 -- a list that begins another
 front_rest : (m w : List ℕ) → is_front m w ≡ true → (r : List ℕ) × (w ≡ m ++ r)
 front_rest [] w h = (w, refl)
 front_rest (c ∷ m) [] h = absurd (false≢true h)
 front_rest (c ∷ m) (d ∷ w) h =
-    let both = and_true (eqb c d) (is_front m w) h in
+    let both = and_parts (eqb c d) (is_front m w) h in
     let k = front_rest m w both.1 in
     (k.0, ap (λ l. d ∷ l) k.1 ∙ ap (λ a. a ∷ (m ++ k.0)) (sym (eqb-true c d both.0)))
 
 front_self : (m r : List ℕ) → is_front m (m ++ r) ≡ true
 front_self [] r = refl
-front_self (c ∷ m) r = true_and (eqb c c) _ (eq-eqb c c refl) (front_self m r)
+front_self (c ∷ m) r = and_from (eqb c c) _ (eq-eqb c c refl) (front_self m r)
 
 abbrev is_some : List ℕ → Bool
 is_some [] = false
@@ -63,14 +62,14 @@ longer_rest [] [] h = absurd (false≢true h)
 longer_rest [] (d ∷ w) h = (d ∷ w, refl, omega arith)
 longer_rest (c ∷ m) [] h = absurd (false≢true h)
 longer_rest (c ∷ m) (d ∷ w) h =
-    let both = and_true (eqb c d) (longer m w) h in
+    let both = and_parts (eqb c d) (longer m w) h in
     let k = longer_rest m w both.1 in
     (k.0, ap (λ l. d ∷ l) k.1 ∙ ap (λ a. a ∷ (m ++ k.0)) (sym (eqb-true c d both.0)), k.2)
 
 longer_self : (m r : List ℕ) → 0 < length r → longer m (m ++ r) ≡ true
 longer_self [] [] h = absurd (omega arith)
 longer_self [] (d ∷ r) h = refl
-longer_self (c ∷ m) r h = true_and (eqb c c) _ (eq-eqb c c refl) (longer_self m r h)
+longer_self (c ∷ m) r h = and_from (eqb c c) _ (eq-eqb c c refl) (longer_self m r h)
 
 data Begins (b : List ℕ) : Type 0 where
   a_char : (c : ℕ) (rest : List ℕ) → scalar c ≡ true → b ≡ encode c ++ rest → Begins b
@@ -80,17 +79,17 @@ data Begins (b : List ℕ) : Type 0 where
 begins : (b : List ℕ) → Begins b
 begins b = elim (tried (λ c. scalar c && is_front (encode c) b) (2 ^ 32)) [
   | inl q ↦
-      let both = and_true (scalar q.0) (is_front (encode q.0) b) q.1 in
+      let both = and_parts (scalar q.0) (is_front (encode q.0) b) q.1 in
       let k = front_rest (encode q.0) b both.1 in
       a_char q.0 k.0 both.0 k.1
   | inr h ↦ elim (tried (λ c. scalar c && longer b (encode c)) (2 ^ 32)) [
     | inl q ↦
-        let both = and_true (scalar q.0) (longer b (encode q.0)) q.1 in
+        let both = and_parts (scalar q.0) (longer b (encode q.0)) q.1 in
         let k = longer_rest b (encode q.0) both.1 in
         a_front (record { c = q.0; rest = k.0; scalar = both.0; bytes = k.1; more = k.2 })
     | inr g ↦ nothing_so (record {
-      no_char = λ c rest s e. true≢false (sym (true_and (scalar c) _ s (ap (is_front (encode c)) e ∙ front_self (encode c) rest)) ∙ h c (scalar_fits c s));
-      no_front = λ f. true≢false (sym (true_and (scalar f.c) _ f.scalar (ap (longer b) f.bytes ∙ longer_self b f.rest f.more)) ∙ g f.c (scalar_fits f.c f.scalar));
+      no_char = λ c rest s e. true≢false (sym (and_from (scalar c) _ s (ap (is_front (encode c)) e ∙ front_self (encode c) rest)) ∙ h c (scalar_fits c s));
+      no_front = λ f. true≢false (sym (and_from (scalar f.c) _ f.scalar (ap (longer b) f.bytes ∙ longer_self b f.rest f.more)) ∙ g f.c (scalar_fits f.c f.scalar));
     })
   ]
 ]
@@ -101,8 +100,8 @@ data Parts (b : List ℕ) : Type 0 where
   bad_parts : (cs : List ℕ) → IsBad b cs → Parts b
 
 char_on : (b rest : List ℕ) (c : ℕ) → scalar c ≡ true → b ≡ encode c ++ rest → Parts rest → Parts b
-char_on b rest c s e (good_parts cs tail d) = good_parts (c ∷ cs) tail (record { chars = true_and (scalar c) _ s d.chars; parts = e ∙ ap (λ l. encode c ++ l) d.parts ∙ sym (append_assoc (encode c) (encodes cs) tail); part = d.part })
-char_on b rest c s e (bad_parts cs i) = bad_parts (c ∷ cs) (record { rest = i.rest; chars = true_and (scalar c) _ s i.chars; parts = e ∙ ap (λ l. encode c ++ l) i.parts ∙ sym (append_assoc (encode c) (encodes cs) i.rest); bad = i.bad })
+char_on b rest c s e (good_parts cs tail d) = good_parts (c ∷ cs) tail (record { chars = and_from (scalar c) _ s d.chars; parts = e ∙ ap (λ l. encode c ++ l) d.parts ∙ sym (append_assoc (encode c) (encodes cs) tail); part = d.part })
+char_on b rest c s e (bad_parts cs i) = bad_parts (c ∷ cs) (record { rest = i.rest; chars = and_from (scalar c) _ s i.chars; parts = e ∙ ap (λ l. encode c ++ l) i.parts ∙ sym (append_assoc (encode c) (encodes cs) i.rest); bad = i.bad })
 
 parts_on : (n : ℕ) (b : List ℕ) → length b < suc n → ((rest : List ℕ) → length rest < n → Parts rest) → Begins b → Parts b
 parts_on n b h again (a_char c rest s e) =
@@ -146,7 +145,7 @@ found_within lim b ended = found_in lim b ended (parts b)
 -- the fault of bytes
 pub found : (lim : Limits) (b : List ℕ) (ended : Bool) → (o : Option DocFault) × FaultIs lim b ended o
 found lim b ended =
-    elim (less_or lim.bytes (length b)) [
+    elim (cases_lt lim.bytes (length b)) [
       | inr k ↦ let f = found_within lim b ended in (f.0, within_limit k f.1)
       | inl k ↦ let f = found_within lim (take lim.bytes b) false in past k f.0 f.1
     ]
@@ -206,7 +205,7 @@ most_in lim b more k whole (bad_parts cs i) = by (judged_steps lim 0 start cs) (
 
 pub most : (lim : Limits) (b : List ℕ) → Most lim b
 most lim b =
-    elim (less_or lim.bytes (length b)) [
+    elim (cases_lt lim.bytes (length b)) [
       | inr k ↦ subst (Most lim) (append-nil b) (most_in lim b [] k (inl refl) (parts b))
       | inl k ↦
           let full : length (take lim.bytes b) ≡ lim.bytes = omega (arith, k, length-take lim.bytes b) in

@@ -2,7 +2,7 @@
 use Rattle.std.specs.Prelude.{bytes_eq}
 use Rattle.std.proofs.Common.{ℕ, ◌≡◌, ◌+◌, ◌<◌, ◌⊎◌, inl, inr, Bool, true, false, not, ◌&&◌, eqb, cond, List, [], ◌∷◌, ◌++◌, length, Option, Some, None, refl, sym, ap, ◌∙◌, subst, append_assoc, append-nil, arith, eqb-true, ◌≤◌, zero, suc, length-append}
 use Rattle.std.specs.List.{list_all}
-use Rattle.std.proofs.lemmas.Bool.{false≢true}
+use Rattle.std.proofs.lemmas.Bool.{false≢true, not-true, and_parts, and_from}
 use Rattle.std.proofs.lemmas.Str.{cons_from_encodes, length-le-encodes}
 use lib.Utf8.{encode, encodes}
 use Rattle.gcx_base.specs.Characters.{is_char, is_white, is_start_char, is_part_char}
@@ -13,7 +13,7 @@ use Rattle.gcx_model.specs.Grammar.{Content, nothing, mark, space, char, referen
 use Rattle.gcx_model.specs.Fronts.{Frames, bottom, frame, Part, no_part, spaced, part_name, name_spaced, equals, value, value_amp, Piece, no_piece, less, started, tag, slashed, ending, ended, question, target, target_mark, in_instruction, doc_wording, doc_gap, doc, doc_literal, bang, bang_dash, in_comment, comment_dash, comment_end, cdsect_word, in_cdsect, amp, frames_spelling, piece_spelling, names, inside, IsFrames, IsPart, IsPiece, part_spelling, front_spelling, IsFront}
 use Rattle.doc_laws.specs.Machine.{Mode, State, begun, on_between, on_tag, on_named, on_ended, on_referred, InReference, InValueReference, Between, InValue, behind, to_end_name, on_end, on_word, step, to_mode, DocWord, DocSpace, CDSectWord, InCDSect}
 use Rattle.doc_laws.specs.States.{rooted, typed, Fronts, state_of}
-use Rattle.doc_laws.proofs.Tests.{and_true, true_and, not_true, of_not, chosen, at, all_more, name_more, name_append, blank_more, gap_blank, gap_more}
+use Rattle.doc_laws.proofs.Tests.{not_true, chosen, at, all_more, name_more, name_append, blank_more, gap_blank, gap_more}
 use Rattle.doc_laws.proofs.References.{completes, Refers, goes_on, is_done, is_bad, refers}
 use Rattle.doc_laws.proofs.Moves.{may_rooted, end_within, m_char, m_space_out, m_mark, m_less, m_amp, m_refer, m_referred, m_started, m_bang, m_name, m_space1, m_space2, m_space3, m_open1, m_open2, m_open3, m_slash1, m_slash2, m_slash3, m_single, m_attr, m_attr_name, m_attr_space1, m_attr_space2, m_equals1, m_equals2, m_equals_space, m_quote, m_value, m_value_amp, m_value_refer, m_value_referred, m_valued, m_question, m_target, m_target_name, m_target_mark, m_bare, m_instruction_start, m_in_instruction, m_instruction_end, m_doc_word, m_doc_wording, m_doc_gap1, m_doc_gap2, m_doc_name, m_doc_char, m_doc_quote, m_doc_literal, m_doc_unquote, m_doctype, m_bang_dash, m_in_comment, m_plain, m_dash, m_dashed, m_dashes, m_comment, m_cdsect_word, m_word, m_cdsect_start, m_in_cdsect, m_cdsect_end, m_end, m_ending, m_end_space1, m_end_space2, m_close1, m_close2}
 
@@ -102,14 +102,14 @@ total (n ∷ ns) = length n + total ns
 
 same_length : (m n : List ℕ) → bytes_eq m n ≡ true → length m ≡ length n
 same_length [] [] h = refl
-same_length (a ∷ m) (b ∷ n) h = omega (arith, same_length m n (and_true (eqb a b) (bytes_eq m n) h).1)
+same_length (a ∷ m) (b ∷ n) h = omega (arith, same_length m n (and_parts (eqb a b) (bytes_eq m n) h).1)
 same_length [] (b ∷ n) h = absurd (false≢true h)
 same_length (a ∷ m) [] h = absurd (false≢true h)
 
 long_fresh : (m : List ℕ) (ns : List (List ℕ)) → total ns < length m → is_fresh m ns ≡ true
 long_fresh m [] h = refl
 long_fresh m (n ∷ ns) h =
-    true_and (not (bytes_eq m n)) _
+    and_from (not (bytes_eq m n)) _
     (not_true (bytes_eq m n) (λ e. let l = same_length m n e in absurd (omega arith)))
     (long_fresh m ns (omega arith))
 
@@ -237,17 +237,17 @@ between_on : (fs : Frames) (x : Content) (c : ℕ) (s : State) → IsFrames fs �
 between_on fs x c s g h f e =
     elim (first (is_text_char c && inside fs) _ s _ f) [
       | inl b ↦
-          let both = and_true (is_text_char c) (inside fs) b in
+          let both = and_parts (is_text_char c) (inside fs) b in
           to_content fs x c s no_piece (char x c) g (h, both.1, both.0) refl (moved s _ _ (m_char fs x c both.0 both.1) e)
       | inr k ↦ elim (first (is_white c && not (inside fs)) _ s _ k.1) [
         | inl b ↦
-            let both = and_true (is_white c) (not (inside fs)) b in
-            let out = of_not (inside fs) both.1 in
+            let both = and_parts (is_white c) (not (inside fs)) b in
+            let out = not-true (inside fs) both.1 in
             to_content fs x c s no_piece (space x c) g (h, out, both.0) refl (moved s _ _ (m_space_out fs x c both.0 out) e)
         | inr k1 ↦ elim (first (eqb c 60) _ s _ k1.1) [
           | inl b ↦ to_piece fs x c s no_piece less g h tt (ap (λ d. d ∷ []) (sym (at c 60 b))) (by_at s _ (state_of fs x no_piece) c 60 (at c 60 b) (m_less fs x) e)
           | inr k2 ↦
-              let b = and_true (eqb c 38) (inside fs) (last (eqb c 38 && inside fs) _ s k2.1) in
+              let b = and_parts (eqb c 38) (inside fs) (last (eqb c 38 && inside fs) _ s k2.1) in
               to_piece fs x c s no_piece (amp (letters [])) g h (b.1, refl) (ap (λ d. d ∷ []) (sym (at c 38 b.0))) (by_at s _ (state_of fs x no_piece) c 38 (at c 38 b.0) (m_amp fs x b.1) e)
         ]
       ]
@@ -266,11 +266,11 @@ less_front : (fs : Frames) (x : Content) (c : ℕ) (s : State) → IsFrames fs �
 less_front fs x c s g h e =
     elim (first (is_start_char c && may_open (inside fs) (rooted fs x)) _ s _ e) [
       | inl b ↦
-          let both = and_true (is_start_char c) (may_open (inside fs) (rooted fs x)) b in
+          let both = and_parts (is_start_char c) (may_open (inside fs) (rooted fs x)) b in
           let may = sym (may_rooted (inside fs) (has_element x)) ∙ both.1 in
-          to_piece fs x c s less (started (c ∷ [])) g h (may, true_and (is_start_char c) true both.0 refl) refl (moved s _ _ (m_started fs x c both.0 may) e)
+          to_piece fs x c s less (started (c ∷ [])) g h (may, and_from (is_start_char c) true both.0 refl) refl (moved s _ _ (m_started fs x c both.0 may) e)
       | inr k ↦ elim (first (eqb c 47 && inside fs) _ s _ k.1) [
-        | inl b ↦ let both = and_true (eqb c 47) (inside fs) b in slash fs x c s g h (at c 47 both.0) both.1 e
+        | inl b ↦ let both = and_parts (eqb c 47) (inside fs) b in slash fs x c s g h (at c 47 both.0) both.1 e
         | inr k2 ↦
             elim (first (eqb c 33) _ s _ k2.1) [
               | inl b ↦ to_piece fs x c s less bang g h tt (ap (λ d. 60 ∷ (d ∷ [])) (sym (at c 33 b))) (by_at s _ (state_of fs x less) c 33 (at c 33 b) (m_bang fs x) e)
@@ -348,7 +348,7 @@ module _ (fs : Frames) (x : Content) (n : List ℕ) (ats : Attributes) (c : ℕ)
       tag_front fs x n ats [] (tag n ats no_part) c s g gx may name ga refl refl (m_space3 fs x n ats (c ∷ []) c) (m_open3 fs x n ats []) (m_slash3 fs x n ats []) (state_of fs x (tag n ats no_part)) e e
   part_front (spaced sp) k e =
       elim (first (is_start_char c) _ s _ e) [
-        | inl i ↦ to_part (spaced sp) (part_name sp (c ∷ [])) (k, true_and (is_start_char c) true i refl) refl (moved s _ _ (m_attr fs x n ats sp c i) e)
+        | inl i ↦ to_part (spaced sp) (part_name sp (c ∷ [])) (k, and_from (is_start_char c) true i refl) refl (moved s _ _ (m_attr fs x n ats sp c i) e)
         | inr i ↦ tag_front fs x n ats sp (tag n ats (spaced sp)) c s g gx may name ga (gap_blank sp k) refl (m_space2 fs x n ats sp (sp ++ (c ∷ [])) c) (m_open2 fs x n ats sp sp) (m_slash2 fs x n ats sp sp) (state_of fs x (tag n ats (spaced sp))) i.1 e
       ]
   part_front (part_name sp m) k e =
@@ -411,7 +411,7 @@ cdsect_front fs x d c s g h i k e =
           go good not_end
       | inr q ↦ elim (first (ends_cdsect d c) _ s _ q.1) [
         | inl b ↦
-            let both = and_true (eqb c 62) (eqb (brackets d) 2) b in
+            let both = and_parts (eqb c 62) (eqb (brackets d) 2) b in
             let is = at c 62 both.0 in
             let two = at (brackets d) 2 both.1 in
             to_content fs x c s (in_cdsect d) (cdata x d) g (h, i, k, two) (ap (λ a. spelling x ++ (cdata_start ++ (cdsect_spelling d ++ (a ∷ [])))) (sym is) ∙ simp append_assoc) (by_at s _ (state_of fs x (in_cdsect d)) c 62 is (m_cdsect_end fs x d two) e)
@@ -448,7 +448,7 @@ step_front (frame fs y n ats sp) x (ended m sp2 d) c s g e =
     (λ k. m_end_space2 fs y x n ats sp m sp2 d c k) (m_close2 fs y x n ats sp m (sp2 ++ (d ∷ [])) sp2 d) e e
 step_front fs x question c s g e =
     let b = last (is_start_char c) _ s e in
-    to_piece fs x c s question (target (c ∷ [])) g.0 g.1 (true_and (is_start_char c) true b refl) refl (moved s _ _ (m_target fs x c b) e)
+    to_piece fs x c s question (target (c ∷ [])) g.0 g.1 (and_from (is_start_char c) true b refl) refl (moved s _ _ (m_target fs x c b) e)
 step_front fs x (target n) c s g e =
     elim (first (is_part_char c) _ s _ e) [
       | inl b ↦ to_piece fs x c s (target n) (target (n ++ (c ∷ []))) g.0 g.1 (name_more n c g.2 b) refl (moved s _ _ (m_target_name fs x n c b) e)
@@ -465,7 +465,7 @@ step_front fs x (target_mark n) c s g e =
 step_front fs x (in_instruction n a d) c s g e =
     elim (first (ends_data d c) _ s _ e) [
       | inl b ↦
-          let both = and_true (eqb c 62) (eqb (marks d) 1) b in
+          let both = and_parts (eqb c 62) (eqb (marks d) 1) b in
           let is = at c 62 both.0 in
           let one = at (marks d) 1 both.1 in
           to_content fs x c s (in_instruction n a d) (instruction x n a d) g.0 (g.1, g.2.0, g.2.1, g.2.2, one) (ap (λ q. spelling x ++ (60 ∷ (63 ∷ (n ++ (a ∷ (data_spelling d ++ (q ∷ []))))))) (sym is) ∙ simp append_assoc) (by_at s _ (state_of fs x (in_instruction n a d)) c 62 is (m_instruction_end fs x n a d one) e)
@@ -512,10 +512,10 @@ step_front fs x bang c s g e =
       | inr k ↦
           elim (first (eqb c 91 && inside fs) _ s _ k.1) [
             | inl q ↦
-                let b = and_true (eqb c 91) (inside fs) q in
+                let b = and_parts (eqb c 91) (inside fs) q in
                 to_piece fs x c s bang (cdsect_word [] cdata_word) g.0 g.1 (b.1, refl) (ap (λ d. 60 ∷ (33 ∷ (d ∷ []))) (sym (at c 91 b.0))) (by_at s _ (state_of fs x bang) c 91 (at c 91 b.0) (m_cdsect_word fs x b.1) e)
             | inr k2 ↦
-                let b = and_true (eqb c 68) (not (typed fs x)) (last (eqb c 68 && not (typed fs x)) _ s k2.1) in
+                let b = and_parts (eqb c 68) (not (typed fs x)) (last (eqb c 68 && not (typed fs x)) _ s k2.1) in
                 to_piece fs x c s bang (doc_wording [] doc_word) g.0 g.1 (b.1, refl) (ap (λ d. 60 ∷ (33 ∷ (d ∷ []))) (sym (at c 68 b.0))) (by_at s _ (state_of fs x bang) c 68 (at c 68 b.0) (m_doc_word fs x b.1) e)
           ]
     ]

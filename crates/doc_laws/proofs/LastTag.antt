@@ -1,6 +1,6 @@
 -- The front up to its last tag, and the tags that are seen in bytes.
 use Rattle.std.proofs.Common.{ℕ, ◌≡◌, ◌+◌, ◌<◌, ◌≤◌, ◌⊎◌, inl, inr, Bool, true, false, ◌||◌, List, [], ◌∷◌, ◌++◌, length, Err, Some, None, refl, sym, ap, ◌∙◌, subst, append_assoc, append-nil, arith, length-append}
-use Rattle.std.proofs.lemmas.Bool.{true≢false, false≢true}
+use Rattle.std.proofs.lemmas.Bool.{true≢false, false≢true, and_parts, and_from, cases_lt}
 use Rattle.std.proofs.lemmas.Str.{encode_same, encodes-append}
 use lib.Utf8.{scalar, scalars, encode, encodes}
 use Rattle.gcx_base.specs.Characters.{is_white}
@@ -16,10 +16,9 @@ use Rattle.gcx_model.specs.Seen.{DocumentEnds, SeenIn, IsLongest, SeenIs, closes
 use Rattle.doc_laws.specs.Machine.{State}
 use Rattle.doc_laws.specs.States.{rooted, state_of, Fronts}
 use Rattle.doc_laws.specs.Judging.{judged}
-use Rattle.doc_laws.proofs.Tests.{and_true, true_and}
 use Rattle.doc_laws.proofs.Moves.{tokens-with_run, closed_tokens}
 use Rattle.doc_laws.proofs.Faults.{fronts_one, Reads, refusal_comes}
-use Rattle.doc_laws.proofs.Pieces.{Stands, meet, less_or}
+use Rattle.doc_laws.proofs.Pieces.{Stands, meet}
 use Rattle.doc_laws.proofs.Unique.{front_no_char, chars_meet, clean_front, fault_one}
 use Rattle.doc_laws.proofs.Seen.{IsAfter, fronts_after, up_good, up_nodes, up_element, up_run, up_ends, up_rest, close_all, closes, closes_tokens, close_run}
 
@@ -73,8 +72,8 @@ unsnoc [] = inl refl
 unsnoc (c ∷ l) = elim (unsnoc l) [ inl e ↦ inr ([], c, ap (λ l. c ∷ l) e) | inr q ↦ inr (c ∷ q.0, q.1, ap (λ l. c ∷ l) q.2) ]
 
 pub blank_parts : (a : List ℕ) (d : ℕ) → is_blank_text (a ++ (d ∷ [])) ≡ true → (is_blank_text a ≡ true) × (is_white d ≡ true)
-blank_parts [] d h = (refl, (and_true (is_white d) true h).0)
-blank_parts (c ∷ a) d h = let both = and_true (is_white c) _ h in let k = blank_parts a d both.1 in (true_and (is_white c) _ both.0 k.0, k.1)
+blank_parts [] d h = (refl, (and_parts (is_white d) true h).0)
+blank_parts (c ∷ a) d h = let both = and_parts (is_white c) _ h in let k = blank_parts a d both.1 in (and_from (is_white c) _ both.0 k.0, k.1)
 
 tag_before : (fs : Frames) (x : Content) → IsFront fs x no_piece → ends_in_tag fs x ≡ true → TagBefore fs x
 tag_before bottom nothing g e = absurd (false≢true e)
@@ -173,7 +172,7 @@ last_tag cs fs x p o = record {
     by false e = inl (none fs e)
 
     longest : (c r : List ℕ) → cs ≡ c ++ r → EndsWithTag c → length c ≤ length (frames_spelling fs ++ spelling (up_to_tag x))
-    longest c r e w = elim (less_or (length f) (length c)) [ inr k ↦ k | inl k ↦ absurd (never k) ]
+    longest c r e w = elim (cases_lt (length f) (length c)) [ inr k ↦ k | inl k ↦ absurd (never k) ]
       where
         f : List ℕ
         f = frames_spelling fs ++ spelling (up_to_tag x)
@@ -208,13 +207,13 @@ longest_is lim b cs ds r h s e k cl =
   where
     past : (cs m : List ℕ) → scalars (cs ++ m) ≡ true → scalars m ≡ true
     past [] m h = h
-    past (c ∷ cs) m h = past cs m (and_true (scalar c) (scalars (cs ++ m)) h).1
+    past (c ∷ cs) m h = past cs m (and_parts (scalar c) (scalars (cs ++ m)) h).1
 
     by : (m : List ℕ) → ds ≡ cs ++ m → h.rest ≡ encodes m ++ r → (m : List ℕ) × (cs ≡ ds ++ m)
     by [] e2 f = ([], sym (append-nil cs) ∙ sym e2 ∙ sym (append-nil ds))
     by (c ∷ m) e2 f =
         let one : ds ≡ (cs ++ c ∷ []) ++ m = e2 ∙ sym (append_assoc cs (c ∷ []) m) in
-        let sc = (and_true (scalar c) (scalars m) (past cs (c ∷ m) (ap scalars (sym e2) ∙ s))).0 in
+        let sc = (and_parts (scalar c) (scalars m) (past cs (c ∷ m) (ap scalars (sym e2) ∙ s))).0 in
         let len : length (encodes ds) ≡ length (encodes (cs ++ c ∷ [])) + length (encodes m) = ap (λ l. length (encodes l)) one ∙ ap length (encodes-append (cs ++ c ∷ []) m) ∙ length-append (encodes (cs ++ c ∷ [])) (encodes m) in
         absurd (h.most c (encodes m ++ r) sc (f ∙ append_assoc (encode c) (encodes m) r) (omega (arith, len, k)) (clean_front lim (cs ++ c ∷ []) m (subst (Clean lim) one cl)))
 

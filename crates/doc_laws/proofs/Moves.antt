@@ -1,9 +1,10 @@
 -- How the machine moves over each piece.
 use Rattle.std.proofs.Common.{ℕ, ◌≡◌, Bool, true, false, not, ◌&&◌, ◌||◌, eqb, cond, List, [], ◌∷◌, ◌++◌, length, replicate, Option, Some, None, refl, sym, ap, ◌∙◌, append_assoc, append-nil, arith, eq-eqb, eqb-true}
 use Rattle.std.specs.List.{list_all}
-use Rattle.std.proofs.lemmas.Bool.{true≢false, false≢true}
+use Rattle.std.proofs.lemmas.Bool.{true≢false, false≢true, and_parts, and_from, and_right, false_from_ne_true, cond-true, cond-false}
 use Rattle.std.proofs.lemmas.Str.{length-encode, len_utf8_bounds}
 use lib.Utf8.{encode, encodes}
+use Rattle.std.proofs.Math.Bool.{or-true}
 use Rattle.gcx_base.specs.Characters.{is_char, is_white, is_start_char, is_part_char}
 use Rattle.gcx_model.specs.Document.{Nodes, none, element, text, is_blank, tokens}
 use Rattle.gcx_model.specs.Tree.{Start, End, Chars}
@@ -14,7 +15,7 @@ use Rattle.gcx_model.specs.Grammar.{Content, nothing, mark, space, char, referen
 use Rattle.gcx_model.specs.Fronts.{Frames, bottom, frame, Part, no_part, spaced, part_name, name_spaced, equals, value, value_amp, Piece, no_piece, less, started, tag, slashed, ending, ended, question, target, target_mark, in_instruction, doc_wording, doc_gap, doc, doc_literal, bang, bang_dash, in_comment, comment_dash, comment_end, cdsect_word, in_cdsect, amp, names, inside, text_of, frames_tokens, seen_tokens}
 use Rattle.doc_laws.specs.Machine.{More, Done, Mode, Opening, Between, InValue, InValueReference, DocWord, DocSpace, CDSectWord, InCDSect, InReference, State, opened, closed, to_mode, refer, on_between, on_referred, behind, to_end_name, on_end, on_word, step, steps, go_on}
 use Rattle.doc_laws.specs.States.{referring, is_opening, is_nothing, typed, tag_tokens, state_of}
-use Rattle.doc_laws.proofs.Tests.{on_cond, off_cond, and_true, true_and, or_true, not_false, false_and, space_not_name, not_start, quote_not_space, not_amp, start_not_space, quote_not_doc, quote_not_greater, not_literal, not_value}
+use Rattle.doc_laws.proofs.Tests.{space_not_name, not_start, quote_not_space, not_amp, start_not_space, quote_not_doc, quote_not_greater, not_literal, not_value}
 
 -- steps over joined texts: chunking
 pub steps_append : (s : State) (a b : List ℕ) → steps s (a ++ b) ≡ go_on (steps s a) (λ t. steps t b)
@@ -52,7 +53,7 @@ tokens-with_run ns r =
 
 -- the next character of a word
 pub word_on : (s : State) (c : ℕ) (mk : List ℕ → Mode) (r : List ℕ) (after : Option State) → on_word s c mk (c ∷ r) after ≡ to_mode s (mk r)
-word_on s c mk r after = on_cond (eqb c c) _ _ (eq-eqb c c refl)
+word_on s c mk r after = cond-true (eqb c c) _ _ (eq-eqb c c refl)
 
 -- a character takes some bytes
 pub some_bytes : (c : ℕ) → (x : ℕ) × (xs : List ℕ) × (encode c ≡ x ∷ xs)
@@ -64,7 +65,7 @@ some_bytes c = by (encode c) refl
 
 pub behind_self : (xs rest : List ℕ) → behind xs (xs ++ rest) ≡ Some rest
 behind_self [] rest = refl
-behind_self (x ∷ xs) rest = on_cond (eqb x x) _ _ (eq-eqb x x refl) ∙ behind_self xs rest
+behind_self (x ∷ xs) rest = cond-true (eqb x x) _ _ (eq-eqb x x refl) ∙ behind_self xs rest
 
 -- within a name
 pub end_within : (s : State) (c : ℕ) (d : ℕ) (rest : List ℕ) → on_end s (encode d ++ rest) c ≡ to_end_name s (behind (encode c) (encode d ++ rest))
@@ -85,25 +86,25 @@ walk at h m (c ∷ a) r =
     (walk at h (m ++ c ∷ []) a r ∙ ap (λ l. Some (at l r)) (append_assoc m (c ∷ []) a))
 
 white_not_mark : (c : ℕ) → is_white c ≡ true → eqb c 65279 ≡ false
-white_not_mark c h = not_false (eqb c 65279) (λ e. false≢true (sym (ap is_white (eqb-true c 65279 e)) ∙ h))
+white_not_mark c h = false_from_ne_true (eqb c 65279) (λ e. false≢true (sym (ap is_white (eqb-true c 65279 e)) ∙ h))
 
 -- over white space, then one character
 pub over_space : (s : State) → ((d : ℕ) → is_white d ≡ true → step s d ≡ Some s) → (sp : List ℕ) → is_blank_text sp ≡ true → steps s sp ≡ Some s
 over_space s h [] b = refl
 over_space s h (c ∷ sp) b =
-    let both = and_true (is_white c) (list_all is_white sp) b in
+    let both = and_parts (is_white c) (list_all is_white sp) b in
     step_to s s c sp _ (h c both.0) (over_space s h sp both.1)
 
 pub over_gap : (s0 s1 : State) → ((d : ℕ) → is_white d ≡ true → step s0 d ≡ Some s1) → ((d : ℕ) → is_white d ≡ true → step s1 d ≡ Some s1) → (g : List ℕ) → is_gap g ≡ true → steps s0 g ≡ Some s1
 over_gap s0 s1 h k [] b = absurd (false≢true b)
 over_gap s0 s1 h k (c ∷ g) b =
-    let both = and_true (is_white c) (list_all is_white g) b in
+    let both = and_parts (is_white c) (list_all is_white g) b in
     step_to s0 s1 c g _ (h c both.0) (over_space s1 k g both.1)
 
 pub behind_space : (s0 s1 t : State) (cs : List ℕ) → ((d : ℕ) → is_white d ≡ true → step s0 d ≡ Some s1) → ((d : ℕ) → is_white d ≡ true → step s1 d ≡ Some s1) → steps s0 cs ≡ Some t → steps s1 cs ≡ Some t → (sp : List ℕ) → is_blank_text sp ≡ true → steps s0 (sp ++ cs) ≡ Some t
 behind_space s0 s1 t cs h k e f [] b = e
 behind_space s0 s1 t cs h k e f (c ∷ sp) b =
-    let both = and_true (is_white c) (list_all is_white sp) b in
+    let both = and_parts (is_white c) (list_all is_white sp) b in
     step_to s0 s1 c (sp ++ cs) _ (h c both.0) (steps_on_to s1 s1 sp cs _ (over_space s1 k sp both.1) f)
 
 -- the piece behind a name and attributes
@@ -120,7 +121,7 @@ module _ (fs : Frames) (x : Content) where
   rest_step c h =
       let s = state_of fs x no_piece in
       elim (is_opening fs x) as (λ (b : Bool). step (record s { mode = cond b Opening Between }) c ≡ on_between (record s { mode = cond b Opening Between }) c) [
-        | true ↦ off_cond (eqb c 65279) _ _ h
+        | true ↦ cond-false (eqb c 65279) _ _ h
         | false ↦ refl
       ]
 
@@ -133,19 +134,19 @@ module _ (fs : Frames) (x : Content) where
 
       resting : (b : Bool) → b ≡ false → step (record (state_of fs x no_piece) { mode = cond b Opening Between }) c ≡ Some (state_of fs (char x c) no_piece)
       resting true e = absurd (true≢false e)
-      resting false e = on_cond (is_text_char c && inside fs) _ _ (true_and (is_text_char c) _ h i)
+      resting false e = cond-true (is_text_char c && inside fs) _ _ (and_from (is_text_char c) _ h i)
 
   pub m_space_out : (c : ℕ) → is_white c ≡ true → inside fs ≡ false → step (state_of fs x no_piece) c ≡ Some (state_of fs (space x c) no_piece)
   m_space_out c h i =
       rest_step c (white_not_mark c h)
-      ∙ off_cond (is_text_char c && inside fs) _ _ (false_and (is_text_char c) (inside fs) i)
-      ∙ on_cond (is_white c && not (inside fs)) _ _ (true_and (is_white c) _ h (ap not i))
+      ∙ cond-false (is_text_char c && inside fs) _ _ (and_right (is_text_char c) (inside fs) i)
+      ∙ cond-true (is_white c && not (inside fs)) _ _ (and_from (is_white c) _ h (ap not i))
 
   pub m_less : step (state_of fs x no_piece) 60 ≡ Some (state_of fs x less)
   m_less = rest_step 60 refl
 
   pub m_amp : inside fs ≡ true → step (state_of fs x no_piece) 38 ≡ Some (state_of fs x (amp (letters [])))
-  m_amp h = rest_step 38 refl ∙ on_cond (inside fs) _ _ h
+  m_amp h = rest_step 38 refl ∙ cond-true (inside fs) _ _ h
 
   pub m_refer : (r q : BegunReference) (c : ℕ) → refer (referring r) c ≡ More (referring q) → step (state_of fs x (amp r)) c ≡ Some (state_of fs x (amp q))
   m_refer r q c e = ap (on_referred (state_of fs x (amp r)) InReference Between) e
@@ -154,22 +155,22 @@ module _ (fs : Frames) (x : Content) where
   m_referred r t c e = ap (on_referred (state_of fs x (amp r)) InReference Between) e
 
   pub m_started : (c : ℕ) → is_start_char c ≡ true → may_open (inside fs) (has_element x) ≡ true → step (state_of fs x less) c ≡ Some (state_of fs x (started (c ∷ [])))
-  m_started c h k = on_cond _ _ _ (true_and (is_start_char c) _ h (may_rooted (inside fs) (has_element x) ∙ k)) ∙ ap (λ l. Some (record (state_of fs x (started (c ∷ []))) { name = l })) (sym (append-nil (encode c)))
+  m_started c h k = cond-true _ _ _ (and_from (is_start_char c) _ h (may_rooted (inside fs) (has_element x) ∙ k)) ∙ ap (λ l. Some (record (state_of fs x (started (c ∷ []))) { name = l })) (sym (append-nil (encode c)))
 
   pub m_bang : step (state_of fs x less) 33 ≡ Some (state_of fs x bang)
   m_bang = refl
 
   pub m_name : (n : List ℕ) (c : ℕ) → is_part_char c ≡ true → step (state_of fs x (started n)) c ≡ Some (state_of fs x (started (n ++ c ∷ [])))
-  m_name n c h = on_cond _ _ _ h ∙ ap (λ l. Some (record (state_of fs x (started n)) { name = l })) (sym (encodes-more n c))
+  m_name n c h = cond-true _ _ _ h ∙ ap (λ l. Some (record (state_of fs x (started n)) { name = l })) (sym (encodes-more n c))
 
   pub m_space1 : (n g : List ℕ) (c : ℕ) → is_white c ≡ true → step (state_of fs x (started n)) c ≡ Some (state_of fs x (tag n no_attribute (spaced g)))
-  m_space1 n g c h = off_cond _ _ _ (space_not_name c h) ∙ on_cond _ _ _ h
+  m_space1 n g c h = cond-false _ _ _ (space_not_name c h) ∙ cond-true _ _ _ h
 
   pub m_space2 : (n : List ℕ) (ats : Attributes) (g g2 : List ℕ) (c : ℕ) → is_white c ≡ true → step (state_of fs x (tag n ats (spaced g))) c ≡ Some (state_of fs x (tag n ats (spaced g2)))
-  m_space2 n ats g g2 c h = off_cond _ _ _ (not_start c (space_not_name c h)) ∙ on_cond _ _ _ h
+  m_space2 n ats g g2 c h = cond-false _ _ _ (not_start c (space_not_name c h)) ∙ cond-true _ _ _ h
 
   pub m_space3 : (n : List ℕ) (ats : Attributes) (g : List ℕ) (c : ℕ) → is_white c ≡ true → step (state_of fs x (tag n ats no_part)) c ≡ Some (state_of fs x (tag n ats (spaced g)))
-  m_space3 n ats g c h = on_cond _ _ _ h
+  m_space3 n ats g c h = cond-true _ _ _ h
 
   opened_state : (n : List ℕ) (ats : Attributes) (sp : List ℕ) → opened (tag_state fs x n ats no_part) ≡ state_of (frame fs x n ats sp) nothing no_piece
   opened_state n ats sp = ap (λ ts. record (state_of (frame fs x n ats sp) nothing no_piece) { tokens = ts }) (sym (append-nil (frames_tokens (frame fs x n ats sp))))
@@ -213,34 +214,34 @@ module _ (fs : Frames) (x : Content) where
 
   -- an attribute
   pub m_attr : (n : List ℕ) (ats : Attributes) (g : List ℕ) (c : ℕ) → is_start_char c ≡ true → step (state_of fs x (tag n ats (spaced g))) c ≡ Some (state_of fs x (tag n ats (part_name g (c ∷ []))))
-  m_attr n ats g c h = on_cond _ _ _ h ∙ ap (λ l. Some (record (state_of fs x (tag n ats (part_name g (c ∷ [])))) { attr = l })) (sym (append-nil (encode c)))
+  m_attr n ats g c h = cond-true _ _ _ h ∙ ap (λ l. Some (record (state_of fs x (tag n ats (part_name g (c ∷ [])))) { attr = l })) (sym (append-nil (encode c)))
 
   pub m_attr_name : (n : List ℕ) (ats : Attributes) (g m : List ℕ) (c : ℕ) → is_part_char c ≡ true → step (state_of fs x (tag n ats (part_name g m))) c ≡ Some (state_of fs x (tag n ats (part_name g (m ++ c ∷ []))))
-  m_attr_name n ats g m c h = on_cond _ _ _ h ∙ ap (λ l. Some (record (state_of fs x (tag n ats (part_name g m))) { attr = l })) (sym (encodes-more m c))
+  m_attr_name n ats g m c h = cond-true _ _ _ h ∙ ap (λ l. Some (record (state_of fs x (tag n ats (part_name g m))) { attr = l })) (sym (encodes-more m c))
 
   pub m_attr_space1 : (n : List ℕ) (ats : Attributes) (g m sp : List ℕ) (c : ℕ) → is_fresh (encodes m) (attribute_names ats) ≡ true → is_white c ≡ true → step (state_of fs x (tag n ats (part_name g m))) c ≡ Some (state_of fs x (tag n ats (name_spaced g m sp)))
-  m_attr_space1 n ats g m sp c f h = off_cond _ _ _ (space_not_name c h) ∙ on_cond _ _ _ f ∙ on_cond _ _ _ h
+  m_attr_space1 n ats g m sp c f h = cond-false _ _ _ (space_not_name c h) ∙ cond-true _ _ _ f ∙ cond-true _ _ _ h
 
   pub m_attr_space2 : (n : List ℕ) (ats : Attributes) (g m sp sp2 : List ℕ) (c : ℕ) → is_white c ≡ true → step (state_of fs x (tag n ats (name_spaced g m sp))) c ≡ Some (state_of fs x (tag n ats (name_spaced g m sp2)))
-  m_attr_space2 n ats g m sp sp2 c h = on_cond _ _ _ h
+  m_attr_space2 n ats g m sp sp2 c h = cond-true _ _ _ h
 
   pub m_equals1 : (n : List ℕ) (ats : Attributes) (g m sp sp2 : List ℕ) → is_fresh (encodes m) (attribute_names ats) ≡ true → step (state_of fs x (tag n ats (part_name g m))) 61 ≡ Some (state_of fs x (tag n ats (equals g m sp sp2)))
-  m_equals1 n ats g m sp sp2 f = on_cond _ _ _ f
+  m_equals1 n ats g m sp sp2 f = cond-true _ _ _ f
 
   pub m_equals2 : (n : List ℕ) (ats : Attributes) (g m sp sp2 sp3 : List ℕ) → step (state_of fs x (tag n ats (name_spaced g m sp))) 61 ≡ Some (state_of fs x (tag n ats (equals g m sp2 sp3)))
   m_equals2 n ats g m sp sp2 sp3 = refl
 
   pub m_equals_space : (n : List ℕ) (ats : Attributes) (g m sp sp2 sp3 : List ℕ) (c : ℕ) → is_white c ≡ true → step (state_of fs x (tag n ats (equals g m sp sp2))) c ≡ Some (state_of fs x (tag n ats (equals g m sp sp3)))
-  m_equals_space n ats g m sp sp2 sp3 c h = on_cond _ _ _ h
+  m_equals_space n ats g m sp sp2 sp3 c h = cond-true _ _ _ h
 
   pub m_quote : (n : List ℕ) (ats : Attributes) (h : Head) → is_quote h.quote ≡ true → step (state_of fs x (tag n ats (equals h.gap h.name h.before h.behind))) h.quote ≡ Some (state_of fs x (tag n ats (value h blank_value)))
-  m_quote n ats h k = off_cond _ _ _ (quote_not_space h.quote k) ∙ on_cond _ _ _ k
+  m_quote n ats h k = cond-false _ _ _ (quote_not_space h.quote k) ∙ cond-true _ _ _ k
 
   pub m_value : (n : List ℕ) (ats : Attributes) (h : Head) (v : Value) (c : ℕ) → is_value_char h.quote c ≡ true → step (state_of fs x (tag n ats (value h v))) c ≡ Some (state_of fs x (tag n ats (value h (value_char v c))))
-  m_value n ats h v c k = on_cond _ _ _ k
+  m_value n ats h v c k = cond-true _ _ _ k
 
   pub m_value_amp : (n : List ℕ) (ats : Attributes) (h : Head) (v : Value) → is_quote h.quote ≡ true → step (state_of fs x (tag n ats (value h v))) 38 ≡ Some (state_of fs x (tag n ats (value_amp h v (letters []))))
-  m_value_amp n ats h v k = off_cond (eqb 38 h.quote) _ _ (not_amp h.quote k)
+  m_value_amp n ats h v k = cond-false (eqb 38 h.quote) _ _ (not_amp h.quote k)
 
   pub m_value_refer : (n : List ℕ) (ats : Attributes) (h : Head) (v : Value) (r q : BegunReference) (c : ℕ) → refer (referring r) c ≡ More (referring q) → step (state_of fs x (tag n ats (value_amp h v r))) c ≡ Some (state_of fs x (tag n ats (value_amp h v q)))
   m_value_refer n ats h v r q c e = ap (on_referred (tag_state fs x n ats (value_amp h v r)) (InValueReference h.quote) (InValue h.quote)) e
@@ -253,8 +254,8 @@ module _ (fs : Frames) (x : Content) where
 
   pub m_valued : (n : List ℕ) (ats : Attributes) (h : Head) (v : Value) → step (state_of fs x (tag n ats (value h v))) h.quote ≡ Some (state_of fs x (tag n (attribute ats h v) no_part))
   m_valued n ats h v =
-      off_cond _ _ _ (not_value h.quote)
-      ∙ on_cond _ _ _ (eq-eqb h.quote h.quote refl)
+      cond-false _ _ _ (not_value h.quote)
+      ∙ cond-true _ _ _ (eq-eqb h.quote h.quote refl)
       ∙ ap (λ ts. Some (record (tag_state fs x n (attribute ats h v) no_part) { pending = ts })) (valued_tokens n ats h v)
 
   -- a processing instruction
@@ -262,10 +263,10 @@ module _ (fs : Frames) (x : Content) where
   m_question = refl
 
   pub m_target : (c : ℕ) → is_start_char c ≡ true → step (state_of fs x question) c ≡ Some (state_of fs x (target (c ∷ [])))
-  m_target c h = on_cond _ _ _ h
+  m_target c h = cond-true _ _ _ h
 
   pub m_target_name : (n : List ℕ) (c : ℕ) → is_part_char c ≡ true → step (state_of fs x (target n)) c ≡ Some (state_of fs x (target (n ++ c ∷ [])))
-  m_target_name n c h = on_cond _ _ _ h
+  m_target_name n c h = cond-true _ _ _ h
 
   pub m_target_mark : (n : List ℕ) → step (state_of fs x (target n)) 63 ≡ Some (state_of fs x (target_mark n))
   m_target_mark n = refl
@@ -274,41 +275,41 @@ module _ (fs : Frames) (x : Content) where
   m_bare n = refl
 
   pub m_instruction_start : (n : List ℕ) (c : ℕ) → is_white c ≡ true → step (state_of fs x (target n)) c ≡ Some (state_of fs x (in_instruction n c blank_data))
-  m_instruction_start n c h = off_cond _ _ _ (space_not_name c h) ∙ on_cond _ _ _ h
+  m_instruction_start n c h = cond-false _ _ _ (space_not_name c h) ∙ cond-true _ _ _ h
 
   pub m_in_instruction : (n : List ℕ) (a : ℕ) (d : InstructionData) (c : ℕ) → is_char c ≡ true → ends_data d c ≡ false → step (state_of fs x (in_instruction n a d)) c ≡ Some (state_of fs x (in_instruction n a (data_char d c)))
-  m_in_instruction n a d c h k = off_cond _ _ _ k ∙ on_cond _ _ _ h
+  m_in_instruction n a d c h k = cond-false _ _ _ k ∙ cond-true _ _ _ h
 
   pub m_instruction_end : (n : List ℕ) (a : ℕ) (d : InstructionData) → marks d ≡ 1 → step (state_of fs x (in_instruction n a d)) 62 ≡ Some (state_of fs (instruction x n a d) no_piece)
-  m_instruction_end n a d h = on_cond (eqb (marks d) 1) _ _ (eq-eqb (marks d) 1 h)
+  m_instruction_end n a d h = cond-true (eqb (marks d) 1) _ _ (eq-eqb (marks d) 1 h)
 
   -- a document type declaration
   pub m_doc_word : may_type (inside fs) (has_type x) ≡ true → step (state_of fs x bang) 68 ≡ Some (state_of fs x (doc_wording [] doc_word))
-  m_doc_word h = on_cond (not (typed fs x)) _ _ h
+  m_doc_word h = cond-true (not (typed fs x)) _ _ h
 
   pub m_doc_wording : (m : List ℕ) (c : ℕ) (r : List ℕ) → step (state_of fs x (doc_wording m (c ∷ r))) c ≡ Some (state_of fs x (doc_wording (m ++ c ∷ []) r))
   m_doc_wording m c r = word_on (state_of fs x (doc_wording m (c ∷ r))) c DocWord r (cond (is_white c) (to_mode (state_of fs x (doc_wording m (c ∷ r))) DocSpace) None)
 
   pub m_doc_gap1 : (m g : List ℕ) (c : ℕ) → is_white c ≡ true → step (state_of fs x (doc_wording m [])) c ≡ Some (state_of fs x (doc_gap g))
-  m_doc_gap1 m g c h = on_cond (is_white c) _ _ h
+  m_doc_gap1 m g c h = cond-true (is_white c) _ _ h
 
   pub m_doc_gap2 : (g g2 : List ℕ) (c : ℕ) → is_white c ≡ true → step (state_of fs x (doc_gap g)) c ≡ Some (state_of fs x (doc_gap g2))
-  m_doc_gap2 g g2 c h = on_cond _ _ _ h
+  m_doc_gap2 g g2 c h = cond-true _ _ _ h
 
   pub m_doc_name : (g : List ℕ) (c : ℕ) → is_start_char c ≡ true → step (state_of fs x (doc_gap g)) c ≡ Some (state_of fs x (doc g c blank_declaration))
-  m_doc_name g c h = off_cond _ _ _ (start_not_space c h) ∙ on_cond _ _ _ h
+  m_doc_name g c h = cond-false _ _ _ (start_not_space c h) ∙ cond-true _ _ _ h
 
   pub m_doc_char : (g : List ℕ) (a : ℕ) (d : Declaration) (c : ℕ) → is_doc_char c ≡ true → step (state_of fs x (doc g a d)) c ≡ Some (state_of fs x (doc g a (doc_char d c)))
-  m_doc_char g a d c h = on_cond _ _ _ h
+  m_doc_char g a d c h = cond-true _ _ _ h
 
   pub m_doc_quote : (g : List ℕ) (a : ℕ) (d : Declaration) (q : ℕ) → is_quote q ≡ true → step (state_of fs x (doc g a d)) q ≡ Some (state_of fs x (doc_literal g a d q []))
-  m_doc_quote g a d q h = off_cond _ _ _ (quote_not_doc q h) ∙ off_cond _ _ _ (quote_not_greater q h) ∙ on_cond _ _ _ h
+  m_doc_quote g a d q h = cond-false _ _ _ (quote_not_doc q h) ∙ cond-false _ _ _ (quote_not_greater q h) ∙ cond-true _ _ _ h
 
   pub m_doc_literal : (g : List ℕ) (a : ℕ) (d : Declaration) (q : ℕ) (l : List ℕ) (c : ℕ) → is_literal_char q c ≡ true → step (state_of fs x (doc_literal g a d q l)) c ≡ Some (state_of fs x (doc_literal g a d q (l ++ c ∷ [])))
-  m_doc_literal g a d q l c h = on_cond _ _ _ h
+  m_doc_literal g a d q l c h = cond-true _ _ _ h
 
   pub m_doc_unquote : (g : List ℕ) (a : ℕ) (d : Declaration) (q : ℕ) (l : List ℕ) → step (state_of fs x (doc_literal g a d q l)) q ≡ Some (state_of fs x (doc g a (literal d q l)))
-  m_doc_unquote g a d q l = off_cond _ _ _ (not_literal q) ∙ on_cond _ _ _ (eq-eqb q q refl)
+  m_doc_unquote g a d q l = cond-false _ _ _ (not_literal q) ∙ cond-true _ _ _ (eq-eqb q q refl)
 
   pub m_doctype : (g : List ℕ) (a : ℕ) (d : Declaration) → step (state_of fs x (doc g a d)) 62 ≡ Some (state_of fs (doctype x g a d) no_piece)
   m_doctype g a d = refl
@@ -320,13 +321,13 @@ module _ (fs : Frames) (x : Content) where
   m_in_comment = refl
 
   pub m_plain : (r : CommentText) (c : ℕ) → is_char c ≡ true → eqb c 45 ≡ false → step (state_of fs x (in_comment r)) c ≡ Some (state_of fs x (in_comment (plain r c)))
-  m_plain r c h k = off_cond (eqb c 45) _ _ k ∙ on_cond _ _ _ h
+  m_plain r c h k = cond-false (eqb c 45) _ _ k ∙ cond-true _ _ _ h
 
   pub m_dash : (r : CommentText) → step (state_of fs x (in_comment r)) 45 ≡ Some (state_of fs x (comment_dash r))
   m_dash r = refl
 
   pub m_dashed : (r : CommentText) (c : ℕ) → is_char c ≡ true → eqb c 45 ≡ false → step (state_of fs x (comment_dash r)) c ≡ Some (state_of fs x (in_comment (dashed r c)))
-  m_dashed r c h k = off_cond (eqb c 45) _ _ k ∙ on_cond _ _ _ h
+  m_dashed r c h k = cond-false (eqb c 45) _ _ k ∙ cond-true _ _ _ h
 
   pub m_dashes : (r : CommentText) → step (state_of fs x (comment_dash r)) 45 ≡ Some (state_of fs x (comment_end r))
   m_dashes r = refl
@@ -335,7 +336,7 @@ module _ (fs : Frames) (x : Content) where
   m_comment r = refl
 
   pub m_cdsect_word : inside fs ≡ true → step (state_of fs x bang) 91 ≡ Some (state_of fs x (cdsect_word [] cdata_word))
-  m_cdsect_word h = on_cond (inside fs) _ _ h
+  m_cdsect_word h = cond-true (inside fs) _ _ h
 
   pub m_word : (m : List ℕ) (c : ℕ) (r : List ℕ) → step (state_of fs x (cdsect_word m (c ∷ r))) c ≡ Some (state_of fs x (cdsect_word (m ++ c ∷ []) r))
   m_word m c r = word_on (state_of fs x (cdsect_word m (c ∷ r))) c CDSectWord r (cond (eqb c 91) (to_mode (state_of fs x (cdsect_word m (c ∷ r))) (InCDSect 0)) None)
@@ -357,11 +358,11 @@ module _ (fs : Frames) (x : Content) where
       (cond (ends_cdsect d c) (to_mode (state_of fs x (in_cdsect d)) Between) (cond (is_char c) (Some (put 0 ((r ++ s) ++ (replicate n 93 ++ encode c)))) None))
       ≡ Some (put (cond b (one_more n) 0) (r ++ cond b (cond (eqb n 2) (s ++ (93 ∷ [])) s) (s ++ (replicate n 93 ++ encode c))))) [
         | true ↦ ap (λ l. Some (put (one_more n) l)) (cdsect_run r s (eqb n 2))
-        | false ↦ off_cond (ends_cdsect d c) _ _ k ∙ on_cond (is_char c) _ _ h ∙ ap (λ l. Some (put 0 l)) (append_assoc r s (replicate n 93 ++ encode c))
+        | false ↦ cond-false (ends_cdsect d c) _ _ k ∙ cond-true (is_char c) _ _ h ∙ ap (λ l. Some (put 0 l)) (append_assoc r s (replicate n 93 ++ encode c))
       ]
 
   pub m_cdsect_end : (d : CDSect) → brackets d ≡ 2 → step (state_of fs x (in_cdsect d)) 62 ≡ Some (state_of fs (cdata x d) no_piece)
-  m_cdsect_end d h = on_cond (eqb (brackets d) 2) _ _ (eq-eqb (brackets d) 2 h)
+  m_cdsect_end d h = cond-true (eqb (brackets d) 2) _ _ (eq-eqb (brackets d) 2 h)
 
 module _ (fs : Frames) (y k : Content) (n : List ℕ) (ats : Attributes) (sp : List ℕ) where
   pub m_end : step (state_of (frame fs y n ats sp) k less) 47 ≡ Some (state_of (frame fs y n ats sp) k (ending [] n))
@@ -375,15 +376,15 @@ module _ (fs : Frames) (y k : Content) (n : List ℕ) (ats : Attributes) (sp : L
 
   closed_state : (sp2 : List ℕ) → closed (state_of (frame fs y n ats sp) k no_piece) (names fs) ≡ state_of fs (tagged y n ats sp k sp2) no_piece
   closed_state sp2 =
-      ap (λ b. record (closed (state_of (frame fs y n ats sp) k no_piece) (names fs)) { rooted = b }) (or_true (has_element k))
-      ∙ ap (λ b. record (closed (state_of (frame fs y n ats sp) k no_piece) (names fs)) { rooted = true; typed = b }) (or_true (has_type k))
+      ap (λ b. record (closed (state_of (frame fs y n ats sp) k no_piece) (names fs)) { rooted = b }) (or-true (has_element k))
+      ∙ ap (λ b. record (closed (state_of (frame fs y n ats sp) k no_piece) (names fs)) { rooted = true; typed = b }) (or-true (has_type k))
       ∙ ap (λ ts. record (state_of fs (tagged y n ats sp k sp2) no_piece) { tokens = ts }) (closed_tokens sp2)
 
   pub m_end_space1 : (m : List ℕ) (c : ℕ) → is_white c ≡ true → step (state_of (frame fs y n ats sp) k (ending m [])) c ≡ Some (state_of (frame fs y n ats sp) k (ended m [] c))
-  m_end_space1 m c h = on_cond _ _ _ h
+  m_end_space1 m c h = cond-true _ _ _ h
 
   pub m_end_space2 : (m a : List ℕ) (d c : ℕ) → is_white c ≡ true → step (state_of (frame fs y n ats sp) k (ended m a d)) c ≡ Some (state_of (frame fs y n ats sp) k (ended m (a ++ d ∷ []) c))
-  m_end_space2 m a d c h = on_cond _ _ _ h
+  m_end_space2 m a d c h = cond-true _ _ _ h
 
   pub m_close1 : (m sp2 : List ℕ) → step (state_of (frame fs y n ats sp) k (ending m [])) 62 ≡ Some (state_of fs (tagged y n ats sp k sp2) no_piece)
   m_close1 m sp2 = ap Some (closed_state sp2)

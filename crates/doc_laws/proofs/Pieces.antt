@@ -1,8 +1,7 @@
 -- Bytes in pieces: the characters, the fault of the bytes, and their limit.
-use Rattle.std.proofs.Common.{ℕ, zero, suc, ◌≡◌, ◌+◌, ◌-◌, ◌<◌, ◌≤◌, ◌⊎◌, inl, inr, Bool, true, false, List, [], ◌∷◌, ◌++◌, length, take, Option, Some, None, Ok, Err, refl, sym, ap, ◌∙◌, subst, append_assoc, append-nil, arith, length-append, leb-true, leb-false}
-use Rattle.std.specs.Prelude.{nat_le}
+use Rattle.std.proofs.Common.{ℕ, zero, suc, ◌≡◌, ◌+◌, ◌-◌, ◌<◌, ◌≤◌, ◌⊎◌, inl, inr, Bool, true, false, List, [], ◌∷◌, ◌++◌, length, take, Option, Some, None, Ok, Err, refl, sym, ap, ◌∙◌, subst, append_assoc, append-nil, arith, length-append}
 use Rattle.std.proofs.lemmas.Str.{encodes-append, length-encode}
-use Rattle.std.proofs.lemmas.Bool.{false≢true}
+use Rattle.std.proofs.lemmas.Bool.{false≢true, cases_lt, and_parts, and_from}
 use lib.Utf8.{scalar, scalars, encode, encodes}
 use Rattle.gcx_base.specs.declared.limits.Limits.{Limits}
 use Rattle.gcx_model.specs.Document.{Nodes, tokens}
@@ -12,13 +11,12 @@ use Rattle.gcx_model.specs.declared.fault.DocFault.TheVariants.{Utf8, Truncated,
 use Rattle.gcx_model.specs.Faults.{Refusal, fault_of, size, IsNotUtf8, Decodes, IsBad, FaultWithin, by_character, by_sequence, by_cut, by_end, none_yet, none_whole, FaultIs, within_limit, before_limit, past_limit}
 use Rattle.doc_laws.specs.Machine.{State, is_whole, start}
 use Rattle.doc_laws.specs.Judging.{judged_steps}
-use Rattle.doc_laws.proofs.Tests.{and_true, true_and}
 use Rattle.doc_laws.proofs.Theorems.{whole_spells, not_whole}
 use Rattle.doc_laws.proofs.Faults.{Reads, Said, judged_says, start_reads}
 
 pub scalars_append : (cs ds : List ℕ) → scalars cs ≡ true → scalars ds ≡ true → scalars (cs ++ ds) ≡ true
 scalars_append [] ds h k = k
-scalars_append (c ∷ cs) ds h k = let q = and_true (scalar c) (scalars cs) h in true_and (scalar c) _ q.0 (scalars_append cs ds q.1 k)
+scalars_append (c ∷ cs) ds h k = let q = and_parts (scalar c) (scalars cs) h in and_from (scalar c) _ q.0 (scalars_append cs ds q.1 k)
 
 joined : (b cs tail piece ds rest : List ℕ) → b ≡ encodes cs ++ tail → tail ++ piece ≡ encodes ds ++ rest → b ++ piece ≡ encodes (cs ++ ds) ++ rest
 joined b cs tail piece ds rest d e = ap (λ l. l ++ piece) d ∙ append_assoc (encodes cs) tail piece ∙ ap (λ l. encodes cs ++ l) e ∙ sym (append_assoc (encodes cs) (encodes ds) rest) ∙ ap (λ l. l ++ rest) (sym (encodes-append cs ds))
@@ -121,13 +119,6 @@ within_stays lim b more ended f (by_end cs d c n e o) = absurd (false≢true e)
 within_stays lim b more ended f (none_yet cs tail d c e o) = let no : ⊥ = cc in absurd no
 within_stays lim b more ended f (none_whole cs d dd c sp e o) = absurd (false≢true e)
 
-pub less_or : (v n : ℕ) → (v < n) ⊎ (n ≤ v)
-less_or v n = by (nat_le n v) refl
-  where
-    by : (b : Bool) → nat_le n v ≡ b → (v < n) ⊎ (n ≤ v)
-    by true e = inr (leb-true n v e)
-    by false e = inl (leb-false n v e)
-
 pub take_past : (n : ℕ) (b more : List ℕ) → length b ≤ n → take n (b ++ more) ≡ b ++ take (n - length b) more
 take_past n [] more h = let e : n ≡ n - length {A = ℕ} [] = omega arith in ap (λ k. take k more) e
 take_past zero (c ∷ b) more h = absurd (omega arith)
@@ -152,7 +143,7 @@ bytes_past lim b piece tail s ended h k w =
 -- a fault of bytes stays
 pub fault_stays : (lim : Limits) (b more : List ℕ) (ended : Bool) (f : DocFault) → FaultIs lim b false (Some f) → FaultIs lim (b ++ more) ended (Some f)
 fault_stays lim b more ended f (within_limit h w) =
-    elim (less_or lim.bytes (length (b ++ more))) [
+    elim (cases_lt lim.bytes (length (b ++ more))) [
       | inl k ↦ bytes_fault lim b more ended f h k (within_stays lim b (take (lim.bytes - length b) more) false f w)
       | inr k ↦ within_limit k (within_stays lim b more ended f w)
     ]

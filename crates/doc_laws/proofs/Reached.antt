@@ -1,7 +1,7 @@
 -- Each front is read.
 use Rattle.std.proofs.Common.{ℕ, ◌≡◌, true, List, [], ◌∷◌, ◌++◌, Option, Some, refl, sym, ap, ◌∙◌, subst, append_assoc, append-nil}
 use Rattle.std.specs.List.{list_all}
-use Rattle.std.proofs.lemmas.Bool.{true≢false, false≢true}
+use Rattle.std.proofs.lemmas.Bool.{true≢false, false≢true, and_parts}
 use lib.Utf8.{encodes}
 use Rattle.gcx_base.specs.Characters.{is_white, is_start_char, is_part_char}
 use Rattle.gcx_model.specs.References.{Reference, reference_spelling, IsReference, BegunReference, begun_spelling, IsBegun}
@@ -11,7 +11,6 @@ use Rattle.gcx_model.specs.Grammar.{Content, nothing, mark, space, char, referen
 use Rattle.gcx_model.specs.Fronts.{Frames, bottom, frame, Part, no_part, spaced, part_name, name_spaced, equals, value, value_amp, Piece, no_piece, less, started, tag, slashed, ending, ended, question, target, target_mark, in_instruction, doc_wording, doc_gap, doc, doc_literal, bang, bang_dash, in_comment, comment_dash, comment_end, cdsect_word, in_cdsect, amp, frames_spelling, piece_spelling, inside, IsFrames, IsPart, IsPiece, part_spelling, front_spelling, IsFront}
 use Rattle.doc_laws.specs.Machine.{State, start, steps}
 use Rattle.doc_laws.specs.States.{state_of}
-use Rattle.doc_laws.proofs.Tests.{and_true}
 use Rattle.doc_laws.proofs.Referred.{begun_steps, referred_steps}
 use Rattle.doc_laws.proofs.Moves.{steps_on_to, step_to, step_end, walk, over_space, over_gap, behind_space, tag_piece, m_char, m_space_out, m_mark, m_less, m_amp, m_refer, m_referred, m_started, m_bang, m_name, m_space, m_space2, m_open, m_open2, m_slash, m_slash2, m_single, m_attr, m_attr_name, m_attr_space1, m_attr_space2, m_equals1, m_equals2, m_equals_space, m_quote, m_value, m_value_amp, m_value_refer, m_value_referred, m_valued, m_question, m_target, m_target_name, m_target_mark, m_bare, m_instruction_start, m_in_instruction, m_instruction_end, m_doc_word, m_doc_wording, m_doc_gap1, m_doc_gap2, m_doc_name, m_doc_char, m_doc_quote, m_doc_literal, m_doc_unquote, m_doctype, m_bang_dash, m_in_comment, m_plain, m_dash, m_dashed, m_dashes, m_comment, m_cdsect_word, m_word, m_cdsect_start, m_in_cdsect, m_cdsect_end, m_end, m_ending, m_end_space1, m_end_space2, m_close1, m_close2}
 
@@ -19,7 +18,7 @@ module _ (fs : Frames) (x : Content) where
   name_steps : (m cs : List ℕ) → list_all is_part_char cs ≡ true → steps (state_of fs x (started m)) cs ≡ Some (state_of fs x (started (m ++ cs)))
   name_steps m [] h = ap (λ l. Some (state_of fs x (started l))) (sym (append-nil m))
   name_steps m (c ∷ cs) h =
-      let both = and_true (is_part_char c) (list_all is_part_char cs) h in
+      let both = and_parts (is_part_char c) (list_all is_part_char cs) h in
       step_to (state_of fs x (started m)) (state_of fs x (started (m ++ c ∷ []))) c cs _ (m_name fs x m c both.0)
       (name_steps (m ++ c ∷ []) cs both.1 ∙ ap (λ l. Some (state_of fs x (started l))) (append_assoc m (c ∷ []) cs))
 
@@ -27,7 +26,7 @@ module _ (fs : Frames) (x : Content) where
   start_name : (n : List ℕ) → may_open (inside fs) (has_element x) ≡ true → is_name n ≡ true → steps (state_of fs x no_piece) (60 ∷ n) ≡ Some (state_of fs x (started n))
   start_name [] k h = absurd (false≢true h)
   start_name (c ∷ cs) k h =
-      let both = and_true (is_start_char c) (list_all is_part_char cs) h in
+      let both = and_parts (is_start_char c) (list_all is_part_char cs) h in
       step_to (state_of fs x no_piece) (state_of fs x less) 60 (c ∷ cs) _ (m_less fs x)
       (step_to (state_of fs x less) (state_of fs x (started (c ∷ []))) c cs _ (m_started fs x c both.0 k) (name_steps (c ∷ []) cs both.1))
 
@@ -38,14 +37,14 @@ module _ (fs : Frames) (x : Content) where
   attr_more : (n : List ℕ) (ats : Attributes) (g m cs : List ℕ) → list_all is_part_char cs ≡ true → steps (state_of fs x (tag n ats (part_name g m))) cs ≡ Some (state_of fs x (tag n ats (part_name g (m ++ cs))))
   attr_more n ats g m [] h = ap (λ l. Some (state_of fs x (tag n ats (part_name g l)))) (sym (append-nil m))
   attr_more n ats g m (c ∷ cs) h =
-      let both = and_true (is_part_char c) (list_all is_part_char cs) h in
+      let both = and_parts (is_part_char c) (list_all is_part_char cs) h in
       step_to (state_of fs x (tag n ats (part_name g m))) (state_of fs x (tag n ats (part_name g (m ++ c ∷ [])))) c cs _ (m_attr_name fs x n ats g m c both.0)
       (attr_more n ats g (m ++ c ∷ []) cs both.1 ∙ ap (λ l. Some (state_of fs x (tag n ats (part_name g l)))) (append_assoc m (c ∷ []) cs))
 
   attr_steps : (n : List ℕ) (ats : Attributes) (g m : List ℕ) → is_name m ≡ true → steps (state_of fs x (tag n ats (spaced g))) m ≡ Some (state_of fs x (tag n ats (part_name g m)))
   attr_steps n ats g [] h = absurd (false≢true h)
   attr_steps n ats g (c ∷ cs) h =
-      let both = and_true (is_start_char c) (list_all is_part_char cs) h in
+      let both = and_parts (is_start_char c) (list_all is_part_char cs) h in
       step_to (state_of fs x (tag n ats (spaced g))) (state_of fs x (tag n ats (part_name g (c ∷ [])))) c cs _ (m_attr fs x n ats g c both.0) (attr_more n ats g (c ∷ []) cs both.1)
 
   -- up to the name of an attribute
@@ -145,7 +144,7 @@ module _ (fs : Frames) (x : Content) where
   target_more : (m cs : List ℕ) → list_all is_part_char cs ≡ true → steps (state_of fs x (target m)) cs ≡ Some (state_of fs x (target (m ++ cs)))
   target_more m [] h = ap (λ l. Some (state_of fs x (target l))) (sym (append-nil m))
   target_more m (c ∷ cs) h =
-      let both = and_true (is_part_char c) (list_all is_part_char cs) h in
+      let both = and_parts (is_part_char c) (list_all is_part_char cs) h in
       step_to (state_of fs x (target m)) (state_of fs x (target (m ++ c ∷ []))) c cs _ (m_target_name fs x m c both.0)
       (target_more (m ++ c ∷ []) cs both.1 ∙ ap (λ l. Some (state_of fs x (target l))) (append_assoc m (c ∷ []) cs))
 
@@ -155,7 +154,7 @@ module _ (fs : Frames) (x : Content) where
   target_steps : (n : List ℕ) → is_name n ≡ true → steps (state_of fs x no_piece) (60 ∷ (63 ∷ n)) ≡ Some (state_of fs x (target n))
   target_steps [] h = absurd (false≢true h)
   target_steps (c ∷ cs) h =
-      let both = and_true (is_start_char c) (list_all is_part_char cs) h in
+      let both = and_parts (is_start_char c) (list_all is_part_char cs) h in
       steps_on_to (state_of fs x no_piece) (state_of fs x question) (60 ∷ (63 ∷ [])) (c ∷ cs) _ question_steps
       (step_to (state_of fs x question) (state_of fs x (target (c ∷ []))) c cs _ (m_target fs x c both.0) (target_more (c ∷ []) cs both.1))
 
@@ -193,7 +192,7 @@ module _ (fs : Frames) (x : Content) where
   literal_walk : (g : List ℕ) (a : ℕ) (d : Declaration) (q : ℕ) (l m : List ℕ) → list_all (is_literal_char q) m ≡ true → steps (state_of fs x (doc_literal g a d q l)) m ≡ Some (state_of fs x (doc_literal g a d q (l ++ m)))
   literal_walk g a d q l [] h = ap (λ r. Some (state_of fs x (doc_literal g a d q r))) (sym (append-nil l))
   literal_walk g a d q l (c ∷ m) h =
-      let both = and_true (is_literal_char q c) (list_all (is_literal_char q) m) h in
+      let both = and_parts (is_literal_char q c) (list_all (is_literal_char q) m) h in
       step_to (state_of fs x (doc_literal g a d q l)) (state_of fs x (doc_literal g a d q (l ++ c ∷ []))) c m _ (m_doc_literal fs x g a d q l c both.0)
       (literal_walk g a d q (l ++ c ∷ []) m both.1 ∙ ap (λ r. Some (state_of fs x (doc_literal g a d q r))) (append_assoc l (c ∷ []) m))
 

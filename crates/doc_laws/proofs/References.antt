@@ -1,12 +1,13 @@
 -- References: what is read of one begins one, and the machine reads exactly these.
-use Rattle.std.proofs.Common.{ℕ, zero, suc, ◌≡◌, ◌+◌, ◌*◌, ◌<◌, ◌≤◌, ◌⊎◌, inl, inr, Bool, true, false, ◌&&◌, eqb, cond, List, [], ◌∷◌, ◌++◌, Option, Some, None, refl, sym, ap, ◌∙◌, append_assoc, arith, eqb-true, leb-true, leb-false, le-leb}
+use Rattle.std.proofs.Common.{ℕ, zero, suc, ◌≡◌, ◌+◌, ◌*◌, ◌≤◌, inl, inr, Bool, true, false, ◌&&◌, eqb, cond, List, [], ◌∷◌, ◌++◌, Option, Some, None, refl, sym, ap, ◌∙◌, append_assoc, arith, eqb-true, leb-true, le-leb}
 use Rattle.std.specs.Prelude.{nat_le, bytes_eq}
-use Rattle.std.proofs.lemmas.Bool.{false≢true}
+use Rattle.std.proofs.lemmas.Bool.{false≢true, cases_lt, and_parts, and_from, or_cases, or_left, or_right, cond-true, cond-false}
+use Rattle.std.proofs.lemmas.Option.{same_Some}
 use Rattle.gcx_base.specs.Characters.{between, is_char}
 use Rattle.gcx_model.specs.References.{Entity, less_than, greater_than, ampersand, apostrophe, quotation, entity_name, entity_char, Digits, no_digit, digit, digits_spelling, is_decimal, is_hexadecimal, AreDigits, worth, value_in, Reference, named, decimal, hexadecimal, reference_spelling, reference_char, IsReference, BegunReference, letters, number, decimals, hexadecimals, begun_spelling, is_front, begins_entity, greatest, IsBegun}
 use Rattle.doc_laws.specs.Machine.{Letters, Number, More, Done, Bad, entity_of, done_entity, is_empty, refer}
 use Rattle.doc_laws.specs.States.{referring}
-use Rattle.doc_laws.proofs.Tests.{on_cond, off_cond, and_true, true_and, or_cases, or_left, or_right, same_is}
+use Rattle.doc_laws.proofs.Tests.{same_is}
 
 -- a Char's number is no greater than the greatest
 pub char_least : (v : ℕ) → is_char v ≡ true → v ≤ 1114111
@@ -18,10 +19,10 @@ char_least v h =
         | inr h ↦ elim (or_cases (eqb v 13) _ h) [
           | inl e ↦ let is = eqb-true v 13 e in omega (arith, is)
           | inr h ↦ elim (or_cases (between 32 55295 v) _ h) [
-            | inl e ↦ let le = leb-true v 55295 (and_true (nat_le 32 v) (nat_le v 55295) e).1 in omega (arith, le)
+            | inl e ↦ let le = leb-true v 55295 (and_parts (nat_le 32 v) (nat_le v 55295) e).1 in omega (arith, le)
             | inr h ↦ elim (or_cases (between 57344 65533 v) _ h) [
-              | inl e ↦ let le = leb-true v 65533 (and_true (nat_le 57344 v) (nat_le v 65533) e).1 in omega (arith, le)
-              | inr e ↦ leb-true v 1114111 (and_true (nat_le 65536 v) (nat_le v 1114111) e).1
+              | inl e ↦ let le = leb-true v 65533 (and_parts (nat_le 57344 v) (nat_le v 65533) e).1 in omega (arith, le)
+              | inr e ↦ leb-true v 1114111 (and_parts (nat_le 65536 v) (nat_le v 1114111) e).1
             ]
           ]
         ]
@@ -29,7 +30,7 @@ char_least v h =
     ]
 
 between_true : (l h v : ℕ) → l ≤ v → v ≤ h → between l h v ≡ true
-between_true l h v a b = true_and (nat_le l v) (nat_le v h) (le-leb l v a) (le-leb v h b)
+between_true l h v a b = and_from (nat_le l v) (nat_le v h) (le-leb l v a) (le-leb v h b)
 
 -- the ranges of Char
 pub low_char : (v : ℕ) → 32 ≤ v → v ≤ 55295 → is_char v ≡ true
@@ -46,14 +47,14 @@ rest_of : (m w : List ℕ) → is_front m w ≡ true → (r : List ℕ) × (w �
 rest_of [] w h = (w, refl)
 rest_of (c ∷ m) [] h = absurd (false≢true h)
 rest_of (c ∷ m) (d ∷ w) h =
-    let both = and_true (eqb c d) (is_front m w) h in
+    let both = and_parts (eqb c d) (is_front m w) h in
     let k = rest_of m w both.1 in
     (k.0, ap (λ l. d ∷ l) k.1 ∙ ap (λ a. a ∷ (m ++ k.0)) (sym (eqb-true c d both.0)))
 
 shorter_front : (a b w : List ℕ) → is_front (a ++ b) w ≡ true → is_front a w ≡ true
 shorter_front [] b w h = refl
 shorter_front (c ∷ a) b [] h = absurd (false≢true h)
-shorter_front (c ∷ a) b (d ∷ w) h = let both = and_true (eqb c d) (is_front (a ++ b) w) h in true_and (eqb c d) _ both.0 (shorter_front a b w both.1)
+shorter_front (c ∷ a) b (d ∷ w) h = let both = and_parts (eqb c d) (is_front (a ++ b) w) h in and_from (eqb c d) _ both.0 (shorter_front a b w both.1)
 
 -- letters begin a name
 begins_one : (m : List ℕ) → begins_entity m ≡ true → (e : Entity) × (is_front m (entity_name e) ≡ true)
@@ -90,8 +91,6 @@ begins_name apostrophe = refl
 begins_name quotation = refl
 
 -- the character of a whole name
-some_is : (v w : ℕ) → Some v ≡ Some w → v ≡ w
-some_is v w e = cc
 
 none_some : {X : Type 0} (v : ℕ) → None ≡ Some v → X
 none_some v e = let no : ⊥ = cc in absurd no
@@ -100,11 +99,11 @@ entity_found : (m : List ℕ) (v : ℕ) → entity_of m ≡ Some v → (e : Enti
 entity_found m v h = by (bytes_eq m (entity_name less_than)) (bytes_eq m (entity_name greater_than)) (bytes_eq m (entity_name ampersand)) (bytes_eq m (entity_name apostrophe)) (bytes_eq m (entity_name quotation)) refl refl refl refl refl h
   where
     by : (a b c d e : Bool) → bytes_eq m (entity_name less_than) ≡ a → bytes_eq m (entity_name greater_than) ≡ b → bytes_eq m (entity_name ampersand) ≡ c → bytes_eq m (entity_name apostrophe) ≡ d → bytes_eq m (entity_name quotation) ≡ e → cond a (Some 60) (cond b (Some 62) (cond c (Some 38) (cond d (Some 39) (cond e (Some 34) None)))) ≡ Some v → (e : Entity) × (m ≡ entity_name e) × (entity_char e ≡ v)
-    by true b c d e p q r s t h = (less_than, same_is m _ p, some_is 60 v h)
-    by false true c d e p q r s t h = (greater_than, same_is m _ q, some_is 62 v h)
-    by false false true d e p q r s t h = (ampersand, same_is m _ r, some_is 38 v h)
-    by false false false true e p q r s t h = (apostrophe, same_is m _ s, some_is 39 v h)
-    by false false false false true p q r s t h = (quotation, same_is m _ t, some_is 34 v h)
+    by true b c d e p q r s t h = (less_than, same_is m _ p, same_Some 60 v h)
+    by false true c d e p q r s t h = (greater_than, same_is m _ q, same_Some 62 v h)
+    by false false true d e p q r s t h = (ampersand, same_is m _ r, same_Some 38 v h)
+    by false false false true e p q r s t h = (apostrophe, same_is m _ s, same_Some 39 v h)
+    by false false false false true p q r s t h = (quotation, same_is m _ t, same_Some 34 v h)
     by false false false false false p q r s t h = none_some v h
 
 -- Some reference begins so.
@@ -121,12 +120,6 @@ completes_name m h =
     record { more = r.0 ++ (59 ∷ []); reference = named k.0; good = tt; spelled = ap (λ l. 38 ∷ (l ++ (59 ∷ []))) r.1 ∙ ap (λ l. 38 ∷ l) (append_assoc m r.0 (59 ∷ [])) }
 
 -- two digits more, or one
-less_or : (v n : ℕ) → (v < n) ⊎ (n ≤ v)
-less_or v n = by (nat_le n v) refl
-  where
-    by : (b : Bool) → nat_le n v ≡ b → (v < n) ⊎ (n ≤ v)
-    by true e = inr (leb-true n v e)
-    by false e = inl (leb-false n v e)
 
 data Growing (base v : ℕ) : Type 0 where
   as_is : is_char v ≡ true → Growing base v
@@ -135,15 +128,15 @@ data Growing (base v : ℕ) : Type 0 where
 
 grows_ten : (v : ℕ) → v ≤ 1114111 → Growing 10 v
 grows_ten v h =
-    elim (less_or v 32) [
+    elim (cases_lt v 32) [
       | inl a ↦ by_nines (low_char ((v * 10 + 9) * 10 + 9) (omega arith) (omega arith))
-      | inr a ↦ elim (less_or v 55296) [
+      | inr a ↦ elim (cases_lt v 55296) [
         | inl b ↦ as_is (low_char v a (omega arith))
-        | inr b ↦ elim (less_or v 57344) [
+        | inr b ↦ elim (cases_lt v 57344) [
           | inl c ↦ by_zero (high_char (v * 10 + 0) (omega arith) (omega arith))
-          | inr c ↦ elim (less_or v 65534) [
+          | inr c ↦ elim (cases_lt v 65534) [
             | inl d ↦ as_is (middle_char v c (omega arith))
-            | inr d ↦ elim (less_or v 65536) [
+            | inr d ↦ elim (cases_lt v 65536) [
               | inl e ↦ by_zero (high_char (v * 10 + 0) (omega arith) (omega arith))
               | inr e ↦ as_is (high_char v e h)
             ]
@@ -154,15 +147,15 @@ grows_ten v h =
 
 grows_sixteen : (v : ℕ) → v ≤ 1114111 → Growing 16 v
 grows_sixteen v h =
-    elim (less_or v 32) [
+    elim (cases_lt v 32) [
       | inl a ↦ by_nines (low_char ((v * 16 + 9) * 16 + 9) (omega arith) (omega arith))
-      | inr a ↦ elim (less_or v 55296) [
+      | inr a ↦ elim (cases_lt v 55296) [
         | inl b ↦ as_is (low_char v a (omega arith))
-        | inr b ↦ elim (less_or v 57344) [
+        | inr b ↦ elim (cases_lt v 57344) [
           | inl c ↦ by_zero (high_char (v * 16 + 0) (omega arith) (omega arith))
-          | inr c ↦ elim (less_or v 65534) [
+          | inr c ↦ elim (cases_lt v 65534) [
             | inl d ↦ as_is (middle_char v c (omega arith))
-            | inr d ↦ elim (less_or v 65536) [
+            | inr d ↦ elim (cases_lt v 65536) [
               | inl e ↦ by_zero (high_char (v * 16 + 0) (omega arith) (omega arith))
               | inr e ↦ as_is (high_char v e h)
             ]
@@ -203,50 +196,50 @@ refers_letters : (m : List ℕ) (c : ℕ) → Refers (letters m) c
 refers_letters m c = by (begins_entity (m ++ c ∷ [])) (eqb c 59) (entity_of m) (eqb c 35) m refl refl refl refl refl
   where
     by : (a b : Bool) (o : Option ℕ) (d : Bool) (l : List ℕ) → begins_entity (m ++ c ∷ []) ≡ a → eqb c 59 ≡ b → entity_of m ≡ o → eqb c 35 ≡ d → m ≡ l → Refers (letters m) c
-    by true b o d l p q r s t = goes_on (letters (m ++ c ∷ [])) p refl (on_cond (begins_entity (m ++ c ∷ [])) _ _ p)
+    by true b o d l p q r s t = goes_on (letters (m ++ c ∷ [])) p refl (cond-true (begins_entity (m ++ c ∷ [])) _ _ p)
     by false true (Some v) d l p q r s t =
         let k = entity_found m v r in
         is_done (named k.0) tt (ap (λ w. 38 ∷ (w ++ (59 ∷ []))) (sym k.1) ∙ ap (λ a. 38 ∷ (m ++ (a ∷ []))) (sym (eqb-true c 59 q)))
-        (off_cond (begins_entity (m ++ c ∷ [])) _ _ p ∙ on_cond (eqb c 59) _ _ q ∙ ap done_entity r ∙ ap Done (sym k.2))
-    by false true None d l p q r s t = is_bad (off_cond (begins_entity (m ++ c ∷ [])) _ _ p ∙ on_cond (eqb c 59) _ _ q ∙ ap done_entity r)
+        (cond-false (begins_entity (m ++ c ∷ [])) _ _ p ∙ cond-true (eqb c 59) _ _ q ∙ ap done_entity r ∙ ap Done (sym k.2))
+    by false true None d l p q r s t = is_bad (cond-false (begins_entity (m ++ c ∷ [])) _ _ p ∙ cond-true (eqb c 59) _ _ q ∙ ap done_entity r)
     by false false o true [] p q r s t =
         goes_on number tt (ap (λ a. 38 ∷ (a ∷ [])) (sym (eqb-true c 35 s)) ∙ ap (λ w. 38 ∷ (w ++ (c ∷ []))) (sym t))
-        (off_cond (begins_entity (m ++ c ∷ [])) _ _ p ∙ off_cond (eqb c 59) _ _ q ∙ on_cond (eqb c 35 && is_empty m) _ _ (true_and (eqb c 35) _ s (ap is_empty t)))
-    by false false o true (x ∷ l) p q r s t = is_bad (off_cond (begins_entity (m ++ c ∷ [])) _ _ p ∙ off_cond (eqb c 59) _ _ q ∙ off_cond (eqb c 35 && is_empty m) _ _ (ap (λ b. b && is_empty m) s ∙ ap is_empty t))
-    by false false o false l p q r s t = is_bad (off_cond (begins_entity (m ++ c ∷ [])) _ _ p ∙ off_cond (eqb c 59) _ _ q ∙ off_cond (eqb c 35 && is_empty m) _ _ (ap (λ b. b && is_empty m) s))
+        (cond-false (begins_entity (m ++ c ∷ [])) _ _ p ∙ cond-false (eqb c 59) _ _ q ∙ cond-true (eqb c 35 && is_empty m) _ _ (and_from (eqb c 35) _ s (ap is_empty t)))
+    by false false o true (x ∷ l) p q r s t = is_bad (cond-false (begins_entity (m ++ c ∷ [])) _ _ p ∙ cond-false (eqb c 59) _ _ q ∙ cond-false (eqb c 35 && is_empty m) _ _ (ap (λ b. b && is_empty m) s ∙ ap is_empty t))
+    by false false o false l p q r s t = is_bad (cond-false (begins_entity (m ++ c ∷ [])) _ _ p ∙ cond-false (eqb c 59) _ _ q ∙ cond-false (eqb c 35 && is_empty m) _ _ (ap (λ b. b && is_empty m) s))
 
 refers_number : (c : ℕ) → Refers number c
 refers_number c = by (is_decimal c) (nat_le (0 * 10 + worth c) greatest) (eqb c 120) refl refl refl
   where
     by : (a b d : Bool) → is_decimal c ≡ a → nat_le (0 * 10 + worth c) greatest ≡ b → eqb c 120 ≡ d → Refers number c
-    by true true d p q s = goes_on (decimals no_digit c) ((tt, p), q) refl (on_cond (is_decimal c) _ _ p ∙ on_cond (nat_le (0 * 10 + worth c) greatest) _ _ q)
-    by true false d p q s = is_bad (on_cond (is_decimal c) _ _ p ∙ off_cond (nat_le (0 * 10 + worth c) greatest) _ _ q)
-    by false b true p q s = goes_on (hexadecimals no_digit) (tt, refl) (ap (λ a. 38 ∷ (35 ∷ (a ∷ []))) (sym (eqb-true c 120 s))) (off_cond (is_decimal c) _ _ p ∙ on_cond (eqb c 120) _ _ s)
-    by false b false p q s = is_bad (off_cond (is_decimal c) _ _ p ∙ off_cond (eqb c 120) _ _ s)
+    by true true d p q s = goes_on (decimals no_digit c) ((tt, p), q) refl (cond-true (is_decimal c) _ _ p ∙ cond-true (nat_le (0 * 10 + worth c) greatest) _ _ q)
+    by true false d p q s = is_bad (cond-true (is_decimal c) _ _ p ∙ cond-false (nat_le (0 * 10 + worth c) greatest) _ _ q)
+    by false b true p q s = goes_on (hexadecimals no_digit) (tt, refl) (ap (λ a. 38 ∷ (35 ∷ (a ∷ []))) (sym (eqb-true c 120 s))) (cond-false (is_decimal c) _ _ p ∙ cond-true (eqb c 120) _ _ s)
+    by false b false p q s = is_bad (cond-false (is_decimal c) _ _ p ∙ cond-false (eqb c 120) _ _ s)
 
 refers_decimals : (ds : Digits) (e c : ℕ) → IsBegun (decimals ds e) → Refers (decimals ds e) c
 refers_decimals ds e c g = by (is_decimal c) (nat_le ((value_in 10 (digit ds e)) * 10 + worth c) greatest) (eqb c 59) (is_char (value_in 10 (digit ds e))) refl refl refl refl
   where
     by : (a b d f : Bool) → is_decimal c ≡ a → nat_le ((value_in 10 (digit ds e)) * 10 + worth c) greatest ≡ b → eqb c 59 ≡ d → is_char (value_in 10 (digit ds e)) ≡ f → Refers (decimals ds e) c
-    by true true d f p q s t = goes_on (decimals (digit ds e) c) ((g.0, p), q) refl (on_cond (is_decimal c) _ _ p ∙ on_cond (nat_le ((value_in 10 (digit ds e)) * 10 + worth c) greatest) _ _ q)
-    by true false d f p q s t = is_bad (on_cond (is_decimal c) _ _ p ∙ off_cond (nat_le ((value_in 10 (digit ds e)) * 10 + worth c) greatest) _ _ q)
+    by true true d f p q s t = goes_on (decimals (digit ds e) c) ((g.0, p), q) refl (cond-true (is_decimal c) _ _ p ∙ cond-true (nat_le ((value_in 10 (digit ds e)) * 10 + worth c) greatest) _ _ q)
+    by true false d f p q s t = is_bad (cond-true (is_decimal c) _ _ p ∙ cond-false (nat_le ((value_in 10 (digit ds e)) * 10 + worth c) greatest) _ _ q)
     by false b true true p q s t =
         is_done (decimal (digit ds e)) (g.0, t) (ap (λ a. 38 ∷ (35 ∷ (digits_spelling (digit ds e) ++ (a ∷ [])))) (sym (eqb-true c 59 s)))
-        (off_cond (is_decimal c) _ _ p ∙ on_cond (eqb c 59) _ _ s ∙ on_cond (is_char (value_in 10 (digit ds e))) _ _ t)
-    by false b true false p q s t = is_bad (off_cond (is_decimal c) _ _ p ∙ on_cond (eqb c 59) _ _ s ∙ off_cond (is_char (value_in 10 (digit ds e))) _ _ t)
-    by false b false f p q s t = is_bad (off_cond (is_decimal c) _ _ p ∙ off_cond (eqb c 59) _ _ s)
+        (cond-false (is_decimal c) _ _ p ∙ cond-true (eqb c 59) _ _ s ∙ cond-true (is_char (value_in 10 (digit ds e))) _ _ t)
+    by false b true false p q s t = is_bad (cond-false (is_decimal c) _ _ p ∙ cond-true (eqb c 59) _ _ s ∙ cond-false (is_char (value_in 10 (digit ds e))) _ _ t)
+    by false b false f p q s t = is_bad (cond-false (is_decimal c) _ _ p ∙ cond-false (eqb c 59) _ _ s)
 
 refers_hexadecimals : (ds : Digits) (c : ℕ) → IsBegun (hexadecimals ds) → Refers (hexadecimals ds) c
 refers_hexadecimals ds c g = by (is_hexadecimal c) (nat_le ((value_in 16 ds) * 16 + worth c) greatest) (eqb c 59) (is_char (value_in 16 ds)) refl refl refl refl
   where
     by : (a b d f : Bool) → is_hexadecimal c ≡ a → nat_le ((value_in 16 ds) * 16 + worth c) greatest ≡ b → eqb c 59 ≡ d → is_char (value_in 16 ds) ≡ f → Refers (hexadecimals ds) c
-    by true true d f p q s t = goes_on (hexadecimals (digit ds c)) ((g.0, p), q) refl (on_cond (is_hexadecimal c) _ _ p ∙ on_cond (nat_le ((value_in 16 ds) * 16 + worth c) greatest) _ _ q)
-    by true false d f p q s t = is_bad (on_cond (is_hexadecimal c) _ _ p ∙ off_cond (nat_le ((value_in 16 ds) * 16 + worth c) greatest) _ _ q)
+    by true true d f p q s t = goes_on (hexadecimals (digit ds c)) ((g.0, p), q) refl (cond-true (is_hexadecimal c) _ _ p ∙ cond-true (nat_le ((value_in 16 ds) * 16 + worth c) greatest) _ _ q)
+    by true false d f p q s t = is_bad (cond-true (is_hexadecimal c) _ _ p ∙ cond-false (nat_le ((value_in 16 ds) * 16 + worth c) greatest) _ _ q)
     by false b true true p q s t =
         is_done (hexadecimal ds) (g.0, t) (ap (λ a. 38 ∷ (35 ∷ (120 ∷ (digits_spelling ds ++ (a ∷ []))))) (sym (eqb-true c 59 s)))
-        (off_cond (is_hexadecimal c) _ _ p ∙ on_cond (eqb c 59) _ _ s ∙ on_cond (is_char (value_in 16 ds)) _ _ t)
-    by false b true false p q s t = is_bad (off_cond (is_hexadecimal c) _ _ p ∙ on_cond (eqb c 59) _ _ s ∙ off_cond (is_char (value_in 16 ds)) _ _ t)
-    by false b false f p q s t = is_bad (off_cond (is_hexadecimal c) _ _ p ∙ off_cond (eqb c 59) _ _ s)
+        (cond-false (is_hexadecimal c) _ _ p ∙ cond-true (eqb c 59) _ _ s ∙ cond-true (is_char (value_in 16 ds)) _ _ t)
+    by false b true false p q s t = is_bad (cond-false (is_hexadecimal c) _ _ p ∙ cond-true (eqb c 59) _ _ s ∙ cond-false (is_char (value_in 16 ds)) _ _ t)
+    by false b false f p q s t = is_bad (cond-false (is_hexadecimal c) _ _ p ∙ cond-false (eqb c 59) _ _ s)
 
 pub refers : (r : BegunReference) (c : ℕ) → IsBegun r → Refers r c
 refers (letters m) c g = refers_letters m c
@@ -256,16 +249,16 @@ refers (hexadecimals ds) c g = refers_hexadecimals ds c g
 
 -- a character that goes on with what is begun, or ends it
 pub name_on : (m : List ℕ) (c : ℕ) → begins_entity (m ++ c ∷ []) ≡ true → refer (Letters m) c ≡ More (Letters (m ++ c ∷ []))
-name_on m c h = on_cond (begins_entity (m ++ c ∷ [])) _ _ h
+name_on m c h = cond-true (begins_entity (m ++ c ∷ [])) _ _ h
 
 pub decimal_on : (ds : Digits) (e c : ℕ) → is_decimal c ≡ true → nat_le (value_in 10 (digit (digit ds e) c)) greatest ≡ true → refer (referring (decimals ds e)) c ≡ More (referring (decimals (digit ds e) c))
-decimal_on ds e c p q = on_cond (is_decimal c) _ _ p ∙ on_cond (nat_le (value_in 10 (digit ds e) * 10 + worth c) greatest) _ _ q
+decimal_on ds e c p q = cond-true (is_decimal c) _ _ p ∙ cond-true (nat_le (value_in 10 (digit ds e) * 10 + worth c) greatest) _ _ q
 
 pub first_decimal : (c : ℕ) → is_decimal c ≡ true → nat_le (value_in 10 (digit no_digit c)) greatest ≡ true → refer Number c ≡ More (referring (decimals no_digit c))
-first_decimal c p q = on_cond (is_decimal c) _ _ p ∙ on_cond (nat_le (0 * 10 + worth c) greatest) _ _ q
+first_decimal c p q = cond-true (is_decimal c) _ _ p ∙ cond-true (nat_le (0 * 10 + worth c) greatest) _ _ q
 
 pub hexadecimal_on : (ds : Digits) (c : ℕ) → is_hexadecimal c ≡ true → nat_le (value_in 16 (digit ds c)) greatest ≡ true → refer (referring (hexadecimals ds)) c ≡ More (referring (hexadecimals (digit ds c)))
-hexadecimal_on ds c p q = on_cond (is_hexadecimal c) _ _ p ∙ on_cond (nat_le (value_in 16 ds * 16 + worth c) greatest) _ _ q
+hexadecimal_on ds c p q = cond-true (is_hexadecimal c) _ _ p ∙ cond-true (nat_le (value_in 16 ds * 16 + worth c) greatest) _ _ q
 
 pub name_done : (e : Entity) → refer (Letters (entity_name e)) 59 ≡ Done (entity_char e)
 name_done less_than = refl
@@ -281,10 +274,10 @@ pub begins_front : (a b : List ℕ) → begins_entity (a ++ b) ≡ true → begi
 begins_front a b h = begins_shorter a b h
 
 pub decimal_done : (ds : Digits) (c : ℕ) → is_char (value_in 10 (digit ds c)) ≡ true → refer (referring (decimals ds c)) 59 ≡ Done (value_in 10 (digit ds c))
-decimal_done ds c h = on_cond (is_char (value_in 10 (digit ds c))) _ _ h
+decimal_done ds c h = cond-true (is_char (value_in 10 (digit ds c))) _ _ h
 
 pub hexadecimal_done : (ds : Digits) → is_char (value_in 16 ds) ≡ true → refer (referring (hexadecimals ds)) 59 ≡ Done (value_in 16 ds)
-hexadecimal_done ds h = on_cond (is_char (value_in 16 ds)) _ _ h
+hexadecimal_done ds h = cond-true (is_char (value_in 16 ds)) _ _ h
 
 pub char_value : (v : ℕ) → is_char v ≡ true → nat_le v greatest ≡ true
 char_value v h = le-leb v 1114111 (char_least v h)

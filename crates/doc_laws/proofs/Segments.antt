@@ -1,6 +1,6 @@
 -- Steps that end no tag and no attribute take nothing away: so their limits are those of the last state.
 use Rattle.std.proofs.Common.{ℕ, ◌≡◌, ◌+◌, ◌<◌, ◌≤◌, ◌⊎◌, inl, inr, Bool, true, false, not, ◌&&◌, eqb, cond, List, [], ◌∷◌, ◌++◌, length, Option, Some, None, Ok, refl, sym, ap, ◌∙◌, subst, append_assoc, append-nil, arith, length-append}
-use Rattle.std.proofs.lemmas.Bool.{le-ltb}
+use Rattle.std.proofs.lemmas.Bool.{le-ltb, false_from_ne_true, cond-false}
 use lib.Utf8.{encode, encodes}
 use Rattle.gcx_base.specs.Characters.{is_char, is_white, is_start_char, is_part_char}
 use Rattle.gcx_base.specs.declared.limits.Limits.{Limits}
@@ -14,7 +14,6 @@ use Rattle.gcx_model.specs.Faults.{size, IsFullTag, IsFullAttribute, IsDeep}
 use Rattle.doc_laws.specs.Machine.{Referred, More, Done, Bad, Referring, Mode, Opening, Between, Less, StartName, StartSpace, AttributeName, AttributeSpace, Equals, InValue, InValueReference, ValueEnd, Slash, EndName, EndSpace, Question, Target, TargetMark, InInstruction, DocWord, DocSpace, Doc, DocLiteral, Bang, BangDash, Comment, CommentDash, CommentEnd, CDSectWord, InCDSect, InReference, State, begun, on_between, on_tag, on_named, on_ended, on_referred, refer, behind, to_end_name, on_end, on_word, on_mode, step, steps, go_on}
 use Rattle.doc_laws.specs.States.{part_mode, piece_mode, is_opening, tag_tokens, state_of, Fronts}
 use Rattle.doc_laws.specs.Judging.{naming_by, is_deep, deep_place}
-use Rattle.doc_laws.proofs.Tests.{not_false, off_cond}
 use Rattle.doc_laws.proofs.Moves.{some_bytes, m_started, m_attr}
 use Rattle.doc_laws.proofs.Fronts.{some_is, none_some}
 use Rattle.doc_laws.proofs.Theorems.{step_more}
@@ -221,7 +220,7 @@ empty_length : (l : List ℕ) → l ≡ [] → length l ≡ 0
 empty_length l e = ap length e
 
 never_deep : (lim : Limits) (a : List ℕ) (s u t : State) (c : ℕ) → Fronts a s → step s c ≡ Some u → Leaves s u → Leaves u t → IsShort lim t → is_deep lim s c ≡ false
-never_deep lim a s u t c f d l k h = not_false (is_deep lim s c) (λ e. no (deep_found lim a c s u f d e))
+never_deep lim a s u t c f d l k h = false_from_ne_true (is_deep lim s c) (λ e. no (deep_found lim a c s u f d e))
   where
     long : length t.names ≡ length s.names
     long = ap length (k.names_are ∙ l.names_are)
@@ -262,7 +261,7 @@ pub one_reads : (lim : Limits) (a : List ℕ) (c : ℕ) (s t : State) → Reads 
 one_reads lim a c s t r d run_short shallow name_short =
     reads_more lim a c s t r
     (judged_is lim (size a) s c (Some t) (Ok t) d
-    (off_cond _ _ _ (le-ltb lim.text (length t.run) run_short) ∙ off_cond _ _ _ shallow ∙ off_cond _ _ _ (le-ltb lim.name (length (naming_by t.mode t)) name_short)))
+    (cond-false _ _ _ (le-ltb lim.text (length t.run) run_short) ∙ cond-false _ _ _ shallow ∙ cond-false _ _ _ (le-ltb lim.name (length (naming_by t.mode t)) name_short)))
 
 -- characters that end no tag and no attribute
 pub reads_along : (lim : Limits) (a cs : List ℕ) (s t : State) → Reads lim a s → steps s cs ≡ Some t → weight s ≡ weight t → IsShort lim t → Reads lim (a ++ cs) t

@@ -2,58 +2,14 @@
 use Rattle.std.specs.Prelude.{bytes_eq}
 use Rattle.std.proofs.Common.{ℕ, ◌≡◌, ◌⊎◌, inl, inr, Bool, true, false, not, ◌&&◌, ◌||◌, eqb, cond, List, [], ◌∷◌, ◌++◌, refl, sym, ap, ◌∙◌, eq-eqb, eqb-true}
 use Rattle.std.specs.List.{list_all}
-use Rattle.std.proofs.lemmas.Bool.{true≢false, false≢true}
+use Rattle.std.proofs.lemmas.Bool.{false≢true, or_cases, and_right, and_from, and_parts}
 use Rattle.gcx_base.specs.Characters.{is_char, is_white, is_start_char, is_part_char}
 use Rattle.gcx_model.specs.Attributes.{is_name, is_blank_text, is_gap, is_quote, is_text_char, is_value_char}
 use Rattle.gcx_model.specs.Markup.{is_doc_char, is_literal_char}
 
-pub on_cond : {X : Type 0} (b : Bool) (x y : X) → b ≡ true → cond b x y ≡ x
-on_cond true x y e = refl
-on_cond false x y e = absurd (false≢true e)
-
-pub off_cond : {X : Type 0} (b : Bool) (x y : X) → b ≡ false → cond b x y ≡ y
-off_cond true x y e = absurd (true≢false e)
-off_cond false x y e = refl
-
-pub and_true : (a b : Bool) → a && b ≡ true → (a ≡ true) × (b ≡ true)
-and_true true b e = (refl, e)
-and_true false b e = absurd (false≢true e)
-
-pub true_and : (a b : Bool) → a ≡ true → b ≡ true → a && b ≡ true
-true_and true b e f = f
-true_and false b e f = absurd (false≢true e)
-
-pub false_and : (a b : Bool) → b ≡ false → a && b ≡ false
-false_and true b e = e
-false_and false b e = refl
-
-pub or_true : (b : Bool) → b || true ≡ true
-or_true true = refl
-or_true false = refl
-
-pub or_cases : (a b : Bool) → a || b ≡ true → (a ≡ true) ⊎ (b ≡ true)
-or_cases true b e = inl refl
-or_cases false b e = inr e
-
-pub or_left : (a b : Bool) → a ≡ true → a || b ≡ true
-or_left true b e = refl
-or_left false b e = absurd (false≢true e)
-
-pub or_right : (a b : Bool) → b ≡ true → a || b ≡ true
-or_right true b e = refl
-or_right false b e = e
-
 pub not_true : (b : Bool) → (b ≡ true → ⊥) → not b ≡ true
 not_true true h = absurd (h refl)
 not_true false h = refl
-
-pub not_false : (b : Bool) → (b ≡ true → ⊥) → b ≡ false
-not_false true h = absurd (h refl)
-not_false false h = refl
-
-pub of_not : (b : Bool) → not b ≡ true → b ≡ false
-of_not true h = absurd (false≢true h)
-of_not false h = refl
 
 pub chosen : {X : Type 0} (b : Bool) (x y z : X) → cond b x y ≡ z → ((b ≡ true) × (x ≡ z)) ⊎ ((b ≡ false) × (y ≡ z))
 chosen true x y z e = inl (refl, e)
@@ -119,27 +75,27 @@ pub quote_not_greater : (q : ℕ) → is_quote q ≡ true → eqb q 62 ≡ false
 quote_not_greater q h = elim (quote_cases q h) [ inl e ↦ ap (λ a. eqb a 62) e | inr e ↦ ap (λ a. eqb a 62) e ]
 
 pub not_literal : (q : ℕ) → is_literal_char q q ≡ false
-not_literal q = ap (λ b. is_char q && not b) (eq-eqb q q refl) ∙ false_and (is_char q) false refl
+not_literal q = ap (λ b. is_char q && not b) (eq-eqb q q refl) ∙ and_right (is_char q) false refl
 
 -- a quote ends its value
 pub not_value : (q : ℕ) → is_value_char q q ≡ false
-not_value q = ap (λ b. is_text_char q && not b) (eq-eqb q q refl) ∙ false_and (is_text_char q) false refl
+not_value q = ap (λ b. is_text_char q && not b) (eq-eqb q q refl) ∙ and_right (is_text_char q) false refl
 
 pub all_more : (p : ℕ → Bool) (cs : List ℕ) (c : ℕ) → list_all p cs ≡ true → p c ≡ true → list_all p (cs ++ (c ∷ [])) ≡ true
-all_more p [] c h i = true_and (p c) true i refl
-all_more p (d ∷ cs) c h i = let both = and_true (p d) (list_all p cs) h in true_and (p d) _ both.0 (all_more p cs c both.1 i)
+all_more p [] c h i = and_from (p c) true i refl
+all_more p (d ∷ cs) c h i = let both = and_parts (p d) (list_all p cs) h in and_from (p d) _ both.0 (all_more p cs c both.1 i)
 
 pub all_append : (p : ℕ → Bool) (a b : List ℕ) → list_all p a ≡ true → list_all p b ≡ true → list_all p (a ++ b) ≡ true
 all_append p [] b h i = i
-all_append p (d ∷ a) b h i = let both = and_true (p d) (list_all p a) h in true_and (p d) _ both.0 (all_append p a b both.1 i)
+all_append p (d ∷ a) b h i = let both = and_parts (p d) (list_all p a) h in and_from (p d) _ both.0 (all_append p a b both.1 i)
 
 pub name_more : (n : List ℕ) (c : ℕ) → is_name n ≡ true → is_part_char c ≡ true → is_name (n ++ (c ∷ [])) ≡ true
 name_more [] c h i = absurd (false≢true h)
-name_more (d ∷ cs) c h i = let both = and_true (is_start_char d) (list_all is_part_char cs) h in true_and (is_start_char d) _ both.0 (all_more is_part_char cs c both.1 i)
+name_more (d ∷ cs) c h i = let both = and_parts (is_start_char d) (list_all is_part_char cs) h in and_from (is_start_char d) _ both.0 (all_more is_part_char cs c both.1 i)
 
 pub name_append : (m r : List ℕ) → is_name m ≡ true → list_all is_part_char r ≡ true → is_name (m ++ r) ≡ true
 name_append [] r h i = absurd (false≢true h)
-name_append (d ∷ m) r h i = let both = and_true (is_start_char d) (list_all is_part_char m) h in true_and (is_start_char d) _ both.0 (all_append is_part_char m r both.1 i)
+name_append (d ∷ m) r h i = let both = and_parts (is_start_char d) (list_all is_part_char m) h in and_from (is_start_char d) _ both.0 (all_append is_part_char m r both.1 i)
 
 pub blank_more : (sp : List ℕ) (c : ℕ) → is_blank_text sp ≡ true → is_white c ≡ true → is_blank_text (sp ++ (c ∷ [])) ≡ true
 blank_more sp c h i = all_more is_white sp c h i
@@ -149,17 +105,17 @@ gap_blank [] h = absurd (false≢true h)
 gap_blank (c ∷ g) h = h
 
 pub gap_more : (g : List ℕ) (c : ℕ) → is_blank_text g ≡ true → is_white c ≡ true → is_gap (g ++ (c ∷ [])) ≡ true
-gap_more [] c h i = true_and (is_white c) _ i refl
+gap_more [] c h i = and_from (is_white c) _ i refl
 gap_more (d ∷ g) c h i = all_more is_white (d ∷ g) c h i
 
 pub same_is : (m n : List ℕ) → bytes_eq m n ≡ true → m ≡ n
 same_is [] [] h = refl
 same_is (a ∷ m) (b ∷ n) h =
-    let both = and_true (eqb a b) (bytes_eq m n) h in
+    let both = and_parts (eqb a b) (bytes_eq m n) h in
     ap (λ c. c ∷ m) (eqb-true a b both.0) ∙ ap (λ l. b ∷ l) (same_is m n both.1)
 same_is [] (b ∷ n) h = absurd (false≢true h)
 same_is (a ∷ m) [] h = absurd (false≢true h)
 
 pub same_self : (m : List ℕ) → bytes_eq m m ≡ true
 same_self [] = refl
-same_self (a ∷ m) = true_and (eqb a a) _ (eq-eqb a a refl) (same_self m)
+same_self (a ∷ m) = and_from (eqb a a) _ (eq-eqb a a refl) (same_self m)

@@ -1,13 +1,12 @@
 -- The laws of the machine and of the grammar.
 use Rattle.std.proofs.Common.{ℕ, ◌≡◌, Bool, true, false, ◌||◌, ◌&&◌, cond, List, [], ◌∷◌, ◌++◌, Option, Some, None, refl, sym, ap, ◌∙◌, subst, append_assoc, append-nil, ◌↔◌}
-use Rattle.std.proofs.lemmas.Bool.{false≢true}
+use Rattle.std.proofs.lemmas.Bool.{false≢true, and_parts, and_from}
 use Rattle.gcx_model.specs.Document.{Nodes, none, element, text, tokens}
 use Rattle.gcx_model.specs.Tree.{Token, Start, End, Chars}
 use Rattle.gcx_model.specs.Grammar.{Content, nothing, spelling, has_element, nodes, SpellsDocument, Viable}
 use Rattle.gcx_model.specs.Fronts.{Frames, bottom, frame, Part, no_part, spaced, part_name, name_spaced, equals, value, value_amp, Piece, no_piece, tag, front_spelling, IsFront, Opens}
 use Rattle.doc_laws.specs.Machine.{Mode, Opening, Between, State, start, steps, step, go_on, is_whole, is_between}
 use Rattle.doc_laws.specs.States.{part_mode, is_nothing, rest_mode, piece_mode, state_of, Fronts}
-use Rattle.doc_laws.proofs.Tests.{and_true, true_and}
 use Rattle.doc_laws.proofs.Moves.{steps_append}
 use Rattle.doc_laws.proofs.Reached.{front_steps, content_steps}
 use Rattle.doc_laws.proofs.Fronts.{some_is, none_some, step_front, front_viable}
@@ -89,9 +88,9 @@ whole_spells b s f h = by f.frames f.content f.piece f.good f.spelled f.state (a
 
     by : (fs : Frames) (x : Content) (p : Piece) → IsFront fs x p → front_spelling fs x p ≡ b → state_of fs x p ≡ s → is_whole (state_of fs x p) ≡ true → (d : Nodes) × SpellsDocument b d × (s.tokens ≡ tokens d)
     by bottom x no_piece g e i w =
-        (nodes x, record { content = x; good = g.1; root = root (has_element x) (and_true (is_between (rest_mode bottom x)) (has_element x || false) w).1; spelled = sym (append-nil (spelling x)) ∙ e; tree = refl }, ap (λ t. t.tokens) (sym i))
-    by (frame fs y n ats sp) x p g e i w = absurd (false≢true (and_true (is_between (piece_mode (frame fs y n ats sp) x p)) false w).1)
-    by bottom x (tag n ats p) g e i w = absurd (false≢true (sym (part_within p) ∙ (and_true (is_between (part_mode p)) (has_element x || false) w).0))
+        (nodes x, record { content = x; good = g.1; root = root (has_element x) (and_parts (is_between (rest_mode bottom x)) (has_element x || false) w).1; spelled = sym (append-nil (spelling x)) ∙ e; tree = refl }, ap (λ t. t.tokens) (sym i))
+    by (frame fs y n ats sp) x p g e i w = absurd (false≢true (and_parts (is_between (piece_mode (frame fs y n ats sp) x p)) false w).1)
+    by bottom x (tag n ats p) g e i w = absurd (false≢true (sym (part_within p) ∙ (and_parts (is_between (part_mode p)) (has_element x || false) w).0))
     by bottom x p g e i w = absurd (false≢true w)
 
 pub not_whole : (b : List ℕ) (s : State) (d : Nodes) → Fronts b s → is_whole s ≡ false → SpellsDocument b d → ⊥
@@ -99,7 +98,7 @@ not_whole b s d f h sp =
     let x = sp.content in
     let e : s ≡ state_of bottom x no_piece = some_is _ _ (sym (fronts_lead b s f) ∙ spells_leads b d sp) in
     let rest : is_between (rest_mode bottom x) ≡ true = ap (λ b. is_between (rested b)) (something x sp.root) in
-    let w : is_whole (state_of bottom x no_piece) ≡ true = true_and (is_between (rest_mode bottom x)) (has_element x || false) rest (ap (λ r. r || false) sp.root) in
+    let w : is_whole (state_of bottom x no_piece) ≡ true = and_from (is_between (rest_mode bottom x)) (has_element x || false) rest (ap (λ r. r || false) sp.root) in
     false≢true (sym h ∙ ap is_whole e ∙ w)
   where
     rested : Bool → Mode

@@ -2,7 +2,7 @@
 use Rattle.std.proofs.Common.{ℕ, ◌≡◌, ◌+◌, ◌⊎◌, inl, inr, Bool, true, false, List, [], ◌∷◌, ◌++◌, length, take, Option, Some, None, Result, Ok, Err, refl, sym, ap, ◌∙◌, subst, append_assoc, append-nil, arith, length-append}
 use Rattle.std.specs.Char.{len_utf8}
 use Rattle.std.proofs.lemmas.Str.{encode_same}
-use Rattle.std.proofs.lemmas.Bool.{true≢false}
+use Rattle.std.proofs.lemmas.Bool.{true≢false, and_parts}
 use lib.Utf8.{scalar, scalars, encode, encodes}
 use Rattle.gcx_base.specs.declared.limits.Limits.{Limits}
 use Rattle.gcx_model.specs.Document.{Nodes}
@@ -12,7 +12,6 @@ use Rattle.gcx_model.specs.declared.fault.DocFault.TheVariants.{Utf8, Truncated}
 use Rattle.gcx_model.specs.Faults.{Refusal, fault_of, Clean, ComesFirst, size, IsCharFront, IsNotUtf8, FaultWithin, by_character, by_sequence, by_cut, by_end, none_yet, none_whole, FaultIs, within_limit, before_limit, past_limit}
 use Rattle.doc_laws.specs.Machine.{State, start}
 use Rattle.doc_laws.specs.Judging.{judged, on_ok, judged_steps}
-use Rattle.doc_laws.proofs.Tests.{and_true}
 use Rattle.doc_laws.proofs.Faults.{Reads, Said, judged_says, start_reads, comes_refusal}
 
 -- judged steps over joined characters
@@ -84,12 +83,12 @@ front_no_char q f c rest s e =
 
 scalars_past : (cs m : List ℕ) → scalars (cs ++ m) ≡ true → scalars m ≡ true
 scalars_past [] m h = h
-scalars_past (c ∷ cs) m h = scalars_past cs m (and_true (scalar c) (scalars (cs ++ m)) h).1
+scalars_past (c ∷ cs) m h = scalars_past cs m (and_parts (scalar c) (scalars (cs ++ m)) h).1
 
 -- no character follows what no character begins
 nothing_more : (m r q : List ℕ) → scalars m ≡ true → NoChar q → q ≡ encodes m ++ r → m ≡ []
 nothing_more [] r q s n e = refl
-nothing_more (c ∷ m) r q s n e = absurd (n c (encodes m ++ r) (and_true (scalar c) (scalars m) s).0 (e ∙ append_assoc (encode c) (encodes m) r))
+nothing_more (c ∷ m) r q s n e = absurd (n c (encodes m ++ r) (and_parts (scalar c) (scalars m) s).0 (e ∙ append_assoc (encode c) (encodes m) r))
 
 -- characters behind which no character stands are all others and more
 pub longest : (b cs r ds q : List ℕ) → b ≡ encodes cs ++ r → b ≡ encodes ds ++ q → scalars cs ≡ true → NoChar q → (m : List ℕ) × (ds ≡ cs ++ m) × (r ≡ encodes m ++ q)

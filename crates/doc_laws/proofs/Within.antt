@@ -2,7 +2,7 @@
 use Rattle.std.proofs.Common.{ℕ, ◌≡◌, ◌+◌, ◌<◌, ◌≤◌, inl, inr, Bool, true, false, ◌&&◌, cond, List, [], ◌∷◌, ◌++◌, length, Option, Some, None, Result, Ok, Err, refl, sym, ap, ◌∙◌, subst, append_assoc, append-nil, arith, length-append, ltb-false, leb-false, ◌↔◌}
 use Rattle.std.specs.Prelude.{nat_lt, nat_le}
 use Rattle.std.specs.List.{list_all}
-use Rattle.std.proofs.lemmas.Bool.{true≢false, false≢true}
+use Rattle.std.proofs.lemmas.Bool.{true≢false, false≢true, and_parts, and_right}
 use lib.Utf8.{scalars, encode, encodes}
 use Rattle.gcx_base.specs.Characters.{is_start_char, is_part_char, is_white}
 use Rattle.gcx_base.specs.declared.limits.Limits.{Limits}
@@ -17,7 +17,6 @@ use Rattle.gcx_model.specs.Within.{AreAttributesWithin, IsTagWithin, IsContentWi
 use Rattle.doc_laws.specs.Machine.{State, start, step, steps, go_on}
 use Rattle.doc_laws.specs.States.{piece_mode, state_of, Fronts}
 use Rattle.doc_laws.specs.Judging.{naming_by, begins_deep, is_deep, judged, judged_by}
-use Rattle.doc_laws.proofs.Tests.{and_true, false_and}
 use Rattle.doc_laws.proofs.Moves.{steps_append, tag_piece}
 use Rattle.doc_laws.proofs.Reached.{front_steps}
 use Rattle.doc_laws.proofs.Theorems.{step_more}
@@ -57,8 +56,8 @@ module _ (lim : Limits) where
   plain_deep s c e = ap (λ b. b && begins_deep lim s s.mode) e
 
   tag_deep : (fs : Frames) (x : Content) (n : List ℕ) (ats : Attributes) (c : ℕ) → is_deep lim (state_of fs x (tag_piece n ats)) c ≡ false
-  tag_deep fs x n no_attribute c = false_and (is_start_char c) false refl
-  tag_deep fs x n (attribute ats h v) c = false_and (is_start_char c) false refl
+  tag_deep fs x n no_attribute c = and_right (is_start_char c) false refl
+  tag_deep fs x n (attribute ats h v) c = and_right (is_start_char c) false refl
 
   abbrev ReadsTo : Frames → Content → Piece → Type 0
   ReadsTo fs x p = Reads lim (front_spelling fs x p) (state_of fs x p)
@@ -87,7 +86,7 @@ module _ (lim : Limits) where
 
     attribute_reads : (ats : Attributes) (h : Head) (v : Value) (c : ℕ) (gap : List ℕ) → h.gap ≡ c ∷ gap → IsAttributes (attribute ats h v) → AreAttributesWithin lim (depth fs + 1) (attribute ats h v) → depth fs + 1 ≤ lim.depth → length (encodes n) ≤ lim.name → ReadsTo fs x (tag_piece n ats) → ReadsTo fs x (tag_piece n (attribute ats h v))
     attribute_reads ats h v c gap e g k d m r =
-        let white : is_white c ≡ true = (and_true (is_white c) (list_all is_white gap) (ap is_gap (sym e) ∙ g.1.0)).0 in
+        let white : is_white c ≡ true = (and_parts (is_white c) (list_all is_white gap) (ap is_gap (sym e) ∙ g.1.0)).0 in
         let r1 = gap_reads ats c g.0 white r in
         let good : IsFront fs x (tag n ats (value h v)) = (frames, content, (may, name, g.0, (g.1, g.2))) in
         let r2 = on_along fs fs x x (tag n ats (spaced (c ∷ []))) (tag n ats (value h v)) (gap ++ (h.name ++ (h.before ++ (61 ∷ (h.behind ++ (h.quote ∷ value_spelling v)))))) (frames, content, (may, name, g.0, ap (λ b. b && true) white)) good
@@ -95,7 +94,7 @@ module _ (lim : Limits) where
         refl
         (record { run_short = k.3; name_short = m; attr_short = k.2; element = inr (omega (arith, d, depth_names fs)); attribute = inr (omega (arith, k.1, depth_names fs)) }) r1 in
         on_one fs fs x x (tag n ats (value h v)) (tag n (attribute ats h v) no_part) h.quote good (frames, content, (may, name, g, refl))
-        (simp (append_assoc, append-nil)) (false_and (is_start_char h.quote) false refl) (omega arith) (omega arith) r2
+        (simp (append_assoc, append-nil)) (and_right (is_start_char h.quote) false refl) (omega arith) (omega arith) r2
 
     attributes_read : (ats : Attributes) → IsAttributes ats → AreAttributesWithin lim (depth fs + 1) ats → depth fs + 1 ≤ lim.depth → length (encodes n) ≤ lim.name → ReadsTo fs x (started n) → ReadsTo fs x (tag_piece n ats)
     attributes_read no_attribute g k d m r = r
@@ -111,7 +110,7 @@ module _ (lim : Limits) where
 
     space_reads : (ats : Attributes) (c : ℕ) (sp : List ℕ) → IsAttributes ats → is_blank_text (c ∷ sp) ≡ true → depth fs + 1 ≤ lim.depth → length (encodes n) ≤ lim.name → ReadsTo fs x (tag_piece n ats) → ReadsTo fs x (tag n ats (spaced (c ∷ sp)))
     space_reads ats c sp g b d m r =
-        let white : is_white c ≡ true = (and_true (is_white c) (list_all is_white sp) b).0 in
+        let white : is_white c ≡ true = (and_parts (is_white c) (list_all is_white sp) b).0 in
         on_along fs fs x x (tag n ats (spaced (c ∷ []))) (tag n ats (spaced (c ∷ sp))) sp (frames, content, (may, name, g, ap (λ b. b && true) white)) (frames, content, (may, name, g, b))
         (simp append_assoc) refl
         (record { run_short = omega arith; name_short = m; attr_short = omega arith; element = inr (omega (arith, d, depth_names fs)); attribute = inl refl }) (gap_reads ats c g white r)
@@ -258,7 +257,7 @@ module _ (lim : Limits) where
         deep : (m : List ℕ) → is_name m ≡ true → Clean lim ((frames_spelling fs ++ spelling x) ++ (60 ∷ (m ++ rest))) → depth fs + 1 ≤ lim.depth
         deep [] b h = absurd (false≢true b)
         deep (c ∷ m) b h =
-            let starts = (and_true (is_start_char c) (list_all is_part_char m) b).0 in
+            let starts = (and_parts (is_start_char c) (list_all is_part_char m) b).0 in
             let d = deep_within fs x less (started (c ∷ [])) c (m ++ rest) (frames, content, tt) (frames, content, (may, ap (λ z. z && true) starts)) (sym (append_assoc (frames_spelling fs ++ spelling x) (60 ∷ []) (c ∷ []))) (subst (Clean lim) (sym (append_assoc (frames_spelling fs ++ spelling x) (60 ∷ (c ∷ [])) (m ++ rest))) h) in
             omega (arith, not_deep c (length (names fs)) starts d, depth_names fs)
 
@@ -278,7 +277,7 @@ module _ (lim : Limits) where
         deep : (m : List ℕ) → is_name m ≡ true → k.name ≡ m → depth fs + 1 + 1 ≤ lim.depth
         deep [] b e = absurd (false≢true b)
         deep (c ∷ m) b e =
-            let starts = (and_true (is_start_char c) (list_all is_part_char m) b).0 in
+            let starts = (and_parts (is_start_char c) (list_all is_part_char m) b).0 in
             let p = tag n ats (spaced k.gap) in
             let q = tag n ats (part_name k.gap (c ∷ [])) in
             let d = deep_within fs x p q c (m ++ (k.before ++ (61 ∷ (k.behind ++ (k.quote ∷ (value_spelling v ++ rest)))))) (frames, content, (may, name, g.0, g.1.0)) (frames, content, (may, name, g.0, (g.1.0, ap (λ z. z && true) starts))) (simp append_assoc)

@@ -1,6 +1,6 @@
 -- What is seen, in other words.
 use Rattle.std.proofs.Common.{ℕ, ◌≡◌, ◌≤◌, inl, inr, Bool, true, false, List, [], ◌∷◌, ◌++◌, length, Some, None, refl, sym, ap, ◌∙◌, subst, append_assoc, append-nil, arith, length-append}
-use Rattle.std.proofs.lemmas.Bool.{false≢true}
+use Rattle.std.proofs.lemmas.Bool.{false≢true, and_parts, and_from}
 use Rattle.std.proofs.lemmas.Str.{encodes-append}
 use lib.Utf8.{scalar, scalars, encode, encodes}
 use Rattle.gcx_base.specs.declared.limits.Limits.{Limits}
@@ -9,7 +9,6 @@ use Rattle.gcx_model.specs.declared.fault.DocFault.{DocFault}
 use Rattle.gcx_model.specs.declared.fault.DocFault.TheVariants.{TooLong}
 use Rattle.gcx_model.specs.Faults.{fault_of, Clean, IsCharFront, FaultWithin, by_character, by_sequence, by_cut, by_end, none_yet, none_whole, FaultIs, within_limit, before_limit, past_limit}
 use Rattle.gcx_model.specs.Seen.{SeenIs, open_ends, SeenInWords}
-use Rattle.doc_laws.proofs.Tests.{and_true, true_and}
 use Rattle.doc_laws.proofs.Unique.{front_no_char, clean_front, longest}
 use Rattle.doc_laws.proofs.LastTag.{last_tag, longest_is}
 
@@ -19,7 +18,7 @@ no_front = record { c = 97; rest = 97 ∷ []; scalar = refl; bytes = refl; more 
 
 pub scalars_front : (cs m : List ℕ) → scalars (cs ++ m) ≡ true → scalars cs ≡ true
 scalars_front [] m h = refl
-scalars_front (c ∷ cs) m h = let k = and_true (scalar c) (scalars (cs ++ m)) h in true_and (scalar c) _ k.0 (scalars_front cs m k.1)
+scalars_front (c ∷ cs) m h = let k = and_parts (scalar c) (scalars (cs ++ m)) h in and_from (scalar c) _ k.0 (scalars_front cs m k.1)
 
 some_none : {X : Type 0} (f : DocFault) → None ≡ Some f → X
 some_none f e = let no : ⊥ = cc in absurd no

@@ -4,7 +4,7 @@ use Rattle.std.specs.Prelude.{nat_lt, IsTrue, ◌↔◌}
 use Rattle.std.specs.Char.{IsScalar}
 use Rattle.std.specs.List.{list_all}
 use Rattle.std.specs.Str.{chars, IsUtf8, IsCharBoundary}
-use Rattle.std.proofs.lemmas.Bool.{true≢false, cases_lt}
+use Rattle.std.proofs.lemmas.Bool.{true≢false, cases_lt, and_parts, and_from}
 use Rattle.std.proofs.lemmas.Bool.Decides.{nat_tests}
 use Rattle.std.proofs.lemmas.List.Folds.{list_all-append}
 use Rattle.std.proofs.lemmas.Str.{chars-nil, chars-append, chars_past_char, chars-IsAscii, IsUtf8-encode, IsUtf8-append, IsCharBoundary-start, IsCharBoundary-from_take}
@@ -16,7 +16,7 @@ use Rattle.doc_reader.specs.Reading.{IsFirst}
 use Rattle.doc_reader.specs.Spans.{is_short_part, IsPartFront, IsNameFront}
 use Rattle.doc_reader.proofs.Names.{short_part}
 use Rattle.doc_reader.proofs.Spans.{ascii_all}
-use Rattle.doc_reader.proofs.Texts.{and_both, true_and, chars_cut, front_bytes, ascii_boundary}
+use Rattle.doc_reader.proofs.Texts.{chars_cut, front_bytes, ascii_boundary}
 
 chars_one : (c : ℕ) → IsScalar c → chars (encode c) ≡ c ∷ []
 chars_one c s = chars_past_char (encode c) [] c (IsUtf8-encode c s) (sym (append-nil (encode c))) ∙ ap (λ l. c ∷ l) chars-nil
@@ -31,7 +31,7 @@ pub more_all : (front : List ℕ) (c : ℕ) → IsUtf8 front → IsScalar c → 
 more_all front c u s h is =
     ap (list_all is_part_char) (chars-append front (encode c) u ∙ ap (λ l. chars front ++ l) (chars_one c s))
     ∙ list_all-append is_part_char (chars front) (c ∷ [])
-    ∙ true_and (list_all is_part_char (chars front)) (is_part_char c && true) h (true_and (is_part_char c) true is refl)
+    ∙ and_from (list_all is_part_char (chars front)) (is_part_char c && true) h (and_from (is_part_char c) true is refl)
 
 -- a front whose characters are NameChars
 pub part_front_is : (text front rest : List ℕ) (at : ℕ) → IsUtf8 text → IsUtf8 front → list_all is_part_char (chars front) ≡ true → text ≡ front ++ rest → length front ≡ at → IsPartFront at text
@@ -48,10 +48,10 @@ short_below b h = grind (arith, nat_tests)
 short_all : (bs : List ℕ) → list_all is_short_part bs ≡ true → list_all is_part_char bs ≡ true
 short_all [] h = refl
 short_all (b ∷ bs) h =
-    let both = and_both (is_short_part b) (list_all is_short_part bs) h in
+    let both = and_parts (is_short_part b) (list_all is_short_part bs) h in
     let low = lt-ltb b 128 (short_below b both.0) in
-    let is = (and_both (nat_lt b 128) (is_part_char b) (sym (short_part b) ∙ true_and (nat_lt b 128) (is_short_part b) low both.0)).1 in
-    true_and (is_part_char b) (list_all is_part_char bs) is (short_all bs both.1)
+    let is = (and_parts (nat_lt b 128) (is_part_char b) (sym (short_part b) ∙ and_from (nat_lt b 128) (is_short_part b) low both.0)).1 in
+    and_from (is_part_char b) (list_all is_part_char bs) is (short_all bs both.1)
 
 pub short_front_is : (text : List ℕ) (n : ℕ) → IsUtf8 text → n ≤ length text → list_all is_short_part (take n text) ≡ true → IsPartFront n text
 short_front_is text n u l h =
@@ -75,7 +75,7 @@ name_is text rest c n u f h p = record {
     by some [] e g i = absurd (let within = p.boundary.0 in omega (arith, ap length e, length-take n text, some))
     by some (d ∷ ds) e g i =
         let same : d ≡ c = head_same d c (ds ++ chars (drop n text)) (chars rest) g in
-        true_and (is_start_char d) (list_all is_part_char ds) (ap is_start_char same ∙ h) (and_both (is_part_char d) (list_all is_part_char ds) i).1
+        and_from (is_start_char d) (list_all is_part_char ds) (ap is_start_char same ∙ h) (and_parts (is_part_char d) (list_all is_part_char ds) i).1
       where
         head_same : (x y : ℕ) (xs ys : List ℕ) → x ∷ xs ≡ y ∷ ys → x ≡ y
         head_same x y xs ys e = cc

@@ -4,21 +4,21 @@ use Rattle.std.specs.Prelude.{IsUtf8, chars}
 use Rattle.std.specs.Char.{IsScalar}
 use Rattle.std.proofs.lemmas.Str.{chars-encodes}
 use lib.Utf8.{encode, scalar}
+use Rattle.std.proofs.lemmas.Bool.{and_from}
 use Rattle.gcx_base.specs.declared.limits.Limits.{Limits}
 use Rattle.gcx_model.specs.Faults.{Refusal, size}
 use Rattle.doc_laws.specs.Machine.{State}
 use Rattle.doc_laws.specs.Judging.{judged, on_ok, judged_steps}
 use Rattle.doc_laws.proofs.Pieces.{size_is}
-use Rattle.doc_laws.proofs.Tests.{true_and}
 use Rattle.doc_laws.proofs.Unique.{judged_append}
 use Rattle.doc_reader.specs.Judged.{Judged}
 use Rattle.doc_reader.specs.declared.stop.Stop.{Stop}
 use Rattle.doc_reader.specs.declared.stop.Stop.TheVariants.{Refused, Memory}
-use Rattle.doc_reader.proofs.Ties.{size_append}
+use Rattle.doc_reader.proofs.Reading.{size_append}
 
 -- the character of its bytes
 pub one_char : (c : ℕ) (bs : List ℕ) → IsScalar c → bs ≡ encode c → chars bs ≡ c ∷ []
-one_char c bs s e = ap chars (e ∙ sym (append-nil (encode c))) ∙ chars-encodes (c ∷ []) (true_and (scalar c) true s refl)
+one_char c bs s e = ap chars (e ∙ sym (append-nil (encode c))) ∙ chars-encodes (c ∷ []) (and_from (scalar c) true s refl)
 
 pub text_size : (bs : List ℕ) → IsUtf8 bs → length bs ≡ size (chars bs)
 text_size bs u = ap length (sym u.1.1) ∙ sym (size_is u.0) ∙ ap size (sym (chars-encodes u.0 u.1.0) ∙ ap chars u.1.1)

@@ -1,7 +1,7 @@
 -- The characters of names that take one byte.
 use Rattle.std.proofs.Common.{ℕ, zero, suc, ◌≡◌, ◌<◌, Bool, true, false, ◌&&◌, refl, sym, subst, arith, inl, inr, ltb-true}
 use Rattle.std.specs.Prelude.{nat_lt}
-use Rattle.std.proofs.lemmas.Bool.{false≢true, cases_lt}
+use Rattle.std.proofs.lemmas.Bool.{false≢true, cases_lt, and_parts}
 use Rattle.gcx_base.specs.Characters.{is_part_char}
 use Rattle.doc_reader.specs.Spans.{is_short_part}
 
@@ -19,14 +19,10 @@ abbrev all_below : ℕ → Bool
 all_below zero = true
 all_below (suc n) = are_same (is_short_part n) (is_part_char n) && all_below n
 
-and_both : (a b : Bool) → a && b ≡ true → (a ≡ true) × (b ≡ true)
-and_both true b e = (refl, e)
-and_both false b e = absurd (false≢true e)
-
 below : (n b : ℕ) → all_below n ≡ true → b < n → is_short_part b ≡ is_part_char b
 below zero b e l = absurd (omega arith)
 below (suc n) b e l =
-    let both = and_both (are_same (is_short_part n) (is_part_char n)) (all_below n) e in
+    let both = and_parts (are_same (is_short_part n) (is_part_char n)) (all_below n) e in
     elim (cases_lt b n) [
       | inl m ↦ below n b both.1 m
       | inr m ↦

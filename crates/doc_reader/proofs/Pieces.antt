@@ -2,6 +2,7 @@
 use Rattle.std.proofs.Common.{ℕ, ◌≡◌, ◌+◌, ◌<◌, ◌≤◌, true, false, List, [], ◌∷◌, ◌++◌, length, Some, None, Ok, Err, refl, sym, ap, ◌∙◌, subst, append_assoc, append-nil, arith, length-append, take_at}
 use Rattle.std.proofs.lemmas.Str.{encodes-append}
 use lib.Utf8.{scalar, scalars, encode, encodes}
+use Rattle.std.proofs.lemmas.Bool.{and_from}
 use Rattle.gcx_base.specs.declared.limits.Limits.{Limits}
 use Rattle.gcx_model.specs.Tree.{Token as Said}
 use Rattle.gcx_model.specs.declared.fault.DocFault.{DocFault}
@@ -16,7 +17,6 @@ use Rattle.doc_laws.specs.Judging.{judged, judged_steps}
 use Rattle.doc_laws.proofs.Characters.{not_char_comes}
 use Rattle.doc_laws.proofs.Faults.{Reads, Said as Says, judged_says, refusal_comes, comes_refusal}
 use Rattle.doc_laws.proofs.Pieces.{Stands as Kept, size_is, scalars_append, bad_more, none_stands, fault_stays}
-use Rattle.doc_laws.proofs.Tests.{true_and}
 use Rattle.doc_laws.proofs.Words.{scalars_front}
 use Rattle.doc_laws.proofs.LastTag.{longest_at_fault, longest_at_bad, longest_at_limit}
 use Rattle.doc_reader.specs.Judged.{Refuses, ReadsFront, Judged, fault}
@@ -26,7 +26,8 @@ use Rattle.doc_reader.specs.declared.stop.Stop.{Stop}
 use Rattle.doc_reader.specs.declared.stop.Stop.TheVariants.{Refused as Stopped, Memory as Lost}
 use Rattle.doc_reader.specs.declared.token.Token.{Token}
 use Rattle.doc_reader.proofs.Ahead.{ahead_ok, judged_ahead, steps_ahead}
-use Rattle.doc_reader.proofs.Ties.{Parts, decodes_tie, parts_of, size_append}
+use Rattle.doc_reader.proofs.Ties.{Parts, decodes_tie, parts_of}
+use Rattle.doc_reader.proofs.Reading.{size_append}
 
 abbrev pub reads_of : (h : ReaderView) (lim : Limits) (b : List ℕ) (given : List Token) (r : IsReading h lim b given) → Reads lim r.chars (with_given r.before h.state)
 reads_of h lim b given r = record { front = r.front; clean = r.clean; short = r.short }
@@ -168,7 +169,7 @@ module _ (old new : ReaderView) (lim : Limits) (b piece : List ℕ) (given : Lis
           longest = λ more. longest_at_fault lim ((b ++ piece) ++ more) chars (n.rest ++ more) state n.c (AtSyntax (size chars)) reads refused p.scalars_are
               (ap (λ l. l ++ more) parts ∙ append_assoc (encodes chars) (encode n.c ++ n.rest) more ∙ ap (λ l. encodes chars ++ l) (append_assoc (encode n.c) n.rest more)) read.within;
         },
-        within_limit within (by_character (chars ++ n.c ∷ []) n.rest (AtSyntax (size chars)) (scalars_append chars (n.c ∷ []) p.scalars_are (true_and (scalar n.c) true n.scalar refl))
+        within_limit within (by_character (chars ++ n.c ∷ []) n.rest (AtSyntax (size chars)) (scalars_append chars (n.c ∷ []) p.scalars_are (and_from (scalar n.c) true n.scalar refl))
             (parts ∙ ap (λ l. encodes chars ++ (l ++ n.rest)) (sym (append-nil (encode n.c))) ∙ sym (append_assoc (encodes chars) (encode n.c ++ []) n.rest) ∙ ap (λ l. l ++ n.rest) (sym (encodes-append chars (n.c ∷ []))))
             (record { front = chars; at = n.c; rest = []; parts = refl; clean = reads.clean; comes = comes }) (ap (λ m. Some (Syntax m)) at)),
       )

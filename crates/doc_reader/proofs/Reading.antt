@@ -1,8 +1,7 @@
 -- Characters read one after another, and text as a whole.
-use Rattle.std.proofs.Common.{ℕ, ◌≡◌, ◌+◌, ◌-◌, Bool, true, false, ◌&&◌, List, [], ◌∷◌, ◌++◌, length, drop, Ok, Err, refl, sym, ap, ◌∙◌, append_assoc, append-nil, arith, length-append, length-drop}
+use Rattle.std.proofs.Common.{ℕ, ◌≡◌, ◌+◌, ◌-◌, List, [], ◌∷◌, ◌++◌, length, drop, Ok, Err, refl, sym, ap, ◌∙◌, append_assoc, append-nil, arith, length-append, length-drop}
 use Rattle.std.specs.Char.{len_utf8}
 use Rattle.std.specs.Str.{chars, IsUtf8}
-use Rattle.std.proofs.lemmas.Bool.{false≢true}
 use Rattle.std.proofs.lemmas.Str.{chars-nil, length-encode, chars_past_char, IsUtf8-past_char}
 use lib.Utf8.{encode}
 use Rattle.gcx_base.specs.declared.limits.Limits.{Limits}
@@ -17,14 +16,6 @@ use Rattle.doc_reader.specs.Limited.{JudgedOne}
 use Rattle.doc_reader.specs.Sound.{IsSound}
 use Rattle.doc_reader.specs.Reading.{IsFirst, Moves, Reached}
 use Rattle.doc_reader.proofs.Sound.{judged_sound}
-
-and_both : (a b : Bool) → a && b ≡ true → (a ≡ true) × (b ≡ true)
-and_both true b e = (refl, e)
-and_both false b e = absurd (false≢true e)
-
-true_and : (a b : Bool) → a ≡ true → b ≡ true → a && b ≡ true
-true_and true b e f = f
-true_and false b e f = absurd (false≢true e)
 
 -- the first character of a text
 pub first_is : (c : ℕ) (rest text : List ℕ) → IsUtf8 text → text ≡ encode c ++ rest → IsFirst c rest text

@@ -13,6 +13,7 @@ use Rattle.std.proofs.lemmas.Bool.{true≢false, false≢true}
 use Rattle.std.proofs.lemmas.Cmp.{nat_list_cmp_total}
 use Rattle.std.proofs.lemmas.Map.Lookups.{exact_bytes}
 use Rattle.gcx_model.specs.Attributes.{is_fresh}
+use Rattle.base_laws.proofs.Bools.{same_bools}
 use Rattle.doc_reader.specs.AttrNames.{IsLookedUp}
 use Rattle.doc_reader.proofs.Lists.{same_decides}
 
@@ -46,14 +47,9 @@ self_equal (b ∷ m) = by (slice_cmp nat_cmp (b ∷ m) (b ∷ m)) refl
     by Less e = absurd (less_not (sym e ∙ (nat_list_cmp_total.antisymm (b ∷ m) (b ∷ m)) ∙ ap reversed e))
     by Greater e = absurd (greater_not (sym e ∙ (nat_list_cmp_total.antisymm (b ∷ m) (b ∷ m)) ∙ ap reversed e))
 
-same_bytes : (a b : Bool) → (a ≡ true → b ≡ true) → (b ≡ true → a ≡ true) → a ≡ b
-same_bytes true b f g = sym (f refl)
-same_bytes false true f g = absurd (false≢true (g refl))
-same_bytes false false f g = refl
-
 -- the test of the set is that of the list
 equal_is : (q m : List ℕ) → is_eq (slice_cmp nat_cmp q m) ≡ bytes_eq q m
-equal_is q m = same_bytes (is_eq (slice_cmp nat_cmp q m)) (bytes_eq q m)
+equal_is q m = same_bools (is_eq (slice_cmp nat_cmp q m)) (bytes_eq q m)
     (λ e. (same_decides q m).1 (exact_bytes q m (eq_is (slice_cmp nat_cmp q m) e)))
     (λ e. let same : q ≡ m = (same_decides q m).0 e in ap is_eq (ap (slice_cmp nat_cmp q) (sym same) ∙ self_equal q))
 

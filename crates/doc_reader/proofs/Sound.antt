@@ -3,7 +3,7 @@ use Rattle.std.proofs.Common.{ℕ, ◌≡◌, ◌+◌, ◌⊎◌, inl, inr, Bool
 use Rattle.std.specs.Prelude.{nat_lt}
 use Rattle.std.specs.Char.{len_utf8}
 use Rattle.std.specs.List.{list_all}
-use Rattle.std.proofs.lemmas.Bool.{true≢false, false≢true}
+use Rattle.std.proofs.lemmas.Bool.{false≢true, cond-false, and_from}
 use Rattle.std.proofs.lemmas.Bool.Decides.{nat_tests}
 use Rattle.std.proofs.lemmas.Str.{encodes-append}
 use Rattle.std.proofs.lemmas.List.Folds.{list_all-append}
@@ -22,21 +22,13 @@ use Rattle.doc_reader.specs.Sound.{IsSoundIn, IsSound}
 use Rattle.doc_reader.specs.Steps.{Taken}
 use Rattle.doc_reader.specs.Limited.{deep_at, in_depth, limited}
 
-true_and : (a b : Bool) → a ≡ true → b ≡ true → a && b ≡ true
-true_and true b e f = f
-true_and false b e f = absurd (false≢true e)
-
 and_left : (a b : Bool) → a && b ≡ true → a ≡ true
 and_left true b e = refl
 and_left false b e = absurd (false≢true e)
 
-off_cond : {X : Type 0} (b : Bool) (x y : X) → b ≡ false → cond b x y ≡ y
-off_cond true x y e = absurd (true≢false e)
-off_cond false x y e = refl
-
 -- a name's first character, and one more
 one_name : (c : ℕ) → is_start_char c ≡ true → IsNameBytes (encode c)
-one_name c h = record { chars = c ∷ []; name = true_and (is_start_char c) true h refl; parts = append-nil (encode c) }
+one_name c h = record { chars = c ∷ []; name = and_from (is_start_char c) true h refl; parts = append-nil (encode c) }
 
 more_name : (n : List ℕ) (c : ℕ) → IsNameBytes n → is_part_char c ≡ true → IsNameBytes (n ++ encode c)
 more_name n c is h = record {
@@ -48,8 +40,8 @@ more_name n c is h = record {
     by : (cs : List ℕ) → is_name cs ≡ true → is_name (cs ++ (c ∷ [])) ≡ true
     by [] e = absurd (false≢true e)
     by (d ∷ ds) e =
-        true_and (is_start_char d) _ (and_left (is_start_char d) _ e)
-        (list_all-append is_part_char ds (c ∷ []) ∙ true_and (list_all is_part_char ds) _ (right (is_start_char d) _ e) (true_and (is_part_char c) true h refl))
+        and_from (is_start_char d) _ (and_left (is_start_char d) _ e)
+        (list_all-append is_part_char ds (c ∷ []) ∙ and_from (list_all is_part_char ds) _ (right (is_start_char d) _ e) (and_from (is_part_char c) true h refl))
       where
         right : (a b : Bool) → a && b ≡ true → b ≡ true
         right true b e = e
@@ -183,9 +175,9 @@ not_below n = grind (arith, nat_tests)
 -- where a tag ends no limit is passed
 end_passes : (lim : Limits) (place : ℕ) (s t : State) (c : ℕ) → c ≡ 62 → t.run ≡ [] → t.mode ≡ Between → judged_by lim place s c (Some t) ≡ Ok t
 end_passes lim place s t c is r m =
-    off_cond (nat_lt lim.text (length t.run)) _ _ (ap (λ l. nat_lt lim.text (length l)) r ∙ not_below lim.text)
-    ∙ off_cond (is_deep lim s c) _ _ (ap (λ d. is_deep lim s d) is)
-    ∙ off_cond (nat_lt lim.name (length (naming_by t.mode t))) _ _ (ap (λ n. nat_lt lim.name (length (naming_by n t))) m ∙ not_below lim.name)
+    cond-false (nat_lt lim.text (length t.run)) _ _ (ap (λ l. nat_lt lim.text (length l)) r ∙ not_below lim.text)
+    ∙ cond-false (is_deep lim s c) _ _ (ap (λ d. is_deep lim s d) is)
+    ∙ cond-false (nat_lt lim.name (length (naming_by t.mode t))) _ _ (ap (λ n. nat_lt lim.name (length (naming_by n t))) m ∙ not_below lim.name)
 
 ok_not_err : (t : State) (f : Refusal) → Ok t ≡ Err f → ⊥
 ok_not_err t f e = cc

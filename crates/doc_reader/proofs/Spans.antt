@@ -1,10 +1,10 @@
 -- Characters of a span and of an end tag's name are read as a whole.
-use Rattle.std.proofs.Common.{ℕ, zero, suc, ◌≡◌, ◌+◌, ◌-◌, ◌<◌, ◌≤◌, Bool, true, false, not, ◌&&◌, ◌||◌, cond, eqb, List, [], ◌∷◌, ◌++◌, length, take, drop, get_or, Some, Ok, refl, sym, ap, ◌∙◌, subst, append_assoc, append-nil, arith, length-append, length-take, length-drop, eq-eqb, ltb-true, inl, inr}
+use Rattle.std.proofs.Common.{ℕ, zero, suc, ◌≡◌, ◌+◌, ◌-◌, ◌<◌, ◌≤◌, Bool, true, false, not, ◌&&◌, ◌||◌, eqb, List, [], ◌∷◌, ◌++◌, length, take, drop, get_or, Some, Ok, refl, sym, ap, ◌∙◌, subst, append_assoc, append-nil, arith, length-append, length-take, length-drop, eq-eqb, ltb-true, inl, inr}
 use Rattle.std.specs.Prelude.{nat_lt}
 use Rattle.std.specs.Char.{len_utf8}
 use Rattle.std.specs.List.{list_all, list_any}
 use Rattle.std.specs.Str.{chars, IsUtf8, IsAscii, IsCharBoundary}
-use Rattle.std.proofs.lemmas.Bool.{true≢false, false≢true, le-ltb, cases_lt}
+use Rattle.std.proofs.lemmas.Bool.{true≢false, false≢true, le-ltb, cases_lt, not-true, cond-false, cond-true, and_right, and_parts, and_from}
 use Rattle.std.proofs.lemmas.Bool.Decides.{nat_tests}
 use Rattle.std.proofs.lemmas.List.{take-append-drop, drop-drop, take_all, take-take, get_or-take, get_or-drop}
 use Rattle.std.proofs.lemmas.List.Folds.{list_all-append}
@@ -27,23 +27,7 @@ use Rattle.doc_reader.specs.declared.machine.span.Span.TheVariants.{Text, Value,
 use Rattle.doc_reader.specs.Machine.{quote_of}
 use Rattle.doc_reader.specs.Spans.{is_name_span, stands, is_stop, IsStop, IsFrontOf, IsSpanFront, is_ascii_byte, IsSameFront, spread, HasRoom, Allows}
 use Rattle.doc_reader.specs.Reading.{Moves}
-use Rattle.doc_reader.proofs.Texts.{and_both, true_and, front_all, front_bytes, front_size, moves_text, ascii_boundary}
-
-and_false : (a b : Bool) → b ≡ false → a && b ≡ false
-and_false true b e = e
-and_false false b e = refl
-
-pub on_cond : {X : Type 0} (b : Bool) (x y : X) → b ≡ true → cond b x y ≡ x
-on_cond true x y e = refl
-on_cond false x y e = absurd (false≢true e)
-
-pub off_cond : {X : Type 0} (b : Bool) (x y : X) → b ≡ false → cond b x y ≡ y
-off_cond true x y e = absurd (true≢false e)
-off_cond false x y e = refl
-
-not_true : (b : Bool) → not b ≡ true → b ≡ false
-not_true true e = absurd (false≢true e)
-not_true false e = refl
+use Rattle.doc_reader.proofs.Texts.{front_all, front_bytes, front_size, moves_text, ascii_boundary}
 
 -- ---- a span
 
@@ -51,9 +35,9 @@ not_true false e = refl
 pub quiet : (lim : Limits) (place : ℕ) (s t : State) (c : ℕ) → step s c ≡ Some t → length t.run ≤ lim.text → begins_deep lim s s.mode ≡ false → length (naming_by t.mode t) ≤ lim.name → judged lim place s c ≡ Ok t
 quiet lim place s t c e r d n =
     ap (judged_by lim place s c) e
-    ∙ off_cond (nat_lt lim.text (length t.run)) _ _ (le-ltb lim.text (length t.run) r)
-    ∙ off_cond (is_deep lim s c) _ _ (and_false (is_start_char c) (begins_deep lim s s.mode) d)
-    ∙ off_cond (nat_lt lim.name (length (naming_by t.mode t))) _ _ (le-ltb lim.name (length (naming_by t.mode t)) n)
+    ∙ cond-false (nat_lt lim.text (length t.run)) _ _ (le-ltb lim.text (length t.run) r)
+    ∙ cond-false (is_deep lim s c) _ _ (and_right (is_start_char c) (begins_deep lim s s.mode) d)
+    ∙ cond-false (nat_lt lim.name (length (naming_by t.mode t))) _ _ (le-ltb lim.name (length (naming_by t.mode t)) n)
 
 -- what one character needs
 pub record One (lim : Limits) (s t : State) (c : ℕ) : Type 0 where
@@ -71,7 +55,7 @@ at_mode P s m e h = subst P (ap (λ k. record s { mode = k }) (sym e)) h
 
 one_text : (lim : Limits) (s : State) (most c : ℕ) → len_utf8 c ≤ most → length s.run ≤ lim.text → is_inside s.names ≡ true → most ≤ lim.text - length s.run → is_text_char c ≡ true → One lim (record s { mode = laws.Between }) (record s { mode = laws.Between; run = s.run ++ encode c }) c
 one_text lim s most c p run i room is = record {
-  steps = on_cond (is_text_char c && is_inside s.names) _ _ (true_and (is_text_char c) _ is i);
+  steps = cond-true (is_text_char c && is_inside s.names) _ _ (and_from (is_text_char c) _ is i);
   run = omega (arith, length-append s.run (encode c), length-encode c);
   deep = refl;
   name = omega arith;
@@ -79,7 +63,7 @@ one_text lim s most c p run i room is = record {
 
 one_value : (lim : Limits) (s : State) (q most c : ℕ) → len_utf8 c ≤ most → length s.run ≤ lim.text → most ≤ lim.text - length s.run → is_value_char q c ≡ true → One lim (record s { mode = laws.InValue q }) (record s { mode = laws.InValue q; run = s.run ++ encode c }) c
 one_value lim s q most c p run room is = record {
-  steps = on_cond (is_value_char q c) _ _ is;
+  steps = cond-true (is_value_char q c) _ _ is;
   run = omega (arith, length-append s.run (encode c), length-encode c);
   deep = refl;
   name = omega arith;
@@ -87,7 +71,7 @@ one_value lim s q most c p run room is = record {
 
 one_name : (lim : Limits) (s : State) (most c : ℕ) → len_utf8 c ≤ most → length s.run ≤ lim.text → most ≤ lim.name - length s.name → is_part_char c ≡ true → One lim (record s { mode = laws.StartName }) (record s { mode = laws.StartName; name = s.name ++ encode c }) c
 one_name lim s most c p run room is = record {
-  steps = on_cond (is_part_char c) _ _ is;
+  steps = cond-true (is_part_char c) _ _ is;
   run = run;
   deep = refl;
   name = let some = (len_utf8_bounds c).0 in omega (arith, length-append s.name (encode c), length-encode c, some);
@@ -95,7 +79,7 @@ one_name lim s most c p run room is = record {
 
 one_attribute : (lim : Limits) (s : State) (most c : ℕ) → len_utf8 c ≤ most → length s.run ≤ lim.text → most ≤ lim.name - length s.attr → is_part_char c ≡ true → One lim (record s { mode = laws.AttributeName }) (record s { mode = laws.AttributeName; attr = s.attr ++ encode c }) c
 one_attribute lim s most c p run room is = record {
-  steps = on_cond (is_part_char c) _ _ is;
+  steps = cond-true (is_part_char c) _ _ is;
   run = run;
   deep = refl;
   name = let some = (len_utf8_bounds c).0 in omega (arith, length-append s.attr (encode c), length-encode c, some);
@@ -103,9 +87,9 @@ one_attribute lim s most c p run room is = record {
 
 one_comment : (lim : Limits) (s : State) (c : ℕ) → length s.run ≤ lim.text → is_char c && not (eqb c 45) ≡ true → One lim (record s { mode = laws.Comment }) (record s { mode = laws.Comment }) c
 one_comment lim s c run h =
-    let both = and_both (is_char c) (not (eqb c 45)) h in
+    let both = and_parts (is_char c) (not (eqb c 45)) h in
     record {
-      steps = off_cond (eqb c 45) _ _ (not_true (eqb c 45) both.1) ∙ on_cond (is_char c) _ _ both.0;
+      steps = cond-false (eqb c 45) _ _ (not-true (eqb c 45) both.1) ∙ cond-true (is_char c) _ _ both.0;
       run = run;
       deep = refl;
       name = omega arith;
@@ -113,9 +97,9 @@ one_comment lim s c run h =
 
 one_instruction : (lim : Limits) (s : State) (c : ℕ) → length s.run ≤ lim.text → is_char c && not (eqb c 63) ≡ true → One lim (record s { mode = laws.InInstruction 0 }) (record s { mode = laws.InInstruction 0 }) c
 one_instruction lim s c run h =
-    let both = and_both (is_char c) (not (eqb c 63)) h in
+    let both = and_parts (is_char c) (not (eqb c 63)) h in
     record {
-      steps = off_cond (eqb c 62 && false) _ _ (and_false (eqb c 62) false refl) ∙ on_cond (is_char c) _ _ both.0 ∙ ap (λ k. Some (record s { mode = laws.InInstruction k })) (off_cond (eqb c 63) 1 0 (not_true (eqb c 63) both.1));
+      steps = cond-false (eqb c 62 && false) _ _ (and_right (eqb c 62) false refl) ∙ cond-true (is_char c) _ _ both.0 ∙ ap (λ k. Some (record s { mode = laws.InInstruction k })) (cond-false (eqb c 63) 1 0 (not-true (eqb c 63) both.1));
       run = run;
       deep = refl;
       name = omega arith;
@@ -123,9 +107,9 @@ one_instruction lim s c run h =
 
 one_cdsect : (lim : Limits) (s : State) (most c : ℕ) → len_utf8 c ≤ most → length s.run ≤ lim.text → most ≤ lim.text - length s.run → is_char c && not (eqb c 93) ≡ true → One lim (record s { mode = laws.InCDSect 0 }) (record s { mode = laws.InCDSect 0; run = s.run ++ encode c }) c
 one_cdsect lim s most c p run room h =
-    let both = and_both (is_char c) (not (eqb c 93)) h in
+    let both = and_parts (is_char c) (not (eqb c 93)) h in
     record {
-      steps = off_cond (eqb c 93) _ _ (not_true (eqb c 93) both.1) ∙ off_cond (eqb c 62 && false) _ _ (and_false (eqb c 62) false refl) ∙ on_cond (is_char c) _ _ both.0;
+      steps = cond-false (eqb c 93) _ _ (not-true (eqb c 93) both.1) ∙ cond-false (eqb c 62 && false) _ _ (and_right (eqb c 62) false refl) ∙ cond-true (is_char c) _ _ both.0;
       run = omega (arith, length-append s.run (encode c), length-encode c);
       deep = refl;
       name = omega arith;
@@ -170,7 +154,7 @@ room_next lim CDSect s most c h = let room = h.1 in (h.0, omega (arith, length-a
 pub span_read : (lim : Limits) (span : Span) (s : State) (most : ℕ) (cs : List ℕ) → Allows lim most span s → list_all (stands span) cs ≡ true → size cs ≤ most → (place : ℕ) → judged_steps lim place s cs ≡ Ok (spread span s (encodes cs))
 span_read lim span s most [] a h l place = ap Ok (sym (spread_none span s))
 span_read lim span s most (c ∷ cs) a h l place =
-    let both = and_both (stands span c) (list_all (stands span) cs) h in
+    let both = and_parts (stands span c) (list_all (stands span) cs) h in
     let t : State = spread span s (encode c) in
     let one = one_char lim s span most c (omega arith) a both.0 in
     ap (λ r. on_ok r (λ u. judged_steps lim (place + len_utf8 c) u cs)) (one_judged lim place s t c one)
@@ -227,19 +211,19 @@ one_stands CDSect c m h f = by_one (is_char c) (eqb c 93) h f
 each_stands : (span : Span) (cs : List ℕ) → is_name_span span ≡ false → list_all is_char cs ≡ true → list_all (λ b. not (is_stop span b)) (encodes cs) ≡ true → list_all (stands span) cs ≡ true
 each_stands span [] m h f = refl
 each_stands span (c ∷ cs) m h f =
-    let both = and_both (is_char c) (list_all is_char cs) h in
-    let parts = and_both (list_all (λ b. not (is_stop span b)) (encode c)) (list_all (λ b. not (is_stop span b)) (encodes cs)) (sym (list_all-append (λ b. not (is_stop span b)) (encode c) (encodes cs)) ∙ f) in
+    let both = and_parts (is_char c) (list_all is_char cs) h in
+    let parts = and_parts (list_all (λ b. not (is_stop span b)) (encode c)) (list_all (λ b. not (is_stop span b)) (encodes cs)) (sym (list_all-append (λ b. not (is_stop span b)) (encode c) (encodes cs)) ∙ f) in
     let none : is_stop span c ≡ false =
     elim (cases_lt c 128) [
-      | inl l ↦ not_true (is_stop span c) (and_both (not (is_stop span c)) true (sym (ap (list_all (λ b. not (is_stop span b))) (encode_ascii c l)) ∙ parts.0)).0
+      | inl l ↦ not-true (is_stop span c) (and_parts (not (is_stop span c)) true (sym (ap (list_all (λ b. not (is_stop span b))) (encode_ascii c l)) ∙ parts.0)).0
       | inr l ↦ stop_high span c l
     ] in
-    true_and (stands span c) (list_all (stands span) cs) (one_stands span c m both.0 none) (each_stands span cs m both.1 parts.1)
+    and_from (stands span c) (list_all (stands span) cs) (one_stands span c m both.0 none) (each_stands span cs m both.1 parts.1)
 
 -- a test that no byte passes
 none_pass : (p : ℕ → Bool) (xs : List ℕ) → ((k : ℕ) → k < length xs → p (get_or xs k 0) ≡ true → ⊥) → list_all (λ b. not (p b)) xs ≡ true
 none_pass p [] h = refl
-none_pass p (x ∷ xs) h = true_and (not (p x)) (list_all (λ b. not (p b)) xs) (by (p x) refl) (none_pass p xs (λ k l e. h (suc k) (omega arith) e))
+none_pass p (x ∷ xs) h = and_from (not (p x)) (list_all (λ b. not (p b)) xs) (by (p x) refl) (none_pass p xs (λ k l e. h (suc k) (omega arith) e))
   where
     by : (b : Bool) → p x ≡ b → not b ≡ true
     by true e = absurd (h 0 (omega arith) e)
@@ -352,12 +336,12 @@ ascii_byte_below b e = ltb-true b 128 e
 
 pub ascii_all : (p : ℕ → Bool) → ((b : ℕ) → p b ≡ true → b < 128) → (bs : List ℕ) → list_all p bs ≡ true → IsAscii bs
 ascii_all p h [] e i = omega arith
-ascii_all p h (b ∷ bs) e zero = h b (and_both (p b) (list_all p bs) e).0
-ascii_all p h (b ∷ bs) e (suc i) = ascii_all p h bs (and_both (p b) (list_all p bs) e).1 i
+ascii_all p h (b ∷ bs) e zero = h b (and_parts (p b) (list_all p bs) e).0
+ascii_all p h (b ∷ bs) e (suc i) = ascii_all p h bs (and_parts (p b) (list_all p bs) e).1 i
 
 one_end : (lim : Limits) (s : State) (b : ℕ) (left : List ℕ) → length s.run ≤ lim.text → b < 128 → One lim (record s { mode = laws.EndName (b ∷ left) }) (record s { mode = laws.EndName left }) b
 one_end lim s b left run l = record {
-  steps = ap (λ c. laws.to_end_name s (laws.behind c (b ∷ left))) (encode_ascii b l) ∙ ap (laws.to_end_name s) (on_cond (eqb b b) _ _ (eq-eqb b b refl));
+  steps = ap (λ c. laws.to_end_name s (laws.behind c (b ∷ left))) (encode_ascii b l) ∙ ap (laws.to_end_name s) (cond-true (eqb b b) _ _ (eq-eqb b b refl));
   run = run;
   deep = refl;
   name = omega arith;
@@ -366,7 +350,7 @@ one_end lim s b left run l = record {
 end_read : (lim : Limits) (s : State) (bs left : List ℕ) → length s.run ≤ lim.text → list_all is_ascii_byte bs ≡ true → (place : ℕ) → judged_steps lim place (record s { mode = laws.EndName (bs ++ left) }) bs ≡ Ok (record s { mode = laws.EndName left })
 end_read lim s [] left run h place = refl
 end_read lim s (b ∷ bs) left run h place =
-    let both = and_both (is_ascii_byte b) (list_all is_ascii_byte bs) h in
+    let both = and_parts (is_ascii_byte b) (list_all is_ascii_byte bs) h in
     ap (λ r. on_ok r (λ u. judged_steps lim (place + len_utf8 b) u bs)) (one_judged lim place (record s { mode = laws.EndName (b ∷ (bs ++ left)) }) (record s { mode = laws.EndName (bs ++ left) }) b (one_end lim s b (bs ++ left) run (ascii_byte_below b both.0)))
     ∙ end_read lim s bs left run both.1 (place + len_utf8 b)
 

@@ -1,8 +1,8 @@
 -- Texts that are cut between two characters.
-use Rattle.std.proofs.Common.{ℕ, ◌≡◌, ◌≤◌, Bool, true, false, ◌&&◌, List, [], ◌++◌, length, take, drop, Ok, refl, sym, ap, ◌∙◌, arith, length-take}
+use Rattle.std.proofs.Common.{ℕ, ◌≡◌, ◌≤◌, true, List, [], ◌++◌, length, take, drop, Ok, refl, sym, ap, ◌∙◌, arith, length-take}
 use Rattle.std.specs.List.{list_all}
 use Rattle.std.specs.Str.{chars, IsUtf8, IsAscii, IsCharBoundary}
-use Rattle.std.proofs.lemmas.Bool.{false≢true}
+use Rattle.std.proofs.lemmas.Bool.{and_parts}
 use Rattle.std.proofs.lemmas.List.{take-append-drop}
 use Rattle.std.proofs.lemmas.List.Folds.{list_all-append}
 use Rattle.std.proofs.lemmas.Str.{chars-append, chars-encodes, encodes-chars, IsUtf8-take, IsUtf8-drop, IsCharBoundary-start, IsCharBoundary-from_take, IsUtf8-from_ascii}
@@ -18,14 +18,6 @@ use Rattle.doc_laws.proofs.Pieces.{size_is}
 use Rattle.doc_reader.specs.Reading.{Moves}
 use Rattle.doc_reader.proofs.Sound.{steps_sound}
 
-pub and_both : (a b : Bool) → a && b ≡ true → (a ≡ true) × (b ≡ true)
-and_both true b e = (refl, e)
-and_both false b e = absurd (false≢true e)
-
-pub true_and : (a b : Bool) → a ≡ true → b ≡ true → a && b ≡ true
-true_and true b e f = f
-true_and false b e f = absurd (false≢true e)
-
 pub text_of_chars : (text : List ℕ) → AreChars text → IsUtf8 text
 text_of_chars text h = are_text text h
 
@@ -40,14 +32,14 @@ chars_cut text n u b = ap chars (sym (take-append-drop n text)) ∙ chars-append
 
 pub front_all : (text : List ℕ) (n : ℕ) → AreChars text → IsCharBoundary text n → list_all is_char (chars (take n text)) ≡ true
 front_all text n h b =
-    (and_both (list_all is_char (chars (take n text))) (list_all is_char (chars (drop n text)))
+    (and_parts (list_all is_char (chars (take n text))) (list_all is_char (chars (drop n text)))
     (sym (list_all-append is_char (chars (take n text)) (chars (drop n text))) ∙ ap (list_all is_char) (sym (chars_cut text n (are_text text h) b)) ∙ all_chars text h)).0
 
 pub rest_all : (text : List ℕ) (n : ℕ) → AreChars text → IsCharBoundary text n → AreChars (drop n text)
 rest_all text n h b = record {
   cs = chars (drop n text);
   chars =
-      (and_both (list_all is_char (chars (take n text))) (list_all is_char (chars (drop n text)))
+      (and_parts (list_all is_char (chars (take n text))) (list_all is_char (chars (drop n text)))
       (sym (list_all-append is_char (chars (take n text)) (chars (drop n text))) ∙ ap (list_all is_char) (sym (chars_cut text n (are_text text h) b)) ∙ all_chars text h)).1;
   bytes = encodes-chars (drop n text) (IsUtf8-drop text n (are_text text h) b);
 }

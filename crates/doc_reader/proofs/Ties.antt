@@ -1,8 +1,7 @@
 -- The characters of a stream and those of the faults are the same.
-use Rattle.std.proofs.Common.{ℕ, ◌≡◌, ◌+◌, true, List, [], ◌∷◌, ◌++◌, Option, Some, None, arith}
+use Rattle.std.proofs.Common.{ℕ, ◌≡◌, ◌+◌, true, List, ◌++◌, Option, Some, None}
 use lib.Utf8.{scalars, encodes}
 use Rattle.gcx_model.specs.Faults as faults
-use Rattle.gcx_model.specs.Faults.{size}
 use Rattle.doc_chars.specs.declared.chars.CharFault.{CharFault}
 use Rattle.doc_chars.specs.Stream.{Carry, StandsFor, GoesOn}
 use Rattle.doc_chars.proofs.Streams.{scalars_of}
@@ -19,7 +18,3 @@ pub record Parts (b cs : List ℕ) : Type 0 where
 pub parts_of : (o : Option CharFault) (carry : Carry) (b cs : List ℕ) → GoesOn o carry b cs → Parts b cs
 parts_of None carry b cs s = record { scalars_are = scalars_of cs s.decodes.chars; rest = carry.bytes; parts = s.decodes.bytes }
 parts_of (Some f) carry b cs s = record { scalars_are = scalars_of cs s.chars; rest = s.rest; parts = s.bytes }
-
-pub size_append : (a b : List ℕ) → size (a ++ b) ≡ size a + size b
-size_append [] b = omega arith
-size_append (c ∷ a) b = omega (arith, size_append a b)

@@ -1,10 +1,10 @@
 -- Parts that are read as a whole.
-use Rattle.std.proofs.Common.{ℕ, ◌≡◌, ◌+◌, ◌<◌, ◌≤◌, Bool, true, false, not, ◌&&◌, eqb, List, [], ◌∷◌, ◌++◌, length, take, drop, get_or, Some, Ok, refl, sym, ap, ◌∙◌, subst, append_assoc, append-nil, arith, length-append, length-take, eq-eqb, inl, inr}
+use Rattle.std.proofs.Common.{ℕ, ◌≡◌, ◌+◌, ◌<◌, ◌≤◌, Bool, true, false, ◌&&◌, eqb, List, [], ◌∷◌, ◌++◌, length, take, drop, get_or, Some, Ok, refl, sym, ap, ◌∙◌, subst, append_assoc, append-nil, arith, length-append, length-take, inl, inr}
 use Rattle.std.specs.Prelude.{nat_lt, ◌⊎◌}
 use Rattle.std.specs.Char.{len_utf8}
 use Rattle.std.specs.List.{list_all}
 use Rattle.std.specs.Str.{chars, IsUtf8, IsCharBoundary}
-use Rattle.std.proofs.lemmas.Bool.{false≢true, true≢false, lt-leb, le-ltb}
+use Rattle.std.proofs.lemmas.Bool.{false≢true, lt-leb, le-ltb, and_parts, and_from, cond-true, cond-false}
 use Rattle.std.proofs.lemmas.List.{drop-drop, take-append-drop, take_more, get_or-append-add}
 use Rattle.std.proofs.lemmas.Str.{chars-nil, chars-append, chars_past_char, IsUtf8-append, IsUtf8-nil, IsUtf8-take, IsUtf8-past_char, IsCharBoundary-before_ascii, IsCharBoundary-after_ascii, IsCharBoundary-from_take, IsCharBoundary-from_rest, encode_ascii, encodes-chars, length-encode, len_utf8_bounds}
 use Rattle.std.proofs.Math.Seq.{take-append_seam}
@@ -23,6 +23,7 @@ use Rattle.doc_laws.specs.Machine as laws
 use Rattle.doc_laws.specs.Machine.{Mode, Referring, Letters, State, Between, Less, StartName, StartSpace, AttributeName, Equals, InValue, InValueReference, InReference, ValueEnd, Slash, EndName, innermost, begun, opened, emptied, valued, closed, behind, refer, on_referred, on_end, on_ended, on_tag, on_value, to_end_name, step}
 use Rattle.doc_laws.specs.Judging.{naming_by, begins_deep, is_deep, judged_by, judged, judged_steps, on_ok}
 use Rattle.doc_laws.proofs.Pieces.{size_is}
+use Rattle.doc_laws.proofs.Moves.{behind_self}
 use Rattle.doc_reader.specs.declared.mode.Quote.{Quote}
 use Rattle.doc_reader.specs.declared.mode.Quote.TheVariants.{Single, Double}
 use Rattle.doc_reader.specs.declared.machine.reference.Entity.{Entity}
@@ -36,8 +37,8 @@ use Rattle.doc_reader.specs.Steps.{ClosedBy}
 use Rattle.doc_reader.specs.Wholes.{named, in_value, IsBetween, MayRefer, reference_of, character_of}
 use Rattle.doc_reader.proofs.Lists.{inside_name}
 use Rattle.doc_reader.proofs.Reading.{size_append, judged_on, reached_moves, reached_front}
-use Rattle.doc_reader.proofs.Spans.{on_cond, off_cond, quiet, at_mode, span_read}
-use Rattle.doc_reader.proofs.Texts.{and_both, true_and, all_chars, moves_text}
+use Rattle.doc_reader.proofs.Spans.{quiet, at_mode, span_read}
+use Rattle.doc_reader.proofs.Texts.{all_chars, moves_text}
 
 -- ---- moves one after another
 
@@ -62,7 +63,7 @@ reached_stops lim place old text at s rest t r h = reached_front lim place old t
 pub first_all : (c : ℕ) (rest text : List ℕ) → AreChars text → IsFirst c rest text → AreChars rest
 first_all c rest text h f = record {
   cs = chars rest;
-  chars = (and_both (is_char c) (list_all is_char (chars rest)) (ap (list_all is_char) (sym f.first) ∙ all_chars text h)).1;
+  chars = (and_parts (is_char c) (list_all is_char (chars rest)) (ap (list_all is_char) (sym f.first) ∙ all_chars text h)).1;
   bytes = encodes-chars rest f.utf8;
 }
 
@@ -71,7 +72,7 @@ first_all c rest text h f = record {
 pub ascii_cons : (a : ℕ) (xs : List ℕ) → a < 128 → IsUtf8 xs → IsUtf8 (a ∷ xs) × (chars (a ∷ xs) ≡ a ∷ chars xs)
 ascii_cons a xs l u =
     let one = encode_ascii a l in
-    let utf8 : IsUtf8 (a ∷ xs) = (a ∷ u.0, (true_and (scalar a) _ (low_scalar a (omega arith)) u.1.0, ap (λ h. h ++ encodes u.0) one ∙ ap (λ t. a ∷ t) u.1.1)) in
+    let utf8 : IsUtf8 (a ∷ xs) = (a ∷ u.0, (and_from (scalar a) _ (low_scalar a (omega arith)) u.1.0, ap (λ h. h ++ encodes u.0) one ∙ ap (λ t. a ∷ t) u.1.1)) in
     (utf8, chars_past_char (a ∷ xs) xs a utf8 (ap (λ h. h ++ xs) (sym one)))
 
 pub ascii_one : (a : ℕ) → a < 128 → IsUtf8 (a ∷ []) × (chars (a ∷ []) ≡ a ∷ [])
@@ -117,13 +118,13 @@ less_step lim place s run = quiet lim place (record s { mode = Between }) (recor
 name_step : (lim : Limits) (place : ℕ) (s : State) (c : ℕ) → is_inside s.names ≡ true → length s.run ≤ lim.text → length s.names < lim.depth → is_start_char c ≡ true → len_utf8 c ≤ lim.name → judged lim place (record s { mode = Less }) c ≡ Ok (record s { mode = StartName; name = encode c })
 name_step lim place s c i run d is l =
     quiet lim place (record s { mode = Less }) (record s { mode = StartName; name = encode c }) c
-    (on_cond (is_start_char c && may_open (is_inside s.names) s.rooted) _ _ (opens (is_inside s.names) i (is_start_char c) s.rooted is))
+    (cond-true (is_start_char c && may_open (is_inside s.names) s.rooted) _ _ (opens (is_inside s.names) i (is_start_char c) s.rooted is))
     run (lt-leb lim.depth (length s.names) d) (omega (arith, length-encode c))
 
 begin_at : (lim : Limits) (s : State) (name : List ℕ) → is_inside s.names ≡ true → length s.run ≤ lim.text → length s.names < lim.depth → is_name name ≡ true → size name ≤ lim.name → (place : ℕ) → judged_steps lim place (record s { mode = Between }) (60 ∷ name) ≡ Ok (named s (encodes name))
 begin_at lim s [] i run d n l place = absurd (false≢true n)
 begin_at lim s (c ∷ cs) i run d n l place =
-    let both = and_both (is_start_char c) (list_all is_part_char cs) n in
+    let both = and_parts (is_start_char c) (list_all is_part_char cs) n in
     let t : State = record s { mode = StartName; name = encode c } in
     let here = place + len_utf8 60 in
     step_on lim place (record s { mode = Between }) (record s { mode = Less }) (named s (encodes (c ∷ cs))) 60 (c ∷ cs) (less_step lim place s run)
@@ -203,16 +204,12 @@ empty_moves lim s t text n name after b f l d e =
 
 -- ---- end tags
 
-behind_all : (xs ys : List ℕ) → behind xs (xs ++ ys) ≡ Some ys
-behind_all [] ys = refl
-behind_all (x ∷ xs) ys = on_cond (eqb x x) _ _ (eq-eqb x x refl) ∙ behind_all xs ys
-
 close_step : (lim : Limits) (place : ℕ) (s : State) (c : ℕ) (left : List ℕ) → length s.run ≤ lim.text → judged lim place (record s { mode = EndName (encode c ++ left) }) c ≡ Ok (record s { mode = EndName left })
 close_step lim place s c left run =
     let t : State = record s { mode = EndName (encode c ++ left) } in
     let some = (len_utf8_bounds c).0 in
     quiet lim place t (record s { mode = EndName left }) c
-    (inside_name t (encode c ++ left) c (omega (arith, length-append (encode c) left, length-encode c, some)) ∙ ap (to_end_name t) (behind_all (encode c) left))
+    (inside_name t (encode c ++ left) c (omega (arith, length-append (encode c) left, length-encode c, some)) ∙ ap (to_end_name t) (behind_self (encode c) left))
     run refl (omega arith)
 
 close_read : (lim : Limits) (s : State) (cs left : List ℕ) → length s.run ≤ lim.text → (place : ℕ) → judged_steps lim place (record s { mode = EndName (encodes cs ++ left) }) cs ≡ Ok (record s { mode = EndName left })
@@ -228,14 +225,14 @@ close_read lim s (c ∷ cs) left run place =
 calm : (lim : Limits) (place : ℕ) (s t : State) (c : ℕ) → step s c ≡ Some t → length t.run ≤ lim.text → is_start_char c ≡ false → length (naming_by t.mode t) ≤ lim.name → judged lim place s c ≡ Ok t
 calm lim place s t c e r d n =
     ap (judged_by lim place s c) e
-    ∙ off_cond (nat_lt lim.text (length t.run)) _ _ (le-ltb lim.text (length t.run) r)
-    ∙ off_cond (is_deep lim s c) _ _ (ap (λ b. b && begins_deep lim s s.mode) d)
-    ∙ off_cond (nat_lt lim.name (length (naming_by t.mode t))) _ _ (le-ltb lim.name (length (naming_by t.mode t)) n)
+    ∙ cond-false (nat_lt lim.text (length t.run)) _ _ (le-ltb lim.text (length t.run) r)
+    ∙ cond-false (is_deep lim s c) _ _ (ap (λ b. b && begins_deep lim s s.mode) d)
+    ∙ cond-false (nat_lt lim.name (length (naming_by t.mode t))) _ _ (le-ltb lim.name (length (naming_by t.mode t)) n)
 
 mark_step : (lim : Limits) (place : ℕ) (s : State) → is_inside s.names ≡ true → length s.run ≤ lim.text → judged lim place (record s { mode = Less }) 47 ≡ Ok (record s { mode = EndName (innermost s.names) })
 mark_step lim place s i run =
     calm lim place (record s { mode = Less }) (record s { mode = EndName (innermost s.names) }) 47
-    (on_cond (eqb 47 47 && is_inside s.names) _ _ i)
+    (cond-true (eqb 47 47 && is_inside s.names) _ _ i)
     run refl (omega arith)
 
 last_step : (lim : Limits) (place : ℕ) (s t : State) (ns : List (List ℕ)) → s.names ≡ ns → is_inside ns ≡ true → ClosedBy ns s t → judged lim place (record s { mode = EndName [] }) 62 ≡ Ok t
@@ -310,7 +307,7 @@ attribute_at : (lim : Limits) (s : State) (name : List ℕ) (q : Quote) → s.ru
     → judged_steps lim place (record s { mode = StartSpace }) (name ++ (61 ∷ (quote_of q ∷ []))) ≡ Ok (in_value s (encodes name) (quote_of q))
 attribute_at lim s [] q run d n l f place = absurd (false≢true n)
 attribute_at lim s (c ∷ cs) q run d n l f place =
-    let both = and_both (is_start_char c) (list_all is_part_char cs) n in
+    let both = and_parts (is_start_char c) (list_all is_part_char cs) n in
     let none : length s.run ≤ lim.text = omega (arith, ap length run) in
     let first : State = record s { mode = StartSpace } in
     let t : State = record s { mode = AttributeName; attr = encode c } in
@@ -322,16 +319,12 @@ attribute_at lim s (c ∷ cs) q run d n l f place =
     let here = place + size (c ∷ cs) in
     judged_on lim place first u w (c ∷ cs) (61 ∷ (quote_of q ∷ []))
     (step_on lim place first t u c cs
-    (quiet lim place first t c (on_cond (is_start_char c) _ _ both.0) none (lt-leb lim.depth (length s.names + 1) d) (omega (arith, length-encode c)))
+    (quiet lim place first t c (cond-true (is_start_char c) _ _ both.0) none (lt-leb lim.depth (length s.names + 1) d) (omega (arith, length-encode c)))
     (span_read lim ValueName t (size cs) cs (record { run = none; room = (refl, omega (arith, length-encode c)) }) both.1 (omega arith) (place + len_utf8 c)))
     (step_on lim here u v w 61 (quote_of q ∷ [])
-    (calm lim here u v 61 (on_cond (is_fresh m s.attrs) _ _ f) none refl (omega arith))
+    (calm lim here u v 61 (cond-true (is_fresh m s.attrs) _ _ f) none refl (omega arith))
     (step_last lim (here + len_utf8 61) v w (quote_of q)
-    (calm lim (here + len_utf8 61) v w (quote_of q) (off_cond (is_white (quote_of q)) _ _ quote.1 ∙ on_cond (is_quote (quote_of q)) _ _ quote.0) none quote.3 (omega arith))))
-
-pub fresh_is : (b : Bool) → not b ≡ false → b ≡ true
-fresh_is true e = refl
-fresh_is false e = absurd (true≢false e)
+    (calm lim (here + len_utf8 61) v w (quote_of q) (cond-false (is_white (quote_of q)) _ _ quote.1 ∙ cond-true (is_quote (quote_of q)) _ _ quote.0) none quote.3 (omega arith))))
 
 pub name_length : (text : List ℕ) (n : ℕ) → IsCharBoundary text n → length (take n text) ≡ n
 name_length text n b = let within = b.0 in omega (arith, length-take n text)
@@ -450,7 +443,7 @@ reference_read lim s mk mode e f place =
 between_refers : (lim : Limits) (s : State) → is_inside s.names ≡ true → length s.run < lim.text → Refers lim s InReference Between
 between_refers lim s i run = record {
   run = run;
-  begins = on_cond (eqb 38 38 && is_inside s.names) _ _ i;
+  begins = cond-true (eqb 38 38 && is_inside s.names) _ _ i;
   goes_on = λ r c. refl;
   deep = λ r. refl;
   here = refl;

@@ -3,8 +3,9 @@ use Rattle.std.proofs.Common.{◌≡◌, ◌⊎◌, ⊎_elim, ◌==◌, ◌||◌
 use Rattle.std.specs.List.{filter, list_any}
 use Rattle.std.proofs.lemmas.List.{append-nil, reverse-append, map-append}
 use Rattle.std.proofs.lemmas.List.Elements.{filter-append}
-use Rattle.std.proofs.lemmas.Bool.{true≢false, false≢true}
+use Rattle.std.proofs.lemmas.Bool.{cases_Bool}
 use Rattle.std.proofs.Math.Seq.{drop-append_seam}
+use Rattle.std.proofs.Math.Bool.{or-true}
 use Rattle.gcx_model.specs.Tree.{Node, serial_of, Token as Said, grow}
 use Rattle.gcx_model.specs.Members.{In}
 use Rattle.gcx_model.specs.Held.{held, is_held, has_serial, departed}
@@ -25,25 +26,18 @@ use Rattle.buf_tree.proofs.Withdrawing.{left_is}
 use Rattle.projector.specs.Projector.{Changes, DoesBy}
 use Rattle.projector.specs.declared.projector.Fed.{Fed}
 use Rattle.projector.specs.declared.projector.Fed.TheVariants.{Opened, Closed}
+use Rattle.pull_eval.proofs.SignedRows.{departed_rows}
 use Rattle.engine.proofs.RowsHeld.{row_node}
 
-or_true : (b : Bool) → (b || true) ≡ true
-or_true true = refl
-or_true false = refl
-
-bool_cases : (b : Bool) → (b ≡ true) ⊎ (b ≡ false)
-bool_cases true = inl refl
-bool_cases false = inr refl
-
 unequal : (j k : ℕ) → j < k → (j == k) ≡ false
-unequal j k l = ⊎_elim (λ t. let e = eqb-true j k t in absurd (omega arith)) (λ f. f) (bool_cases (j == k))
+unequal j k l = ⊎_elim (λ t. let e = eqb-true j k t in absurd (omega arith)) (λ f. f) (cases_Bool (j == k))
 
 -- ---- rows and numbers
 
 listed : (now : List Cell) (d : Cell) → In d now → list_any (λ (e : Cell). num e == num d) now ≡ true
 listed [] d i = absurd i
 listed (x ∷ now) d (inl f) = ap (λ b. b || list_any (λ (e : Cell). num e == num d) now) (eq-eqb (num x) (num d) (ap num f))
-listed (x ∷ now) d (inr i) = ap (λ b. (num x == num d) || b) (listed now d i) ∙ or_true (num x == num d)
+listed (x ∷ now) d (inr i) = ap (λ b. (num x == num d) || b) (listed now d i) ∙ or-true (num x == num d)
 
 unlisted : (now : List Cell) (k : ℕ) → ((d : Cell) → In d now → num d < k) → list_any (λ (d : Cell). num d == k) now ≡ false
 unlisted [] k h = refl
@@ -118,60 +112,6 @@ same_shut p c = go (c.place == p)
     go false = refl
 
 -- ---- departures
-
--- a number is one of these
-abbrev is_one : ℕ → List ℕ → Bool
-is_one k ks = list_any (λ j. j == k) ks
-
-rows_one : (xs : List Cell) (k : ℕ) → list_any (λ d. num d == k) xs ≡ is_one k (map num xs)
-rows_one [] k = refl
-rows_one (x ∷ xs) k = ap (λ b. (num x == k) || b) (rows_one xs k)
-
-nodes_one : (ns : List Node) (k : ℕ) → has_serial ns k ≡ is_one k (map serial_of ns)
-nodes_one [] k = refl
-nodes_one (n ∷ ns) k = ap (λ b. (serial_of n == k) || b) (nodes_one ns k)
-
-turned : {X : Type 0} (x : X) (xs : List X) → reverse (x ∷ xs) ≡ reverse xs ++ x ∷ []
-turned x xs = reverse-append (x ∷ []) xs
-
-map_reverse : {X : Type 0} (f : X → ℕ) (xs : List X) → map f (reverse xs) ≡ reverse (map f xs)
-map_reverse f [] = refl
-map_reverse f (x ∷ xs) = ap (map f) (turned x xs) ∙ map-append f (reverse xs) (x ∷ []) ∙ ap (λ (z : List ℕ). z ++ f x ∷ []) (map_reverse f xs) ∙ sym (turned (f x) (map f xs))
-
--- the numbers of what isn't among some
-module _ {X : Type 0} (f : X → ℕ) (stays : X → Bool) (ks : List ℕ) (same : (x : X) → stays x ≡ is_one (f x) ks) where
-  left : (xs : List X) → map f (filter (λ x. not (stays x)) xs) ≡ filter (λ k. not (is_one k ks)) (map f xs)
-  left [] = refl
-  left (x ∷ xs) = go (not (stays x)) (not (is_one (f x) ks)) (ap not (same x)) (left xs)
-    where
-      go : (a b : Bool) → a ≡ b → map f (filter (λ x. not (stays x)) xs) ≡ filter (λ k. not (is_one k ks)) (map f xs)
-          → map f (cond a (x ∷ filter (λ x. not (stays x)) xs) (filter (λ x. not (stays x)) xs)) ≡ cond b (f x ∷ filter (λ k. not (is_one k ks)) (map f xs)) (filter (λ k. not (is_one k ks)) (map f xs))
-      go true true e h = ap (λ (z : List ℕ). f x ∷ z) h
-      go true false e h = absurd (true≢false e)
-      go false true e h = absurd (false≢true e)
-      go false false e h = h
-
-  left_turned : (xs : List X) → map f (reverse (filter (λ x. not (stays x)) xs)) ≡ reverse (filter (λ k. not (is_one k ks)) (map f xs))
-  left_turned xs = map_reverse f (filter (λ x. not (stays x)) xs) ∙ ap reverse (left xs)
-
-numbers_same : (past : Past) (xs : List Cell) (ns : List Node) → map seen xs ≡ map (told past) ns → map num xs ≡ map serial_of ns
-numbers_same past [] [] e = refl
-numbers_same past [] (n ∷ ns) e = absurd (cc)
-numbers_same past (x ∷ xs) [] e = absurd (cc)
-numbers_same past (x ∷ xs) (n ∷ ns) e =
-    let first : seen x ≡ told past n = cc in
-    let more : map seen xs ≡ map (told past) ns = cc in
-    ap (λ (z : ℕ). z ∷ map num xs) (ap (λ (z : Seen). z.serial) first) ∙ ap (λ (z : List ℕ). serial_of n ∷ z) (numbers_same past xs ns more)
-
-pub departed_rows : (v w : View) (past next : Past) → StandsFor v past → StandsFor w next → left_out v.rows w.rows ≡ departed (held past.plan past.tree past.acts) (held next.plan next.tree next.acts)
-departed_rows v w past next s t =
-    let ns = held next.plan next.tree next.acts in
-    let was = numbers_same past v.rows (held past.plan past.tree past.acts) s.rows in
-    let now = numbers_same next w.rows ns t.rows in
-    left_turned num (λ c. list_any (λ d. num d == num c) w.rows) (map num w.rows) (λ c. rows_one w.rows (num c)) v.rows
-    ∙ (ap (λ (z : List ℕ). reverse (filter (λ k. not (is_one k (map num w.rows))) z)) was
-    ∙ (ap (λ (z : List ℕ). reverse (filter (λ k. not (is_one k z)) (map serial_of (held past.plan past.tree past.acts)))) now
-    ∙ sym (left_turned serial_of (λ n. has_serial ns (serial_of n)) (map serial_of ns) (λ n. nodes_one ns (serial_of n)) (held past.plan past.tree past.acts))))
 
 departed_last : (xs : List Node) (n : Node) (now : List Node) → departed (xs ++ n ∷ []) now ≡ departed (n ∷ []) now ++ departed xs now
 departed_last xs n now =

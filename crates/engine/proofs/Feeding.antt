@@ -11,12 +11,12 @@ use Rattle.gcx_model.specs.Held.{held, roles_given, roles_taken, sum_given, sum_
 use Rattle.gcx_model.specs.Growth.{Leads, more, stays, may_come}
 use Rattle.gcx_model.specs.Points.{so_far, fed as feeds}
 use Rattle.gcx_model.specs.Past.{Past, IsPast, past_fed, Opens, token_for}
+use Rattle.base_laws.proofs.Lists.{filter_few}
 use Rattle.tree_laws.proofs.Lists.{In-append, In-filter}
 use Rattle.tree_laws.proofs.Growing.{grows}
 use Rattle.move_laws.proofs.Keeping.{so_far_stays, taken_are_there}
 use Rattle.past_laws.proofs.RowFacts.{open_behind}
 use Rattle.run_laws.proofs.Summing.{sums_by_feed}
-use Rattle.run_laws.proofs.Counts.{filter_few}
 use Rattle.buf_tree.specs.Rows.{shut_row}
 use Rattle.buf_tree.specs.Shape.{Cell, num, with_at}
 use Rattle.buf_tree.specs.Purge.{is_gone}

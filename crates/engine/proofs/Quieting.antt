@@ -1,7 +1,7 @@
 -- Tokens behind which no action is possible that wasn't before.
-use Rattle.std.proofs.Common.{◌≡◌, ◌⊎◌, ⊎_elim, ℕ, ◌==◌, ◌||◌, ◌&&◌, Bool, true, false, not, List, [], ◌∷◌, ◌++◌, length, map, refl, sym, ◌∙◌, ap, subst, inl, inr, arith, Some, eq-eqb, eqb-true}
+use Rattle.std.proofs.Common.{◌≡◌, ◌⊎◌, ⊎_elim, ℕ, ◌==◌, ◌||◌, ◌&&◌, true, false, not, List, [], ◌∷◌, ◌++◌, length, map, refl, sym, ◌∙◌, ap, subst, inl, arith, Some, eq-eqb, eqb-true}
 use Rattle.std.specs.Prelude.{nat_eq}
-use Rattle.std.proofs.lemmas.Bool.{false≢true, true≢false, and_parts}
+use Rattle.std.proofs.lemmas.Bool.{false≢true, true≢false, and_parts, cases_Bool, or_parts}
 use Rattle.gcx_base.specs.declared.ids.Role.{Role}
 use Rattle.gcx_model.specs.Tree.{Node, serial_of, within, Tree, Token as Said, End, opening, grow, is_open_at}
 use Rattle.gcx_model.specs.Paths.{any}
@@ -32,14 +32,6 @@ use Rattle.engine.proofs.RowsHeld.{held_row, row_node}
 use Rattle.engine.specs.Going.{is_quiet}
 use Rattle.engine.proofs.Feeding.{shut_comes}
 
-or_false : (a b : Bool) → (a || b) ≡ false → (a ≡ false) × (b ≡ false)
-or_false false b h = (refl, h)
-or_false true b h = absurd (true≢false h)
-
-bool_cases : (b : Bool) → (b ≡ true) ⊎ (b ≡ false)
-bool_cases true = inl refl
-bool_cases false = inr refl
-
 some_of : {X : Type 0} (xs : List X) → not (nat_eq (length xs) 0) ≡ true → (x : X) × In x xs
 some_of [] h = absurd (false≢true h)
 some_of (x ∷ xs) h = (x, inl refl)
@@ -64,13 +56,13 @@ module _ (past : Past) (is : IsPast past) (p : Node) (at : past.tree.at ≡ Some
 
   module _ (n : Node) (i : In n P.nodes) (was : is_held past.plan P past.acts n ≡ true) (now : is_held past.plan Q past.acts n ≡ false) where
     shut : is_open_at Q.at (serial_of n) ≡ false
-    shut = (or_false (is_open_at Q.at (serial_of n)) (any (λ (m : Node). within (serial_of n) m && is_live past.plan Q past.acts m) Q.nodes) now).0
+    shut = (or_parts (is_open_at Q.at (serial_of n)) (any (λ (m : Node). within (serial_of n) m && is_live past.plan Q past.acts m) Q.nodes) now).0
 
     none_live : any (λ (m : Node). within (serial_of n) m && is_live past.plan Q past.acts m) Q.nodes ≡ false
-    none_live = (or_false (is_open_at Q.at (serial_of n)) (any (λ (m : Node). within (serial_of n) m && is_live past.plan Q past.acts m) Q.nodes) now).1
+    none_live = (or_parts (is_open_at Q.at (serial_of n)) (any (λ (m : Node). within (serial_of n) m && is_live past.plan Q past.acts m) Q.nodes) now).1
 
     dead : (m : Node) → In m P.nodes → within (serial_of n) m ≡ true → (r : ℕ) → In r (count 0 (length past.plan.roles)) → live past.plan P past.acts m r ≡ false
-    dead m j w r k = ⊎_elim (λ (t : live past.plan P past.acts m r ≡ true). absurd (true≢false (sym (lives t) ∙ none_live))) (λ f. f) (bool_cases (live past.plan P past.acts m r))
+    dead m j w r k = ⊎_elim (λ (t : live past.plan P past.acts m r ≡ true). absurd (true≢false (sym (lives t) ∙ none_live))) (λ f. f) (cases_Bool (live past.plan P past.acts m r))
       where
         lives : live past.plan P past.acts m r ≡ true → any (λ (m : Node). within (serial_of n) m && is_live past.plan Q past.acts m) Q.nodes ≡ true
         lives t =
@@ -79,7 +71,7 @@ module _ (past : Past) (is : IsPast past) (p : Node) (at : past.tree.at ≡ Some
 
     -- it was open
     was_open : is_open_at P.at (serial_of n) ≡ true
-    was_open = ⊎_elim (λ t. t) (λ f. absurd (none f)) (bool_cases (is_open_at P.at (serial_of n)))
+    was_open = ⊎_elim (λ t. t) (λ f. absurd (none f)) (cases_Bool (is_open_at P.at (serial_of n)))
       where
         none : is_open_at P.at (serial_of n) ≡ false → ⊥
         none f =
@@ -115,7 +107,7 @@ left_dead v w past s h g may empty c some p at =
     let r = row_node v past h d.0 d.1 in
     let num_is : serial_of r.0 ≡ k.0 = ap (λ (z : Seen). z.serial) (sym r.2) ∙ (d.3 ∙ x.2) in
     let same : (grow End past.tree).nodes ≡ past.tree.nodes = (open_behind past.tree p at).2 in
-    let now : is_held past.plan (grow End past.tree) past.acts r.0 ≡ false = ⊎_elim (λ t. absurd (stays r.0 (subst (λ (z : List Node). In r.0 z) (sym same) r.1) k.0 k.1 num_is t)) (λ f. f) (bool_cases (is_held past.plan (grow End past.tree) past.acts r.0)) in
+    let now : is_held past.plan (grow End past.tree) past.acts r.0 ≡ false = ⊎_elim (λ t. absurd (stays r.0 (subst (λ (z : List Node). In r.0 z) (sym same) r.1) k.0 k.1 num_is t)) (λ f. f) (cases_Bool (is_held past.plan (grow End past.tree) past.acts r.0)) in
     none_there past h.is_past p at may r.0 r.1 r.3 now
   where
     stays : (n : Node) → In n (grow End past.tree).nodes → (k : ℕ) → In k c.closed.leaves.left → serial_of n ≡ k → is_held past.plan (grow End past.tree) past.acts n ≡ true → ⊥

@@ -1,7 +1,7 @@
 -- The rows of a buffer and the nodes that are held.
 use Rattle.std.proofs.Common.{◌≡◌, ℕ, ◌<◌, ◌≤◌, ◌||◌, ◌&&◌, Bool, true, false, not, List, [], ◌∷◌, length, map, sym, ◌∙◌, ap, subst, arith, inl, inr, Some, None, Option}
 use Rattle.std.proofs.lemmas.List.{length-map}
-use Rattle.gcx_model.specs.Tree.{Node, Root, Under, serial_of, above, within, Tree, is_open_at}
+use Rattle.gcx_model.specs.Tree.{Node, serial_of, within, Tree, is_open_at}
 use Rattle.gcx_model.specs.Paths.{any}
 use Rattle.gcx_model.specs.Members.{In}
 use Rattle.gcx_model.specs.Growth.{level}
@@ -10,6 +10,7 @@ use Rattle.gcx_model.specs.Past.{Past}
 use Rattle.past_laws.proofs.Bases.{is_grown}
 use Rattle.tree_laws.proofs.Lists.{In-filter, In-kept}
 use Rattle.tree_laws.proofs.Matches.{Rising, Rising-filter}
+use Rattle.tree_laws.proofs.Growing.{level_above}
 use Rattle.run_laws.proofs.Feeds.{open_chain}
 use Rattle.node_store.specs.declared.store.Place.{Place}
 use Rattle.buf_tree.specs.Shape.{Cell, num}
@@ -28,12 +29,6 @@ row_node v past h c i =
     let r = pair_left seen (told past) v.rows (held past.plan past.tree past.acts) h.rows c i in
     let f = In-filter (is_held past.plan past.tree past.acts) r.0 past.tree.nodes r.1 in
     (r.0, f.0, r.2, f.1)
-
-level_above : (p n : Node) → In n (above p) → level n ≤ level p
-level_above Root n (inl e) = let l = ap level e in omega arith
-level_above Root n (inr i) = absurd i
-level_above (Under p s k) n (inl e) = let l = ap level e in omega arith
-level_above (Under p s k) n (inr i) = let h = level_above p n i in omega arith
 
 open_closed : (b : Bool) → b ≡ true → not b ≡ false
 open_closed b e = ap not e

@@ -1,6 +1,7 @@
 -- What a trace tells of tokens and of actions.
 use Rattle.std.proofs.Common.{◌≡◌, ⊎_elim, ℕ, List, [], ◌∷◌, ◌++◌, length, map, refl, sym, ◌∙◌, ap, subst, inl, inr, append_assoc, Some, Option}
 use Rattle.std.proofs.lemmas.List.{append-nil}
+use Rattle.std.proofs.lemmas.Grind.{flat_map-append}
 use Rattle.gcx_model.specs.Tree.{Node, Under, serial_of, Tree, Token as Said, Start, Chars, End, grow}
 use Rattle.gcx_base.specs.declared.kind.Kind.TheVariants.{Element, Text}
 use Rattle.gcx_model.specs.Members.{In}
@@ -11,7 +12,6 @@ use Rattle.gcx_model.specs.Demand.{Line, LineKind, ElementNode, TextNode, line_t
 use Rattle.gcx_model.specs.Demand as tree
 use Rattle.past_laws.proofs.Ahead.{new_node}
 use Rattle.tree_laws.proofs.Lists.{In-append}
-use Rattle.placed_laws.proofs.PlanWriting.{flat_map-append}
 use Rattle.past_laws.proofs.RowFacts.{open_behind}
 use Rattle.buf_tree.specs.View.{View}
 use Rattle.buf_tree.specs.Calls.{numbers}

@@ -70,10 +70,6 @@ tokens_fit ts may within =
     let m : length ts + open_nodes (grow_all ts opening).at + 2 * 1 ≤ 1 + 2 * length (grow_all ts opening).nodes = few_tokens ts opening may in
     omega arith
 
-pub none_in : {X : Type 0} (xs : List X) → length xs ≡ 0 → xs ≡ []
-none_in [] e = refl
-none_in (x ∷ xs) e = absurd (omega arith)
-
 -- ---- a token is fed
 
 module _ {N C : Type 0} (stands : C → Tree → Type 0) (plan : PlanTree) (ts : List Said) (s : Turned) (a : Actors N C) (h : Reaches stands plan ts s a) where

@@ -3,6 +3,7 @@ use Rattle.std.proofs.Common.{◌≡◌, ℕ, zero, suc, ◌+◌, ◌<◌, ◌�
 use Rattle.std.specs.Prelude.{flat_map}
 use Rattle.std.proofs.lemmas.List.{append-nil, take-append-drop, length-drop}
 use Rattle.std.proofs.lemmas.Bool.{and_parts, lt-ltb, ltb-true}
+use Rattle.std.proofs.lemmas.Grind.{flat_map-append}
 use Rattle.gcx_model.specs.Tree.{Tree, Token as Said, opening, grow, grow_all}
 use Rattle.gcx_model.specs.Core.{PlanTree}
 use Rattle.gcx_model.specs.Run.{bytes_of}
@@ -12,7 +13,6 @@ use Rattle.gcx_model.specs.Points.{actions, so_far, CoreState}
 use Rattle.gcx_model.specs.Turning.{Turn, Feed, Act, Turned, tree_fed, turn, turned, one_up_to}
 use Rattle.tree_laws.proofs.Growing.{grow_all-append, grows, leads}
 use Rattle.move_laws.proofs.Keeping.{taken_are_there}
-use Rattle.placed_laws.proofs.PlanWriting.{flat_map-append}
 use Rattle.trace_laws.proofs.TurnsReached.{one_turn_more, turns_reach}
 use Rattle.doc_reader.specs.Standing.{said_of}
 use Rattle.buf_tree.specs.View.{capped}

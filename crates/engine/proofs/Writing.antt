@@ -2,13 +2,13 @@
 use Rattle.std.proofs.Common.{◌≡◌, ℕ, suc, ◌≤◌, List, [], ◌∷◌, ◌++◌, length, take, drop, refl, sym, ◌∙◌, ap, arith, append_assoc}
 use Rattle.std.specs.Prelude.{flat_map}
 use Rattle.std.proofs.lemmas.List.{append-nil, take-append-drop, take_all}
+use Rattle.std.proofs.lemmas.Grind.{flat_map-append}
 use Rattle.gcx_model.specs.Tree.{Tree, opening}
 use Rattle.gcx_model.specs.Core.{PlanTree}
 use Rattle.gcx_model.specs.Run.{Action, bytes_of}
 use Rattle.gcx_model.specs.Growth.{Leads}
 use Rattle.gcx_model.specs.Points.{actions, so_far}
 use Rattle.move_laws.proofs.Keeping.{so_far_stays}
-use Rattle.placed_laws.proofs.PlanWriting.{flat_map-append}
 use Rattle.engine.specs.Going.{Goes, bytes_at, all_of}
 
 module _ (plan : PlanTree) where

@@ -10,6 +10,7 @@ use Rattle.gcx_model.specs.Core.{First, PlanTree, RoleRowTree}
 use Rattle.gcx_model.specs.ItemView.{role_kind}
 use Rattle.gcx_model.specs.Held.{path_of}
 use Rattle.gcx_model.specs.Past.{Opens as Opened}
+use Rattle.placed_laws.proofs.Unique.{row_there}
 use Rattle.tree_laws.proofs.Lists.{In}
 use Rattle.matcher.specs.Lists.{Climbs, From, Gains, Holds}
 use Rattle.matcher.specs.Parts.{contexts_at, hits_at, pending_at, whole_at, IsUnmatched}
@@ -27,7 +28,7 @@ use Rattle.matcher.specs.declared.spots.Way.{Way}
 use Rattle.matcher.proofs.Looking.{some_at, one_at}
 use Rattle.matcher.proofs.Finding.{first_some}
 use Rattle.matcher.proofs.NewNode.{first_none}
-use Rattle.matcher.proofs.NewRow.{row_there, new_hits, new_pending, new_whole}
+use Rattle.matcher.proofs.NewRow.{new_hits, new_pending, new_whole}
 
 module _ (plan : PlanTree) (spots : Spots) (A : AreSpots plan spots) (P : Tree) (w : Grown P) (t : Token) (n : Node) (o : Opened P t n) where
   abbrev Q : Tree

@@ -14,13 +14,13 @@ use Rattle.gcx_model.specs.ItemView.{role_kind}
 use Rattle.gcx_model.specs.Held.{path_of, gives, given_row, on_row, given, reaches}
 use Rattle.gcx_model.specs.Placed.{row_at}
 use Rattle.gcx_model.specs.Past.{Past, IsLast}
+use Rattle.base_laws.proofs.Members.{head_in}
 use Rattle.tree_laws.proofs.Lists.{In, In-right, any_from}
 use Rattle.tree_laws.proofs.Matches.{Matches-in}
 use Rattle.tree_laws.proofs.Chains.{above_in, above_trans, above_self, hits_above}
 use Rattle.need_laws.proofs.Frames.{hits-append}
 use Rattle.tree_laws.proofs.Fed.{grown_from}
 use Rattle.placed_laws.proofs.Told.{Told}
-use Rattle.past_laws.proofs.Bases.{head_in}
 use Rattle.matcher.specs.Lists.{Holds}
 use Rattle.matcher.specs.Spots.{IsWay, kind_with, tail_with}
 use Rattle.matcher.specs.Rows.{Hit}

@@ -18,6 +18,7 @@ use Rattle.gcx_model.specs.Placed.{Placed, row_at}
 use Rattle.gcx_model.specs.Held.{path_of}
 use Rattle.gcx_model.specs.Growth.{level}
 use Rattle.gcx_model.specs.Past.{opening_past}
+use Rattle.placed_laws.proofs.Unique.{row_there}
 use Rattle.tree_laws.proofs.Lists.{In, any_in, any_from}
 use Rattle.past_laws.proofs.PastForms.{past_opens}
 use Rattle.matcher.specs.Lists.{Climbs, From}
@@ -88,11 +89,6 @@ whole_tail : (kind : RoleKind) (tail : List Step) → kind_with kind tail ≡ Wh
 whole_tail Own tail e = absurd (cc)
 whole_tail First tail e = refl
 whole_tail Whole tail e = refl
-
-row_there : (rows : List RoleRowTree) (r : ℕ) → r < length rows → (row : RoleRowTree) × (row_at rows r ≡ Some row)
-row_there [] r l = absurd (omega arith)
-row_there (x ∷ rows) zero l = (x, refl)
-row_there (x ∷ rows) (suc r) l = let m : r < length rows = omega arith in row_there rows r m
 
 module _ (plan : PlanTree) (t : Spots) (s : AreSpots plan t) where
   abbrev spots : List Spot

@@ -12,6 +12,7 @@ use Rattle.gcx_model.specs.Held.{roles_given}
 use Rattle.gcx_model.specs.Past.{Past, past_grown, token_for}
 use Rattle.tree_laws.proofs.Lists.{In}
 use Rattle.tree_laws.proofs.Fed.{grown_from}
+use Rattle.tree_laws.proofs.Growing.{level_above}
 use Rattle.past_laws.proofs.Ahead.{new_unsigned}
 use Rattle.matcher.specs.Lists.{Climbs, From, Gains, Holds}
 use Rattle.matcher.specs.Parts.{hits_at, pending_at, whole_at, found_at, slice_of, IsUnmatched}
@@ -27,7 +28,6 @@ use Rattle.matcher.specs.declared.row.Found.{Found}
 use Rattle.matcher.specs.declared.row.Row.{Row}
 use Rattle.matcher.specs.declared.row.Rows.{Rows}
 use Rattle.matcher.proofs.Looking.{in_at}
-use Rattle.matcher.proofs.Upwards.{level_above}
 use Rattle.matcher.proofs.NewNode.{innermost_of, past_new, older_below}
 use Rattle.matcher.proofs.AddedRow.{added_row, leading_are}
 use Rattle.matcher.proofs.OldRows.{at_level, noted_row, old_row}

@@ -11,6 +11,7 @@ use Rattle.gcx_model.specs.Core.{Own, First, Whole, RoleKind, RoleRowTree}
 use Rattle.gcx_model.specs.Held.{path_of}
 use Rattle.gcx_model.specs.Placed.{row_at}
 use Rattle.gcx_model.specs.Past.{Past, open_nodes}
+use Rattle.base_laws.proofs.Members.{in_take}
 use Rattle.tree_laws.proofs.Lists.{In}
 use Rattle.tree_laws.proofs.Fed.{grown_from}
 use Rattle.tree_laws.proofs.Chains.{above_in, above_self}
@@ -35,12 +36,6 @@ use Rattle.matcher.proofs.NewNode.{grown, above_is, older_below, no_hit, head_no
 use Rattle.matcher.proofs.Upwards.{level_same}
 use Rattle.matcher.proofs.Origins.{Origin, origins_are, node_at}
 use Rattle.matcher.proofs.NewRow.{ended, end_of, first_tail}
-
-in_take : {X : Type 0} (k : ℕ) (xs : List X) (x : X) → In x (take k xs) → In x xs
-in_take zero xs x i = absurd i
-in_take (suc k) [] x i = i
-in_take (suc k) (y ∷ ys) x (inl e) = inl e
-in_take (suc k) (y ∷ ys) x (inr i) = inr (in_take k ys x i)
 
 in_drop : {X : Type 0} (k : ℕ) (xs : List X) (x : X) → In x (drop k xs) → In x xs
 in_drop zero xs x i = i

@@ -12,10 +12,13 @@ use Rattle.gcx_model.specs.Core.{RoleKind, Own, First, Whole, RoleRowTree, PlanT
 use Rattle.gcx_model.specs.Held.{path_of, is_node, gives, given_row, on_row, given, roles_given}
 use Rattle.gcx_model.specs.Placed.{row_at}
 use Rattle.gcx_model.specs.Members.{count}
+use Rattle.base_laws.proofs.Members.{head_in}
+use Rattle.base_laws.proofs.Numbers.{in_count}
+use Rattle.placed_laws.proofs.Unique.{row_there, row_below}
 use Rattle.tree_laws.proofs.Lists.{In, In-filter, In-kept, any_in, any_from}
 use Rattle.tree_laws.proofs.Matches.{Numbered-same, Matches-in, Matches-from}
 use Rattle.tree_laws.proofs.Chains.{above_in, hits_above}
-use Rattle.past_laws.proofs.Bases.{In-count-from, head_in, node_is}
+use Rattle.past_laws.proofs.Bases.{node_is}
 use Rattle.matcher.specs.Lists.{Holds, Climbs}
 use Rattle.matcher.specs.Spots.{AreSpots, kind_with, tail_with}
 use Rattle.matcher.specs.Rows.{HasRole}
@@ -26,7 +29,7 @@ use Rattle.matcher.specs.declared.row.Rows.{Rows}
 use Rattle.matcher.specs.Parts.{whole_at, hits_at, found_at}
 use Rattle.matcher.specs.declared.row.Found.{Found}
 use Rattle.matcher.proofs.Looking.{some_at}
-use Rattle.matcher.proofs.NewRow.{row_there, ended, end_of}
+use Rattle.matcher.proofs.NewRow.{ended, end_of}
 
 -- rising lists with the same members are one
 
@@ -66,7 +69,7 @@ climbs_filter p (x ∷ xs) c = go (p x) (climbs_filter p xs c.1)
 pub climbs_filtered : (p : ℕ → Bool) (n : ℕ) (xs : List ℕ) → Climbs xs → ((y : ℕ) → In y xs → (y < n) × (p y ≡ true)) → ((y : ℕ) → y < n → p y ≡ true → In y xs) → xs ≡ filter p (count 0 n)
 climbs_filtered p n xs c f g =
     climbs_same xs (filter p (count 0 n)) c (climbs_filter p (count 0 n) (climbs_count 0 n))
-    (λ y i. let q = f y i in In-kept p y (count 0 n) (subst (λ (z : ℕ). In z (count 0 n)) (zero_add y) (In-count-from 0 n y q.0)) q.1)
+    (λ y i. let q = f y i in In-kept p y (count 0 n) (subst (λ (z : ℕ). In z (count 0 n)) (zero_add y) (in_count 0 n y q.0)) q.1)
     (λ y i. let q = In-filter p y (count 0 n) i in let l = (In-count-low 0 n y q.0).1 in g y (omega arith) q.1)
   where
     zero_add : (y : ℕ) → 0 + y ≡ y
@@ -89,11 +92,6 @@ kind_first Own tail e = absurd (cc)
 kind_first First [] e = absurd (cc)
 kind_first First (s ∷ tail) e = refl
 kind_first Whole tail e = absurd (cc)
-
-pub row_within : (rs : List RoleRowTree) (r : ℕ) (row : RoleRowTree) → row_at rs r ≡ Some row → r < length rs
-row_within [] r row e = absurd (cc)
-row_within (x ∷ rs) zero row e = omega arith
-row_within (x ∷ rs) (suc r) row e = let l = row_within rs r row e in omega arith
 
 -- the first node with a node's number
 pub self_first : (ns : List Node) (a : Node) → In a ns → is_node (serial_of a) (head (filter (hits (serial_of a) []) ns)) ≡ true
@@ -157,17 +155,17 @@ module _ (plan : PlanTree) (t : Spots) (A : AreSpots plan t) (P : Tree) (w : Gro
   role_to : (r : ℕ) → HasRole t.spots.items whole leading firsts r → (r < length plan.roles) × (given plan P a r ≡ true)
   role_to r (inl h) =
       let d = (whole_are r).0 h in
-      (row_within plan.roles r d.row d.role.at, gives_as r d.row Whole d.role.at (kind_whole d.row.kind d.row.tail d.role.same) d.hit)
+      (row_below plan.roles r d.row d.role.at, gives_as r d.row Whole d.role.at (kind_whole d.row.kind d.row.tail d.role.same) d.hit)
   role_to r (inr (inl f)) =
       let u = f.is in
       let e = ended plan t A r f.of Own (((A.linked f.of u.spot u.at).own r).0 u.member) in
       let h : hits 0 (path_of plan e.0.var ++ tail_with e.0.kind e.0.tail) a ≡ true = subst (λ (z : List Step). hits 0 z a ≡ true) e.2 ((hits_are f.of).0 f.member).1 in
-      (row_within plan.roles r e.0 e.1.at, by_row r e.0 e.1.at ∙ own_to e.0.kind (path_of plan e.0.var) e.0.tail e.1.same h)
+      (row_below plan.roles r e.0 e.1.at, by_row r e.0 e.1.at ∙ own_to e.0.kind (path_of plan e.0.var) e.0.tail e.1.same h)
   role_to r (inr (inr f)) =
       let d = (found_are f.of).0 f.member in
       let q = d.is in
       let at : row_at plan.roles r ≡ Some q.row = subst (λ (z : ℕ). row_at plan.roles z ≡ Some q.row) f.is q.role.at in
-      (row_within plan.roles r q.row at, gives_as r q.row First at (kind_first q.row.kind q.row.tail q.role.same) (first_to (path_of plan q.row.var) q.row.tail d.context d.over q.hit q.is))
+      (row_below plan.roles r q.row at, gives_as r q.row First at (kind_first q.row.kind q.row.tail q.role.same) (first_to (path_of plan q.row.var) q.row.tail d.context d.over q.hit q.is))
 
   by_kind : (r : ℕ) (rw : RoleRowTree) → row_at plan.roles r ≡ Some rw → (k : RoleKind) → kind_with rw.kind rw.tail ≡ k → given plan P a r ≡ true → HasRole t.spots.items whole leading firsts r
   by_kind r rw e Own s h =

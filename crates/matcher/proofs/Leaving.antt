@@ -18,6 +18,7 @@ use Rattle.tree_laws.proofs.Lists.{In, In-filter, In-kept}
 use Rattle.tree_laws.proofs.Chains.{above_self}
 use Rattle.past_laws.proofs.PastForms.{past_feeds}
 use Rattle.tree_laws.proofs.Fed.{grown_from}
+use Rattle.tree_laws.proofs.Growing.{level_above}
 use Rattle.matcher.specs.Row.{IsFirst, IsFound, IsRow}
 use Rattle.matcher.specs.Stacks.{AreStacked, IsTaken}
 use Rattle.matcher.specs.Matcher.{IsSign, Stands}
@@ -32,7 +33,6 @@ use Rattle.matcher.proofs.Bases.{signed_hit}
 use Rattle.matcher.proofs.Looking.{in_at}
 use Rattle.matcher.proofs.SameStands.{same_row}
 use Rattle.matcher.proofs.Stacking.{at_end, at_front}
-use Rattle.matcher.proofs.Upwards.{level_above}
 
 -- A row tells of the nodes alone, and not of which of them is open.
 row_by_nodes : (plan : PlanTree) (P Q : Tree) (spots : List Spot) (path : ℕ → List Step) (rows : Rows) (row : Row) (a : Node) → Q.nodes ≡ P.nodes → IsRow plan P spots path rows row a → IsRow plan Q spots path rows row a

@@ -1,6 +1,6 @@
 -- What stands at a place of a list.
 use Rattle.std.proofs.lemmas.Bool.{false≢true, eqb-true, eq-eqb}
-use Rattle.std.proofs.Common.{Bool, not, true, false, eqb, zero, suc, ap, ◌≡◌, ℕ, ◌<◌, ◌≤◌, List, [], ◌∷◌, length, get_or, refl, sym, ◌∙◌, subst, inl, inr, arith, Some, None}
+use Rattle.std.proofs.Common.{true, false, eqb, zero, suc, ap, ◌≡◌, ℕ, ◌<◌, ◌≤◌, List, [], ◌∷◌, length, get_or, refl, sym, ◌∙◌, subst, inl, inr, arith, Some, None}
 use Rattle.std.specs.Prelude.{slice_get}
 use Rattle.std.proofs.lemmas.Option.{slice_get_cases, slice_get_read, slice_get_past}
 use Rattle.tree_laws.proofs.Lists.{In}
@@ -35,11 +35,3 @@ pub in_at : {X : Type 0} (xs : List X) (i : ℕ) (x : X) → slice_get xs i ≡ 
 in_at [] i x e = absurd (cc)
 in_at (y ∷ xs) zero x e = let f : y ≡ x = cc in inl f
 in_at (y ∷ xs) (suc i) x e = inr (in_at xs i x e)
-
-pub not_false : (b : Bool) → not b ≡ false → b ≡ true
-not_false true e = refl
-not_false false e = absurd (false≢true (sym e))
-
-pub not_true : (b : Bool) → not b ≡ true → b ≡ false
-not_true true e = absurd (false≢true e)
-not_true false e = refl

@@ -1,8 +1,8 @@
 -- The node that a token opens.
-use Rattle.std.proofs.Common.{◌≡◌, ℕ, ◌<◌, ◌≤◌, true, ◌&&◌, List, [], ◌∷◌, ◌++◌, length, refl, sym, ◌∙◌, ap, subst, inl, inr, ◌⊎◌, arith, eqb, drop, Some, None, Option}
+use Rattle.std.proofs.Common.{◌≡◌, ℕ, ◌<◌, ◌≤◌, true, ◌&&◌, List, [], ◌∷◌, ◌++◌, length, refl, sym, ◌∙◌, ap, subst, inl, inr, ◌⊎◌, arith, drop, Some, None, Option}
 use Rattle.std.proofs.Math.Seq.{drop-append_seam}
 use Rattle.std.proofs.lemmas.List.{length-append}
-use Rattle.std.proofs.lemmas.Bool.{or_cases, and_parts, eqb-true, false_from_ne_true}
+use Rattle.std.proofs.lemmas.Bool.{and_parts, eqb-true, false_from_ne_true}
 use Rattle.gcx_base.specs.declared.kind.Kind.{Kind}
 use Rattle.gcx_base.specs.declared.kind.Kind.TheVariants.{Document, Element, Text}
 use Rattle.gcx_base.specs.declared.steps.Step.{Step}
@@ -17,10 +17,11 @@ use Rattle.gcx_model.specs.Past.{Past, IsPast, open_nodes, open_from, Opens, IsL
 use Rattle.tree_laws.proofs.Lists.{In, In-append, In-left, In-right, any_in, filter_none}
 use Rattle.tree_laws.proofs.Matches.{Grown-grow, Numbered-high, Matches-in, Matches-from, added, grow_nodes}
 use Rattle.tree_laws.proofs.Chains.{above_in}
+use Rattle.tree_laws.proofs.Growing.{level_above}
 use Rattle.past_laws.proofs.Ahead.{new_node, first_behind}
 use Rattle.past_laws.proofs.PastForms.{past_feeds}
+use Rattle.past_laws.proofs.Awaited.{within_low}
 use Rattle.gcx_base.specs.Kinds.{is_text}
-use Rattle.matcher.proofs.Upwards.{level_above}
 
 nodes_of : (P : Tree) (a : Node) → P.at ≡ Some a → (kind : Kind) → IsNode kind → (grow (token_for kind) P).nodes ≡ P.nodes ++ Under a (length P.nodes) kind ∷ []
 nodes_of P a at Document n = absurd n
@@ -63,13 +64,6 @@ module _ (P : Tree) (w : Grown P) (a : Node) (at : P.at ≡ Some a) (kind : Kind
 tail_level : (n : Node) (xs : List Node) (a : Node) → above n ≡ n ∷ xs → In a xs → level a < level n
 tail_level Root xs a e i = let f : [] ≡ xs = cc in absurd (subst (λ (z : List Node). In a z) (sym f) i)
 tail_level (Under p s k) xs a e i = let f : above p ≡ xs = cc in let l = level_above p a (subst (λ (z : List Node). In a z) (sym f) i) in omega arith
-
-within_low : (P : Tree) → Grown P → (k : ℕ) (n : Node) → In n P.nodes → within k n ≡ true → k ≤ serial_of n
-within_low P w k Root i h = let e = eqb-true 0 k h in omega arith
-within_low P w k (Under p s d) i h = elim (or_cases (eqb s k) (within k p) h) [
-  | inl e ↦ (let f = eqb-true s k e in omega arith)
-  | inr e ↦ (let f = within_low P w k p (w.upward p s d i) e in let g = w.below p s d i in omega arith)
-]
 
 head_cases : {X : Type 0} (xs : List X) → (head xs ≡ None) ⊎ ((x : X) × (head xs ≡ Some x) × In x xs)
 head_cases [] = inl refl

@@ -14,7 +14,7 @@ use Rattle.gcx_model.specs.Nodes.{Grown}
 use Rattle.gcx_model.specs.Core.{RoleKind, Own, First, Whole, RoleRowTree, PlanTree}
 use Rattle.gcx_model.specs.ItemView.{role_kind}
 use Rattle.gcx_model.specs.Held.{path_of}
-use Rattle.gcx_model.specs.Placed.{row_at}
+use Rattle.placed_laws.proofs.Unique.{row_there}
 use Rattle.tree_laws.proofs.Lists.{In}
 use Rattle.matcher.specs.Lists.{From, Gains, Holds}
 use Rattle.matcher.specs.Spots.{IsBelow, IsEnd, AreSpots, kind_with, tail_with}
@@ -25,11 +25,6 @@ use Rattle.matcher.specs.declared.spots.Spots.{Spots}
 use Rattle.matcher.specs.declared.spots.Way.{Way}
 use Rattle.matcher.proofs.Leading.{Led, last_to, last_from}
 use Rattle.matcher.proofs.Looking.{some_at, one_at, in_some, in_not_none}
-
-pub row_there : (rs : List RoleRowTree) (r : ℕ) → r < length rs → (row : RoleRowTree) × (row_at rs r ≡ Some row)
-row_there [] r l = absurd (omega arith)
-row_there (x ∷ rs) zero l = (x, refl)
-row_there (x ∷ rs) (suc r) l = let m : r < length rs = omega arith in row_there rs r m
 
 pub whole_tail : (k : RoleKind) (tail : List Step) → kind_with k tail ≡ Whole → tail_with k tail ≡ tail
 whole_tail Own tail e = absurd (cc)

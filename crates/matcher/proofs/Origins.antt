@@ -16,6 +16,7 @@ use Rattle.gcx_model.specs.Core.{PlanTree}
 use Rattle.tree_laws.proofs.Lists.{In}
 use Rattle.tree_laws.proofs.Matches.{Numbered-same}
 use Rattle.tree_laws.proofs.Chains.{above_in, above_trans, hits_one, hits_one_from}
+use Rattle.tree_laws.proofs.Growing.{level_above}
 use Rattle.need_laws.proofs.Frames.{hits-append}
 use Rattle.matcher.specs.Lists.{Holds}
 use Rattle.matcher.specs.Spots.{AreSpots}
@@ -27,7 +28,7 @@ use Rattle.matcher.specs.declared.row.Rows.{Rows}
 use Rattle.matcher.specs.Parts.{hits_at}
 use Rattle.matcher.proofs.Leading.{split}
 use Rattle.matcher.proofs.Looking.{some_at}
-use Rattle.matcher.proofs.Upwards.{level_above, level_same, child_from, child_to, below_from, below_to}
+use Rattle.matcher.proofs.Upwards.{level_same, child_from, child_to, below_from, below_to}
 
 -- a list with one more at its end, seen as two parts the second of which isn't empty
 pub last_part : (base ss xs : List Step) (x : Step) (k : ℕ) → xs ++ x ∷ [] ≡ base ++ ss → length ss ≡ suc k → (rest : List Step) × (ss ≡ rest ++ x ∷ []) × (xs ≡ base ++ rest) × (length rest ≡ k)

@@ -7,11 +7,12 @@ use Rattle.gcx_model.specs.Paths.{hits, first, matches}
 use Rattle.gcx_model.specs.Nodes.{Grown}
 use Rattle.gcx_model.specs.Core.{RoleKind, Own, First, Whole}
 use Rattle.gcx_model.specs.Held.{is_node, gives}
+use Rattle.base_laws.proofs.Members.{head_in}
 use Rattle.tree_laws.proofs.Lists.{In, any_in, any_from}
 use Rattle.tree_laws.proofs.Matches.{Numbered-same, Matches-in, Matches-from}
 use Rattle.tree_laws.proofs.Chains.{above_in, above_trans, above_self, hits_above}
 use Rattle.need_laws.proofs.Frames.{hits-append}
-use Rattle.past_laws.proofs.Bases.{head_in, node_is}
+use Rattle.past_laws.proofs.Bases.{node_is}
 use Rattle.matcher.specs.Spots.{kind_with}
 use Rattle.matcher.proofs.Leading.{split}
 use Rattle.matcher.proofs.GivenRoles.{self_first}

@@ -14,7 +14,7 @@ use Rattle.tree_laws.proofs.Lists.{In, In-left, In-right, In-append}
 use Rattle.tree_laws.proofs.Matches.{Numbered-same, Matches-in}
 use Rattle.tree_laws.proofs.Chains.{above_in}
 use Rattle.tree_laws.proofs.OffsSigned.{signed_is_off}
-use Rattle.past_laws.proofs.PastForms.{past_acts}
+use Rattle.past_laws.proofs.PastForms.{past_acts, offed_same}
 use Rattle.tree_laws.proofs.Fed.{grown_from}
 use Rattle.matcher.specs.Lists.{Gains}
 use Rattle.matcher.specs.Row.{IsRow}
@@ -46,9 +46,6 @@ same_signs m n past text e S = record {
   turn = subst InTurn (sym e) S.turn;
   fresh = S.fresh;
 }
-
-offed_same : (a b : OffTree) (i j : ℕ) → Offed a i ≡ Offed b j → (a ≡ b) × (i ≡ j)
-offed_same a b i j e = (cc, cc)
 
 sign_is : (a b : Sign) → a.role ≡ b.role → a.level ≡ b.level → a.steps ≡ b.steps → a ≡ b
 sign_is a b e f g = ap (λ (z : ℕ). record { role = z; level = a.level; steps = a.steps }) e ∙ (ap (λ (z : ℕ). record { role = b.role; level = z; steps = a.steps }) f ∙ ap (λ (z : ℕ). record { role = b.role; level = b.level; steps = z }) g)

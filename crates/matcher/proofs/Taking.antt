@@ -20,6 +20,7 @@ use Rattle.need_laws.proofs.Stays.{all_in, all_from}
 use Rattle.past_laws.proofs.Bases.{or_not}
 use Rattle.tree_laws.proofs.Fed.{grown_from}
 use Rattle.placed_laws.proofs.Told.{Told, told, given_told, taken_told}
+use Rattle.placed_laws.proofs.Unique.{row_below}
 use Rattle.placed_laws.proofs.PlanStatements.{one_statement_law}
 use Rattle.matcher.specs.Lists.{Climbs, Holds}
 use Rattle.matcher.specs.Spots.{IsWay}
@@ -32,7 +33,7 @@ use Rattle.matcher.specs.declared.spots.Way.{Way}
 use Rattle.matcher.proofs.Leading.{split}
 use Rattle.matcher.proofs.Looking.{in_some, one_at}
 use Rattle.matcher.proofs.Upwards.{level_same}
-use Rattle.matcher.proofs.GivenRoles.{climbs_filtered, row_within}
+use Rattle.matcher.proofs.GivenRoles.{climbs_filtered}
 use Rattle.matcher.proofs.Reaching.{gives_to, gives_from}
 use Rattle.matcher.proofs.Aheads.{innermost_in, given_target, target_given, base_of, of_base}
 
@@ -149,7 +150,7 @@ module _ (m : Matcher) (past : Past) (text : Bool) (s : Stands m past text) wher
       below y q =
           let g = (s.signs q.sign).0 q.member in
           let f = told_of g.off g.of in
-          subst (λ (z : ℕ). z < length past.plan.roles) (g.role ∙ q.of) (row_within past.plan.roles g.off.role f.row f.at)
+          subst (λ (z : ℕ). z < length past.plan.roles) (g.role ∙ q.of) (row_below past.plan.roles g.off.role f.row f.at)
 
 -- one sign more
 

@@ -9,14 +9,10 @@ use Rattle.gcx_model.specs.Growth.{level}
 use Rattle.tree_laws.proofs.Lists.{In}
 use Rattle.tree_laws.proofs.Matches.{Numbered-same}
 use Rattle.tree_laws.proofs.Chains.{above_in, above_trans, above_self}
+use Rattle.tree_laws.proofs.Growing.{level_above}
 use Rattle.matcher.proofs.Leading.{in_within, within_in}
 
 -- a node above another one lies at a lower level, and there is one node above at each level
-pub level_above : (m q : Node) → In q (above m) → level q ≤ level m
-level_above Root q (inl e) = let f = ap level e in omega arith
-level_above Root q (inr h) = absurd h
-level_above (Under p s k) q (inl e) = let f = ap level e in omega arith
-level_above (Under p s k) q (inr h) = let f = level_above p q h in omega arith
 
 pub level_same : (m a b : Node) → In a (above m) → In b (above m) → level a ≡ level b → a ≡ b
 level_same Root a b (inl e) (inl f) d = sym e ∙ f

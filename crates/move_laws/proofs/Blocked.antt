@@ -3,6 +3,7 @@ use Rattle.std.proofs.Common.{◌≡◌, ℕ, Bool, true, false, List, [], ◌�
 use Rattle.std.specs.Prelude.{drop}
 use Rattle.std.proofs.lemmas.List.{append-nil}
 use Rattle.std.proofs.lemmas.Bool.{true≢false}
+use Rattle.std.proofs.Math.Seq.{drop-append_seam}
 use Rattle.gcx_base.specs.declared.steps.Step.{Step}
 use Rattle.gcx_model.specs.Tree.{Node, serial_of, Tree, is_closed}
 use Rattle.gcx_model.specs.Paths.{hits, matches}
@@ -13,7 +14,8 @@ use Rattle.gcx_model.specs.Truth.{Env, bind_var, truth}
 use Rattle.gcx_model.specs.Run.{Action, Out, idle, seq, loop, copy, choose, run_item, run}
 use Rattle.tree_laws.proofs.Matches.{Grown, Rising, Rising-filter}
 use Rattle.need_laws.proofs.Balance.{seq_both}
-use Rattle.point_laws.proofs.PointForms.{Frame, Rest, Round, Part, IsPoint, Begins, Past, InLoop, InYes, InNo, InCopy, body_at, later, later_is, behind, seq-done, drop-front}
+use Rattle.point_laws.proofs.PointForms.{Frame, Rest, Round, Part, IsPoint, Begins, Past, InLoop, InYes, InNo, InCopy, body_at, later, later_is, behind, seq-done}
+use Rattle.point_laws.proofs.Prefix.{seq_wait}
 
 -- the top frame waits: for a condition, for the first match of a loop, for a later one, or within a copy
 pub data IsBlocked (P : Tree) (fs : List Frame) : Type 0 where
@@ -27,9 +29,6 @@ under P fs gs (AtBranch c a b d env below e t) = AtBranch c a b d env (below ++ 
 under P fs gs (AtLoop x y s e d env below f m o) = AtLoop x y s e d env (below ++ gs) (ap (λ z. z ++ gs) f) m o
 under P fs gs (AtRound v x y s e env n below f m o) = AtRound v x y s e env n (below ++ gs) (ap (λ z. z ++ gs) f) m o
 under P fs gs (AtCopy x env made below e o) = AtCopy x env made (below ++ gs) (ap (λ z. z ++ gs) e) o
-
-seq_wait : (a b : Out) → a.done ≡ false → seq a b ≡ a
-seq_wait a b e = rw e refl
 
 acts_both : (a b : Out) → a.done ≡ true → (seq a b).acts ≡ a.acts ++ b.acts
 acts_both a b e = ap (λ (z : Out). z.acts) (seq-done a b e)
@@ -78,7 +77,7 @@ module _ (P : Tree) (w : Grown P) where
   with_acts d env a b e r = (r.0, subst (λ (z : List Action). IsPoint P d env z r.0) e r.1, r.2)
 
   behind_all : (o : Out) → o.done ≡ false → behind (length o.acts) o ≡ idle false
-  behind_all o e = rw e (ap (λ z. record { acts = z; done = false }) (ap (drop (length o.acts)) (sym (append-nil o.acts)) ∙ drop-front o.acts []))
+  behind_all o e = rw e (ap (λ z. record { acts = z; done = false }) (ap (drop (length o.acts)) (sym (append-nil o.acts)) ∙ drop-append_seam o.acts []))
 
   mutual
     blocked_item : (i : ItemTree) (d : BodyTree) (env : Env) → (run_item i env P).done ≡ false → Blocked (Then i d) env (run_item i env P).acts

@@ -22,14 +22,15 @@ use Rattle.tree_laws.proofs.Lists.{In, In-left, In-right, In-filter}
 use Rattle.tree_laws.proofs.Matches.{Grown, Matches-in}
 use Rattle.tree_laws.proofs.Freeze.{within_self, within_trans}
 use Rattle.std.proofs.lemmas.Bool.{eq-eqb}
-use Rattle.point_laws.proofs.PointForms.{resume, after, after-after, seq-after, drop-front}
+use Rattle.std.proofs.Math.Seq.{drop-append_seam}
+use Rattle.point_laws.proofs.PointForms.{resume, after, after-after, seq-after}
 use Rattle.point_laws.proofs.Turns.{enter_copy}
 use Rattle.point_laws.proofs.Copies.{copying, copy_on, copy_over}
 use Rattle.tree_laws.proofs.Growing.{fed_all}
-use Rattle.tree_laws.proofs.Fed.{grown_from}
+use Rattle.tree_laws.proofs.Fed.{grown_from, root_from}
 use Rattle.point_laws.proofs.RunForms.{reached_leads, point_law}
 use Rattle.placed_laws.proofs.PointNeeds.{need_law}
-use Rattle.move_laws.proofs.Keeping.{root_of, point_stays, matches_kept}
+use Rattle.move_laws.proofs.Keeping.{point_stays, matches_kept}
 use Rattle.move_laws.proofs.Moving.{take_next, no_more, one_action, points_are_stacks}
 use Rattle.move_laws.proofs.CopyFrames.{at_once, Top, top, step_over, Up, up, copy_is, child_in, mid_in, next_is, comes, goes_on, closes}
 use Rattle.move_laws.proofs.CopyCut.{copy_is_cut, within_all}
@@ -74,14 +75,14 @@ module _ (plan : PlanTree) (P : Tree) (k : ℕ) (l : Leads opening P) where
 
   -- the variables of the top frame
   rest_binds : (d : BodyTree) (env : Env) (fs : List Frame) → PointAt plan P k (Rest d env ∷ fs) → Binds P env
-  rest_binds d env fs st = (frames_bind P plan.body env0 (so_far plan P k) (Rest d env ∷ fs) st (λ x. root_of P l)).0
+  rest_binds d env fs st = (frames_bind P plan.body env0 (so_far plan P k) (Rest d env ∷ fs) st (λ x. root_from P l)).0
 
   part_binds : (x : ℕ) (env : Env) (made : ℕ) (fs : List Frame) → PointAt plan P k (Part x env made ∷ fs) → Binds P env
-  part_binds x env made fs st = (frames_bind P plan.body env0 (so_far plan P k) (Part x env made ∷ fs) st (λ x. root_of P l)).0
+  part_binds x env made fs st = (frames_bind P plan.body env0 (so_far plan P k) (Part x env made ∷ fs) st (λ x. root_from P l)).0
 
   -- of a copy behind some actions
   behind_is : (made : List Action) (o whole : Out) → whole ≡ after made o → behind (length made) whole ≡ o
-  behind_is made o whole e = ap (behind (length made)) e ∙ ap (λ z. record { acts = z; done = o.done }) (drop-front made o.acts)
+  behind_is made o whole e = ap (behind (length made)) e ∙ ap (λ z. record { acts = z; done = o.done }) (drop-append_seam made o.acts)
 
   -- the run, from a point within a copy
   pub fine_run : (inner : List CopyFrame) (fs : List Frame) → FinePoint plan P k inner fs → run plan.body env0 P ≡ after (so_far plan P k) (seq (copy_left P inner) (to_come P fs))
@@ -119,7 +120,7 @@ module _ (plan : PlanTree) (P : Tree) (k : ℕ) (l : Leads opening P) where
 copy_done : (plan : PlanTree) (P : Tree) (k : ℕ) (x : ℕ) (env : Env) (made : List Action) (fs : List Frame) → PointAt plan P k (Part x env (length made) ∷ fs) → copy_all P (env x) ≡ at_once made → PointAt plan P k fs
 copy_done plan P k x env made fs st e =
     copy_over P plan.body env0 (so_far plan P k) x env (length made) fs st
-    (ap (λ (z : Out). drop (length made) z.acts) e ∙ (ap (drop (length made)) (sym (append-nil made)) ∙ drop-front made [])) (ap (λ (z : Out). z.done) e)
+    (ap (λ (z : Out). drop (length made) z.acts) e ∙ (ap (drop (length made)) (sym (append-nil made)) ∙ drop-append_seam made [])) (ap (λ (z : Out). z.done) e)
 
 pub fine_resume : FineResume
 fine_resume plan P k inner fs st = let e = fine_run plan P k st.grown inner fs st.point in (ap (λ (z : Out). z.acts) e, ap (λ (z : Out). z.done) e)

@@ -4,12 +4,13 @@ use Rattle.std.specs.Prelude.{take}
 use Rattle.std.specs.List.{filter}
 use Rattle.std.proofs.lemmas.List.{append-nil, length-append}
 use Rattle.gcx_base.specs.declared.steps.Step.{Step}
-use Rattle.gcx_model.specs.Tree.{Node, Root, serial_of, Tree, Token, opening, grow, grow_all, is_closed}
+use Rattle.gcx_model.specs.Tree.{Node, serial_of, Tree, Token, opening, grow, grow_all, is_closed}
 use Rattle.gcx_model.specs.Paths.{hits, matches, head, value}
 use Rattle.gcx_model.specs.Core.{PlanTree}
 use Rattle.gcx_model.specs.Run.{Action, Out, run, env0}
 use Rattle.gcx_model.specs.Growth.{Leads, stays, more}
 use Rattle.gcx_model.specs.Points.{actions, so_far, here, fed, acted, later, IsPoint}
+use Rattle.base_laws.proofs.Members.{filter_all}
 use Rattle.move_laws.specs.Kept.{TruthKept, CopyKept, MatchesKept, LaterKept, FirstKept, ClosedStays, ReachedGrows, TakenAreThere, SoFarStays, PointStays}
 use Rattle.point_laws.proofs.Prefix.{Before, Same, More}
 use Rattle.point_laws.proofs.Whole.{run_grows_all}
@@ -19,7 +20,7 @@ use Rattle.tree_laws.proofs.Freeze.{stays_closed, Matches-closed, value_closed}
 use Rattle.tree_laws.proofs.Held.{filter_comm}
 use Rattle.need_laws.proofs.Pruned as pruned
 use Rattle.need_laws.proofs.Waits.{stands_all, root_bound}
-use Rattle.tree_laws.proofs.Fed.{nodes_stay, root_in, grown_from, from_tokens}
+use Rattle.tree_laws.proofs.Fed.{nodes_stay, grown_from, root_from}
 use Rattle.tree_laws.proofs.Growing.{fed_all}
 use Rattle.point_laws.proofs.RunForms.{reached_leads}
 
@@ -32,13 +33,13 @@ pub copy_kept : CopyKept
 copy_kept P w keep n i h most = pruned.copy_kept P w keep most n i h
 
 pub matches_kept : MatchesKept
-matches_kept P keep n path h = filter_comm (hits n path) keep P.nodes ∙ pruned.filter_all keep (matches P n path) h
+matches_kept P keep n path h = filter_comm (hits n path) keep P.nodes ∙ filter_all keep (matches P n path) h
 
 pub later_kept : LaterKept
 later_kept P keep n path present h =
     ap (later present) (filter_comm (hits n path) keep P.nodes)
     ∙ (filter_comm (λ m. ltb (serial_of present) (serial_of m)) keep (matches P n path)
-    ∙ pruned.filter_all keep (later present (matches P n path)) h)
+    ∙ filter_all keep (later present (matches P n path)) h)
 
 head_kept : (keep : Node → Bool) (ms : List Node) → ((m : Node) → head ms ≡ Some m → keep m ≡ true) → head (filter keep ms) ≡ head ms
 head_kept keep [] h = refl
@@ -65,14 +66,11 @@ closed_stays P Q l m n i c =
     let h = fed_all P Q m in
     subst (λ (z : Tree). Keeps P z n) (sym h.2) (closed_all h.0 P (grown_from P l) n i c)
 
-pub root_of : (P : Tree) → Leads opening P → In Root P.nodes
-root_of P l = from_tokens (λ z. In Root z.nodes) root_in P l
-
 actions_grow : (plan : PlanTree) (P Q : Tree) → Leads opening P → Leads P Q → (rest : List Action) × (actions plan Q ≡ actions plan P ++ rest)
 actions_grow plan P Q l m =
     let h = fed_all P Q m in
     let w : Grown P = grown_from P l in
-    subst (λ (z : Tree). (rest : List Action) × (actions plan z ≡ actions plan P ++ rest)) (sym h.2) (go (grow_all h.0 P) (run_grows_all h.0 P w plan.body env0 (root_bound P w (root_of P l))))
+    subst (λ (z : Tree). (rest : List Action) × (actions plan z ≡ actions plan P ++ rest)) (sym h.2) (go (grow_all h.0 P) (run_grows_all h.0 P w plan.body env0 (root_bound P w (root_from P l))))
   where
     go : (Q : Tree) → Before (run plan.body env0 P) (run plan.body env0 Q) → (rest : List Action) × (actions plan Q ≡ actions plan P ++ rest)
     go Q (Same e) = ([], ap (λ (z : Out). z.acts) (sym e) ∙ sym (append-nil (actions plan P)))
@@ -102,5 +100,5 @@ pub point_stays : PointStays
 point_stays plan P Q k l m b fs st =
     let h = fed_all P Q m in
     let w : Grown P = grown_from P l in
-    let st' : IsPoint Q plan.body env0 (so_far plan P k) fs = subst (λ (z : Tree). IsPoint z plan.body env0 (so_far plan P k) fs) (sym h.2) (stands_all h.0 P w plan.body env0 (so_far plan P k) fs (root_bound P w (root_of P l)) st) in
+    let st' : IsPoint Q plan.body env0 (so_far plan P k) fs = subst (λ (z : Tree). IsPoint z plan.body env0 (so_far plan P k) fs) (sym h.2) (stands_all h.0 P w plan.body env0 (so_far plan P k) fs (root_bound P w (root_from P l)) st) in
     subst (λ (z : List Action). IsPoint Q plan.body env0 z fs) (sym (so_far_stays plan P Q k l m b)) st'

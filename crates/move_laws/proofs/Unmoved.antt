@@ -22,10 +22,11 @@ use Rattle.gcx_model.specs.Needs.{Needs}
 use Rattle.gcx_model.specs.Points.{actions, so_far, CoreState, fed, Frame, Rest, Round, Part, later, behind, to_come, IsPoint, PointAt}
 use Rattle.move_laws.specs.Moves.{NoneLeft}
 use Rattle.gcx_model.specs.Past.{Opens}
+use Rattle.base_laws.proofs.Members.{filter_all}
 use Rattle.move_laws.specs.Quiet.{by_opening, by_closing, QuietToken}
 use Rattle.tree_laws.proofs.Lists.{In-left, In-append, In-filter, In-kept, any_in, filter_none}
 use Rattle.tree_laws.proofs.Matches.{Numbered-same, Numbered-high, Matches-in, added, grow_nodes}
-use Rattle.need_laws.proofs.Pruned.{pruned, filter_all}
+use Rattle.need_laws.proofs.Pruned.{pruned}
 use Rattle.need_laws.proofs.Need.{needs_live}
 use Rattle.need_laws.proofs.CoreStates as states
 use Rattle.tree_laws.proofs.Fed.{tree, grown, root_in, grown_from, root_from}

@@ -21,6 +21,7 @@ use Rattle.gcx_model.specs.Variables.{Var, var_tree, vars}
 use Rattle.gcx_model.specs.Roles.{roles_of}
 use Rattle.gcx_model.specs.Placed.{at_end, offs_body, add_offs, place, offs_of, of_role}
 use Rattle.gcx_model.specs.Cores.{BodyIn, Good}
+use Rattle.base_laws.proofs.Members.{in_take}
 use Rattle.tree_laws.proofs.Lists.{In, Once, In-append, In-filter, In-kept, any_in, any_from, filter_none}
 use Rattle.tree_laws.proofs.Matches.{Grown, Grown-grow, Grown-opening, Grown-all, Matches-from}
 use Rattle.tree_laws.proofs.Chains.{chain_hits, one_desc}
@@ -173,12 +174,6 @@ plan_way core good o i = picked_way core good (off_eq o) o i (off_refl o) (λ q 
 pub role_way : (core : BodyTree) → Good core → (o : OffTree) → In o (offs_of core) → Way (of_role o.role) o.base 0 (reading core).body (var_tree core o.base).path × (one_desc (var_tree core o.base).path ≡ true)
 role_way core good o i = picked_way core good (of_role o.role) o i (eq-eqb o.role o.role refl) (λ q j n. ne_eqb q.role o.role (λ e. n (same_role (var_tree core) (roles_of core) 0 (roles_of core) q o j i e)))
 
-In-take : {X : Type 0} (k : ℕ) (xs : List X) (x : X) → In x (take k xs) → In x xs
-In-take zero xs x h = absurd h
-In-take (suc k) [] x h = absurd h
-In-take (suc k) (y ∷ ys) x (inl e) = inl e
-In-take (suc k) (y ∷ ys) x (inr i) = inr (In-take k ys x i)
-
 pub offed_sig : (o : OffTree) (n : ℕ) (xs : List Action) → In (Offed o n) xs → In n (sig (off_eq o) xs)
 offed_sig o n [] i = absurd i
 offed_sig o n (x ∷ xs) (inl e) = subst (λ (z : Action). In n (sig (off_eq o) (z ∷ xs))) (sym e) (rw (off_refl o) (inl refl))
@@ -237,7 +232,7 @@ once_take p (suc k) (Offed o m ∷ xs) h = go (p o) (once_take p k xs) h
 -- The once law. No two of the first k actions are the same Off.
 pub once : (core : BodyTree) → Good core → (ts : List Token) (k : ℕ) → Once (filter is_taking (so_far core (tree ts) k))
 once core good ts k = once_from (so_far core (tree ts) k) (λ o n i.
-    let w = plan_way core good o (plan_takes core good (tree ts) o n (In-take k (actions core (tree ts)) (Offed o n) i)) in
+    let w = plan_way core good o (plan_takes core good (tree ts) o n (in_take k (actions core (tree ts)) (Offed o n) i)) in
     once_take (off_eq o) k (actions core (tree ts)) (way_once (tree ts) (grown ts) (off_eq o) o.base 0 (reading core).body (var_tree core o.base).path w.0 env0 (root_in ts) w.1))
 
 -- Each Off of them is a statement of the plan, at a match of its base's path.
@@ -245,7 +240,7 @@ pub once_at : (core : BodyTree) → Good core → (ts : List Token) (k : ℕ) (s
     → In s (reading core).offs × ((n : Node) × In n (matches (tree ts) 0 ((reading core).paths s.base)) × (serial_of n ≡ m))
 once_at core good ts k s m i =
     let P : Tree = tree ts in
-    let j = In-take k (actions core P) (Offed s m) i in
+    let j = in_take k (actions core P) (Offed s m) i in
     let t = plan_takes core good P s m j in
     let w = plan_way core good s t in
     let r = way_sig P (grown ts) (off_eq s) s.base 0 (reading core).body (var_tree core s.base).path w.0 env0 m (offed_sig s m (actions core P) j) in

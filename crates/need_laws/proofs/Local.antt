@@ -1,5 +1,5 @@
 -- What the buffer tests at one node, and what the evaluator reads from the rows that are kept.
-use Rattle.std.proofs.Common.{◌≡◌, ℕ, Bool, true, ◌&&◌, List, [], ◌∷◌, refl, sym, ◌∙◌, ap, subst, inl, inr, ◌⊎◌, eqb, ltb}
+use Rattle.std.proofs.Common.{◌≡◌, ℕ, true, ◌&&◌, List, refl, sym, ◌∙◌, ap, subst, inl, inr, ◌⊎◌, eqb, ltb}
 use Rattle.std.specs.List.{filter}
 use Rattle.std.proofs.lemmas.Bool.{or_cases, or_right, and_parts, and_from, eqb-true, eq-eqb}
 use Rattle.gcx_model.specs.Tree.{Node, Root, Under, serial_of, above, within, Tree, is_open_at}
@@ -7,6 +7,7 @@ use Rattle.tree_laws.proofs.Reading.{is_child_of, Reading, held, is_held, is_liv
 use Rattle.gcx_model.specs.Paths.{any, hits, matches}
 use Rattle.gcx_base.specs.declared.steps.Step.{Step}
 use Rattle.gcx_model.specs.Run.{Action}
+use Rattle.base_laws.proofs.Members.{filter_all}
 use Rattle.tree_laws.proofs.Lists.{In, any_in, any_from}
 use Rattle.tree_laws.proofs.Matches.{Grown, Numbered-same}
 use Rattle.tree_laws.proofs.Freeze.{within_self, within_above}
@@ -50,10 +51,6 @@ held_local p P A w n i h = elim (or_cases (is_open_at P.at (serial_of n)) (any (
         )
       ])
 ]
-
-filter_all : {X : Type 0} (q : X → Bool) (xs : List X) → ((x : X) → In x xs → q x ≡ true) → filter q xs ≡ xs
-filter_all q [] h = refl
-filter_all q (x ∷ xs) h = rw (h x (inl refl)) (ap (λ z. x ∷ z) (filter_all q xs (λ y i. h y (inr i))))
 
 -- where each later match is held, the kept rows show the same later matches
 pub later_held : (p : Reading) (P : Tree) (A : List Action) (n : ℕ) (path : List Step) (present : Node) → ((m : Node) → In m (later present (matches P n path)) → is_held p P A m ≡ true) → later present (filter (hits n path) (held p P A)) ≡ later present (matches P n path)

@@ -6,16 +6,13 @@ use Rattle.gcx_model.specs.Paths.{hits, matches}
 use Rattle.gcx_model.specs.Core.{ItemTree, For, Off, BodyTree, Then, OffTree}
 use Rattle.gcx_model.specs.Truth.{Env, bind_var}
 use Rattle.gcx_model.specs.Run.{Out, loop, seq, seq_if, run_item, run}
+use Rattle.base_laws.proofs.Members.{none_in}
 use Rattle.tree_laws.proofs.Lists.{In}
 use Rattle.tree_laws.proofs.Matches.{Grown, Rising-filter, Numbered-same, Matches-in}
 use Rattle.tree_laws.proofs.Chains.{chain_at, chain_hits, one_desc, one_way, one_desc_rest, Once, Once-append, Once-rising}
 use Rattle.need_laws.proofs.Signs.{sig, sig-append, sig-loop}
 use Rattle.point_laws.proofs.PointForms.{body_at}
 use Rattle.need_laws.proofs.Needed.{Own, Before, Itself, Way, Top, Skip, Here, quiet, quiet_item, quiet_sig, quiet_item_sig, way_sig, bound_at}
-
-pub none_is : {X : Type 0} (xs : List X) → ((x : X) → In x xs → ⊥) → xs ≡ []
-none_is [] h = refl
-none_is (x ∷ xs) h = absurd (h x (inl refl))
 
 Once-seq : (p : OffTree → Bool) (a b : Out) → Once (sig p a.acts) → Once (sig p b.acts) → ((m : ℕ) → In m (sig p a.acts) → In m (sig p b.acts) → ⊥) → Once (sig p (seq a b).acts)
 Once-seq p a b h j d = go a.done
@@ -32,7 +29,7 @@ Once-loop p f (n ∷ ns) over o h d =
 
 module _ (P : Tree) (w : Grown P) (p : OffTree → Bool) (b : ℕ) where
   none_item : (i : ItemTree) (env : Env) → quiet_item p i ≡ true → sig p (run_item i env P).acts ≡ []
-  none_item i env q = none_is _ (λ m h. quiet_item_sig P w p b i env m q h)
+  none_item i env q = none_in _ (λ m h. quiet_item_sig P w p b i env m q h)
 
   Once-none : {X : Type 0} (xs : List X) → xs ≡ [] → Once xs
   Once-none xs e = rw e tt
@@ -42,7 +39,7 @@ module _ (P : Tree) (w : Grown P) (p : OffTree → Bool) (b : ℕ) where
   Once-skip i d env q h = Once-seq p (run_item i env P) (run d env P) (Once-none _ (none_item i env q)) h (λ m j k. quiet_item_sig P w p b i env m q j)
 
   Once-last : (i : ItemTree) (d : BodyTree) (env : Env) → quiet p d ≡ true → Once (sig p (run_item i env P).acts) → Once (sig p (run (Then i d) env P).acts)
-  Once-last i d env q h = Once-seq p (run_item i env P) (run d env P) h (Once-none _ (none_is _ (λ m j. quiet_sig P w p b d env m q j))) (λ m j k. quiet_sig P w p b d env m q k)
+  Once-last i d env q h = Once-seq p (run_item i env P) (run d env P) h (Once-none _ (none_in _ (λ m j. quiet_sig P w p b d env m q j))) (λ m j k. quiet_sig P w p b d env m q k)
 
   own_once : (d : BodyTree) (env : Env) → Own p b d → Once (sig p (run d env P).acts)
   own_once d env (Before {i = i} {d = rest} q o) = Once-skip i rest env q (own_once rest env o)

@@ -11,6 +11,7 @@ use Rattle.gcx_model.specs.Placed.{is_own, statement, statements, at_end, offs_b
 use Rattle.tree_laws.proofs.Reading.{reading}
 use Rattle.gcx_model.specs.Members.{count}
 use Rattle.gcx_model.specs.Cores.{operand_in, cond_in, conds_in, BodyIn, Good}
+use Rattle.base_laws.proofs.Numbers.{once_count}
 use Rattle.tree_laws.proofs.Lists.{In, Once, In-left, In-right, In-append, In-filter, In-kept}
 use Rattle.tree_laws.proofs.Chains.{one_desc, Once-append}
 use Rattle.need_laws.proofs.Needed.{quiet, quiet_item, Own, Before, Itself, Way, Top, Skip, Here}
@@ -64,12 +65,8 @@ In-count k zero z i = absurd i
 In-count k (suc n) z (inl e) = omega arith
 In-count k (suc n) z (inr i) = let h = In-count (suc k) n z i in omega arith
 
-Once-count : (k n : ℕ) → Once (count k n)
-Once-count k zero = tt
-Once-count k (suc n) = (λ i. let h = In-count (suc k) n k i in absurd (omega arith), Once-count (suc k) n)
-
 pub good_once : (core : BodyTree) → Good core → Once (vars core)
-good_once core g = subst (λ (z : List ℕ). Once z) (sym g.numbered) (Once-count 1 (length (vars core)))
+good_once core g = subst (λ (z : List ℕ). Once z) (sym g.numbered) (once_count 1 (length (vars core)))
 
 pub good_not_zero : (core : BodyTree) → Good core → In 0 (vars core) → ⊥
 good_not_zero core g i = let h = In-count 1 (length (vars core)) 0 (subst (λ (z : List ℕ). In 0 z) g.numbered i) in absurd (omega arith)

@@ -10,6 +10,7 @@ use Rattle.gcx_model.specs.Core.{CondTree, Always, Exists, Compare, Not, All, An
 use Rattle.gcx_model.specs.Truth.{Env, node_value, settled_values, is_over, settle, negate, truth, truth_all, truth_any}
 use Rattle.gcx_model.specs.Answer.{is_any, children, child_step}
 use Rattle.gcx_model.specs.Run.{Out, loop, copy, copy_with}
+use Rattle.base_laws.proofs.Members.{map_same, filter_all}
 use Rattle.tree_laws.proofs.Lists.{In, In-filter}
 use Rattle.tree_laws.proofs.Matches.{Grown, Matches-in}
 use Rattle.tree_laws.proofs.Freeze.{within_self, within_trans, hits_within}
@@ -20,10 +21,6 @@ use Rattle.need_laws.proofs.Need.{Operand_needs, Cond_needs, Conds_need}
 abbrev pub pruned : (Node → Bool) → Tree → Tree
 pruned keep P = record { nodes = filter keep P.nodes; at = P.at }
 
-pub filter_all : {X : Type 0} (q : X → Bool) (xs : List X) → ((x : X) → In x xs → q x ≡ true) → filter q xs ≡ xs
-filter_all q [] h = refl
-filter_all q (x ∷ xs) h = rw (h x (inl refl)) (ap (λ z. x ∷ z) (filter_all q xs (λ y i. h y (inr i))))
-
 -- what the nodes that don't pass would add is nothing
 flat_map_kept : {X A : Type 0} (f : X → List A) (keep : X → Bool) (xs : List X) → ((x : X) → In x xs → (keep x ≡ true) ⊎ (f x ≡ [])) → flat_map f (filter keep xs) ≡ flat_map f xs
 flat_map_kept f keep [] h = refl
@@ -33,10 +30,6 @@ flat_map_kept f keep (x ∷ xs) h = go (keep x) refl (h x (inl refl)) (flat_map_
     go true e k ih = ap (λ z. f x ++ z) ih
     go false e (inl k) ih = absurd (true≢false (sym k ∙ e))
     go false e (inr k) ih = rw k ih
-
-pub map_same : {X Y : Type 0} (f g : X → Y) (xs : List X) → ((x : X) → In x xs → f x ≡ g x) → map f xs ≡ map g xs
-map_same f g [] h = refl
-map_same f g (x ∷ xs) h = rw (h x (inl refl), map_same f g xs (λ y i. h y (inr i))) refl
 
 pub loop_same : (f g : Node → Out) (ns : List Node) (over : Bool) → ((n : Node) → In n ns → f n ≡ g n) → loop f ns over ≡ loop g ns over
 loop_same f g [] over h = refl

@@ -2,6 +2,7 @@
 use Rattle.std.proofs.Common.{◌≡◌, ℕ, ◌<◌, ◌≤◌, Bool, true, false, cond, not, ◌&&◌, ◌||◌, List, [], ◌∷◌, ◌++◌, length, refl, sym, ◌∙◌, ap, subst, inl, inr, ◌⊎◌, arith, Some, None, Option}
 use Rattle.std.specs.List.{filter}
 use Rattle.std.proofs.lemmas.Bool.{or_cases, or_left, or_right, or_from, and_parts, and_from, true≢false, false≢true, ne_eqb, not-true, false_from_ne_true, cases_Bool}
+use Rattle.std.proofs.Math.Bool.{or-false}
 use Rattle.gcx_model.specs.Tree.{Node, Root, Under, serial_of, above, within, Tree, Token, Start, Chars, End, grow, is_open_at}
 use Rattle.gcx_model.specs.Paths.{any, all, hits, matches, first, head}
 use Rattle.gcx_base.specs.declared.steps.Step.{Step}
@@ -29,10 +30,6 @@ any_none p (x ∷ xs) h = rw (h x (inl refl)) (any_none p xs (λ y i. h y (inr i
 pub any_same : {X : Type 0} (p q : X → Bool) (xs : List X) → ((x : X) → In x xs → p x ≡ q x) → any p xs ≡ any q xs
 any_same p q [] h = refl
 any_same p q (x ∷ xs) h = rw (h x (inl refl), any_same p q xs (λ y i. h y (inr i))) refl
-
-or-false : (a : Bool) → (a || false) ≡ a
-or-false true = refl
-or-false false = refl
 
 pub all_in : {X : Type 0} (p : X → Bool) (xs : List X) → all p xs ≡ true → (x : X) → In x xs → p x ≡ true
 all_in p [] h x i = absurd i

@@ -15,6 +15,7 @@ use Rattle.gcx_model.specs.Run.{Action, Wrote, Offed}
 use Rattle.gcx_model.specs.Placed.{is_own_kind, is_own, is_empty}
 use Rattle.gcx_model.specs.Held.{path_of, statement_of, is_node, gives, given, signed, reaches, all_signed, on_off, taken}
 use Rattle.gcx_model.specs.Past.{Past, IsPast, is_ahead, open_from, open_nodes, is_signed, parent_serial, Opens}
+use Rattle.base_laws.proofs.Members.{head_in}
 use Rattle.past_laws.specs.Pasts.{NewNode, FirstBehind, OpenNodes, NewUnsigned, AheadTakes, AheadSigned, AheadBefore}
 use Rattle.tree_laws.proofs.Lists.{In-append, In-filter, In-kept, any_in, filter_none}
 use Rattle.tree_laws.proofs.Matches.{Grown-grow, Numbered-high, Numbered-same, Matches-in, added, added_at, grow_nodes, Matches-grow}
@@ -24,7 +25,7 @@ use Rattle.need_laws.proofs.Stays.{all_in, all_from}
 use Rattle.tree_laws.proofs.Fed.{grown_from}
 use Rattle.tree_laws.proofs.OffsSigned.{signed_is_off}
 use Rattle.placed_laws.proofs.Told.{taken_told}
-use Rattle.past_laws.proofs.Bases.{head_in, node_is, or_not, is_grown, tells}
+use Rattle.past_laws.proofs.Bases.{node_is, or_not, is_grown, tells}
 
 pub all_same : {X : Type 0} (p q : X → Bool) (xs : List X) → ((x : X) → In x xs → p x ≡ q x) → all p xs ≡ all q xs
 all_same p q [] h = refl
@@ -55,7 +56,7 @@ added_only (Some p) End P n i = absurd i
 is_added : (P : Tree) (t : Token) (n : Node) → Opens P t n → In n (added t P)
 is_added P t n h = elim (In-append n P.nodes (added t P) (subst (λ (z : List Node). In n z) (grow_nodes t P) h.0)) [ inl i ↦ absurd (h.1 i) | inr i ↦ i ]
 
-open_is : (at : Option Node) (m : Node) → In m (open_from at) → is_open_at at (serial_of m) ≡ true
+pub open_is : (at : Option Node) (m : Node) → In m (open_from at) → is_open_at at (serial_of m) ≡ true
 open_is None m i = absurd i
 open_is (Some p) m i = open_above p m i
 

@@ -18,7 +18,7 @@ use Rattle.tree_laws.proofs.Matches.{Numbered-same}
 use Rattle.past_laws.proofs.Bases.{is_grown}
 
 -- an ancestor has no greater number
-within_low : (P : Tree) → Grown P → (k : ℕ) (n : Node) → In n P.nodes → within k n ≡ true → k ≤ serial_of n
+pub within_low : (P : Tree) → Grown P → (k : ℕ) (n : Node) → In n P.nodes → within k n ≡ true → k ≤ serial_of n
 within_low P w k Root i h = let e = eqb-true 0 k h in omega arith
 within_low P w k (Under p s d) i h = elim (or_cases (eqb s k) (within k p) h) [
   | inl e ↦ (let f = eqb-true s k e in omega arith)

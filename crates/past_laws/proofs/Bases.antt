@@ -1,5 +1,5 @@
 -- What the bases of a statement tell: where its role is live, and what it reaches over the held nodes.
-use Rattle.std.proofs.Common.{◌≡◌, ℕ, zero, suc, ◌+◌, ◌<◌, Bool, true, false, cond, not, ◌&&◌, ◌||◌, List, [], ◌∷◌, length, refl, sym, ◌∙◌, ap, subst, inl, inr, ◌⊎◌, arith, Some, None, Option}
+use Rattle.std.proofs.Common.{◌≡◌, ℕ, ◌+◌, ◌<◌, Bool, true, false, cond, not, ◌&&◌, ◌||◌, List, [], ◌∷◌, length, refl, sym, ◌∙◌, ap, subst, inl, inr, ◌⊎◌, arith, Some, None, Option}
 use Rattle.std.specs.List.{filter}
 use Rattle.std.proofs.lemmas.Bool.{or_cases, or_left, or_right, and_parts, and_from, true≢false, false≢true, eqb-true, eq-eqb, not-true, false_from_ne_true}
 use Rattle.std.proofs.lemmas.Bool.Decides.{same_from_decides}
@@ -12,6 +12,8 @@ use Rattle.gcx_model.specs.Run.{Action}
 use Rattle.gcx_model.specs.Placed.{offs_in}
 use Rattle.gcx_model.specs.Held.{path_of, is_node, gives, given, signed, reaches, all_signed, on_off, taken, live, is_live, is_held, held, held_tree}
 use Rattle.gcx_model.specs.Past.{Past, IsPast, is_signed}
+use Rattle.base_laws.proofs.Members.{head_in}
+use Rattle.base_laws.proofs.Numbers.{in_count}
 use Rattle.past_laws.specs.Pasts.{bases, LiveByBases, OwnTells, ReachHeld}
 use Rattle.tree_laws.proofs.Lists.{In-filter, In-kept, any_in, any_from}
 use Rattle.tree_laws.proofs.Matches.{Numbered-same, Matches-in, Matches-from}
@@ -23,7 +25,8 @@ use Rattle.need_laws.proofs.Frames.{gives_behind}
 use Rattle.tree_laws.proofs.Fed.{grown_from}
 use Rattle.placed_laws.proofs.PlanStatements.{one_statement_law}
 use Rattle.tree_laws.proofs.OffsSigned.{signed_is_off}
-use Rattle.placed_laws.proofs.Told.{Told, told, row_below, given_told, taken_told}
+use Rattle.placed_laws.proofs.Told.{Told, told, given_told, taken_told}
+use Rattle.placed_laws.proofs.Unique.{row_below}
 
 pub all_fails : {X : Type 0} (p : X → Bool) (xs : List X) → all p xs ≡ false → (x : X) × In x xs × (p x ≡ false)
 all_fails p [] h = absurd (true≢false h)
@@ -41,11 +44,6 @@ pub or_not : (a b : Bool) → (not a || b) ≡ true → a ≡ true → b ≡ tru
 or_not true b h e = h
 or_not false b h e = absurd (false≢true e)
 
-pub In-count-from : (k n j : ℕ) → j < n → In (k + j) (count k n)
-In-count-from k zero j l = absurd (omega arith)
-In-count-from k (suc n) zero l = inl (omega arith)
-In-count-from k (suc n) (suc j) l = let e : suc k + j ≡ k + suc j = omega arith in inr (subst (λ (z : ℕ). In z (count (suc k) n)) e (In-count-from (suc k) n j (omega arith)))
-
 head_kept : {X : Type 0} (q : X → Bool) (xs : List X) (x : X) → head xs ≡ Some x → q x ≡ true → head (filter q xs) ≡ Some x
 head_kept q [] x h e = absurd (cc)
 head_kept q (y ∷ ys) x h e =
@@ -55,10 +53,6 @@ head_kept q (y ∷ ys) x h e =
 some_first : {X : Type 0} (xs : List X) (x : X) → In x xs → (y : X) × (head xs ≡ Some y) × In y xs
 some_first [] x i = absurd i
 some_first (y ∷ ys) x i = (y, refl, inl refl)
-
-pub head_in : {X : Type 0} (xs : List X) (x : X) → head xs ≡ Some x → In x xs
-head_in [] x h = absurd (cc)
-head_in (y ∷ ys) x h = let is : y ≡ x = cc in inl is
 
 pub node_is : (n : ℕ) (o : Option Node) → is_node n o ≡ true → (x : Node) × (o ≡ Some x) × (serial_of x ≡ n)
 node_is n None h = absurd (false≢true h)
@@ -119,7 +113,7 @@ module _ (past : Past) (is : IsPast past) where
     live_held n i h =
         let l : s.role < length past.plan.roles = row_below past.plan.roles s.role tells.row tells.at in
         let z : 0 + s.role ≡ s.role = omega arith in
-        let c : In s.role (count 0 (length past.plan.roles)) = subst (λ (y : ℕ). In y (count 0 (length past.plan.roles))) z (In-count-from 0 (length past.plan.roles) s.role l) in
+        let c : In s.role (count 0 (length past.plan.roles)) = subst (λ (y : ℕ). In y (count 0 (length past.plan.roles))) z (in_count 0 (length past.plan.roles) s.role l) in
         or_right _ _ (any_from (λ (m : Node). within (serial_of n) m && is_live past.plan P A m) n P.nodes i (and_from _ _ (within_self (serial_of n) n (eq-eqb _ _ refl)) (any_from (live past.plan P A n) s.role (count 0 (length past.plan.roles)) c h)))
 
     -- what the held nodes tell from a base that isn't signed

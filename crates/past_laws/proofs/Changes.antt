@@ -14,11 +14,11 @@ use Rattle.gcx_model.specs.Equal.{off_eq}
 use Rattle.gcx_model.specs.Placed.{offs_in, row_at}
 use Rattle.gcx_model.specs.Held.{path_of, statement_of, on_row, given_row, given, is_off, signed, reaches, all_signed, on_off, taken, live, roles_live, is_live, is_held, held}
 use Rattle.gcx_model.specs.Past.{Past, past_fed, past_acted, IsPast, is_signed, roles_signed, parent_serial, HeldRow, row_of}
+use Rattle.base_laws.proofs.Members.{map_same}
 use Rattle.past_laws.specs.Pasts.{bases, LiveByFeed, RowsByFeed, RowsByAct, LiveByAct, LosesByAct, RolesByAct, SignedByAct}
 use Rattle.tree_laws.proofs.Lists.{In-filter, filter_same}
 use Rattle.tree_laws.proofs.Matches.{Matches-grow, added}
 use Rattle.tree_laws.proofs.Equal.{off_refl, off_same}
-use Rattle.need_laws.proofs.Pruned.{map_same}
 use Rattle.need_laws.proofs.Stays.{any-append, any_same, all_from, gives_same, gives_new, new_serial}
 use Rattle.placed_laws.proofs.PlanStatements.{one_statement_law}
 use Rattle.placed_laws.proofs.HeldChanges.{held_by_feed, held_by_act}

@@ -54,7 +54,7 @@ past_feeds past h t m = record {
   within = omega arith;
 }
 
-offed_same : (a b : OffTree) (i j : ℕ) → Offed a i ≡ Offed b j → (a ≡ b) × (i ≡ j)
+pub offed_same : (a b : OffTree) (i j : ℕ) → Offed a i ≡ Offed b j → (a ≡ b) × (i ≡ j)
 offed_same a b i j e = (cc, cc)
 
 pub past_acts : PastActs

@@ -12,6 +12,7 @@ use Rattle.gcx_model.specs.Run.{Action, Offed}
 use Rattle.gcx_model.specs.Placed.{row_at}
 use Rattle.gcx_model.specs.Held.{path_of, statement_of, on_row, given_row, given, signed, reaches, on_off, taken, live, roles_live, is_live, is_held, held, held_tree}
 use Rattle.gcx_model.specs.Past.{Past, IsPast, is_ahead, roles_signed, open_from, open_nodes, is_signed, parent_serial}
+use Rattle.base_laws.proofs.Numbers.{in_count}
 use Rattle.past_laws.specs.Pasts.{bases, NewRoles, KeptByRows, RowTells, HeldLocal, HeldAbove, BasesAbove, OpenBehind}
 use Rattle.tree_laws.proofs.Lists.{In-filter, In-kept, any_in, any_from}
 use Rattle.tree_laws.proofs.Matches.{Numbered-same, Matches-in}
@@ -20,8 +21,8 @@ use Rattle.need_laws.proofs.Local.{child_way, within_is}
 use Rattle.tree_laws.proofs.Chains.{above_self, above_in, above_same, all_child_depth}
 use Rattle.tree_laws.proofs.Fed.{root_in, from_tokens}
 use Rattle.placed_laws.proofs.PlanStatements.{one_statement_law}
-use Rattle.placed_laws.proofs.Told.{row_below}
-use Rattle.past_laws.proofs.Bases.{In-count-from, is_grown, held_up, tells, own_tells, reach_held}
+use Rattle.placed_laws.proofs.Unique.{row_below}
+use Rattle.past_laws.proofs.Bases.{is_grown, held_up, tells, own_tells, reach_held}
 use Rattle.past_laws.proofs.Changes.{filter_both, live_by_act}
 use Rattle.past_laws.proofs.Ahead.{gives_within, open_above, ahead_takes}
 use Rattle.tree_laws.proofs.Reading.{is_child_of}
@@ -37,7 +38,7 @@ module _ (past : Past) (is : IsPast past) where
   known r row e =
       let l = row_below past.plan.roles r row e in
       let z : 0 + r ≡ r = omega arith in
-      subst (λ (y : ℕ). In y (count 0 (length past.plan.roles))) z (In-count-from 0 (length past.plan.roles) r l)
+      subst (λ (y : ℕ). In y (count 0 (length past.plan.roles))) z (in_count 0 (length past.plan.roles) r l)
 
   given_known : (n : Node) (r : ℕ) → given past.plan past.tree n r ≡ true → In r (count 0 (length past.plan.roles))
   given_known n r h = go (row_at past.plan.roles r) refl h

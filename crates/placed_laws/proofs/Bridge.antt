@@ -14,6 +14,7 @@ use Rattle.gcx_model.specs.Cores.{BodyIn, Good}
 use Rattle.gcx_model.specs.Placed.{row_at, statement, statements, offs_of, plan_of}
 use Rattle.gcx_model.specs.Members.{In, count}
 use Rattle.gcx_model.specs.Held.{paths_from, path_of, statement_of, gives, given, all_signed, on_off, taken, live, is_live, is_held, held, reaches, signed}
+use Rattle.base_laws.proofs.Numbers.{count_high}
 use Rattle.tree_laws.proofs.Reading as old
 use Rattle.tree_laws.proofs.Reading.{reading}
 use Rattle.tree_laws.proofs.Lists.{filter_same}
@@ -110,11 +111,6 @@ module _ (F : ℕ → Var) where
       ∙ (paths_are d u (suc k + m) b L q.1 f.1 sp.1 (λ z j. let g = l z j in omega arith)
       ∙ ap upto len)))
 
-In-count-high : (k n z : ℕ) → In z (count k n) → z < k + n
-In-count-high k zero z i = absurd i
-In-count-high k (suc n) z (inl e) = omega arith
-In-count-high k (suc n) z (inr i) = let h = In-count-high (suc k) n z i in omega arith
-
 module _ (core : BodyTree) (good : Good core) where
   abbrev V : ℕ → Var
   V = var_tree core
@@ -131,7 +127,7 @@ module _ (core : BodyTree) (good : Good core) where
       let zero_add : 0 + x ≡ x = omega arith in
       let beyond : (z : ℕ) → 1 + n ≤ z → (V (0 + z)).path ≡ [] = λ z l.
       let e : 0 + z ≡ z = omega arith in
-      ap (λ (y : ℕ). (V y).path) e ∙ ap (λ (v : Var). v.path) (away_body core 0 (λ y. var0) z (λ i. let h = In-count-high 1 n z (subst (λ (y : List ℕ). In z y) good.numbered i) in omega arith)) in
+      ap (λ (y : ℕ). (V y).path) e ∙ ap (λ (v : Var). v.path) (away_body core 0 (λ y. var0) z (λ i. let h = count_high 1 n z (subst (λ (y : List ℕ). In z y) good.numbered i) in omega arith)) in
       ap (λ z. slice_index_or z x []) ps ∙ (at_all (λ z. (V z).path) 0 (1 + n) x beyond ∙ ap (λ (z : ℕ). (V z).path) zero_add)
 
   at_statements : (k : ℕ) (rs : List RoleRowTree) (r : ℕ) (row : RoleRowTree) → row_at rs r ≡ Some row → At_row row (statement V (roles_of core) (k + r) row) rs (statements V (roles_of core) k rs) × In (statement V (roles_of core) (k + r) row) (statements V (roles_of core) k rs)

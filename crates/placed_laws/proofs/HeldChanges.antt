@@ -3,6 +3,7 @@ use Rattle.std.proofs.Common.{◌≡◌, cond, ◌+◌, Bool, true, false, List,
 use Rattle.std.specs.Prelude.{drop}
 use Rattle.std.specs.List.{filter}
 use Rattle.std.proofs.lemmas.Bool.{false≢true}
+use Rattle.std.proofs.Math.Seq.{drop-append_seam}
 use Rattle.gcx_model.specs.Tree.{Node, Tree, Token, grow}
 use Rattle.gcx_model.specs.Nodes.{Grown}
 use Rattle.gcx_model.specs.Core.{BodyTree}
@@ -21,10 +22,6 @@ use Rattle.placed_laws.proofs.Bridge.{held_is, is_held_is}
 use Rattle.placed_laws.proofs.FromPlans.{from_plan}
 use Rattle.need_laws.proofs.Lasting.{held_acted}
 
-drop_front : {X : Type 0} (xs ys : List X) → drop (length xs) (xs ++ ys) ≡ ys
-drop_front [] ys = refl
-drop_front (x ∷ xs) ys = drop_front xs ys
-
 filter_sub : (p q : Node → Bool) (xs : List Node) → ((x : Node) → q x ≡ true → p x ≡ true) → filter q (filter p xs) ≡ filter q xs
 filter_sub p q [] h = refl
 filter_sub p q (x ∷ xs) h = go (p x) (q x) refl refl (filter_sub p q xs h)
@@ -38,7 +35,7 @@ filter_sub p q (x ∷ xs) h = go (p x) (q x) refl refl (filter_sub p q xs h)
 feed_at : (core : BodyTree) (good : Good core) (P : Tree) → Grown P → (t : Token) (A : List Action) → held (plan_of core) (grow t P) A ≡ filter (is_held (plan_of core) (grow t P) A) (held (plan_of core) P A ++ drop (length P.nodes) (grow t P).nodes)
 feed_at core good P w t A =
     let p : Reading = reading core in
-    let n : drop (length P.nodes) (grow t P).nodes ≡ added t P = ap (drop (length P.nodes)) (grow_nodes t P) ∙ drop_front P.nodes (added t P) in
+    let n : drop (length P.nodes) (grow t P).nodes ≡ added t P = ap (drop (length P.nodes)) (grow_nodes t P) ∙ drop-append_seam P.nodes (added t P) in
     held_is core good (grow t P) A
     ∙ (held_feed t P w p A
     ∙ (ap (λ z. filter (old.is_held p (grow t P) A) (z ++ added t P)) (sym (held_is core good P A))

@@ -4,6 +4,7 @@ use Rattle.std.specs.List.{filter, flat_map}
 use Rattle.std.specs.Prelude.{bytes_eq}
 use Rattle.std.proofs.lemmas.List.{append-nil}
 use Rattle.std.proofs.lemmas.Bool.{and_parts, eq-eqb, ne_eqb}
+use Rattle.std.proofs.lemmas.Grind.{flat_map-append}
 use Rattle.gcx_base.specs.declared.kind.Kind.{Kind}
 use Rattle.gcx_base.specs.declared.kind.Kind.TheVariants.{Document, Element, Text}
 use Rattle.gcx_base.specs.declared.steps.Step.{Step}
@@ -30,6 +31,8 @@ use Rattle.gcx_model.specs.Variables.{vars}
 use Rattle.gcx_model.specs.Cores.{operand_in, cond_in, conds_in}
 use Rattle.gcx_model.specs.Sound.{only_last, is_path, is_ordered_path, are_clauses, scope_of, has_step, has_clause, is_filter, is_cond, is_expr, are_exprs, two_exprs, has_expr}
 use Rattle.gcx_model.specs.Normal.{join, one, Names, named, start_var, normal_exists, normal_operand, normal_cond, normal_conds, has_loop, half, BranchPart, Run, Loop, begin, pieces, halved, turned_in, spread, branch, nest, normal_clauses, guarded, clause_loops, loops, normal_expr, normal_exprs, no_names}
+use Rattle.base_laws.proofs.Numbers.{count_high, in_count}
+use Rattle.base_laws.proofs.Members.{flat_map_same}
 use Rattle.placed_laws.specs.Normal.{NormalLaw}
 use Rattle.tree_laws.proofs.Lists.{In-left, In-right}
 use Rattle.tree_laws.proofs.Matches.{Matches-in, Matches-from, Numbered-high, Grown-opening}
@@ -41,34 +44,16 @@ use Rattle.placed_laws.proofs.Moved.{vars-expr, cond_scoped}
 use Rattle.tree_laws.proofs.Fed.{root_in, ordered_all, ordered_opening}
 use Rattle.tree_laws.proofs.Documents.{whole_closed}
 
-flat_map-append : {X A : Type 0} (f : X → List A) (xs ys : List X) → flat_map f (xs ++ ys) ≡ flat_map f xs ++ flat_map f ys
-flat_map-append f [] ys = refl
-flat_map-append f (x ∷ xs) ys = ap (λ z. f x ++ z) (flat_map-append f xs ys) ∙ sym (append_assoc (f x) (flat_map f xs) (flat_map f ys))
-
 flat_map-flat_map : {X Y A : Type 0} (g : Y → List A) (f : X → List Y) (xs : List X) → flat_map g (flat_map f xs) ≡ flat_map (λ x. flat_map g (f x)) xs
 flat_map-flat_map g f [] = refl
 flat_map-flat_map g f (x ∷ xs) = flat_map-append g (f x) (flat_map f xs) ∙ ap (λ z. flat_map g (f x) ++ z) (flat_map-flat_map g f xs)
-
-flat_map-same : {X A : Type 0} (f g : X → List A) (xs : List X) → ((x : X) → In x xs → f x ≡ g x) → flat_map f xs ≡ flat_map g xs
-flat_map-same f g [] h = refl
-flat_map-same f g (x ∷ xs) h = rw (h x (inl refl), flat_map-same f g xs (λ y i. h y (inr i))) refl
 
 filter_all : {X : Type 0} (p : X → Bool) (xs : List X) → ((x : X) → p x ≡ true) → filter p xs ≡ xs
 filter_all p [] h = refl
 filter_all p (x ∷ xs) h = rw (h x) (ap (λ z. x ∷ z) (filter_all p xs h))
 
-in_count : (k n j : ℕ) → j < n → In (k + j) (count k n)
-in_count k zero j l = absurd (omega arith)
-in_count k (suc n) zero l = inl (sym (add-zero k))
-in_count k (suc n) (suc j) l = let e : suc k + j ≡ k + suc j = omega arith in inr (subst (λ (z : ℕ). In z (count (suc k) n)) e (in_count (suc k) n j (omega arith)))
-
 below_in : (k v : ℕ) → v < k → In v (count 0 k)
 below_in k v l = let e : 0 + v ≡ v = omega arith in subst (λ (z : ℕ). In z (count 0 k)) e (in_count 0 k v l)
-
-in_below : (j n v : ℕ) → In v (count j n) → v < j + n
-in_below j zero v i = absurd i
-in_below j (suc n) v (inl e) = omega arith
-in_below j (suc n) v (inr i) = let h = in_below (suc j) n v i in omega arith
 
 -- conditions see only the variables that they use
 
@@ -174,7 +159,7 @@ module _ (P : Tree) (w : Grown P) (o : Ordered P) (over : P.at ≡ None) where
       let f : (m : Node) → In m (children P n) → (copy most P m).done ≡ true = λ m j. let q = below m j in copy_is_done P w over most m q.0 q.1 in
       copy-with (kind_of n) (loop (copy most P) (children P n) (is_closed P n)) (flat_map (copied most P) (children P n))
       (loop_done (copy most P) (children P n) (is_closed P n) (closed n) f)
-      (said-loop (copy most P) (children P n) (is_closed P n) f ∙ flat_map-same (λ m. flat_map bytes_of (copy most P m).acts) (copied most P) (children P n) (λ m j. let q = below m j in said_copy most m q.0 q.1))
+      (said-loop (copy most P) (children P n) (is_closed P n) f ∙ flat_map_same (λ m. flat_map bytes_of (copy most P m).acts) (copied most P) (children P n) (λ m j. let q = below m j in said_copy most m q.0 q.1))
     where
       loop_done : (f : Node → Out) (ns : List Node) (ov : Bool) → ov ≡ true → ((m : Node) → In m ns → (f m).done ≡ true) → (loop f ns ov).done ≡ true
       loop_done f [] ov e h = e
@@ -191,7 +176,7 @@ module _ (P : Tree) (w : Grown P) (o : Ordered P) (over : P.at ≡ None) where
       let in_P : (n : Node) → In n ms → In_P (bind_var env k n) = λ n i. in_bind env k n h (Matches-in P (serial_of (env y)) (s ∷ []) n i).0 in
       said-one (For k y s d) env h
       ∙ (said_for k y s d env h
-      ∙ (flat_map-same (λ n. said d (bind_var env k n)) (λ n. flat_map G (chain_at P n ss)) ms
+      ∙ (flat_map_same (λ n. said d (bind_var env k n)) (λ n. flat_map G (chain_at P n ss)) ms
       (λ n i. said-nest ss k (suc k) inner (bind_var env k n) G (omega arith) (in_P n i)
       (λ z env' m j g. f z env' (omega arith) j (λ v q. g v (omega arith) ∙ bind_other env k v n (λ e. omega arith)))
       ∙ ap (λ z. flat_map G (chain_at P z ss)) (bind_here env k n))
@@ -342,7 +327,7 @@ module _ (P : Tree) (w : Grown P) (o : Ordered P) (over : P.at ≡ None) where
       let p' : In_P (bind_var env x n) = in_bind env x n p (Matches-in P (serial_of (env y)) (s ∷ []) n i).0 in
       go (has_loop e) (bind_var env x n) p' (t' n) (said_spread c first h L u e (bind_var env x n) p' (λ z j. f z (inr (In-left z (vars e) (vars d) j))) (t' n)) in
       said-then (For x y s E) D env p
-      ∙ (ap (λ z. z ++ said D env) (said_for x y s E env p ∙ (flat_map-same (λ n. said E (bind_var env x n)) (λ n. cond g (said e (bind_var env x n)) []) ms inner ∙ (all_or_none g (λ n. said e (bind_var env x n)) ms ∙ ap (λ z. cond g z []) (sym (said_for x y s e env p)))))
+      ∙ (ap (λ z. z ++ said D env) (said_for x y s E env p ∙ (flat_map_same (λ n. said E (bind_var env x n)) (λ n. cond g (said e (bind_var env x n)) []) ms inner ∙ (all_or_none g (λ n. said e (bind_var env x n)) ms ∙ ap (λ z. cond g z []) (sym (said_for x y s e env p)))))
       ∙ (ap (λ z. cond g (said_item (For x y s e) env) [] ++ z) (said_spread c first h L u d env p (λ z i. f z (inr (In-right z (vars e) (vars d) i))) t)
       ∙ (sym (two g (said_item (For x y s e) env) (said d env)) ∙ ap (λ z. cond g z []) (sym (said-then (For x y s e) d env p)))))
     where
@@ -396,7 +381,7 @@ module _ (P : Tree) (w : Grown P) (o : Ordered P) (over : P.at ≡ None) where
   fresh : (e : ExprTree) (names : Names) (k j : ℕ) → j ≤ k → (z : ℕ) → In z (vars (normal_expr e names k)) → In z (count 0 j) → ⊥
   fresh e names k j l z i m =
       let a = In-count k (loops e) z (subst (λ (v : List ℕ). In z v) (vars-expr e names k) i) in
-      let b = in_below 0 j z m in
+      let b = count_high 0 j z m in
       absurd (omega arith)
 
   said-clauses : (cs : List Clause) (scope : List (List ℕ)) (names : Names) (k : ℕ) (inner : Names → ℕ → BodyTree) (env : Env) (G : Scope → List ℕ) → are_clauses scope cs ≡ true → Low names k → In_P env → env 0 ≡ Root

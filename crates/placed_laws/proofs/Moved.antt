@@ -2,7 +2,7 @@
 use Rattle.std.proofs.Common.{◌≡◌, ℕ, suc, ◌+◌, Bool, true, false, cond, ◌||◌, List, [], ◌∷◌, ◌++◌, length, refl, sym, ◌∙◌, ap, inl, inr, add-zero, add_assoc, append_assoc, Some, None, Option}
 use Rattle.std.specs.Prelude.{bytes_eq}
 use Rattle.std.proofs.lemmas.List.{append-nil}
-use Rattle.std.proofs.lemmas.Bool.{true≢false}
+use Rattle.std.proofs.lemmas.Bool.{true≢false, or_parts}
 use Rattle.gcx_base.specs.declared.steps.Step.{Step}
 use Rattle.gcx_model.specs.declared.query.Clause.{Clause}
 use Rattle.gcx_model.specs.declared.query.QOperand.{QOperand}
@@ -149,16 +149,12 @@ spread_in L c first (Then (For x y s e) d) i k =
     go true h j m = m
     go false h j m = (half_in (x ∷ L) c first e j (no_loop_in (x ∷ L) e h k.0.2), tt)
 
-or_false : (a b : Bool) → (a || b) ≡ false → (a ≡ false) × (b ≡ false)
-or_false true b h = absurd (true≢false h)
-or_false false b h = (refl, h)
-
 branch_in : (L : List ℕ) (c : CondTree) (a b : BodyTree) → cond_in L c → BodyIn true L a → BodyIn true L b → BodyIn true L (branch c a b)
 branch_in L c a b i p q = go (has_loop a || has_loop b) refl
   where
     go : (l : Bool) → (has_loop a || has_loop b) ≡ l → BodyIn true L (cond l (join (spread c true a) (spread c false b)) (one (If c a b)))
     go true h = join_in true L (spread c true a) (spread c false b) (spread_in L c true a i p) (spread_in L c false b i q)
-    go false h = let r = or_false (has_loop a) (has_loop b) h in ((i, no_loop_in L a r.0 p, no_loop_in L b r.1 q), tt)
+    go false h = let r = or_parts (has_loop a) (has_loop b) h in ((i, no_loop_in L a r.0 p, no_loop_in L b r.1 q), tt)
 
 -- the names and variable 0 are in scope
 abbrev Scoped : Names → List ℕ → Type 0

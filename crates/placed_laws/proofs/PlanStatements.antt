@@ -2,6 +2,7 @@
 use Rattle.std.proofs.Common.{◌≡◌, ℕ, Bool, true, List, [], ◌∷◌, refl, sym, ap, subst, inl, Some}
 use Rattle.std.specs.List.{filter}
 use Rattle.std.proofs.lemmas.Bool.{eqb-true}
+use Rattle.std.proofs.lemmas.Option.{same_Some}
 use Rattle.gcx_model.specs.Tree.{serial_of}
 use Rattle.gcx_model.specs.Paths.{head}
 use Rattle.gcx_model.specs.Members.{In}
@@ -19,7 +20,6 @@ use Rattle.placed_laws.proofs.Placed.{one_statement, statements_only}
 use Rattle.placed_laws.proofs.Bridge.{path_is}
 use Rattle.placed_laws.proofs.FromPlans.{from_plan}
 use Rattle.tree_laws.proofs.OffsSigned.{signed_is_off}
-use Rattle.tree_laws.proofs.Fed.{some_same}
 
 pub paths_by_rows : PathsByRows
 paths_by_rows core good plan pl x = from_plan core good (λ plan. path_of plan x ≡ path_in core x) (path_is core good x) plan pl
@@ -29,7 +29,7 @@ head_filter p os o e = go (filter p os) refl e
   where
     go : (xs : List OffTree) → filter p os ≡ xs → head xs ≡ Some o → In o os × (p o ≡ true)
     go [] f g = absurd (cc)
-    go (x ∷ xs) f g = In-filter p o os (subst (λ (z : List OffTree). In o z) (sym f) (inl (some_same _ _ g)))
+    go (x ∷ xs) f g = In-filter p o os (subst (λ (z : List OffTree). In o z) (sym f) (inl (same_Some _ _ g)))
 
 one_at : (core : BodyTree) (good : Good core) (r : ℕ) (o : OffTree) → ((statement_of (plan_of core) r ≡ Some o) → (In o (offs_in (plan_of core).body) × (o.role ≡ r))) × ((In o (offs_in (plan_of core).body) × (o.role ≡ r)) → (statement_of (plan_of core) r ≡ Some o))
 one_at core good r o = (

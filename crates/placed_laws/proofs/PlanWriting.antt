@@ -1,6 +1,7 @@
 -- What a placed plan writes.
-use Rattle.std.proofs.Common.{◌≡◌, List, [], ◌∷◌, ◌++◌, refl, sym, ◌∙◌, ap, ◌+◌, append_assoc}
+use Rattle.std.proofs.Common.{◌≡◌, List, [], ◌∷◌, ◌++◌, refl, sym, ◌∙◌, ap, ◌+◌}
 use Rattle.std.specs.List.{filter, flat_map}
+use Rattle.std.proofs.lemmas.Grind.{flat_map-append}
 use Rattle.gcx_model.specs.Run.{Action, Offed, run, env0, Wrote, bytes_of}
 use Rattle.gcx_model.specs.Points.{actions}
 use Rattle.placed_laws.specs.Plans.{is_write, PlanWrites, PlanBytes}
@@ -16,10 +17,6 @@ use Rattle.placed_laws.specs.Normal.{KnownIsFront}
 
 pub plan_writes : PlanWrites
 plan_writes core good plan pl P = from_plan core good (λ plan. (filter is_write (actions plan P) ≡ filter is_write (run core env0 P).acts) × ((run plan.body env0 P).done ≡ (run core env0 P).done)) (written core P) plan pl
-
-pub flat_map-append : {X A : Type 0} (f : X → List A) (xs ys : List X) → flat_map f (xs ++ ys) ≡ flat_map f xs ++ flat_map f ys
-flat_map-append f [] ys = refl
-flat_map-append f (x ∷ xs) ys = ap (λ z. f x ++ z) (flat_map-append f xs ys) ∙ sym (append_assoc (f x) (flat_map f xs) (flat_map f ys))
 
 writes_only : (xs : List Action) → flat_map bytes_of (filter is_write xs) ≡ flat_map bytes_of xs
 writes_only [] = refl

@@ -1,7 +1,8 @@
 -- What a placed plan tells of its statements.
-use Rattle.std.proofs.Common.{◌≡◌, ℕ, zero, suc, ◌<◌, ◌&&◌, List, [], ◌∷◌, ◌++◌, length, refl, sym, ◌∙◌, ap, subst, inl, arith, Some}
+use Rattle.std.proofs.Common.{◌≡◌, ℕ, ◌&&◌, List, [], ◌∷◌, ◌++◌, refl, sym, ◌∙◌, ap, subst, inl, Some}
 use Rattle.std.proofs.lemmas.List.{append-nil}
 use Rattle.std.proofs.lemmas.Bool.{eqb-true}
+use Rattle.std.proofs.lemmas.Option.{same_Some}
 use Rattle.gcx_model.specs.Tree.{Node, Tree}
 use Rattle.gcx_model.specs.Members.{In}
 use Rattle.gcx_model.specs.Core.{Own, BodyTree, OffTree, RoleRowTree, PlanTree}
@@ -14,15 +15,8 @@ use Rattle.gcx_model.specs.Held.{path_of, statement_of, gives, on_row, given_row
 use Rattle.tree_laws.proofs.Lists.{In-filter}
 use Rattle.need_laws.proofs.Plans.{good_based, roles_known}
 use Rattle.placed_laws.proofs.Ends.{cancel, row_in}
+use Rattle.placed_laws.proofs.Unique.{row_below}
 use Rattle.placed_laws.proofs.PlanStatements.{paths_by_rows, one_statement_law}
-
-some_same : {X : Type 0} (x y : X) → Some x ≡ Some y → x ≡ y
-some_same x y e = cc
-
-pub row_below : (rs : List RoleRowTree) (k : ℕ) (r : RoleRowTree) → row_at rs k ≡ Some r → k < length rs
-row_below [] k r e = absurd (cc)
-row_below (q ∷ rs) zero r e = omega arith
-row_below (q ∷ rs) (suc k) r e = let h = row_below rs k r e in omega arith
 
 -- the row and the path of its role; and its base's own role, whose statement has no steps
 pub record Told (plan : PlanTree) (s : OffTree) : Type 0 where
@@ -51,7 +45,7 @@ told core good plan pl s i =
     let found = In-filter (of_role s.own) one.0 (offs_in plan.body) (subst (λ (z : List OffTree). In one.0 z) (sym one.1) (inl refl)) in
     let role : (one.0).role ≡ s.own = eqb-true _ _ found.1 in
     let o = pl.statements one.0 found.0 in
-    let row : o.row ≡ own_row s.base = some_same _ _ (sym o.at ∙ (ap (row_at (roles_of core)) role ∙ q.own)) in
+    let row : o.row ≡ own_row s.base = same_Some _ _ (sym o.at ∙ (ap (row_at (roles_of core)) role ∙ q.own)) in
     let base : (one.0).base ≡ s.base = o.base ∙ (ap (λ (z : RoleRowTree). (V z.var).base) row ∙ self.0) in
     let rel : (one.0).rel ≡ [] = cancel (path_in core s.base) (one.0).rel [] (ap (λ (z : ℕ). path_in core z ++ (one.0).rel) (sym base) ∙ (o.rel ∙ (ap (λ (z : RoleRowTree). path_in core z.var) row ∙ sym (append-nil (path_in core s.base))))) in
     record {

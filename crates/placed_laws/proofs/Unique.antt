@@ -8,6 +8,7 @@ use Rattle.gcx_model.specs.Roles.{roles_of}
 use Rattle.gcx_model.specs.Cores.{BodyIn, Good}
 use Rattle.gcx_model.specs.Placed.{without, offs_in, of_role, row_at, InOrder, OnlyOffs, own_offs, AtEnds, Placed, statement, offs_of, at_end, offs_body, add_offs, place, placed_body, plan_of}
 use Rattle.gcx_model.specs.Members.{In, Once}
+use Rattle.base_laws.proofs.Members.{in_map}
 use Rattle.tree_laws.proofs.Lists.{In-left, In-right, In-append, In-filter}
 use Rattle.need_laws.proofs.Plans.{good_once, good_not_zero, same_role, end_in, in_end}
 use Rattle.placed_laws.proofs.Placed.{without_is, one_statement, statements_only}
@@ -45,7 +46,7 @@ mutual
   loop_vars Nil = refl
   loop_vars (Then i d) = map-append (λ (l : Loop_body). l.var) (item_loops i) (loops_in d) ∙ (ap (λ z. z ++ map (λ (l : Loop_body). l.var) (loops_in d)) (item_loop_vars i) ∙ ap (λ z. item_vars i ++ z) (loop_vars d))
 
-vars_without : (d : BodyTree) → vars (without d) ≡ vars d
+pub vars_without : (d : BodyTree) → vars (without d) ≡ vars d
 vars_without Nil = refl
 vars_without (Then (Write s) d) = vars_without d
 vars_without (Then (Copy x) d) = vars_without d
@@ -53,16 +54,11 @@ vars_without (Then (For x y s e) d) = ap (λ z. x ∷ (z ++ vars (without d))) (
 vars_without (Then (If c a b) d) = ap (λ z. (z ++ vars (without b)) ++ vars (without d)) (vars_without a) ∙ (ap (λ z. (vars a ++ z) ++ vars (without d)) (vars_without b) ∙ ap (λ z. (vars a ++ vars b) ++ z) (vars_without d))
 vars_without (Then (Off o) d) = vars_without d
 
-In-map_from : {X Y : Type 0} (f : X → Y) (m : X) (xs : List X) → In m xs → In (f m) (map f xs)
-In-map_from f m [] h = absurd h
-In-map_from f m (x ∷ xs) (inl g) = inl (ap f g)
-In-map_from f m (x ∷ xs) (inr h) = inr (In-map_from f m xs h)
-
 Once-map : {X : Type 0} (f : X → ℕ) (xs : List X) (a b : X) → Once (map f xs) → In a xs → In b xs → f a ≡ f b → a ≡ b
 Once-map f [] a b o i j e = absurd i
 Once-map f (x ∷ xs) a b o (inl g) (inl h) e = sym g ∙ h
-Once-map f (x ∷ xs) a b o (inl g) (inr j) e = absurd (o.0 (subst (λ (z : ℕ). In z (map f xs)) (sym e ∙ ap f (sym g)) (In-map_from f b xs j)))
-Once-map f (x ∷ xs) a b o (inr i) (inl h) e = absurd (o.0 (subst (λ (z : ℕ). In z (map f xs)) (e ∙ ap f (sym h)) (In-map_from f a xs i)))
+Once-map f (x ∷ xs) a b o (inl g) (inr j) e = absurd (o.0 (subst (λ (z : ℕ). In z (map f xs)) (sym e ∙ ap f (sym g)) (in_map f b xs j)))
+Once-map f (x ∷ xs) a b o (inr i) (inl h) e = absurd (o.0 (subst (λ (z : ℕ). In z (map f xs)) (e ∙ ap f (sym h)) (in_map f a xs i)))
 Once-map f (x ∷ xs) a b o (inr i) (inr j) e = Once-map f xs a b o.1 i j e
 
 none_of_two : (xs ys : List OffTree) → xs ++ ys ≡ [] → (xs ≡ []) × (ys ≡ [])
@@ -223,15 +219,15 @@ module _ (ends : ℕ → List OffTree) (based : (x : ℕ) (o : OffTree) → In o
   placed_stand u (Then (If c a e) d) b L os q h = (core_none a false L q.0.1, core_none e false L q.0.2, placed_stand u d b L os q.1 h)
   placed_stand u (Then (Off o) d) b L os q h = absurd q.0
 
-row_there : (rs : List RoleRowTree) (r : ℕ) → r < length rs → (row : RoleRowTree) × (row_at rs r ≡ Some row)
+pub row_there : (rs : List RoleRowTree) (r : ℕ) → r < length rs → (row : RoleRowTree) × (row_at rs r ≡ Some row)
 row_there [] r l = absurd (omega arith)
 row_there (q ∷ rs) zero l = (q, refl)
 row_there (q ∷ rs) (suc r) l = row_there rs r (omega arith)
 
-row_low : (rs : List RoleRowTree) (r : ℕ) (row : RoleRowTree) → row_at rs r ≡ Some row → r < length rs
-row_low [] r row e = absurd (cc)
-row_low (q ∷ rs) zero row e = omega arith
-row_low (q ∷ rs) (suc r) row e = let h = row_low rs r row e in omega arith
+pub row_below : (rs : List RoleRowTree) (k : ℕ) (r : RoleRowTree) → row_at rs k ≡ Some r → k < length rs
+row_below [] k r e = absurd (cc)
+row_below (q ∷ rs) zero r e = omega arith
+row_below (q ∷ rs) (suc k) r e = let h = row_below rs k r e in omega arith
 
 module _ (core : BodyTree) (good : Good core) where
   abbrev all_offs : List OffTree
@@ -265,7 +261,7 @@ module _ (core : BodyTree) (good : Good core) where
     pub in_plan : (o : OffTree) → In o all_offs → In o (offs_in plan.body)
     in_plan o i =
         let s = is_statement core good o i in
-        let h = pl.one o.role (row_low (roles_of core) o.role s.row s.at) in
+        let h = pl.one o.role (row_below (roles_of core) o.role s.row s.at) in
         let j = In-filter (of_role o.role) h.0 (offs_in plan.body) (subst (λ (z : List OffTree). In h.0 z) (sym h.1) (inl refl)) in
         subst (λ (z : OffTree). In z (offs_in plan.body)) (same_role (var_tree core) (roles_of core) 0 (roles_of core) h.0 o (of_core h.0 j.0) i (eqb-true _ _ j.1)) j.0
 
@@ -276,7 +272,7 @@ module _ (core : BodyTree) (good : Good core) where
     once_loops = subst (λ (z : List ℕ). Once z) (sym (loop_vars plan.body ∙ plan_vars)) (good_once core good)
 
     loop_known : (l : Loop_body) → In l (loops_in plan.body) → In l.var (vars core)
-    loop_known l i = subst (λ (z : List ℕ). In l.var z) (loop_vars plan.body ∙ plan_vars) (In-map_from (λ (l : Loop_body). l.var) l (loops_in plan.body) i)
+    loop_known l i = subst (λ (z : List ℕ). In l.var z) (loop_vars plan.body ∙ plan_vars) (in_map (λ (l : Loop_body). l.var) l (loops_in plan.body) i)
 
     loop_ends : (l : Loop_body) → In l (loops_in plan.body) → own_offs l.body ≡ at l.var
     loop_ends l i =

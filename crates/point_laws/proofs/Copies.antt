@@ -2,11 +2,12 @@
 use Rattle.std.proofs.Common.{◌≡◌, ℕ, suc, true, List, [], ◌∷◌, ◌++◌, length, refl, sym, ◌∙◌, ap, subst, arith, append_assoc}
 use Rattle.std.specs.Prelude.{drop}
 use Rattle.std.proofs.lemmas.List.{append-nil, length-append}
+use Rattle.std.proofs.Math.Seq.{drop-append_seam}
 use Rattle.gcx_model.specs.Tree.{Tree}
 use Rattle.gcx_model.specs.Core.{Copy, For, If, BodyTree, Then}
 use Rattle.gcx_model.specs.Truth.{Env, bind_var}
 use Rattle.gcx_model.specs.Run.{Action, copy, loop, run_item}
-use Rattle.point_laws.proofs.PointForms.{Frame, Rest, Round, Part, IsPoint, Begins, Past, InLoop, InYes, InNo, InCopy, body_at, drop-front}
+use Rattle.point_laws.proofs.PointForms.{Frame, Rest, Round, Part, IsPoint, Begins, Past, InLoop, InYes, InNo, InCopy, body_at}
 use Rattle.point_laws.proofs.Steps.{has_top, front, cons_same}
 
 -- the point seen from its copy
@@ -96,7 +97,7 @@ pub copy_on : (P : Tree) (d : BodyTree) (env : Env) (before : List Action) (x : 
     → drop k (copy (length P.nodes) P (u x)).acts ≡ a ∷ more → IsPoint P d env (before ++ a ∷ []) (Part x u (suc k) ∷ tail)
 copy_on P d env before x u k tail a more st e =
     let r = copying P d env before (Part x u k ∷ tail) st x u k tail refl in
-    let left : r.more ≡ a ∷ more = sym (ap (drop k) r.cut ∙ (ap (λ z. drop z (r.acts ++ r.more)) r.made ∙ drop-front r.acts r.more)) ∙ e in
+    let left : r.more ≡ a ∷ more = sym (ap (drop k) r.cut ∙ (ap (λ z. drop z (r.acts ++ r.more)) r.made ∙ drop-append_seam r.acts r.more)) ∙ e in
     let cut : (copy (length P.nodes) P (u x)).acts ≡ (r.acts ++ a ∷ []) ++ more = r.cut ∙ (ap (λ z. r.acts ++ z) left ∙ sym (append_assoc r.acts (a ∷ []) more)) in
     let made : length (r.acts ++ a ∷ []) ≡ suc k = length-append r.acts (a ∷ []) ∙ (let m = r.made in omega arith) in
     acts_to P d env (r.pre ++ (r.acts ++ a ∷ [])) (before ++ a ∷ []) (Part x u (suc k) ∷ tail) (sym (append_assoc r.pre r.acts (a ∷ [])) ∙ ap (λ z. z ++ a ∷ []) (sym r.before_is))
@@ -109,7 +110,7 @@ pub copy_over : (P : Tree) (d : BodyTree) (env : Env) (before : List Action) (x 
     → drop k (copy (length P.nodes) P (u x)).acts ≡ [] → (copy (length P.nodes) P (u x)).done ≡ true → IsPoint P d env before tail
 copy_over P d env before x u k tail st e dn =
     let r = copying P d env before (Part x u k ∷ tail) st x u k tail refl in
-    let left : r.more ≡ [] = sym (ap (drop k) r.cut ∙ (ap (λ z. drop z (r.acts ++ r.more)) r.made ∙ drop-front r.acts r.more)) ∙ e in
+    let left : r.more ≡ [] = sym (ap (drop k) r.cut ∙ (ap (λ z. drop z (r.acts ++ r.more)) r.made ∙ drop-append_seam r.acts r.more)) ∙ e in
     let all : (copy (length P.nodes) P (u x)).acts ≡ r.acts = r.cut ∙ (ap (λ z. r.acts ++ z) left ∙ append-nil r.acts) in
     acts_to P d env (r.pre ++ ((copy (length P.nodes) P (u x)).acts ++ [])) before tail (ap (λ z. r.pre ++ z) (append-nil (copy (length P.nodes) P (u x)).acts ∙ all) ∙ sym r.before_is)
     (subst (λ (z : List Frame). IsPoint P d env (r.pre ++ ((copy (length P.nodes) P (u x)).acts ++ [])) z) (sym r.tail_is)

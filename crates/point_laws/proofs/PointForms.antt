@@ -1,9 +1,9 @@
 -- The point behind some actions, as a stack of frames, and what is still to come from there.
 use Rattle.std.proofs.Common.{◌≡◌, ◌<◌, Bool, true, false, List, [], ◌∷◌, ◌++◌, length, refl, sym, ◌∙◌, ap, subst, inl, inr, arith, append_assoc}
 use Rattle.std.specs.List.{filter}
-use Rattle.std.specs.Prelude.{drop}
 use Rattle.std.proofs.lemmas.List.{append-nil}
 use Rattle.std.proofs.lemmas.Bool.{true≢false, lt-ltb, le-ltb}
+use Rattle.std.proofs.Math.Seq.{drop-append_seam}
 pub use Rattle.gcx_model.specs.Points.{Frame, Rest, Round, Part, later, body_at, behind, to_come, IsPoint, Begins, Past, InLoop, InYes, InNo, InCopy}
 use Rattle.gcx_model.specs.Tree.{Node, serial_of, Tree, Token, grow, is_closed}
 use Rattle.gcx_model.specs.Paths.{hits, matches}
@@ -55,12 +55,8 @@ to_come-append P (Round x y s e env n ∷ fs) gs =
     ap (seq a) (to_come-append P fs gs) ∙ sym (seq-assoc a (to_come P fs) (to_come P gs))
 to_come-append P (Part x env k ∷ fs) gs = let a : Out = behind k (copy (length P.nodes) P (env x)) in ap (seq a) (to_come-append P fs gs) ∙ sym (seq-assoc a (to_come P fs) (to_come P gs))
 
-pub drop-front : {X : Type 0} (xs ys : List X) → drop (length xs) (xs ++ ys) ≡ ys
-drop-front [] ys = refl
-drop-front (x ∷ xs) ys = drop-front xs ys
-
 split : (o : Out) (xs ys : List Action) → o.acts ≡ xs ++ ys → o ≡ after xs (behind (length xs) o)
-split o xs ys e = rw (e, drop-front xs ys) (rw (sym e) refl)
+split o xs ys e = rw (e, drop-append_seam xs ys) (rw (sym e) refl)
 
 pub loop-append : (f : Node → Out) (pre ns : List Node) (over : Bool) → loop f (pre ++ ns) over ≡ seq (loop f pre true) (loop f ns over)
 loop-append f [] ns over = refl
@@ -117,7 +113,7 @@ pub same_when_done : (a b : Out) → Before a b → a.done ≡ true → a ≡ b
 same_when_done a b (Same e) d = e
 same_when_done a b (More f r e) d = absurd (true≢false (sym d ∙ f))
 
-firm_true : (a b k : Truth) → Firmer a b → a ≡ k → (k ≡ Unknown → ⊥) → b ≡ k
+pub firm_true : (a b k : Truth) → Firmer a b → a ≡ k → (k ≡ Unknown → ⊥) → b ≡ k
 firm_true a b k (Kept e) f n = sym e ∙ f
 firm_true a b k (Learnt e) f n = absurd (n (sym f ∙ e))
 

@@ -39,7 +39,7 @@ idle_before b = More refl b.acts refl
 seq_done : (a b : Out) → a.done ≡ true → seq a b ≡ record { acts = a.acts ++ b.acts; done = b.done }
 seq_done a b e = rw e refl
 
-seq_wait : (a b : Out) → a.done ≡ false → seq a b ≡ a
+pub seq_wait : (a b : Out) → a.done ≡ false → seq a b ≡ a
 seq_wait a b e = rw e refl
 
 seq_right : (a b b' : Out) (d : Bool) → Before b b' → Before (seq_if d a b) (seq_if d a b')

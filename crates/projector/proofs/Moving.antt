@@ -1,5 +1,5 @@
 -- A matcher stands for each list of actions in which the same statements are signed at the open nodes.
-use Rattle.std.proofs.Common.{◌≡◌, Bool, true, false, not, List, refl, sym, ◌∙◌, subst, Some, None, Option}
+use Rattle.std.proofs.Common.{◌≡◌, false, not, List, sym, ◌∙◌, subst, Option}
 use Rattle.std.specs.List.{filter}
 use Rattle.std.proofs.lemmas.Bool.{and_parts, and_from, false≢true}
 use Rattle.gcx_model.specs.Tree.{Node, serial_of, above, Tree, Token, grow, is_open_at}
@@ -9,17 +9,13 @@ use Rattle.gcx_model.specs.Run.{Action, Offed}
 use Rattle.gcx_model.specs.Placed.{is_own}
 use Rattle.gcx_model.specs.Held.{signed}
 use Rattle.gcx_model.specs.Past.{Past, IsPast, is_ahead, open_from, open_nodes}
+use Rattle.base_laws.proofs.Bools.{same_bools}
 use Rattle.tree_laws.proofs.Lists.{In-filter, In-kept}
-use Rattle.past_laws.proofs.Ahead.{open_above, ahead_before}
+use Rattle.past_laws.proofs.Ahead.{ahead_before, open_is}
 use Rattle.tree_laws.proofs.OffsSigned.{signed_is_off}
 use Rattle.matcher.specs.Matcher.{Stands, IsSign}
 use Rattle.matcher.specs.declared.matcher.Matcher.{Matcher}
 use Rattle.matcher.specs.declared.signs.Sign.{Sign}
-
-bools : (a b : Bool) → (a ≡ true → b ≡ true) → (b ≡ true → a ≡ true) → a ≡ b
-bools true b f g = sym (f refl)
-bools false true f g = g refl
-bools false false f g = refl
 
 -- the past with these actions
 abbrev pub with_acts : List Action → Past → Past
@@ -56,13 +52,9 @@ moved m past A h is same = record {
     back : (s : Sign) → IsSign (with_acts A past) h.here s → IsSign past h.here s
     back s q = record { off = q.off; of = q.of; role = q.role; steps = q.steps; node = q.node; among = q.among; at = q.at; is = same q.off q.node (opened q.node q.among) ∙ q.is }
 
-pub open_is : (at : Option Node) (m : Node) → In m (open_from at) → is_open_at at (serial_of m) ≡ true
-open_is None m i = absurd i
-open_is (Some p) m i = open_above p m i
-
 -- At a node that is open behind a token the same is signed in advance before it.
 pub signed_behind : (past : Past) → IsPast past → (t : Token) → SameSigned (grow t past.tree) (filter (is_ahead past.tree) past.acts) (filter (is_ahead (grow t past.tree)) past.acts)
-signed_behind past is t o n i = bools _ _
+signed_behind past is t o n i = same_bools _ _
     (λ h. let j = In-filter (is_ahead past.tree) (Offed o (serial_of n)) past.acts ((signed_is_off _ o n).0 h) in
     (signed_is_off _ o n).1 (In-kept (is_ahead (grow t past.tree)) (Offed o (serial_of n)) past.acts j.0
     (and_from _ _ (open_is (grow t past.tree).at n i) (and_parts (is_open_at past.tree.at (serial_of n)) (not (is_own o)) j.1).1)))

@@ -16,19 +16,21 @@ use Rattle.tree_laws.proofs.Lists.{In-filter, In-kept, In-append, In-left, In-ri
 use Rattle.tree_laws.proofs.Matches.{Numbered-high, Numbered-same, Rising-filter}
 use Rattle.tree_laws.proofs.Freeze.{within_self}
 use Rattle.past_laws.proofs.Bases.{is_grown}
+use Rattle.past_laws.proofs.Awaited.{within_low}
 use Rattle.node_store.specs.declared.store.Place.{Place}
 use Rattle.node_store.specs.Rows.{Entry, parent_of}
 use Rattle.buf_tree.specs.declared.row.Row.{Row}
 use Rattle.gcx_base.specs.Kinds.{is_text}
+use Rattle.base_laws.proofs.Members.{from_map}
 use Rattle.buf_tree.specs.Rows.{shut_row}
 use Rattle.buf_tree.specs.Shape.{Store, Cell, num, Rising, Shape, at_place, at_serial, place_for, entry_in, with_at}
 use Rattle.buf_tree.specs.Purge.{is_gone}
-use Rattle.buf_tree.specs.View.{View, InUse, Innermost, num_in, level_in, serial_at}
+use Rattle.buf_tree.specs.View.{View, Innermost, num_in, level_in, serial_at}
 use Rattle.buf_tree.specs.Calls.{Started, Closed, new_row, with_new}
 use Rattle.buf_tree.specs.Stands.{Seen, seen, told, StandsFor}
 use Rattle.buf_tree.proofs.Shaping.{rising_same, at_place_is, at_serial_is}
 use Rattle.buf_tree.proofs.Standing.{pair_left, held_up, parent_told}
-use Rattle.buf_tree.proofs.Feeding.{at_held, within_low, top_is}
+use Rattle.buf_tree.proofs.Feeding.{at_held, top_is}
 use Rattle.projector.specs.Projector.{KeepsPlace}
 
 -- a row has the number of its node
@@ -211,11 +213,6 @@ text_place None v q (Some p) kind given ahead t k = λ d i o. elim (In-append d 
   | inr j ↦ elim j [ inl e ↦ absurd (true≢false (sym o ∙ sym (ap (λ (c : Cell). c.row.is_open) e) ∙ ap not t)) | inr z ↦ absurd z ]
 ]
 
-in_map : {X Y : Type 0} (f : X → Y) (y : Y) (xs : List X) → In y (map f xs) → (x : X) × In x xs × (f x ≡ y)
-in_map f y [] i = absurd i
-in_map f y (x ∷ xs) (inl e) = (x, inl refl, e)
-in_map f y (x ∷ xs) (inr i) = let r = in_map f y xs i in (r.0, inr r.1, r.2)
-
 shut_same : (q : ℕ) (c : Cell) → ((with_at shut_row q c).place ≡ c.place) × (num (with_at shut_row q c) ≡ num c)
 shut_same q c = go (c.place == q)
   where
@@ -227,7 +224,7 @@ shut_same q c = go (c.place == q)
 was_there : (v u : View) (q : ℕ) → Closed v u q → (c : Cell) → In c u.rows → (d : Cell) × In d v.rows × (d.place ≡ c.place) × (num d ≡ num c)
 was_there v u q k c i =
     let j = (In-filter (λ (c : Cell). not (is_gone k.leaves.left c)) c (map (with_at shut_row q) v.rows) (subst (λ (z : List Cell). In c z) k.leaves.purged.leaves.rows i)).0 in
-    let r = in_map (with_at shut_row q) c v.rows j in
+    let r = from_map (with_at shut_row q) c v.rows j in
     let s = shut_same q r.0 in
     (r.0, r.1, sym s.0 ∙ ap (λ (c : Cell). c.place) r.2, sym s.1 ∙ ap num r.2)
 
@@ -252,9 +249,6 @@ kept_innermost v past h a e kept k p (inr f) =
     let r = root_innermost v past h a e (subst (λ (o : Option Place). KeepsPlace o v.rows) f.0 k) in
     let s : r.0.place ≡ p.0 = subst (λ (o : Option Cell). IfSome o (λ (c : Cell). c.place ≡ p.0)) r.1 f.1 in
     subst (λ (z : ℕ). Innermost v.rows z) s r.2
-
-pub innermost_used : (xs : List Cell) (p : ℕ) → Innermost xs p → InUse xs p
-innermost_used xs p i = record { cell = i.cell; among = i.among; place = i.place }
 
 -- in a new buffer the document node alone is open
 pub started_place : (v : View) (given : List Role) → Started v given → KeepsPlace None v.rows

@@ -14,26 +14,14 @@ use Rattle.gcx_model.specs.Placed.{offs_in, is_own}
 use Rattle.gcx_model.specs.Growth.{level}
 use Rattle.gcx_model.specs.Held.{path_of}
 use Rattle.gcx_model.specs.Past.{Past, IsPast, is_ahead, Awaited, awaited, waiting_offs}
+use Rattle.base_laws.proofs.Members.{in_drop}
+use Rattle.base_laws.proofs.Lists.{cons_tail, cons_head, nil_cons}
 use Rattle.tree_laws.proofs.Matches.{Matches-in}
 use Rattle.past_laws.proofs.Ahead.{open_nodes_are}
 use Rattle.past_laws.proofs.Awaited.{waiting_law}
 use Rattle.buf_tree.specs.declared.ahead.Ahead.{Ahead}
 use Rattle.buf_tree.specs.Stands.{awaited_by}
 use Rattle.projector.specs.Signing.{AreDue, carried}
-
-nil_cons : {X : Type 0} (y : X) (ys : List X) → ◌≡◌ {A = List X} [] (y ∷ ys) → ⊥
-nil_cons y ys e = cc
-
-cons_head : {X : Type 0} (x y : X) (xs ys : List X) → x ∷ xs ≡ y ∷ ys → x ≡ y
-cons_head x y xs ys e = cc
-
-cons_tail : {X : Type 0} (x y : X) (xs ys : List X) → x ∷ xs ≡ y ∷ ys → xs ≡ ys
-cons_tail x y xs ys e = cc
-
-in_drop : {X : Type 0} (k : ℕ) (x : X) (xs : List X) → In x (drop k xs) → In x xs
-in_drop zero x xs i = i
-in_drop (suc k) x [] i = i
-in_drop (suc k) x (y ∷ ys) i = inr (in_drop k x ys i)
 
 take_drop : {X : Type 0} (k : ℕ) (xs : List X) → take k xs ++ drop k xs ≡ xs
 take_drop zero xs = refl

@@ -1,5 +1,5 @@
 -- Sets of rows and the nodes that they are: which are closed, and what of their values holds.
-use Rattle.std.proofs.Common.{◌≡◌, ◌==◌, ℕ, zero, suc, ◌+◌, ◌<◌, ◌≤◌, Bool, true, false, cond, not, ◌||◌, ◌&&◌, List, [], ◌∷◌, ◌++◌, map, length, get_or, take, drop, refl, sym, ◌∙◌, ap, subst, inl, inr, ◌⊎◌, arith, Some}
+use Rattle.std.proofs.Common.{◌≡◌, ◌==◌, ℕ, zero, suc, ◌+◌, ◌<◌, ◌≤◌, Bool, true, false, cond, not, ◌||◌, ◌&&◌, List, [], ◌∷◌, ◌++◌, map, length, get_or, take, drop, refl, sym, ◌∙◌, ap, subst, inl, inr, ◌⊎◌, arith}
 use Rattle.std.specs.List.{filter}
 use Rattle.std.proofs.lemmas.Bool.{false≢true, eq-eqb, ne_eqb}
 use Rattle.std.proofs.lemmas.List.{take_more, drop_more, drop_all, take_all}
@@ -226,10 +226,6 @@ no_nodes [] (n ∷ ns) e f = absurd (cc)
 no_nodes (m ∷ ms) (n ∷ ns) e f = absurd (cc)
 
 -- ---- what is kept serves
-
-first_some : {X : Type 0} (xs : List X) (x : X) → head xs ≡ Some x → In x xs
-first_some [] x e = absurd (cc)
-first_some (y ∷ xs) x e = inl (cc)
 
 any_head : {X : Type 0} (xs ys : List X) → head xs ≡ head ys → is_any xs ≡ is_any ys
 any_head [] [] e = refl

@@ -1,25 +1,17 @@
--- Lists of numbers in order are one where each number stands in both as often; and what filters of two tests have, counted.
+-- The serials of members, and of nodes that pass tests, counted and in order.
 use Rattle.std.proofs.Common.{◌≡◌, ℕ, suc, ◌+◌, ◌<◌, ◌≤◌, Bool, true, false, cond, ◌||◌, List, [], ◌∷◌, ◌++◌, length, map, get_or, refl, sym, ◌∙◌, ap, subst, inl, inr, arith, eqb, ltb, Option, Some, Ordering, Less, Equal, Greater, nat_cmp, is_lt}
 use Rattle.std.specs.List.{filter, sum_by}
 use Rattle.std.specs.List.Sorted.{IsPermutation}
 use Rattle.std.proofs.lemmas.List.Sums.{sum_by-cons}
 use Rattle.std.proofs.lemmas.List.Sorted.{sum_by-IsPermutation}
 use Rattle.std.specs.Ordering.{is_le, is_some_and, ordering_then, partial_ordering_then}
-use Rattle.std.proofs.lemmas.Bool.{cases_order, ne_eqb, eq-eqb, eqb-true, true≢false, false≢true, ltb-true, ltb-false}
+use Rattle.std.proofs.lemmas.Bool.{eqb-true, true≢false, false≢true, ltb-true, ltb-false}
 use Rattle.gcx_model.specs.Tree.{Node, serial_of}
+use Rattle.base_laws.proofs.Counts.{as_number, count, Up, AllFrom, from_less}
 use Rattle.tree_laws.proofs.Lists.{In}
 use Rattle.tree_laws.proofs.Matches.{Rising}
 use Rattle.pull_eval.specs.declared.sets.Member.{Member}
 use Rattle.pull_eval.specs.Reads.{Ascends, serials}
-
-abbrev pub as_number : Bool → ℕ
-as_number true = 1
-as_number false = 0
-
--- how often the number stands in the list
-abbrev pub count : ℕ → List ℕ → ℕ
-count c [] = 0
-count c (x ∷ xs) = as_number (eqb x c) + count c xs
 
 counted : (c : ℕ) (ms : List Member) → count c (serials ms) ≡ sum_by (λ (m : Member). as_number (eqb m.serial c)) ms
 counted c [] = refl
@@ -28,24 +20,7 @@ counted c (m ∷ ms) = omega (arith, sum_by-cons (λ (x : Member). as_number (eq
 pub count_moved : (c : ℕ) (xs ys : List Member) → IsPermutation xs ys → count c (serials ys) ≡ count c (serials xs)
 count_moved c xs ys p = counted c ys ∙ (sum_by-IsPermutation (λ (x : Member). as_number (eqb x.serial c)) xs ys p ∙ sym (counted c xs))
 
-pub count_append : (c : ℕ) (xs ys : List ℕ) → count c (xs ++ ys) ≡ count c xs + count c ys
-count_append c [] ys = omega arith
-count_append c (x ∷ xs) ys = omega (arith, count_append c xs ys)
-
 -- ---- order
-
--- all are at least n
-abbrev pub AllFrom : ℕ → List ℕ → Type 0
-AllFrom n [] = Unit {0}
-AllFrom n (x ∷ xs) = (n ≤ x) × AllFrom n xs
-
-abbrev pub Up : List ℕ → Type 0
-Up [] = Unit {0}
-Up (x ∷ xs) = AllFrom x xs × Up xs
-
-from_less : (m n : ℕ) (xs : List ℕ) → m ≤ n → AllFrom n xs → AllFrom m xs
-from_less m n [] l a = tt
-from_less m n (x ∷ xs) l a = (let h = a.0 in omega arith, from_less m n xs l a.1)
 
 -- members none of which has a smaller serial than the one before it
 pub up_steps : (ms : List Member) → ((k : ℕ) (d : Member) → k + 1 < length ms → (get_or ms k d).serial ≤ (get_or ms (k + 1) d).serial) → Up (serials ms)
@@ -89,25 +64,6 @@ up_ascends (x ∷ xs) a = (all xs (λ j i. let h = a.0 j i in omega arith), up_a
     all : (ys : List ℕ) → ((j : ℕ) → In j ys → x ≤ j) → AllFrom x ys
     all [] h = tt
     all (y ∷ ys) h = (h y (inl refl), all ys (λ j i. h j (inr i)))
-
-none_below : (n c : ℕ) (xs : List ℕ) → AllFrom n xs → c < n → count c xs ≡ 0
-none_below n c [] a l = refl
-none_below n c (x ∷ xs) a l = let h = a.0 in let e = none_below n c xs a.1 l in rw (ne_eqb x c (λ e. omega arith)) (omega arith)
-
-own : (c : ℕ) (xs : List ℕ) → 1 ≤ count c (c ∷ xs)
-own c xs = rw (eq-eqb c c refl) (omega arith)
-
-pub same_up : (xs ys : List ℕ) → Up xs → Up ys → ((c : ℕ) → count c xs ≡ count c ys) → xs ≡ ys
-same_up [] [] u v e = refl
-same_up [] (y ∷ ys) u v e = let h = e y in let o = own y ys in absurd (omega arith)
-same_up (x ∷ xs) [] u v e = let h = e x in let o = own x xs in absurd (omega arith)
-same_up (x ∷ xs) (y ∷ ys) u v e = elim (cases_order x y) [
-  | inl s ↦ rw s (ap (λ l. y ∷ l) (same_up xs ys u.1 v.1 (λ c. let h = e c in let t = ap (λ z. as_number (eqb z c)) s in omega arith)))
-  | inr o ↦ elim o [
-    | inl l ↦ (let h = e x in let o = own x xs in let z = none_below y x (y ∷ ys) (omega arith, v.0) l in absurd (omega arith))
-    | inr l ↦ (let h = e y in let o = own y ys in let z = none_below x y (x ∷ xs) (omega arith, u.0) l in absurd (omega arith))
-  ]
-]
 
 -- ---- nodes
 

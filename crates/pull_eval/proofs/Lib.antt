@@ -13,7 +13,7 @@ mod RoundMoves
 mod LoopEntry
 mod RoundEnds
 mod RoundLooks
-mod SignedRows
+pub mod SignedRows
 mod SignMoves
 mod Copying
 mod Inside
@@ -45,3 +45,4 @@ mod MarkTold
 mod MarkAsks
 mod MarkBack
 mod MarkList
+mod SameLists

@@ -2,7 +2,7 @@
 use Rattle.std.proofs.Common.{◌≡◌, ◌<◌, ◌≤◌, ℕ, suc, Bool, true, false, not, List, [], ◌∷◌, Option, Some, None, refl, sym, ◌∙◌, ap, subst, inl, inr, ◌⊎◌, arith}
 use Rattle.std.specs.Prelude.{MatchOption, IfSome, Result, IfOk}
 use Rattle.std.specs.declared.result.Result.TheVariants.{Ok, Err}
-use Rattle.std.proofs.lemmas.Bool.{false≢true}
+use Rattle.std.proofs.lemmas.Bool.{false≢true, not-true}
 use Rattle.gcx_base.specs.declared.kind.Kind.{Kind}
 use Rattle.gcx_base.specs.declared.ids.Serial.{Serial}
 use Rattle.gcx_base.specs.declared.steps.Step.{Step}
@@ -166,10 +166,6 @@ still_open rows waiting s q w h b e f p t u P keep n o a i k g up =
     let of = of_serial rows P keep a.rows_of h.cell o h.among i (number ∙ sym (g ∙ same)) in
     sym (closed_told rows P keep a.rows_of h.cell o of) ∙ sym e ∙ f
 
-not_true : (b : Bool) → not b ≡ true → b ≡ false
-not_true false e = refl
-not_true true e = absurd (false≢true e)
-
 pub is_shut : (rows : List Cell) → AreApart rows → (waiting : Option Serial) (s : Serial) (q : ℕ) → waiting ≡ Some s → (h : HasSerial rows s.0 q) → (b : Bool) → b ≡ not h.cell.row.is_open → b ≡ true → IsShut rows waiting q
 is_shut rows apart waiting s q w h b e f = record {
   serial = s;
@@ -179,7 +175,7 @@ is_shut rows apart waiting s q w h b e f = record {
   among = h.among;
   place = h.place;
   number = h.number;
-  closed = not_true h.cell.row.is_open (sym e ∙ f);
+  closed = not-true h.cell.row.is_open (sym e ∙ f);
 }
 
 -- ---- one row up, as a loop knows it

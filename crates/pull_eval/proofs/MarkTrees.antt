@@ -2,6 +2,7 @@
 use Rattle.std.proofs.Common.{◌≡◌, ◌<◌, ◌≤◌, ℕ, zero, suc, Bool, true, false, cond, not, ◌&&◌, ◌||◌, ◌==◌, List, [], ◌∷◌, ◌++◌, length, map, Option, Some, None, refl, sym, ◌∙◌, ap, subst, inl, inr, ◌⊎◌, arith, eqb, length-append}
 use Rattle.std.specs.List.{filter}
 use Rattle.std.proofs.lemmas.Bool.{and_parts, and_from, or_cases, false≢true, true≢false, eqb-true}
+use Rattle.std.proofs.Math.Bool.{or-true}
 use Rattle.gcx_base.specs.declared.ids.Serial.{Serial}
 use Rattle.gcx_base.specs.declared.steps.Axis.{Axis}
 use Rattle.gcx_base.specs.declared.steps.Axis.TheVariants.{Child, Descendant}
@@ -131,17 +132,13 @@ any_none (x ∷ xs) h = absurd (h x (inl refl))
 abbrev pairs : Tree → Ask → List Node → List Value → Bool
 pairs P a ms vs = some_pair (compare a.rel) (map (node_value P) (filter (is_closed P) ms)) vs
 
-or_true : (b : Bool) → (b || true) ≡ true
-or_true false = refl
-or_true true = refl
-
 pairs_found : (P : Tree) (a : Ask) (v : Value) (ms : List Node) (j : Node) → In j ms → is_closed P j ≡ true → compare a.rel (Bytes (value P j)) v ≡ true → pairs P a ms (v ∷ []) ≡ true
 pairs_found P a v [] j i c h = absurd i
 pairs_found P a v (m ∷ ms) j i c h = go (is_closed P m) refl i (λ k. pairs_found P a v ms j k c h)
   where
     go : (b : Bool) → is_closed P m ≡ b → In j (m ∷ ms) → (In j ms → pairs P a ms (v ∷ []) ≡ true) → some_pair (compare a.rel) (map (node_value P) (cond b (m ∷ filter (is_closed P) ms) (filter (is_closed P) ms))) (v ∷ []) ≡ true
     go true e (inl f) ih = ap (λ (x : Node). (compare a.rel (Bytes (value P x)) v || false) || pairs P a ms (v ∷ [])) f ∙ ap (λ (x : Bool). (x || false) || pairs P a ms (v ∷ [])) h
-    go true e (inr k) ih = ap (λ (x : Bool). (compare a.rel (Bytes (value P m)) v || false) || x) (ih k) ∙ or_true (compare a.rel (Bytes (value P m)) v || false)
+    go true e (inr k) ih = ap (λ (x : Bool). (compare a.rel (Bytes (value P m)) v || false) || x) (ih k) ∙ or-true (compare a.rel (Bytes (value P m)) v || false)
     go false e (inl f) ih = absurd (false≢true (sym e ∙ ap (is_closed P) f ∙ c))
     go false e (inr k) ih = ih k
 

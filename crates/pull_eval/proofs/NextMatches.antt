@@ -8,9 +8,9 @@ use Rattle.gcx_model.specs.Paths.{matches}
 use Rattle.gcx_model.specs.Members.{In}
 use Rattle.gcx_model.specs.Past.{Past}
 use Rattle.gcx_model.specs.Points.{later}
+use Rattle.base_laws.proofs.Members.{filter_all}
 use Rattle.tree_laws.proofs.Matches.{Numbered-high}
 use Rattle.past_laws.proofs.Bases.{is_grown}
-use Rattle.need_laws.proofs.Pruned.{filter_all}
 use Rattle.move_laws.proofs.Keeping.{matches_kept}
 use Rattle.buf_tree.specs.Shape.{Cell, num}
 use Rattle.buf_tree.specs.Match.{Unreached, FirstReached}

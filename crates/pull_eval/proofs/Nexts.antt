@@ -13,11 +13,12 @@ use Rattle.gcx_base.specs.declared.steps.Step.{Step}
 use Rattle.gcx_model.specs.Tree.{Node, Root, Under, serial_of, kind_of, above, within, Tree}
 use Rattle.gcx_base.specs.Tests.{passes}
 use Rattle.gcx_model.specs.Paths.{any, lies, reach, hits, matches}
+use Rattle.base_laws.proofs.Bools.{same_bools}
 use Rattle.move_laws.specs.Kept.{only}
 use Rattle.tree_laws.proofs.Lists.{In, In-append, In-left, In-right, In-filter, In-kept, any_in, any_from, filter_none, filter_same}
 use Rattle.tree_laws.proofs.Matches.{Rising, Rising-filter}
 use Rattle.tree_laws.proofs.Chains.{above_self, above_trans, hits_one, hits_one_from, hits_above}
-use Rattle.buf_tree.proofs.Feeding.{bools}
+use Rattle.tree_laws.proofs.Departures.{rising_filter}
 use Rattle.node_store.specs.declared.store.Place.{Place}
 use Rattle.buf_tree.specs.Shape.{Cell}
 use Rattle.buf_tree.specs.Match.{GoesFrom}
@@ -27,10 +28,11 @@ use Rattle.pull_eval.specs.Asking.{RowsOf}
 use Rattle.pull_eval.specs.declared.sets.Member.{Member}
 use Rattle.pull_eval.specs.Reads.{NodeAt, AreReached, Ascends, IsMember, AreMembers, serials, is_next, Puts, AreNext, Tells}
 use Rattle.pull_eval.proofs.Rows.{node_for, node_at, grown_tree, ordered_tree, serial_told, above_kept, at_placed}
-use Rattle.pull_eval.proofs.RowSteps.{kept_matches, rising_filter, match_high}
+use Rattle.pull_eval.proofs.RowSteps.{kept_matches, match_high}
 use Rattle.pull_eval.proofs.Searches.{Searched, Looks, Goes, goes_start, goes_way, goes_on, goes_less, goes_end}
 use Rattle.pull_eval.proofs.Below.{above_le, within_is, within_up}
-use Rattle.pull_eval.proofs.Counts.{count, count_moved, count_append, up_steps, up_ascends, same_up, ascends_rising, count_either, filter_either}
+use Rattle.base_laws.proofs.Counts.{count, count_append, same_up}
+use Rattle.pull_eval.proofs.Counts.{count_moved, up_steps, up_ascends, ascends_rising, count_either, filter_either}
 
 -- ---- lists
 
@@ -210,7 +212,7 @@ module _ (rows : List Cell) (s : Step) where
     -- matches of one step are what it reaches
     as_reached : (k : ℕ) → kept_matches P keep k s ≡ filter (reach k s) kept
     as_reached k = filter_same (hits k (s ∷ [])) (reach k s) kept (λ x i.
-        bools _ _ (hits_one P (grown_tree rows P keep of) k s x (kept_in x i).0) (hits_one_from P (grown_tree rows P keep of) k s x))
+        same_bools _ _ (hits_one P (grown_tree rows P keep of) k s x (kept_in x i).0) (hits_one_from P (grown_tree rows P keep of) k s x))
 
     -- ---- children
 
@@ -322,7 +324,7 @@ module _ (rows : List Cell) (s : Step) (ax : s.axis ≡ Descendant) where
         record {
           listed = d.listed ∙ ap (map serial_of) (filter_same (is_next before s) (is_next (before ++ m ∷ []) s) (filter keep P.nodes) (λ j i.
               let k = In-filter keep j P.nodes i in
-              bools _ _ (push_left before m j) (λ r. elim (push_cases before m j r) [ inl x ↦ x | inr x ↦ same j k.0 k.1 x ])));
+              same_bools _ _ (push_left before m j) (λ r. elim (push_cases before m j r) [ inl x ↦ x | inr x ↦ same j k.0 k.1 x ])));
           shape = record {
             t = h.t;
             l = n;
@@ -458,7 +460,7 @@ module _ (rows : List Cell) (p : ℕ) (steps : List Step) where
         let old = l.told P keep n at in
         let listed = a.told P keep of old.0 in (
           subst (λ (ks : List ℕ). Ascends ks) (sym listed) (next_rise rows s P keep of set),
-          λ j i k. bools _ _
+          λ j i k. same_bools _ _
               (λ h.
               let m = any_in (λ (x : Member). hits x.serial rest j) new h in
               let y = In-map m.0.serial (filter (is_next set s) (filter keep P.nodes)) (subst (λ (ks : List ℕ). In m.0.serial ks) listed (In-serials_from m.0 new m.1)) in

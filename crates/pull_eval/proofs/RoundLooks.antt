@@ -7,11 +7,11 @@ use Rattle.gcx_model.specs.declared.item.Off.{Off}
 use Rattle.gcx_model.specs.ItemView.{off_tree}
 use Rattle.gcx_model.specs.Tree.{Node, serial_of, Tree}
 use Rattle.gcx_model.specs.Members.{In}
-use Rattle.gcx_model.specs.Core.{OffTree, ItemTree, BodyTree, Nil, Then}
 use Rattle.gcx_model.specs.Truth.{Env, bind_var}
-use Rattle.gcx_model.specs.Run.{Action, Offed, Out, idle, seq, seq_if, run_item, run}
+use Rattle.gcx_model.specs.Run.{Action, Out, idle, seq, seq_if, run}
 use Rattle.gcx_model.specs.Past.{Past}
 use Rattle.gcx_model.specs.Points.{Frame, Rest, Round, to_come, Bound_in}
+use Rattle.run_laws.proofs.Free.{some_acts}
 use Rattle.tree_laws.proofs.Matches.{Matches-in}
 use Rattle.past_laws.proofs.Bases.{is_grown}
 use Rattle.tree_laws.proofs.Chains.{hits_one}
@@ -53,15 +53,6 @@ second_idle a b e = go a a.done refl e
     go : (a : Out) (d : Bool) → a.done ≡ d → seq_if d a b ≡ idle true → b ≡ idle true
     go a true f h = ap (λ (z : List Action). record { acts = z; done = b.done }) (empty_right a.acts b.acts (ap (λ (o : Out). o.acts) h)) ∙ ap (λ (z : Bool). record { acts = []; done = z }) (ap (λ (o : Out). o.done) h)
     go a false f h = absurd (false≢true (sym f ∙ ap (λ (o : Out). o.done) h))
-
-filled : (x : Action) (xs : List Action) → x ∷ xs ≡ [] → ⊥
-filled x xs e = absurd (cc)
-
-some_acts : (o : OffTree) (d : BodyTree) (env : Env) (P : Tree) → Has o d → run d env P ≡ idle true → ⊥
-some_acts o Nil env P h e = h
-some_acts o (Then i d) env P (inl q) e =
-    filled (Offed o (serial_of (env o.base))) (run d env P).acts (ap (λ (z : Out). z.acts) (ap (λ (z : ItemTree). seq (run_item z env P) (run d env P)) (sym q) ∙ e))
-some_acts o (Then i d) env P (inr h) e = some_acts o d env P h (second_idle (run_item i env P) (run d env P) e)
 
 ends_has : (front : List Item) (o : Off) → Has (off_tree o) (items (front ++ item.Off o ∷ []))
 ends_has [] o = inl (fold_Off o)

@@ -1,28 +1,18 @@
 -- How the weight of a position falls with the rounds of a loop.
-use Rattle.std.proofs.Common.{◌≡◌, ◌<◌, ◌≤◌, ◌+◌, ◌*◌, suc, ℕ, Bool, true, false, cond, ltb, List, [], ◌∷◌, length, refl, sym, ◌∙◌, ap, inl, inr, arith}
+use Rattle.std.proofs.Common.{◌≡◌, ◌<◌, ◌≤◌, ◌+◌, ◌*◌, suc, ℕ, Bool, true, false, cond, ltb, List, [], ◌∷◌, length, refl, ap, inl, inr, arith}
 use Rattle.std.specs.List.{filter}
-use Rattle.std.proofs.lemmas.Bool.{ltb-true, lt-ltb, true≢false}
+use Rattle.std.proofs.lemmas.Bool.{ltb-true, lt-ltb}
 use Rattle.std.proofs.Math.Nat.{mul-le-mul_right}
 use Rattle.gcx_base.specs.declared.steps.Step.{Step}
 use Rattle.gcx_model.specs.Members.{In}
 use Rattle.node_store.specs.declared.store.Place.{Place}
 use Rattle.buf_tree.specs.Shape.{Cell, num}
 use Rattle.buf_tree.specs.View.{View, serial_at}
-use Rattle.buf_tree.proofs.Seeking.{rows_fewer}
+use Rattle.buf_tree.proofs.Seeking.{rows_fewer, fewer}
 use Rattle.pull_eval.specs.Weight.{rows_behind, rounds_left}
 use Rattle.pull_eval.specs.Rounds.{Learnt}
 use Rattle.pull_eval.specs.declared.block.Next.{Next}
 use Rattle.pull_eval.specs.declared.block.Next.TheVariants.{Unsought, Found, NoneUpTo}
-
-fewer : (p q : Cell → Bool) (xs : List Cell) → ((c : Cell) → p c ≡ true → q c ≡ true) → length (filter p xs) ≤ length (filter q xs)
-fewer p q [] h = omega arith
-fewer p q (x ∷ xs) h = go (p x) (q x) refl refl (fewer p q xs h)
-  where
-    go : (a b : Bool) → p x ≡ a → q x ≡ b → length (filter p xs) ≤ length (filter q xs) → length (cond a (x ∷ filter p xs) (filter p xs)) ≤ length (cond b (x ∷ filter q xs) (filter q xs))
-    go true true e f k = omega arith
-    go true false e f k = absurd (true≢false (sym (h x e) ∙ f))
-    go false true e f k = omega arith
-    go false false e f k = k
 
 -- no more rows are behind a greater serial
 pub behind_least : (rows : List Cell) (s t : ℕ) → s ≤ t → rows_behind t rows ≤ rows_behind s rows

@@ -10,13 +10,14 @@ use Rattle.gcx_model.specs.Tree.{Node, Root, Under, serial_of, kind_of, within, 
 use Rattle.gcx_base.specs.Tests.{passes}
 use Rattle.gcx_model.specs.Paths.{lies, reach, hits, matches}
 use Rattle.gcx_model.specs.Points.{later}
+use Rattle.base_laws.proofs.Members.{none_in, filter_all}
 use Rattle.move_laws.specs.Kept.{only}
 use Rattle.tree_laws.proofs.Lists.{In, In-filter, In-kept}
 use Rattle.tree_laws.proofs.Matches.{Rising, Rising-filter}
 use Rattle.tree_laws.proofs.Chains.{hits_one, hits_one_from}
 use Rattle.tree_laws.proofs.Freeze.{within_self}
+use Rattle.tree_laws.proofs.Departures.{rising_filter}
 use Rattle.move_laws.proofs.Keeping.{matches_kept, later_kept}
-use Rattle.need_laws.proofs.Pruned.{filter_all}
 use Rattle.buf_tree.specs.Shape.{Cell, num}
 use Rattle.buf_tree.specs.Match.{IsChild, Rises, Lies, Reached, Unreached, FirstReached, IsFrom}
 use Rattle.pull_eval.specs.Asking.{RowsOf}
@@ -33,23 +34,11 @@ kept_matches P keep n s = matches (only keep P) n (s ∷ [])
 
 -- ---- lists
 
-pub rising_filter : (p : Node → Bool) (xs : List Node) → Rising xs → Rising (filter p xs)
-rising_filter p [] r = tt
-rising_filter p (x ∷ xs) r = go (p x) (rising_filter p xs r.1)
-  where
-    go : (b : Bool) → Rising (filter p xs) → Rising (cond b (x ∷ filter p xs) (filter p xs))
-    go true h = ((λ y i. r.0 y (In-filter p y xs i).0), h)
-    go false h = h
-
 -- the least of rising nodes is their first
 pub least_first : (xs : List Node) (m : Node) → Rising xs → In m xs → ((j : Node) → In j xs → serial_of m ≤ serial_of j) → (rest : List Node) × (xs ≡ m ∷ rest)
 least_first [] m r i l = absurd i
 least_first (x ∷ xs) m r (inl e) l = (xs, ap (λ z. z ∷ xs) e)
 least_first (x ∷ xs) m r (inr i) l = let a = r.0 m i in let b = l x (inl refl) in absurd (omega arith)
-
-pub none_left : {X : Type 0} (xs : List X) → ((x : X) → In x xs → ⊥) → xs ≡ []
-none_left [] h = refl
-none_left (x ∷ xs) h = absurd (h x (inl refl))
 
 module _ (rows : List Cell) (P : Tree) (keep : Node → Bool) (of : RowsOf rows P keep) where
   -- ---- one step
@@ -184,7 +173,7 @@ module _ (rows : List Cell) (P : Tree) (keep : Node → Bool) (of : RowsOf rows 
 
   -- or there is none
   pub not_found : (c : Cell) (n : Node) (s : Step) (after : ℕ) → In c rows → OfNode P keep c n → Unreached rows c s after → beyond after (kept_matches P keep (serial_of n) s) ≡ []
-  not_found c n s after i o u = none_left _ (λ m j. let d = beyond_row c n s after i o m j in u.none d.0 d.2)
+  not_found c n s after i o u = none_in _ (λ m j. let d = beyond_row c n s after i o m j in u.none d.0 d.2)
 
   -- above the node itself are all its matches
   pub all_beyond : (n : ℕ) (s : Step) → beyond n (kept_matches P keep n s) ≡ kept_matches P keep n s

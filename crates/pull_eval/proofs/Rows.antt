@@ -4,6 +4,7 @@ use Rattle.std.specs.List.{filter}
 use Rattle.gcx_base.specs.declared.kind.Kind.{Kind}
 use Rattle.gcx_model.specs.Tree.{Node, Root, Under, serial_of, kind_of, above, Tree, is_open_at, is_closed}
 use Rattle.gcx_model.specs.Nodes.{Ordered}
+use Rattle.base_laws.proofs.Lists.{nil_cons, cons_tail, cons_head}
 use Rattle.tree_laws.proofs.Lists.{In, In-filter, In-kept}
 use Rattle.tree_laws.proofs.Matches.{Grown, Numbered-same, Rising, Rising-filter}
 use Rattle.tree_laws.proofs.Chains.{above_self, above_in}
@@ -17,15 +18,6 @@ use Rattle.buf_tree.proofs.Shaping.{rising_same}
 use Rattle.buf_tree.proofs.Standing.{pair_left, parent_told}
 use Rattle.pull_eval.specs.Asking.{Facts, facts, node_facts, RowsOf, PlacedAt}
 use Rattle.pull_eval.specs.Reads.{NodeAt}
-
-pub cons_head : {X : Type 0} (x y : X) (xs ys : List X) → x ∷ xs ≡ y ∷ ys → x ≡ y
-cons_head x y xs ys e = cc
-
-pub cons_tail : {X : Type 0} (x y : X) (xs ys : List X) → x ∷ xs ≡ y ∷ ys → xs ≡ ys
-cons_tail x y xs ys e = cc
-
-pub nil_cons : {X : Type 0} (y : X) (ys : List X) → ◌≡◌ {A = List X} [] (y ∷ ys) → ⊥
-nil_cons y ys e = cc
 
 -- the row is that of the node, which is kept
 pub record OfNode (P : Tree) (keep : Node → Bool) (c : Cell) (n : Node) : Type 0 where

@@ -5,9 +5,11 @@ use Rattle.std.proofs.lemmas.Bool.{lt-ltb, le-ltb, ltb-true}
 use Rattle.gcx_base.specs.declared.steps.Step.{Step}
 use Rattle.gcx_model.specs.Tree.{Node, serial_of, Tree}
 use Rattle.gcx_model.specs.Paths.{hits}
+use Rattle.base_laws.proofs.Lists.{cons_head, cons_tail}
+use Rattle.base_laws.proofs.Members.{filter_all}
 use Rattle.tree_laws.proofs.Lists.{In}
 use Rattle.tree_laws.proofs.Matches.{Rising, Rising-filter}
-use Rattle.need_laws.proofs.Pruned.{filter_all}
+use Rattle.tree_laws.proofs.Departures.{rising_filter}
 use Rattle.node_store.specs.declared.store.Place.{Place}
 use Rattle.buf_tree.specs.Shape.{Cell, num, at_place}
 use Rattle.buf_tree.specs.Walk.{serial_in, rows_behind, high_at}
@@ -16,8 +18,8 @@ use Rattle.buf_tree.specs.Match.{Unreached, FirstReached, GoesFrom}
 use Rattle.buf_tree.specs.View.{InUse, num_in, serial_at}
 use Rattle.pull_eval.specs.Asking.{RowsOf}
 use Rattle.pull_eval.specs.Reads.{NodeAt}
-use Rattle.pull_eval.proofs.Rows.{at_node, grown_tree, serial_told, cons_head, cons_tail}
-use Rattle.pull_eval.proofs.RowSteps.{beyond, kept_matches, rising_filter, found, not_found, all_beyond}
+use Rattle.pull_eval.proofs.Rows.{at_node, grown_tree, serial_told}
+use Rattle.pull_eval.proofs.RowSteps.{beyond, kept_matches, found, not_found, all_beyond}
 
 -- ---- lists
 

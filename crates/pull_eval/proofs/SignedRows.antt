@@ -1,27 +1,23 @@
 -- What a statement that is carried out leaves of the rows: their places, how many have a role, and which are gone.
-use Rattle.std.proofs.Common.{◌≡◌, ◌==◌, ◌||◌, ℕ, suc, Bool, true, false, not, cond, List, [], ◌∷◌, ◌++◌, length, map, reverse, refl, sym, ◌∙◌, ap}
+use Rattle.std.proofs.Common.{◌≡◌, ◌==◌, ◌||◌, ℕ, suc, Bool, true, false, not, cond, List, [], ◌∷◌, length, map, reverse, refl, sym, ◌∙◌, ap}
 use Rattle.std.specs.List.{filter, list_any}
-use Rattle.std.specs.Ordering.{nat_cmp, eq_by_cmp}
-use Rattle.std.specs.Cmp.{nat_cmp_total}
 use Rattle.std.specs.FinSet as set
-use Rattle.std.specs.FinSet.{from_list, contains-from_list}
-use Rattle.std.proofs.lemmas.List.{reverse-append, map-append}
 use Rattle.std.proofs.lemmas.Bool.{true≢false, false≢true}
 use Rattle.gcx_base.specs.declared.steps.Step.{Step}
 use Rattle.gcx_model.specs.Tree.{Node, serial_of, Tree}
 use Rattle.gcx_model.specs.Paths.{matches}
-use Rattle.gcx_model.specs.Members.{In}
 use Rattle.gcx_model.specs.Core.{BodyTree}
 use Rattle.gcx_model.specs.Truth.{Env}
 use Rattle.gcx_model.specs.Held.{held, live, roles_live, has_serial, departed}
 use Rattle.gcx_model.specs.Past.{Past, IsPast, is_signed, roles_signed}
 use Rattle.gcx_model.specs.Points.{Frame, later}
+use Rattle.base_laws.proofs.Lists.{map_reverse}
 use Rattle.past_laws.proofs.RowFacts.{row_tells}
 use Rattle.buf_tree.specs.Shape.{Cell, num}
 use Rattle.buf_tree.specs.Calls.{role_count, left_out}
 use Rattle.buf_tree.specs.Stands.{Seen, seen, told, StandsFor}
 use Rattle.buf_tree.specs.View.{View}
-use Rattle.buf_tree.proofs.Signing.{listed, in_listed}
+use Rattle.buf_tree.proofs.Signing.{has_listed}
 use Rattle.run_laws.specs.Sums.{live_at}
 use Rattle.pull_eval.specs.Asking.{PlacedAt, IsBound}
 use Rattle.pull_eval.specs.Bindings.{Bindings}
@@ -66,13 +62,6 @@ module _ (before now : List Cell) (same : SamePlaces before now) where
 -- ---- how many rows have a role
 
 -- the roles of a row as a set are those live at its node, and the roles signed at it those signed
-bools : (a b : Bool) → (a ≡ true → b ≡ true) → (b ≡ true → a ≡ true) → a ≡ b
-bools true b f g = sym (f refl)
-bools false true f g = g refl
-bools false false f g = refl
-
-has_listed : (ks : List ℕ) (q : ℕ) (b : Bool) → (In q ks → b ≡ true) → (b ≡ true → In q ks) → set.contains (from_list {R = nat_cmp} ks) q ≡ b
-has_listed ks q b to from = contains-from_list nat_cmp_total ks q ∙ bools (list_any (eq_by_cmp nat_cmp q) ks) b (λ h. to (in_listed ks q h)) (λ h. listed ks q (from h))
 
 pub has_live : (past : Past) → IsPast past → (n : Node) (r : ℕ) → set.contains (told past n).roles r ≡ live past.plan past.tree past.acts n r
 has_live past is n r = has_listed (roles_live past.plan past.tree past.acts n) r (live past.plan past.tree past.acts n r) (row_tells past is n r).0.0 (row_tells past is n r).0.1
@@ -118,13 +107,6 @@ rows_one (x ∷ xs) k = ap (λ b. (num x == k) || b) (rows_one xs k)
 nodes_one : (ns : List Node) (k : ℕ) → has_serial ns k ≡ is_one k (map serial_of ns)
 nodes_one [] k = refl
 nodes_one (n ∷ ns) k = ap (λ b. (serial_of n == k) || b) (nodes_one ns k)
-
-turned : {X : Type 0} (x : X) (xs : List X) → reverse (x ∷ xs) ≡ reverse xs ++ x ∷ []
-turned x xs = reverse-append (x ∷ []) xs
-
-map_reverse : {X : Type 0} (f : X → ℕ) (xs : List X) → map f (reverse xs) ≡ reverse (map f xs)
-map_reverse f [] = refl
-map_reverse f (x ∷ xs) = ap (map f) (turned x xs) ∙ map-append f (reverse xs) (x ∷ []) ∙ ap (λ (z : List ℕ). z ++ f x ∷ []) (map_reverse f xs) ∙ sym (turned (f x) (map f xs))
 
 -- the numbers of what isn't among some
 module _ {X : Type 0} (f : X → ℕ) (stays : X → Bool) (ks : List ℕ) (same : (x : X) → stays x ≡ is_one (f x) ks) where

@@ -5,7 +5,7 @@ use Rattle.gcx_base.specs.declared.steps.Step.{Step}
 use Rattle.gcx_base.specs.declared.rel.Rel.{Rel}
 use Rattle.gcx_base.specs.declared.ids.VarId.{VarId}
 use Rattle.gcx_model.specs.Tree.{Node, serial_of, Tree, is_closed}
-use Rattle.gcx_model.specs.Paths.{any, head, matches}
+use Rattle.gcx_model.specs.Paths.{any, matches}
 use Rattle.gcx_model.specs.Members.{In}
 use Rattle.gcx_model.specs.Core.{OperandTree, Path, CondTree, Exists, Compare, RoleRowTree, First, Whole}
 use Rattle.gcx_model.specs.CondView.{operand_tree}
@@ -23,6 +23,7 @@ use Rattle.pull_eval.specs.Literals.{literal_value, IsLiteral}
 use Rattle.pull_eval.specs.Reads.{NodeAt}
 use Rattle.pull_eval.specs.Comparing.{IsAsked, Tells, IsNodeRow, KeepsFirst, KeepsMatches, closed_values}
 use Rattle.gcx_model.specs.declared.truth.Truth.{Truth}
+use Rattle.base_laws.proofs.Members.{head_in}
 use Rattle.pull_eval.proofs.Rows.{kept_at}
 
 -- ---- the rows of a condition's variables
@@ -59,13 +60,9 @@ in_right x steps rel o = In-right (side_of x steps) (operand_rows o) (side_of x 
 
 -- ---- what a condition keeps
 
-in_first : {X : Type 0} (xs : List X) (x : X) → head xs ≡ Some x → In x xs
-in_first [] x e = absurd (cc)
-in_first (y ∷ xs) x e = inl (cc)
-
 module _ (rows : List Cell) (bound : Bindings) (P : Tree) (env : Env) where
   pub keeps_first : (x : ℕ) (steps : List Step) (a : Asked rows bound (Exists x steps) P env) → KeepsFirst P a.keep (env x) steps
-  keeps_first x steps a m e = a.needed m (In-filter _ m P.nodes (in_first (matches P (serial_of (env x)) steps) m e)).0 e
+  keeps_first x steps a m e = a.needed m (In-filter _ m P.nodes (head_in (matches P (serial_of (env x)) steps) m e)).0 e
 
   pub keeps_left : (x : ℕ) (steps : List Step) (rel : Rel) (o : OperandTree) (a : Asked rows bound (Compare (Path x steps) rel o) P env) → KeepsMatches P a.keep (env x) steps
   keeps_left x steps rel o a j i m k w = a.needed m k (inl (j, i, w))

@@ -3,6 +3,7 @@ use Rattle.std.proofs.Common.{◌≡◌, ℕ, suc, ◌<◌, Bool, true, false, c
 use Rattle.std.specs.Prelude.{flat_map, option_map}
 use Rattle.std.specs.List.{filter}
 use Rattle.std.proofs.lemmas.Bool.{or_cases, and_from, true≢false, false≢true, eqb-true, eq-eqb, ne_eqb, cases_Bool, false_from_ne_true}
+use Rattle.std.proofs.lemmas.Option.{same_Some}
 use Rattle.gcx_base.specs.declared.kind.Kind.{Kind}
 use Rattle.gcx_base.specs.declared.kind.Kind.TheVariants.{Document, Element, Text}
 use Rattle.gcx_base.specs.declared.steps.Step.{Step}
@@ -33,9 +34,6 @@ record NoTextAbove (Q : Tree) : Type 0 where
   at : (p : Node) → Q.at ≡ Some p → is_text (kind_of p) ≡ false
   above : (p : Node) (s : ℕ) (k : Kind) → In (Under p s k) Q.nodes → is_text (kind_of p) ≡ false
 
-some_is : {X : Type 0} (x y : X) → Some x ≡ Some y → x ≡ y
-some_is x y e = cc
-
 none_some : {X : Type 0} (x : X) → ◌≡◌ {A = Option X} None (Some x) → ⊥
 none_some x e = cc
 
@@ -53,7 +51,7 @@ more_above P Q n p s k is h e f q t l i = elim (In-append (Under q t l) P.nodes 
 
 grown_text : (P Q : Tree) → Grown P → NoTextAbove P → Grow P Q → NoTextAbove Q
 grown_text P Q w h (opened p name named at r n a) = record {
-  at = λ q e. subst (λ (x : Node). is_text (kind_of x) ≡ false) (some_is _ _ (sym a ∙ e)) refl;
+  at = λ q e. subst (λ (x : Node). is_text (kind_of x) ≡ false) (same_Some _ _ (sym a ∙ e)) refl;
   above = more_above P Q (Under p (length P.nodes) (Element name)) p (length P.nodes) (Element name) refl h n (h.at p at);
 }
 grown_text P Q w h (added p s k b at r t n a) = record {
@@ -61,7 +59,7 @@ grown_text P Q w h (added p s k b at r t n a) = record {
   above = more_above P Q (Under (Under p s k) (length P.nodes) (Text b)) (Under p s k) (length P.nodes) (Text b) refl h n (h.at (Under p s k) at);
 }
 grown_text P Q w h (closed p s k at n a) = record {
-  at = λ q e. subst (λ (x : Node). is_text (kind_of x) ≡ false) (some_is _ _ (sym a ∙ e)) (h.above p s k (w.at_in (Under p s k) at));
+  at = λ q e. subst (λ (x : Node). is_text (kind_of x) ≡ false) (same_Some _ _ (sym a ∙ e)) (h.above p s k (w.at_in (Under p s k) at));
   above = λ q t l i. h.above q t l (subst (λ (xs : List Node). In (Under q t l) xs) n i);
 }
 grown_text P Q w h (ended at r n a) = record {
@@ -71,7 +69,7 @@ grown_text P Q w h (ended at r n a) = record {
 
 no_text : (Q : Tree) → Leads opening Q → NoTextAbove Q
 no_text Q stays = record {
-  at = λ p e. subst (λ (x : Node). is_text (kind_of x) ≡ false) (some_is _ _ e) refl;
+  at = λ p e. subst (λ (x : Node). is_text (kind_of x) ≡ false) (same_Some _ _ e) refl;
   above = λ p s k i. elim i [ inl e ↦ absurd (root_not p s k e) | inr j ↦ absurd j ];
 }
   where

@@ -16,7 +16,7 @@ use crate::mark::{Ask, Mark, Room};
 use crate::plain::compare_truth;
 use crate::values::flipped;
 use buf_tree::{Buffer, Row};
-use gcx_base::{Axis, Memory, Rel, Step, Steps, Test, VarId};
+use gcx_base::{Memory, Rel, Step, Steps, VarId};
 use gcx_model::{Cond, Operand, Truth};
 use node_store::NodeStore;
 use std::alloc::Global;
@@ -259,42 +259,5 @@ fn is_literal(kept: &Operand, literal: &Operand) -> bool
 fn are_same(kept: &[Step], steps: &[Step]) -> bool
     ensures { result ≡ true → kept.now ≡ steps.now }
 {
-    if kept.len() != steps.len() {
-        return false;
-    }
-    let mut i = 0;
-    'steps: while i < steps.len() {
-        if !is_step(&kept[i], &steps[i]) {
-            return false;
-        }
-        i += 1;
-    }
-    true
-}
-
-#[inline(always)]
-fn is_step(kept: &Step, step: &Step) -> bool
-    ensures { result ≡ true → kept.now ≡ step.now }
-{
-    is_axis(kept.axis, step.axis) && is_test(&kept.test, &step.test)
-}
-
-#[inline(always)]
-fn is_axis(kept: Axis, axis: Axis) -> bool
-    ensures { result ≡ true → kept ≡ axis }
-{
-    matches!(kept, Axis::Child) == matches!(axis, Axis::Child)
-}
-
-#[inline(always)]
-fn is_test(kept: &Test, test: &Test) -> bool
-    ensures { result ≡ true → kept.now ≡ test.now }
-{
-    match (kept, test) {
-        (Test::Named(kept), Test::Named(name)) => *kept == *name,
-        (Test::AnyElement, Test::AnyElement) => true,
-        (Test::AnyText, Test::AnyText) => true,
-        (Test::AnyNode, Test::AnyNode) => true,
-        _ => false,
-    }
+    *kept == *steps
 }

@@ -1,6 +1,5 @@
 -- The peak and the numbers of held nodes.
-use Rattle.std.proofs.Common.{◌≡◌, ℕ, suc, ◌+◌, ◌-◌, ◌≤◌, max, Bool, true, false, cond, List, [], ◌∷◌, ◌++◌, length, drop, ◌∙◌, ap, arith, append_assoc, Some, None, Option}
-use Rattle.std.specs.List.{filter}
+use Rattle.std.proofs.Common.{◌≡◌, ℕ, ◌+◌, ◌-◌, ◌≤◌, max, true, List, [], ◌∷◌, ◌++◌, length, drop, ◌∙◌, ap, arith, append_assoc, Some, None, Option}
 use Rattle.std.proofs.lemmas.List.{append-nil, length-append, length-drop, take-append-drop}
 use Rattle.std.proofs.lemmas.Bool.{and_parts}
 use Rattle.gcx_model.specs.Tree.{Node, Tree, Token, Start, Chars, End, opening, grow, grow_all}
@@ -12,6 +11,7 @@ use Rattle.gcx_model.specs.Held.{is_held, held}
 use Rattle.gcx_model.specs.Growth.{Leads, stays, more, may_come, may_all}
 use Rattle.gcx_model.specs.Points.{actions, so_far}
 use Rattle.gcx_model.specs.Demand.{peak_from, peak_of}
+use Rattle.base_laws.proofs.Lists.{filter_few}
 use Rattle.tree_laws.proofs.Matches.{added, added_at, grow_nodes}
 use Rattle.tree_laws.proofs.Growing.{grows, leads}
 use Rattle.placed_laws.proofs.HeldChanges.{held_by_feed, held_by_act}
@@ -36,14 +36,6 @@ pub peak_step : PeakStep
 peak_step plan ts = ((λ t. let h = step_from plan ts t opening in omega arith), (λ us. let h = longer_from plan ts us opening in omega arith))
 
 -- Held nodes
-
-pub filter_few : {X : Type 0} (p : X → Bool) (xs : List X) → length (filter p xs) ≤ length xs
-filter_few p [] = omega arith
-filter_few p (x ∷ xs) = go (p x) (filter_few p xs)
-  where
-    go : (b : Bool) → length (filter p xs) ≤ length xs → length (cond b (x ∷ filter p xs) (filter p xs)) ≤ suc (length xs)
-    go true h = omega arith
-    go false h = omega arith
 
 one_added : (at : Option Node) (t : Token) (P : Tree) → length (added_at at t P) ≤ 1
 one_added None t P = omega arith

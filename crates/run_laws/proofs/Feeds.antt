@@ -1,5 +1,5 @@
 -- What a list of tokens adds to a tree, and what is known over it stays known.
-use Rattle.std.proofs.Common.{◌≡◌, ℕ, suc, ◌+◌, ◌<◌, ◌≤◌, Bool, true, false, cond, not, List, [], ◌∷◌, ◌++◌, length, refl, sym, ◌∙◌, ap, subst, inl, inr, ◌⊎◌, arith, append_assoc, ltb, Some, None, Option}
+use Rattle.std.proofs.Common.{◌≡◌, ℕ, ◌+◌, ◌<◌, ◌≤◌, Bool, true, false, cond, not, List, [], ◌∷◌, ◌++◌, length, refl, sym, ◌∙◌, ap, subst, inl, inr, ◌⊎◌, arith, append_assoc, ltb, Some, None, Option}
 use Rattle.std.specs.List.{filter}
 use Rattle.std.proofs.lemmas.List.{append-nil, length-append}
 use Rattle.std.proofs.lemmas.List.Elements.{filter-append}
@@ -16,13 +16,14 @@ use Rattle.gcx_model.specs.declared.truth.Truth.TheVariants.{Unknown}
 use Rattle.gcx_model.specs.Truth.{Env, settled_values, is_over, settle, negate, both, either, truth, truth_all, truth_any}
 use Rattle.gcx_model.specs.Growth.{Leads}
 use Rattle.gcx_model.specs.Past.{open_from}
+use Rattle.trace_laws.proofs.Traces.{numbered_rest}
 use Rattle.tree_laws.proofs.Lists.{In-left, In-right, In-filter}
 use Rattle.tree_laws.proofs.Matches.{Numbered-low, Numbered-high, Numbered-same, added, grow_nodes, Grown-grow, Grown-all}
 use Rattle.tree_laws.proofs.Chains.{above_self, above_in}
-use Rattle.point_laws.proofs.Prefix.{Firmer, Kept, Learnt, truth_firmer}
+use Rattle.point_laws.proofs.Prefix.{truth_firmer}
+use Rattle.point_laws.proofs.PointForms.{firm_true}
 use Rattle.tree_laws.proofs.Growing.{fed_all}
-use Rattle.tree_laws.proofs.Fed.{grown_from}
-use Rattle.move_laws.proofs.Keeping.{root_of}
+use Rattle.tree_laws.proofs.Fed.{grown_from, root_from}
 use Rattle.past_laws.proofs.Ahead.{open_nodes_are}
 use Rattle.run_laws.specs.Feeding.{NodesGrow, MatchesGrow, TruthStays, OpenChain}
 
@@ -37,10 +38,6 @@ added_all (t ∷ ts) P = let r = added_all ts (grow t P) in (added t P ++ r.0, r
 
 longer : (P Q : Tree) → Leads P Q → Longer P Q
 longer P Q m = let f = fed_all P Q m in let r = added_all f.0 P in (r.0, ap (λ (z : Tree). z.nodes) f.2 ∙ r.1)
-
-numbered_rest : (k : ℕ) (xs ys : List Node) → Numbered k (xs ++ ys) → Numbered (k + length xs) ys
-numbered_rest k [] ys h = let e : k + 0 ≡ k = omega arith in subst (λ (z : ℕ). Numbered z ys) (sym e) h
-numbered_rest k (x ∷ xs) ys h = let e : suc k + length xs ≡ k + suc (length xs) = omega arith in subst (λ (z : ℕ). Numbered z ys) e (numbered_rest (suc k) xs ys h.1)
 
 pub nodes_grow : NodesGrow
 nodes_grow P Q l m =
@@ -103,15 +100,11 @@ mutual
 abbrev Low : Env → ℕ → Type 0
 Low env n = (x : ℕ) → serial_of (env x) < n
 
-firm_is : (a b k : Truth) → Firmer a b → a ≡ k → (k ≡ Unknown → ⊥) → b ≡ k
-firm_is a b k (Kept e) f n = sym e ∙ f
-firm_is a b k (Learnt e) f n = absurd (n (sym f ∙ e))
-
 truth_stays_all : (ts : List Token) (P : Tree) → Grown P → (c : CondTree) (env : Env) (k : Truth) → Low env (length P.nodes) → truth c env P ≡ k → (k ≡ Unknown → ⊥) → truth c env (grow_all ts P) ≡ k
 truth_stays_all [] P w c env k b e n = e
 truth_stays_all (t ∷ ts) P w c env k b e n =
     let l = ap length (grow_nodes t P) ∙ length-append P.nodes (added t P) in
-    truth_stays_all ts (grow t P) (Grown-grow t P w) c env k (λ x. let h = b x in omega arith) (firm_is _ _ k (truth_firmer t P w c env b) e n) n
+    truth_stays_all ts (grow t P) (Grown-grow t P w) c env k (λ x. let h = b x in omega arith) (firm_true _ _ k (truth_firmer t P w c env b) e n) n
 
 -- where it is bound to a later node, to the document node instead
 lowered : Env → ℕ → Env
@@ -135,7 +128,7 @@ truth_stays P Q l m c env h n =
     let k : ℕ = length P.nodes in
     let v : Env = lowered env k in
     let f = fed_all P Q m in
-    let root = Numbered-high 0 P.nodes w.numbered Root (root_of P l) in
+    let root = Numbered-high 0 P.nodes w.numbered Root (root_from P l) in
     let same : (r : RoleRowTree) → In r (cond_rows c) → env r.var ≡ v r.var = λ r i. let b = Numbered-high 0 P.nodes w.numbered (env r.var) (h r i) in lowered_same env k r.var (omega arith) in
     let stays : truth c v (grow_all f.0 P) ≡ truth c env P = truth_stays_all f.0 P w c v (truth c env P) (lowered_low env k (omega arith)) (sym (truth_by P c env v same)) n in
     ap (truth c env) f.2 ∙ (truth_by (grow_all f.0 P) c env v same ∙ stays)

@@ -4,27 +4,29 @@ use Rattle.std.proofs.lemmas.List.{append-nil}
 use Rattle.std.proofs.lemmas.Bool.{true≢false, false≢true}
 use Rattle.gcx_model.specs.Tree.{Node, Root, serial_of, Tree, opening}
 use Rattle.gcx_model.specs.Members.{In, Once}
-use Rattle.gcx_model.specs.Core.{ItemTree, Write, Copy, For, If, Off, BodyTree, Nil, Then, OffTree, PlanTree}
+use Rattle.gcx_model.specs.Core.{ItemTree, For, Off, BodyTree, Nil, Then, OffTree, PlanTree}
 use Rattle.gcx_model.specs.Truth.{Env}
 use Rattle.gcx_model.specs.Run.{Action, Offed, Out, idle, seq, seq_if, run_item, run, env0}
 use Rattle.gcx_model.specs.Variables.{Var, var_tree, item_vars, vars}
 use Rattle.gcx_model.specs.Roles.{own_row, roles_of}
 use Rattle.gcx_model.specs.Cores.{Good}
-use Rattle.gcx_model.specs.Placed.{without, at_end, place, statement, offs_of, placed_body, Placed}
+use Rattle.gcx_model.specs.Placed.{at_end, place, statement, offs_of, placed_body, Placed}
 use Rattle.gcx_model.specs.Held.{held}
 use Rattle.gcx_model.specs.Growth.{Leads, stays, more}
 use Rattle.gcx_model.specs.Needs.{Needs}
 use Rattle.gcx_model.specs.Points.{actions, so_far, here, fed, CoreState, Frame, Rest, Round, Part, to_come, IsPoint, Begins, Past, InLoop, InYes, InNo, InCopy, PointAt, Bound_in}
 use Rattle.tree_laws.proofs.Lists.{In-left, In-right}
+use Rattle.tree_laws.proofs.Fed.{root_from}
 use Rattle.point_laws.proofs.PointForms.{seq-idle}
 use Rattle.need_laws.proofs.Plans.{Once-left, Once-right, good_once, good_not_zero, good_zero, in_end}
 use Rattle.need_laws.proofs.Waits.{Has}
 use Rattle.need_laws.proofs.Frames.{Has-end}
 use Rattle.move_laws.proofs.Moving.{opening_point}
-use Rattle.move_laws.proofs.Keeping.{root_of, reached_grows}
+use Rattle.move_laws.proofs.Keeping.{reached_grows}
 use Rattle.placed_laws.proofs.FromPlans.{placed_once}
 use Rattle.point_laws.proofs.RunForms.{point_law, resume_law}
 use Rattle.placed_laws.proofs.PointNeeds.{need_law}
+use Rattle.placed_laws.proofs.Unique.{vars_without}
 use Rattle.run_laws.specs.Bindings.{IsFree, LoopVariableFree, RoundVariableFree, PlanActs}
 
 -- Variables
@@ -86,14 +88,6 @@ module _ (P : Tree) (V : List ℕ) where
   free_at [] f below h = h.0
   free_at (g ∷ top) f below h = free_at top f below h.1
 
-vars_without : (d : BodyTree) → vars (without d) ≡ vars d
-vars_without Nil = refl
-vars_without (Then (Write s) d) = vars_without d
-vars_without (Then (Copy x) d) = vars_without d
-vars_without (Then (For x y s e) d) = rw (vars_without e, vars_without d) refl
-vars_without (Then (If c a b) d) = rw (vars_without a, vars_without b, vars_without d) refl
-vars_without (Then (Off o) d) = vars_without d
-
 module _ (core : BodyTree) (good : Good core) (plan : PlanTree) (pl : Placed core plan) where
   same_vars : vars core ≡ vars plan.body
   same_vars = ap vars (sym pl.is_core) ∙ vars_without plan.body
@@ -135,10 +129,10 @@ not_idle a b e = go a a.done refl e
         )
     go a false f h = absurd (false≢true (sym f ∙ ap (λ (o : Out). o.done) h))
 
-filled : (x : Action) (xs : List Action) → x ∷ xs ≡ [] → ⊥
+pub filled : (x : Action) (xs : List Action) → x ∷ xs ≡ [] → ⊥
 filled x xs e = absurd (cc)
 
-some_acts : (o : OffTree) (d : BodyTree) (env : Env) (P : Tree) → Has o d → run d env P ≡ idle true → ⊥
+pub some_acts : (o : OffTree) (d : BodyTree) (env : Env) (P : Tree) → Has o d → run d env P ≡ idle true → ⊥
 some_acts o Nil env P h e = h
 some_acts o (Then i d) env P (inl q) e =
     let a : run_item (Off o) env P ≡ idle true = ap (λ (z : ItemTree). run_item z env P) (sym q) ∙ (not_idle (run_item i env P) (run d env P) e).0 in
@@ -166,7 +160,7 @@ module _ (core : BodyTree) (good : Good core) (plan : PlanTree) (pl : Placed cor
   acts_some e = plan_acts_own core good P (ap (λ (z : PlanTree). run z.body env0 P) (sym ((placed_once core good).1 plan pl)) ∙ e)
 
   root_held : (k : ℕ) → CoreState plan P k → (fs : List Frame) → PointAt plan P k fs → (to_come P fs ≡ idle true → ⊥) → In Root (held plan P (so_far plan P k))
-  root_held k r fs st h = need_law core good plan pl P k r fs st Root (root_of P (reached_grows plan opening P 0 k r).0) (root_needed P [] fs h)
+  root_held k r fs st h = need_law core good plan pl P k r fs st Root (root_from P (reached_grows plan opening P 0 k r).0) (root_needed P [] fs h)
 
   held_whole : (k : ℕ) → CoreState plan P k → PointAt plan P k (Rest plan.body env0 ∷ []) → In Root (held plan P (so_far plan P k))
   held_whole k r st = root_held k r (Rest plan.body env0 ∷ []) st (λ e. acts_some (sym (seq-idle (run plan.body env0 P)) ∙ e))

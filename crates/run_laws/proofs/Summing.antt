@@ -1,5 +1,5 @@
 -- The sums of the roles given and taken, by their nodes.
-use Rattle.std.proofs.Common.{◌≡◌, ℕ, zero, suc, ◌+◌, ◌*◌, ◌≤◌, Bool, true, false, cond, not, ◌&&◌, ◌||◌, List, [], ◌∷◌, ◌++◌, length, refl, sym, ◌∙◌, ap, subst, inl, inr, arith, eqb, sum_by, drop, Some, None, Option}
+use Rattle.std.proofs.Common.{◌≡◌, ℕ, suc, ◌+◌, ◌*◌, ◌≤◌, Bool, true, false, cond, not, ◌&&◌, ◌||◌, List, [], ◌∷◌, ◌++◌, length, refl, sym, ◌∙◌, ap, subst, inl, inr, arith, eqb, sum_by, drop, Some, None, Option}
 use Rattle.std.specs.List.{filter}
 use Rattle.std.proofs.Math.Seq.{drop-append_seam}
 use Rattle.std.proofs.lemmas.List.Sums.{sum-map, sum_by-cons, sum_by_push}
@@ -15,13 +15,15 @@ use Rattle.gcx_model.specs.Held.{given, roles_given, taken, live, roles_live, is
 use Rattle.gcx_model.specs.Growth.{Leads, stays, more, may_come}
 use Rattle.gcx_model.specs.Points.{actions}
 use Rattle.gcx_model.specs.Past.{Past, past_acted, IsPast, Opens}
+use Rattle.base_laws.proofs.Numbers.{once_count}
+use Rattle.base_laws.proofs.Lists.{filter_few}
 use Rattle.tree_laws.specs.Growth.{AllClosed}
 use Rattle.past_laws.specs.Pasts.{bases}
 use Rattle.tree_laws.proofs.Lists.{In-filter, any_from, filter_same}
 use Rattle.tree_laws.proofs.Matches.{added, grow_nodes}
 use Rattle.tree_laws.proofs.Growing.{grows}
 use Rattle.tree_laws.proofs.Freeze.{within_self}
-use Rattle.need_laws.proofs.Plans.{In-count, Once-filter}
+use Rattle.need_laws.proofs.Plans.{Once-filter}
 use Rattle.placed_laws.proofs.Bridge.{length-count}
 use Rattle.need_laws.proofs.Lasting.{given_stays}
 use Rattle.past_laws.proofs.Ahead.{new_node, all_same}
@@ -31,7 +33,6 @@ use Rattle.past_laws.proofs.Changes.{live_by_feed, roles_by_act}
 use Rattle.past_laws.proofs.RowFacts.{row_tells}
 use Rattle.past_laws.proofs.PastForms.{past_acts}
 use Rattle.placed_laws.proofs.Balances.{balance_law}
-use Rattle.run_laws.proofs.Counts.{filter_few}
 use Rattle.run_laws.specs.Sums.{SumsByFeed, live_at, SumsByAct, TakenIsGiven}
 
 -- Sums over lists
@@ -131,10 +132,6 @@ one_fewer : (k : ℕ) (xs : List ℕ) → Once xs → In k xs → suc (length (f
 one_fewer k [] o i = absurd i
 one_fewer k (x ∷ xs) o (inl e) = rw (eq-eqb x k e) (let n : In k xs → ⊥ = λ j. o.0 (subst (λ (z : ℕ). In z xs) (sym e) j) in ap (λ z. suc (length z)) (without_one k xs n))
 one_fewer k (x ∷ xs) o (inr i) = rw (ne_eqb x k (λ e. o.0 (subst (λ (z : ℕ). In z xs) (sym e) i))) (ap suc (one_fewer k xs o.1 i))
-
-once_count : (k n : ℕ) → Once (count k n)
-once_count k zero = tt
-once_count k (suc n) = (λ i. let h = In-count (suc k) n k i in absurd (omega arith), once_count (suc k) n)
 
 -- Roles
 

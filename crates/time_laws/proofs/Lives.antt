@@ -19,6 +19,7 @@ use Rattle.gcx_model.specs.Held.{path_of, gives, signed, reaches, given, taken, 
 use Rattle.gcx_model.specs.Points.{actions, so_far, CoreState, here, fed, acted}
 use Rattle.gcx_model.specs.Past.{Past, IsPast}
 use Rattle.base_laws.proofs.Bools.{same_bools}
+use Rattle.base_laws.proofs.Numbers.{count_high, in_count}
 use Rattle.tree_laws.specs.Growth.{AllClosed}
 use Rattle.placed_laws.specs.Balance.{is_taking}
 use Rattle.tree_laws.proofs.Lists.{In, Once, In-right, In-append, In-filter, In-kept, any_in, any_from}
@@ -30,9 +31,10 @@ use Rattle.tree_laws.proofs.Growing.{leads}
 use Rattle.point_laws.proofs.RunForms.{prefix_law}
 use Rattle.placed_laws.proofs.Balances.{balance_law, once_law, offs_at_matches}
 use Rattle.past_laws.proofs.PastForms.{core_state_past}
-use Rattle.past_laws.proofs.Bases.{live_by_bases, or_not, In-count-from}
+use Rattle.past_laws.proofs.Bases.{live_by_bases, or_not}
 use Rattle.past_laws.proofs.RowFacts.{bases_above}
-use Rattle.placed_laws.proofs.Told.{told, taken_told, row_below}
+use Rattle.placed_laws.proofs.Told.{told, taken_told}
+use Rattle.placed_laws.proofs.Unique.{row_below}
 use Rattle.tree_laws.proofs.OffsSigned.{signed_is_off}
 use Rattle.need_laws.proofs.Lasting.{given_stays}
 use Rattle.time_laws.specs.Times.{Clock, IsClock, clock_of, tree_at, is_there}
@@ -45,11 +47,6 @@ split_in : (x : Action) (xs : List Action) → In x xs → (us vs : List Action)
 split_in x [] i = absurd i
 split_in x (y ∷ xs) (inl e) = ([], xs, ap (λ (z : Action). z ∷ xs) e)
 split_in x (y ∷ xs) (inr i) = let r = split_in x xs i in (y ∷ r.0, r.1, ap (λ z. y ∷ z) r.2)
-
-count_low : (k n r : ℕ) → In r (count k n) → r < k + n
-count_low k zero r i = absurd i
-count_low k (suc n) r (inl e) = omega (arith, e)
-count_low k (suc n) r (inr i) = let h = count_low (suc k) n r i in omega arith
 
 may_split : (j : ℕ) (ts : List Token) (P : Tree) → may_all ts P ≡ true → (may_all (take j ts) P ≡ true) × (may_all (drop j ts) (grow_all (take j ts) P) ≡ true)
 may_split zero ts P h = (refl, h)
@@ -140,7 +137,7 @@ module _ (core : BodyTree) (good : Good core) (plan : PlanTree) (pl : Placed cor
     live_later : (n : Node) → In n (tree_at ts j).nodes → is_live plan (tree_at ts j) (so_far plan (tree_at ts j) k) n ≡ true → count_offs (so_far plan (tree_at ts j) k) < last_of (grow_all ts opening) (actions plan (grow_all ts opening)) n
     live_later n i h =
         let r = any_in (live plan (tree_at ts j) (so_far plan (tree_at ts j) k) n) (count 0 (length plan.roles)) h in
-        let low : r.0 < length (roles_of core) = let a = count_low 0 (length plan.roles) r.0 r.1 in let b = ap length pl.roles in omega arith in
+        let low : r.0 < length (roles_of core) = let a = count_high 0 (length plan.roles) r.0 r.1 in let b = ap length pl.roles in omega arith in
         let one = pl.one r.0 low in
         let f = In-filter (of_role r.0) one.0 (offs_in plan.body) (subst (λ (z : List OffTree). In one.0 z) (sym one.1) (inl refl)) in
         let o : OffTree = one.0 in
@@ -198,7 +195,7 @@ module _ (core : BodyTree) (good : Good core) (plan : PlanTree) (pl : Placed cor
             let tl = told core good plan pl f.off om.0 in
             let low : f.off.role < length plan.roles = row_below plan.roles f.off.role tl.row tl.at in
             let z : 0 + f.off.role ≡ f.off.role = omega arith in
-            any_from (live plan (tree_at ts j) (so_far plan (tree_at ts j) k) n) f.off.role (count 0 (length plan.roles)) (subst (λ (y : ℕ). In y (count 0 (length plan.roles))) z (In-count-from 0 (length plan.roles) f.off.role low)) lv
+            any_from (live plan (tree_at ts j) (so_far plan (tree_at ts j) k) n) f.off.role (count 0 (length plan.roles)) (subst (λ (y : ℕ). In y (count 0 (length plan.roles))) z (in_count 0 (length plan.roles) f.off.role low)) lv
 
     pub live_then : (n : Node) → In n (tree_at ts j).nodes → is_live plan (tree_at ts j) (so_far plan (tree_at ts j) k) n ≡ ltb (count_offs (so_far plan (tree_at ts j) k)) (last_of (grow_all ts opening) (actions plan (grow_all ts opening)) n)
     live_then n i = same_bools (is_live plan (tree_at ts j) (so_far plan (tree_at ts j) k) n) (ltb (count_offs (so_far plan (tree_at ts j) k)) (last_of (grow_all ts opening) (actions plan (grow_all ts opening)) n))

@@ -1,6 +1,7 @@
 -- What is settled, the trace and the peak go on while tokens come.
 use Rattle.std.proofs.Common.{◌≡◌, ℕ, ◌≤◌, true, List, [], ◌∷◌, ◌++◌, refl, sym, ◌∙◌, ap, subst, arith, append_assoc}
 use Rattle.std.specs.List.{flat_map}
+use Rattle.std.proofs.lemmas.Grind.{flat_map-append}
 use Rattle.gcx_model.specs.Tree.{Tree, Root, Token, opening, grow, grow_all}
 use Rattle.gcx_model.specs.Core.{PlanTree}
 use Rattle.gcx_model.specs.Run.{run, env0, bytes_of}
@@ -13,7 +14,6 @@ use Rattle.trace_laws.specs.Going.{KnownGoesOn, TraceGoesOn, PeakGoesOn}
 use Rattle.tree_laws.proofs.Fed.{tree, root_from}
 use Rattle.tree_laws.proofs.Growing.{fed_all, grow_all-append, may_all-append, tokens_found}
 use Rattle.point_laws.proofs.RunForms.{prefix_law}
-use Rattle.placed_laws.proofs.PlanWriting.{flat_map-append}
 
 pub known_goes_on : KnownGoesOn
 known_goes_on q P Q l m =

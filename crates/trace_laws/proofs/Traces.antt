@@ -1,9 +1,10 @@
 -- The demand run by its events.
 use Rattle.std.proofs.Common.{◌≡◌, ℕ, zero, suc, ◌+◌, ◌<◌, ◌≤◌, true, List, [], ◌∷◌, ◌++◌, length, map, refl, sym, ◌∙◌, ap, subst, inl, inr, ◌⊎◌, arith, append_assoc, Some, None, Option}
 use Rattle.std.specs.Prelude.{take, drop}
-use Rattle.std.proofs.Math.Seq.{take-length, drop-length}
+use Rattle.std.proofs.Math.Seq.{take-length, drop-length, drop-append_seam}
 use Rattle.std.proofs.lemmas.List.{length-append}
 use Rattle.std.proofs.lemmas.Bool.{and_parts, cases_lt}
+use Rattle.std.proofs.lemmas.Option.{same_Some}
 use Rattle.gcx_base.specs.declared.kind.Kind.TheVariants.{Element, Text}
 use Rattle.gcx_model.specs.Tree.{Node, Root, Under, serial_of, kind_of, Tree, Token, Start, Chars, End, opening, grow, grow_at, grow_all}
 use Rattle.gcx_model.specs.Members.{In}
@@ -20,6 +21,7 @@ use Rattle.tree_laws.proofs.Matches.{Numbered-low, Numbered-high, Grown-grow, ad
 use Rattle.tree_laws.proofs.Growing.{grows}
 use Rattle.tree_laws.proofs.Departures.{rising_filter, falling_same, departed_are_gone}
 use Rattle.tree_laws.proofs.Fed.{grown_from, root_from}
+use Rattle.tree_laws.proofs.Order.{Rising-append}
 use Rattle.point_laws.proofs.RunForms.{prefix_law}
 
 -- lists cut at a place
@@ -37,24 +39,13 @@ take_front : {X : Type 0} (xs ys : List X) → take (length xs) (xs ++ ys) ≡ x
 take_front [] ys = refl
 take_front (x ∷ xs) ys = ap (λ z. x ∷ z) (take_front xs ys)
 
-drop_front : {X : Type 0} (xs ys : List X) → drop (length xs) (xs ++ ys) ≡ ys
-drop_front [] ys = refl
-drop_front (x ∷ xs) ys = drop_front xs ys
-
 -- nodes
 
 rising_numbered : (k : ℕ) (xs : List Node) → Numbered k xs → Rising xs
 rising_numbered k [] h = tt
 rising_numbered k (x ∷ xs) h = ((λ y i. let f = Numbered-low (suc k) xs h.1 y i in omega arith), rising_numbered (suc k) xs h.1)
 
-rising_append : (xs ys : List Node) → Rising xs → Rising ys → ((a b : Node) → In a xs → In b ys → serial_of a < serial_of b) → Rising (xs ++ ys)
-rising_append [] ys r q h = q
-rising_append (x ∷ xs) ys r q h = (
-  (λ y i. elim (In-append y xs ys i) [ inl j ↦ r.0 y j | inr j ↦ h x y (inl refl) j ]),
-  rising_append xs ys r.1 q (λ a b i j. h a b (inr i) j),
-)
-
-numbered_rest : (k : ℕ) (xs ys : List Node) → Numbered k (xs ++ ys) → Numbered (k + length xs) ys
+pub numbered_rest : (k : ℕ) (xs ys : List Node) → Numbered k (xs ++ ys) → Numbered (k + length xs) ys
 numbered_rest k [] ys h = let e : k + 0 ≡ k = omega arith in subst (λ (z : ℕ). Numbered z ys) (sym e) h
 numbered_rest k (x ∷ xs) ys h = let e : suc k + length xs ≡ k + suc (length xs) = omega arith in subst (λ (z : ℕ). Numbered z ys) e (numbered_rest (suc k) xs ys h.1)
 
@@ -152,7 +143,7 @@ module _ (plan : PlanTree) where
       let A : List Action = so_far plan P k in
       let B : List Action = so_far plan Q k in
       let new : List Node = added_nodes t P in
-      let cut : drop (length P.nodes) Q.nodes ≡ new = ap (drop (length P.nodes)) (grow_nodes t P) ∙ drop_front P.nodes new in
+      let cut : drop (length P.nodes) Q.nodes ≡ new = ap (drop (length P.nodes)) (grow_nodes t P) ∙ drop-append_seam P.nodes new in
       let of_new : Numbered (0 + length P.nodes) new = numbered_rest 0 P.nodes new (subst (λ (z : List Node). Numbered 0 z) (grow_nodes t P) v.numbered) in
       let old_in : (n : Node) → In n P.nodes → In n Q.nodes = λ n i. subst (λ (z : List Node). In n z) (sym (grow_nodes t P)) (In-left n P.nodes new i) in
       let new_in : (n : Node) → In n new → In n Q.nodes = λ n i. subst (λ (z : List Node). In n z) (sym (grow_nodes t P)) (In-right n P.nodes new i) in
@@ -160,7 +151,7 @@ module _ (plan : PlanTree) where
       let f = Numbered-high 0 P.nodes w.numbered a i in let g = Numbered-low (0 + length P.nodes) new of_new b j in omega arith in
       let there : List Node = held plan P A ++ new in
       let there_in : (n : Node) → In n there → In n Q.nodes = λ n i. elim (In-append n (held plan P A) new i) [ inl j ↦ old_in n (held_in P A n j) | inr j ↦ new_in n j ] in
-      let rising : Rising there = rising_append (held plan P A) new (rising_filter (is_held plan P A) P.nodes (rising_numbered 0 P.nodes w.numbered)) (rising_numbered (0 + length P.nodes) new of_new) (λ a b i j. above a b (held_in P A a i) j) in
+      let rising : Rising there = Rising-append (held plan P A) new (rising_filter (is_held plan P A) P.nodes (rising_numbered 0 P.nodes w.numbered)) (rising_numbered (0 + length P.nodes) new of_new) (λ a b i j. above a b (held_in P A a i) j) in
       let d = departed_are_gone Q v there (held plan Q B) rising there_in (held_in Q B) in
       let not_old : (n : Node) → In n new → In n P.nodes → ⊥ = λ n i j. let f = above n n j i in absurd (omega arith) in
       let result : AreLeaving plan (Feed t P k) (departed there (held plan Q B)) = record {
@@ -259,16 +250,13 @@ middle_same [] ys (u ∷ us) vs a b l e = absurd (omega arith)
 middle_same (x ∷ xs) ys [] vs a b l e = absurd (omega arith)
 middle_same (x ∷ xs) ys (u ∷ us) vs a b l e = let f : xs ++ a ∷ ys ≡ us ++ b ∷ vs = cc in middle_same xs ys us vs a b (omega arith) f
 
-some_same : {X : Type 0} (x y : X) → Some x ≡ Some y → x ≡ y
-some_same x y e = cc
-
 line_same : (plan : PlanTree) (e : Event) (l m : Line) → IsLine plan e l → IsLine plan e m → l ≡ m
 line_same plan (Feed t P k) l m (inl h) (inl g) =
     let n : h.0 ≡ g.0 = last_same P.nodes h.0 g.0 (sym h.1 ∙ g.1) in
     h.2 ∙ (ap (λ (z : Node). Opened (serial_of z) (line_kind (kind_of z)) (roles_given plan (grow t P) z)) n ∙ sym g.2)
 line_same plan (Feed t P k) l m (inl h) (inr g) = absurd (not_longer P.nodes h.0 (sym h.1 ∙ g.0))
 line_same plan (Feed t P k) l m (inr h) (inl g) = absurd (not_longer P.nodes g.0 (sym g.1 ∙ h.0))
-line_same plan (Feed t P k) l m (inr h) (inr g) = h.1.2 ∙ (ap (λ (z : Node). Closed (serial_of z)) (some_same _ _ (sym h.1.1 ∙ g.1.1)) ∙ sym g.1.2)
+line_same plan (Feed t P k) l m (inr h) (inr g) = h.1.2 ∙ (ap (λ (z : Node). Closed (serial_of z)) (same_Some _ _ (sym h.1.1 ∙ g.1.1)) ∙ sym g.1.2)
 line_same plan (Act P k) l m h g = h.5 ∙ (ap action_line (middle_same h.0 h.1 g.0 g.1 h.2 g.2 (h.4 ∙ sym g.4) (sym h.3 ∙ g.3)) ∙ sym g.5)
 
 pub one_telling : OneTelling

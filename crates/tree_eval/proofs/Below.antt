@@ -3,7 +3,7 @@ use Rattle.std.proofs.Common.{◌≡◌, ℕ, zero, suc, ◌+◌, ◌-◌, ◌<�
 use Rattle.std.specs.List.{filter}
 use Rattle.std.proofs.lemmas.List.{drop_more, drop_all, take_more, get_or-drop, get_or_default, map-append, length-drop}
 use Rattle.std.proofs.lemmas.List.Elements.{filter-append}
-use Rattle.std.proofs.lemmas.Bool.{cases_lt, ne_eqb, eq-eqb, eqb-true, or_cases, or_left, or_right, false≢true}
+use Rattle.std.proofs.lemmas.Bool.{cases_lt, ne_eqb, eq-eqb, eqb-true, or_cases, or_left, or_right, false≢true, false_from_ne_true, and_right}
 use Rattle.gcx_base.specs.declared.steps.Test.{Test}
 use Rattle.gcx_model.specs.Tree.{Node, Root, serial_of, kind_of, above, within}
 use Rattle.gcx_base.specs.Tests.{passes}
@@ -14,11 +14,7 @@ use Rattle.tree_eval.specs.Sets.{members, passing, to_descendants, below, steppe
 use Rattle.tree_eval.proofs.Nodes.{are_nodes, length-nodes_of}
 use Rattle.tree_eval.proofs.Order.{number, row_node, drop_on, inside, outside}
 use Rattle.tree_eval.proofs.Numbers.{rest, map_cond, rest_at, rest_skip, rest_none, Heads, head_of, ends_of}
-use Rattle.tree_eval.proofs.Children.{and_no, and_yes, end_low}
-
-not_true : (b : Bool) → (b ≡ true → ⊥) → b ≡ false
-not_true true h = absurd (h refl)
-not_true false h = refl
+use Rattle.tree_eval.proofs.Children.{and_yes, end_low}
 
 -- a node of the set that the node i is in
 record Above (rows : List Row) (f : Node → Bool) (i : ℕ) : Type 0 where
@@ -82,7 +78,7 @@ module _ (rows : List Row) (nested : IsNested rows) (f : Node → Bool) where
 
   -- a row behind the ranges of all nodes of the set before it
   pub below_out : (k : ℕ) → k < length rows → ((n : ℕ) → n ≤ k → f (node n) ≡ true → end_at rows n ≤ k) → below f (node (suc k)) ≡ false
-  below_out k h all = below_is k h ∙ not_true _ (λ t. none (some_by (suc (parent_in rows k)) (parent_in rows k) (omega arith) (let l = nested.low k h in omega arith) t))
+  below_out k h all = below_is k h ∙ false_from_ne_true _ (λ t. none (some_by (suc (parent_in rows k)) (parent_in rows k) (omega arith) (let l = nested.low k h in omega arith) t))
     where
       none : Above rows f (parent_in rows k) → ⊥
       none r =
@@ -98,7 +94,7 @@ module _ (rows : List Row) (nested : IsNested rows) (t : Test) (f : Node → Boo
   reached = stepped (to_descendants t) f
 
   not_reached : (k : ℕ) → k < length rows → ((n : ℕ) → n ≤ k → f (node_at (nodes_of rows) n) ≡ true → end_at rows n ≤ k) → reached (node_at (nodes_of rows) (suc k)) ≡ false
-  not_reached k h all = and_no _ _ (below_out rows nested f k h all)
+  not_reached k h all = and_right _ _ (below_out rows nested f k h all)
 
   root_not_reached : reached (node_at (nodes_of rows) 0) ≡ false
   root_not_reached = ap reached (are_nodes rows).first

@@ -2,7 +2,7 @@
 use Rattle.std.proofs.Common.{◌≡◌, ℕ, zero, suc, ◌+◌, ◌<◌, ◌≤◌, Bool, true, false, cond, ◌&&◌, List, [], ◌∷◌, ◌++◌, length, get_or, refl, sym, ◌∙◌, ap, subst, inl, inr, arith, eqb, append_assoc, append-nil}
 use Rattle.std.specs.Prelude.{unwrap_or}
 use Rattle.std.proofs.lemmas.List.{get_or_past, get_or_default}
-use Rattle.std.proofs.lemmas.Bool.{cases_lt, ne_eqb, eq-eqb}
+use Rattle.std.proofs.lemmas.Bool.{cases_lt, ne_eqb, eq-eqb, and_right}
 use Rattle.gcx_base.specs.declared.steps.Axis.TheVariants.{Child}
 use Rattle.gcx_base.specs.declared.steps.Test.{Test}
 use Rattle.gcx_model.specs.Tree.{Node}
@@ -14,10 +14,6 @@ use Rattle.tree_eval.specs.Sets.{members, to_children}
 use Rattle.tree_eval.proofs.Steps.{lies_low}
 use Rattle.tree_eval.proofs.Order.{number, rises, row_node}
 use Rattle.tree_eval.proofs.Numbers.{rest, rest_at, rest_skip, rest_none}
-
-pub and_no : (a b : Bool) → b ≡ false → (a && b) ≡ false
-and_no true b e = e
-and_no false b e = refl
 
 pub and_yes : (a b : Bool) → b ≡ true → (a && b) ≡ a
 and_yes true b e = e
@@ -45,14 +41,14 @@ module _ (rows : List Row) (nested : IsNested rows) (t : Test) where
       ap (kids n) (row_node rows nested k h) ∙ ap (λ i. passes t (kind_in (get_or rows k no_row).content) && eqb i n) (number rows nested (parent_in rows k) (omega arith))
 
   no_child : (n k : ℕ) → k < length rows → (parent_in rows k ≡ n → ⊥) → kids n (node (suc k)) ≡ false
-  no_child n k h other = row_reach n k h ∙ and_no _ _ (ne_eqb _ _ other)
+  no_child n k h other = row_reach n k h ∙ and_right _ _ (ne_eqb _ _ other)
 
   no_child_at : (n i : ℕ) → n < i → i ≤ length rows → ((k : ℕ) → suc k ≡ i → parent_in rows k ≡ n → ⊥) → kids n (node i) ≡ false
   no_child_at n zero lt le other = absurd (omega arith)
   no_child_at n (suc k) lt le other = no_child n k (omega arith) (other k refl)
 
   early : (n i : ℕ) → i ≤ n → i ≤ length rows → kids n (node i) ≡ false
-  early n i le h = and_no _ _ (lies_low Child n (node i) (rises rows nested i h) (let e = number rows nested i h in omega arith))
+  early n i le h = and_right _ _ (lies_low Child n (node i) (rises rows nested i h) (let e = number rows nested i h in omega arith))
 
 -- Looking for the children of n: the next row is no deeper than they are, and what was found and what is to come are all.
 pub record Finds (rows : List Row) (t : Test) (n next : ℕ) (before found : List ℕ) : Type 0 where

@@ -1,8 +1,8 @@
 -- The copy of a node, from its rows.
-use Rattle.std.proofs.Common.{◌≡◌, ◌⊎◌, ℕ, zero, suc, ◌+◌, ◌-◌, ◌<◌, ◌≤◌, Bool, true, false, cond, ◌&&◌, List, [], ◌∷◌, ◌++◌, length, get_or, refl, sym, ◌∙◌, ap, subst, inl, inr, arith, eqb, append_assoc, append-nil, Option}
+use Rattle.std.proofs.Common.{◌≡◌, ◌⊎◌, ℕ, zero, suc, ◌+◌, ◌-◌, ◌<◌, ◌≤◌, Bool, true, false, cond, List, [], ◌∷◌, ◌++◌, length, get_or, refl, sym, ◌∙◌, ap, subst, inl, inr, arith, eqb, append_assoc, append-nil, Option}
 use Rattle.std.specs.List.{filter, flat_map}
 use Rattle.std.proofs.lemmas.List.{drop_all, get_or_default, get_or_past}
-use Rattle.std.proofs.lemmas.Bool.{cases_lt, cases_order, ne_eqb, eq-eqb, false≢true}
+use Rattle.std.proofs.lemmas.Bool.{cases_lt, cases_order, ne_eqb, eq-eqb, false≢true, and_right}
 use Rattle.gcx_base.specs.declared.steps.Axis.TheVariants.{Child}
 use Rattle.gcx_base.specs.declared.steps.Test.TheVariants.{AnyNode}
 use Rattle.gcx_model.specs.Tree.{Node, Root, serial_of, kind_of, Tree}
@@ -21,13 +21,9 @@ use Rattle.tree_eval.proofs.Nodes.{Rises, are_nodes, length-nodes_of}
 use Rattle.tree_eval.proofs.Steps.{hits_one, lies_low}
 use Rattle.tree_eval.proofs.Order.{number, rises, row_node, drop_on}
 
-no_and : (a b : Bool) → b ≡ false → (a && b) ≡ false
-no_and true b e = e
-no_and false b e = refl
-
 -- a child comes later
 no_child : (n : ℕ) (m : Node) → Rises m → serial_of m ≤ n → hits n (child_step ∷ []) m ≡ false
-no_child n m r le = hits_one n child_step m r ∙ no_and (passes AnyNode (kind_of m)) _ (lies_low Child n m r le)
+no_child n m r le = hits_one n child_step m r ∙ and_right (passes AnyNode (kind_of m)) _ (lies_low Child n m r le)
 
 -- each content is that of a node
 node_kind : (c : Content) → passes AnyNode (kind_in c) ≡ true

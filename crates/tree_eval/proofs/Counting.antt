@@ -1,4 +1,4 @@
--- The children of a set's nodes, node by node, and then in order: two lists in order are one where each number stands in both as often.
+-- The children of a set's nodes, node by node, and then in order.
 use Rattle.std.proofs.Common.{◌≡◌, ◌⊎◌, ℕ, zero, suc, ◌+◌, ◌<◌, ◌≤◌, Bool, true, false, cond, ◌&&◌, List, [], ◌∷◌, ◌++◌, length, get_or, take, refl, sym, ◌∙◌, ap, subst, inl, inr, arith, eqb, append-nil, Some}
 use Rattle.std.specs.Prelude.{flat_map}
 use Rattle.std.specs.Bool.{MatchBool}
@@ -14,6 +14,7 @@ use Rattle.gcx_base.specs.declared.steps.Test.{Test}
 use Rattle.gcx_model.specs.Tree.{Node, Root, Under, serial_of}
 use Rattle.gcx_base.specs.Tests.{passes}
 use Rattle.gcx_model.specs.Paths.{reach}
+use Rattle.base_laws.proofs.Counts.{as_number, count, count_append, Up, AllFrom, from_less, same_up}
 use Rattle.tree_eval.specs.declared.row.Row.{Row}
 use Rattle.tree_eval.specs.Rows.{kind_in, node_at, nodes_of, no_row, parent_in, IsNested}
 use Rattle.tree_eval.specs.Sets.{members, to_children, stepped}
@@ -22,35 +23,12 @@ use Rattle.tree_eval.proofs.Order.{number, row_node}
 use Rattle.tree_eval.proofs.Numbers.{rest, rest_at, rest_on, rest_past, rest_none, members_same}
 use Rattle.tree_eval.proofs.Children.{row_reach}
 
-abbrev num : Bool → ℕ
-num true = 1
-num false = 0
-
--- how often the number stands in the list
-abbrev count : ℕ → List ℕ → ℕ
-count c [] = 0
-count c (x ∷ xs) = num (eqb x c) + count c xs
-
-counted : (c : ℕ) (xs : List ℕ) → count c xs ≡ sum_by (λ x. num (eqb x c)) xs
+counted : (c : ℕ) (xs : List ℕ) → count c xs ≡ sum_by (λ x. as_number (eqb x c)) xs
 counted c [] = refl
-counted c (x ∷ xs) = omega (arith, sum_by-cons (λ x. num (eqb x c)) x xs, counted c xs)
+counted c (x ∷ xs) = omega (arith, sum_by-cons (λ x. as_number (eqb x c)) x xs, counted c xs)
 
 count_moved : (c : ℕ) (xs ys : List ℕ) → IsPermutation xs ys → count c ys ≡ count c xs
-count_moved c xs ys p = counted c ys ∙ (sum_by-IsPermutation (λ x. num (eqb x c)) xs ys p ∙ sym (counted c xs))
-
-count_append : (c : ℕ) (xs ys : List ℕ) → count c (xs ++ ys) ≡ count c xs + count c ys
-count_append c [] ys = omega arith
-count_append c (x ∷ xs) ys = omega (arith, count_append c xs ys)
-
--- all are at least n
-abbrev AllFrom : ℕ → List ℕ → Type 0
-AllFrom n [] = Unit {0}
-AllFrom n (x ∷ xs) = (n ≤ x) × AllFrom n xs
-
--- in order
-abbrev Up : List ℕ → Type 0
-Up [] = Unit {0}
-Up (x ∷ xs) = AllFrom x xs × Up xs
+count_moved c xs ys p = counted c ys ∙ (sum_by-IsPermutation (λ x. as_number (eqb x c)) xs ys p ∙ sym (counted c xs))
 
 all_from : (n : ℕ) (xs : List ℕ) → ((k : ℕ) → k < length xs → n ≤ get_or xs k 0) → AllFrom n xs
 all_from n [] h = tt
@@ -59,26 +37,6 @@ all_from n (x ∷ xs) h = (h 0 (omega arith), all_from n xs (λ k l. h (suc k) (
 up_by : (xs : List ℕ) → ((i j : ℕ) → i ≤ j → j < length xs → get_or xs i 0 ≤ get_or xs j 0) → Up xs
 up_by [] h = tt
 up_by (x ∷ xs) h = (all_from x xs (λ k l. h 0 (suc k) (omega arith) (omega arith)), up_by xs (λ i j a b. h (suc i) (suc j) (omega arith) (omega arith)))
-
-none_below : (n c : ℕ) (xs : List ℕ) → AllFrom n xs → c < n → count c xs ≡ 0
-none_below n c [] a l = refl
-none_below n c (x ∷ xs) a l = let h = a.0 in let e = none_below n c xs a.1 l in rw (ne_eqb x c (λ e. omega arith)) (omega arith)
-
-own : (c : ℕ) (xs : List ℕ) → 1 ≤ count c (c ∷ xs)
-own c xs = rw (eq-eqb c c refl) (omega arith)
-
--- lists in order with the same counts
-same_up : (xs ys : List ℕ) → Up xs → Up ys → ((c : ℕ) → count c xs ≡ count c ys) → xs ≡ ys
-same_up [] [] u v e = refl
-same_up [] (y ∷ ys) u v e = let h = e y in let o = own y ys in absurd (omega arith)
-same_up (x ∷ xs) [] u v e = let h = e x in let o = own x xs in absurd (omega arith)
-same_up (x ∷ xs) (y ∷ ys) u v e = elim (cases_order x y) [
-  | inl s ↦ rw s (ap (λ l. y ∷ l) (same_up xs ys u.1 v.1 (λ c. let h = e c in let t = ap (λ z. num (eqb z c)) s in omega arith)))
-  | inr o ↦ elim o [
-    | inl l ↦ (let h = e x in let o = own x xs in let z = none_below y x (y ∷ ys) (omega arith, v.0) l in absurd (omega arith))
-    | inr l ↦ (let h = e y in let o = own y ys in let z = none_below x y (x ∷ xs) (omega arith, u.0) l in absurd (omega arith))
-  ]
-]
 
 -- whether j is at least i
 abbrev is_from : ℕ → ℕ → Bool
@@ -96,10 +54,6 @@ from_no zero j l = absurd (omega arith)
 from_no (suc i) zero l = refl
 from_no (suc i) (suc j) l = from_no i j (omega arith)
 
-from_less : (m n : ℕ) (xs : List ℕ) → m ≤ n → AllFrom n xs → AllFrom m xs
-from_less m n [] l a = tt
-from_less m n (x ∷ xs) l a = (let h = a.0 in omega arith, from_less m n xs l a.1)
-
 module _ (rows : List Row) (nested : IsNested rows) where
   abbrev node : ℕ → Node
   node i = node_at (nodes_of rows) i
@@ -113,7 +67,7 @@ module _ (rows : List Row) (nested : IsNested rows) where
       go true r = ((omega arith, from_less i (suc i) (rest rows f (suc i)) (omega arith) r.0), (from_less i (suc i) (rest rows f (suc i)) (omega arith) r.0, r.1))
       go false r = (from_less i (suc i) (rest rows f (suc i)) (omega arith) r.0, r.1)
 
-  split_step : (x y z : Bool) (i c : ℕ) (X Y Z : List ℕ) → num x ≡ num y + num z → count c X ≡ count c Y + count c Z → count c (cond x (i ∷ X) X) ≡ count c (cond y (i ∷ Y) Y) + count c (cond z (i ∷ Z) Z)
+  split_step : (x y z : Bool) (i c : ℕ) (X Y Z : List ℕ) → as_number x ≡ as_number y + as_number z → count c X ≡ count c Y + count c Z → count c (cond x (i ∷ X) X) ≡ count c (cond y (i ∷ Y) Y) + count c (cond z (i ∷ Z) Z)
   split_step true true true i c X Y Z e h = absurd (omega arith)
   split_step true true false i c X Y Z e h = omega arith
   split_step true false true i c X Y Z e h = omega arith
@@ -124,7 +78,7 @@ module _ (rows : List Row) (nested : IsNested rows) where
   split_step false false false i c X Y Z e h = h
 
   -- a set of two that share no node
-  split : (h f g : Node → Bool) (c d i : ℕ) → i + d ≡ suc (length rows) → ((k : ℕ) → k ≤ length rows → num (h (node k)) ≡ num (f (node k)) + num (g (node k)))
+  split : (h f g : Node → Bool) (c d i : ℕ) → i + d ≡ suc (length rows) → ((k : ℕ) → k ≤ length rows → as_number (h (node k)) ≡ as_number (f (node k)) + as_number (g (node k)))
       → count c (rest rows h i) ≡ count c (rest rows f i) + count c (rest rows g i)
   split h f g c zero i e all =
       let x = ap (count c) (rest_past rows nested h i (omega arith)) in
@@ -159,28 +113,28 @@ module _ (rows : List Row) (nested : IsNested rows) where
     root_no_child i = ap (reach i (to_children t)) (are_nodes rows).first
 
     -- a node of the set, and the later ones
-    parted : (i k : ℕ) → f (node i) ≡ true → k ≤ length rows → num (stepped (to_children t) (from i) (node k)) ≡ num (reach i (to_children t) (node k)) + num (stepped (to_children t) (from (suc i)) (node k))
+    parted : (i k : ℕ) → f (node i) ≡ true → k ≤ length rows → as_number (stepped (to_children t) (from i) (node k)) ≡ as_number (reach i (to_children t) (node k)) + as_number (stepped (to_children t) (from (suc i)) (node k))
     parted i zero e h = rw (at_root i, root_no_child i, at_root (suc i)) refl
     parted i (suc k) e h = rw (at_row i k (omega arith), row_reach rows nested t i k (omega arith), at_row (suc i) k (omega arith)) (go (passes t (kind_in (get_or rows k no_row).content)) (cases_order (parent_in rows k) i))
       where
         go : (p : Bool) → (parent_in rows k ≡ i) ⊎ ((parent_in rows k < i) ⊎ (i < parent_in rows k))
-            → num (p && (f (node (parent_in rows k)) && is_from i (parent_in rows k))) ≡ num (p && eqb (parent_in rows k) i) + num (p && (f (node (parent_in rows k)) && is_from (suc i) (parent_in rows k)))
+            → as_number (p && (f (node (parent_in rows k)) && is_from i (parent_in rows k))) ≡ as_number (p && eqb (parent_in rows k) i) + as_number (p && (f (node (parent_in rows k)) && is_from (suc i) (parent_in rows k)))
         go false o = refl
         go true (inl s) = rw (from_yes i (parent_in rows k) (omega arith), from_no (suc i) (parent_in rows k) (omega arith), eq-eqb _ _ s, ap (λ n. f (node n)) s ∙ e) refl
         go true (inr (inl l)) = rw (from_no i (parent_in rows k) (omega arith), from_no (suc i) (parent_in rows k) (omega arith), ne_eqb (parent_in rows k) i (λ e. omega arith)) (both (f (node (parent_in rows k))))
           where
-            both : (b : Bool) → num (b && false) ≡ num false + num (b && false)
+            both : (b : Bool) → as_number (b && false) ≡ as_number false + as_number (b && false)
             both true = refl
             both false = refl
         go true (inr (inr l)) = rw (from_yes i (parent_in rows k) (omega arith), from_yes (suc i) (parent_in rows k) (omega arith), ne_eqb (parent_in rows k) i (λ e. omega arith)) (omega arith)
 
     -- what isn't in the set has no part in it
-    unparted : (i k : ℕ) → f (node i) ≡ false → k ≤ length rows → num (stepped (to_children t) (from i) (node k)) ≡ num false + num (stepped (to_children t) (from (suc i)) (node k))
+    unparted : (i k : ℕ) → f (node i) ≡ false → k ≤ length rows → as_number (stepped (to_children t) (from i) (node k)) ≡ as_number false + as_number (stepped (to_children t) (from (suc i)) (node k))
     unparted i zero e h = rw (at_root i, at_root (suc i)) refl
     unparted i (suc k) e h =
-        let x = ap num (at_row i k (omega arith)) in
-        let y = ap num (at_row (suc i) k (omega arith)) in
-        let z = ap (λ b. num (passes t (kind_in (get_or rows k no_row).content) && b)) (go (cases_order (parent_in rows k) i)) in
+        let x = ap as_number (at_row i k (omega arith)) in
+        let y = ap as_number (at_row (suc i) k (omega arith)) in
+        let z = ap (λ b. as_number (passes t (kind_in (get_or rows k no_row).content) && b)) (go (cases_order (parent_in rows k) i)) in
         omega arith
       where
         go : (parent_in rows k ≡ i) ⊎ ((parent_in rows k < i) ⊎ (i < parent_in rows k)) → (f (node (parent_in rows k)) && is_from i (parent_in rows k)) ≡ (f (node (parent_in rows k)) && is_from (suc i) (parent_in rows k))

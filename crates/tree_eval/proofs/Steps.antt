@@ -1,6 +1,7 @@
 -- The last step of a path reaches what it hits, from what the steps before hit.
 use Rattle.std.proofs.Common.{◌≡◌, ℕ, ◌<◌, ◌≤◌, Bool, true, false, ◌&&◌, ◌||◌, List, [], ◌∷◌, ◌++◌, refl, sym, ◌∙◌, ap, arith, eqb}
-use Rattle.std.proofs.lemmas.Bool.{ne_eqb, eq-eqb}
+use Rattle.std.proofs.lemmas.Bool.{ne_eqb, eq-eqb, and_right}
+use Rattle.std.proofs.Math.Bool.{or-false}
 use Rattle.gcx_base.specs.declared.steps.Axis.{Axis}
 use Rattle.gcx_base.specs.declared.steps.Axis.TheVariants.{Child, Descendant}
 use Rattle.gcx_base.specs.declared.steps.Step.{Step}
@@ -9,14 +10,6 @@ use Rattle.gcx_base.specs.Tests.{passes}
 use Rattle.gcx_model.specs.Paths.{any, lies, reach, hits}
 use Rattle.tree_eval.specs.Sets.{along, stepped}
 use Rattle.tree_eval.proofs.Nodes.{Rises}
-
-and_no : (a b : Bool) → b ≡ false → (a && b) ≡ false
-and_no true b e = e
-and_no false b e = refl
-
-or_no : (b : Bool) → (b || false) ≡ b
-or_no true = refl
-or_no false = refl
 
 -- a node isn't in the subtree of a later one
 pub within_low : (n : ℕ) (m : Node) → Rises m → serial_of m < n → within n m ≡ false
@@ -29,9 +22,9 @@ lies_low Child n (Under p s k) r low = ne_eqb (serial_of p) n (λ e. let g = r.0
 lies_low Descendant n (Under p s k) r low = within_low n p r.1 (let g = r.0 in omega arith)
 
 none_reached : (n : ℕ) (s : Step) (f : Node → Bool) (p : Node) → Rises p → serial_of p ≤ n → any (λ j. reach n s j && f j) (above p) ≡ false
-none_reached n s f Root r low = rw (and_no (passes s.test (kind_of Root)) false refl) refl
+none_reached n s f Root r low = rw (and_right (passes s.test (kind_of Root)) false refl) refl
 none_reached n s f (Under p i k) r low =
-    rw (lies_low s.axis n (Under p i k) r low, and_no (passes s.test k) false refl) (none_reached n s f p r.1 (let g = r.0 in omega arith))
+    rw (lies_low s.axis n (Under p i k) r low, and_right (passes s.test k) false refl) (none_reached n s f p r.1 (let g = r.0 in omega arith))
 
 -- no earlier node is hit
 hits_low : (n : ℕ) (path : List Step) (m : Node) → Rises m → serial_of m < n → hits n path m ≡ false
@@ -43,7 +36,7 @@ none_hit n path Root r low = rw (hits_low n path Root r low) refl
 none_hit n path (Under p s k) r low = rw (hits_low n path (Under p s k) r low) (none_hit n path p r.1 (let g = r.0 in omega arith))
 
 within_any : (n : ℕ) (m : Node) → within n m ≡ any (λ j. eqb (serial_of j) n) (above m)
-within_any n Root = sym (or_no _)
+within_any n Root = sym (or-false _)
 within_any n (Under p s k) = ap (λ b. eqb s n || b) (within_any n p)
 
 any_same : (f g : Node → Bool) (xs : List Node) → ((x : Node) → f x ≡ g x) → any f xs ≡ any g xs
@@ -52,7 +45,7 @@ any_same f g (x ∷ xs) e = rw (e x, any_same f g xs e) refl
 
 -- a test that all share
 any_and : (b : Bool) (f g : Node → Bool) (xs : List Node) → any (λ j. f j && (b && g j)) xs ≡ (b && any (λ j. f j && g j) xs)
-any_and b f g [] = sym (and_no b false refl)
+any_and b f g [] = sym (and_right b false refl)
 any_and b f g (x ∷ xs) = rw (any_and b f g xs) (tidy b (f x) (g x) (any (λ j. f j && g j) xs))
   where
     tidy : (b x y z : Bool) → ((x && (b && y)) || (b && z)) ≡ (b && ((x && y) || z))
@@ -95,10 +88,10 @@ module _ (f : Node → Bool) (path : List Step) where
       tidy false b v w = refl
 
   along_on : (a : Axis) (m : Node) → Rises m → any (λ j. f j && along a (from j) m) (above m) ≡ along a (λ i. any (λ j. f j && from j i) (above i)) m
-  along_on Child Root r = rw (and_no (f Root) false refl) refl
-  along_on Descendant Root r = rw (and_no (f Root) false refl) refl
-  along_on Child (Under p s k) r = rw (hits_low s path p r.1 r.0, and_no (f (Under p s k)) false refl) refl
-  along_on Descendant (Under p s k) r = rw (none_hit s path p r.1 r.0, and_no (f (Under p s k)) false refl) (exchange p r.1)
+  along_on Child Root r = rw (and_right (f Root) false refl) refl
+  along_on Descendant Root r = rw (and_right (f Root) false refl) refl
+  along_on Child (Under p s k) r = rw (hits_low s path p r.1 r.0, and_right (f (Under p s k)) false refl) refl
+  along_on Descendant (Under p s k) r = rw (none_hit s path p r.1 r.0, and_right (f (Under p s k)) false refl) (exchange p r.1)
 
 along_here : (a : Axis) (n : ℕ) (m : Node) → lies a n m ≡ along a (hits n []) m
 along_here a n Root = root a
@@ -110,8 +103,8 @@ along_here Child n (Under p s k) = refl
 along_here Descendant n (Under p s k) = within_any n p
 
 alone : (n : ℕ) (f : Node → Bool) (p : Node) → Rises p → serial_of p < n → any (λ j. f j && eqb n (serial_of j)) (above p) ≡ false
-alone n f Root r low = rw (ne_eqb n 0 (λ e. omega arith), and_no (f Root) false refl) refl
-alone n f (Under p s k) r low = rw (ne_eqb n s (λ e. omega arith), and_no (f (Under p s k)) false refl) (alone n f p r.1 (let g = r.0 in omega arith))
+alone n f Root r low = rw (ne_eqb n 0 (λ e. omega arith), and_right (f Root) false refl) refl
+alone n f (Under p s k) r low = rw (ne_eqb n s (λ e. omega arith), and_right (f (Under p s k)) false refl) (alone n f p r.1 (let g = r.0 in omega arith))
 
 -- a path of one step hits what the step reaches
 pub hits_one : (n : ℕ) (s : Step) (m : Node) → Rises m → hits n (s ∷ []) m ≡ reach n s m

@@ -1,8 +1,8 @@
 -- What a token does to the rows.
-use Rattle.std.proofs.Common.{◌≡◌, ◌⊎◌, ℕ, zero, suc, ◌+◌, ◌<◌, ◌≤◌, Bool, true, false, not, ◌||◌, List, [], ◌∷◌, ◌++◌, length, get_or, take, drop, refl, sym, ◌∙◌, ap, subst, inl, inr, arith, length-append, Option, Some, None}
+use Rattle.std.proofs.Common.{◌≡◌, ◌⊎◌, ℕ, zero, suc, ◌+◌, ◌<◌, ◌≤◌, true, false, not, ◌||◌, List, [], ◌∷◌, ◌++◌, length, get_or, take, drop, refl, sym, ◌∙◌, ap, subst, inl, inr, arith, length-append, Option, Some, None}
 use Rattle.std.specs.Prelude.{is_some, unwrap_or, set}
 use Rattle.std.proofs.lemmas.List.{get_or_append_left, get_or_push, length-set, take_at, get_or-set_same, get_or-set_other}
-use Rattle.std.proofs.lemmas.Bool.{cases_lt, cases_order, or_cases, or_left, or_right, eqb-true, eq-eqb, ne_eqb, false≢true}
+use Rattle.std.proofs.lemmas.Bool.{cases_lt, cases_order, or_cases, or_left, or_right, eqb-true, eq-eqb, ne_eqb, false≢true, not-true, not-false}
 use Rattle.gcx_model.specs.Tree.{Node, Root, Under, serial_of, kind_of, within, Tree, Start, Chars, End, grow}
 use Rattle.tree_eval.specs.declared.row.Row.{Row}
 use Rattle.tree_eval.specs.declared.row.Content.TheVariants as content
@@ -17,14 +17,6 @@ within_at_most n m r w = elim (cases_lt (serial_of m) n) [
   | inl low ↦ absurd (false≢true (sym (within_low n m r low) ∙ w))
   | inr high ↦ high
 ]
-
-not_false : (b : Bool) → not b ≡ false → b ≡ true
-not_false true e = refl
-not_false false e = absurd (false≢true (sym e))
-
-not_true : (b : Bool) → not b ≡ true → b ≡ false
-not_true true e = absurd (false≢true e)
-not_true false e = refl
 
 module _ (rows : List Row) (r : Row) where
   abbrev more : List Row
@@ -59,7 +51,7 @@ module _ (rows : List Row) (r : Row) where
     behind_kept : (k : ℕ) → k < length rows → (o : Option ℕ) → end_in rows k ≡ o → IsBehind more (suc k) (unwrap_or o (length more))
     behind_kept k h None e =
         let b : IsBehind rows (suc k) (length rows) = subst (λ (x : Option ℕ). IsBehind rows (suc k) (unwrap_or x (length rows))) e (nested.ends (suc k) (omega arith)) in
-        let w = not_false _ (sym (closed k h) ∙ ap is_some e) in
+        let w = not-false _ (sym (closed k h) ∙ ap is_some e) in
         let t = opened.there in
         let low = within_at_most (suc k) (node_at (nodes_of rows) r.parent) ((are_nodes rows).rises r.parent (omega (arith, length-nodes_of rows))) w in
         let at = (are_nodes rows).number r.parent (omega (arith, length-nodes_of rows)) in
@@ -74,7 +66,7 @@ module _ (rows : List Row) (r : Row) where
         }
     behind_kept k h (Some m) e =
         let b : IsBehind rows (suc k) m = subst (λ (x : Option ℕ). IsBehind rows (suc k) (unwrap_or x (length rows))) e (nested.ends (suc k) (omega arith)) in
-        let w : within (suc k) (node_at (nodes_of rows) r.parent) ≡ false = not_true _ (sym (closed k h) ∙ ap is_some e) in
+        let w : within (suc k) (node_at (nodes_of rows) r.parent) ≡ false = not-true _ (sym (closed k h) ∙ ap is_some e) in
         record {
           from = b.from;
           to = let x = b.to in omega (arith, length_more);

@@ -2,42 +2,24 @@
 use Rattle.std.proofs.Common.{◌≡◌, ℕ, ◌<◌, Bool, true, false, cond, not, List, [], ◌∷◌, ◌++◌, map, refl, sym, ◌∙◌, ap, subst, inl, inr, arith, eqb}
 use Rattle.std.specs.Prelude.{reverse}
 use Rattle.std.specs.List.{filter}
-use Rattle.std.proofs.lemmas.List.{reverse-append, map-append}
+use Rattle.std.proofs.lemmas.List.{map-append}
 use Rattle.std.proofs.lemmas.Bool.{not-true, eqb-true, eq-eqb, true≢false, false_from_ne_true}
 use Rattle.gcx_model.specs.Tree.{Node, serial_of}
 use Rattle.gcx_model.specs.Members.{In}
 use Rattle.gcx_model.specs.Nodes.{Rising}
 use Rattle.gcx_model.specs.Held.{has_serial, departed}
+use Rattle.base_laws.proofs.Members.{in_map}
+use Rattle.base_laws.proofs.Lists.{reverse_cons}
 use Rattle.tree_laws.specs.Departing.{Falling, DepartedAreGone}
-use Rattle.tree_laws.proofs.Lists.{In-left, In-right, In-append, In-filter, In-kept, any_in, any_from}
+use Rattle.tree_laws.proofs.Lists.{In-append, In-filter, In-kept, any_in, any_from, In-reversed, In-reverse}
 use Rattle.tree_laws.proofs.Matches.{Numbered-same}
 
 -- lists turned round
-
-turned : {X : Type 0} (x : X) (xs : List X) → reverse (x ∷ xs) ≡ reverse xs ++ x ∷ []
-turned x xs = reverse-append (x ∷ []) xs
-
-In-reverse : {X : Type 0} (m : X) (xs : List X) → In m (reverse xs) → In m xs
-In-reverse m [] i = i
-In-reverse {X} m (x ∷ xs) i = elim (In-append m (reverse xs) (x ∷ []) (subst (λ (z : List X). In m z) (turned x xs) i)) [
-  | inl j ↦ inr (In-reverse m xs j)
-  | inr j ↦ elim j [ inl e ↦ inl e | inr k ↦ absurd k ]
-]
-
-In-turned : {X : Type 0} (m : X) (xs : List X) → In m xs → In m (reverse xs)
-In-turned m [] i = i
-In-turned {X} m (x ∷ xs) (inl e) = subst (λ (z : List X). In m z) (sym (turned x xs)) (In-right m (reverse xs) (x ∷ []) (inl e))
-In-turned {X} m (x ∷ xs) (inr i) = subst (λ (z : List X). In m z) (sym (turned x xs)) (In-left m (reverse xs) (x ∷ []) (In-turned m xs i))
 
 In-mapped : {X Y : Type 0} (f : X → Y) (v : Y) (xs : List X) → In v (map f xs) → (m : X) × (f m ≡ v) × In m xs
 In-mapped f v [] h = absurd h
 In-mapped f v (x ∷ xs) (inl e) = (x, e, inl refl)
 In-mapped f v (x ∷ xs) (inr h) = let r = In-mapped f v xs h in (r.0, r.1, inr r.2)
-
-In-map : {X Y : Type 0} (f : X → Y) (m : X) (xs : List X) → In m xs → In (f m) (map f xs)
-In-map f m [] h = h
-In-map f m (x ∷ xs) (inl e) = inl (ap f e)
-In-map f m (x ∷ xs) (inr h) = inr (In-map f m xs h)
 
 -- rising and falling
 
@@ -61,7 +43,7 @@ falling_push (a ∷ ss) s f h = (
 
 falling : (ns : List Node) → Rising ns → Falling (map serial_of (reverse ns))
 falling [] r = tt
-falling (n ∷ ns) r = subst (λ (z : List ℕ). Falling z) (sym (ap (map serial_of) (turned n ns) ∙ map-append serial_of (reverse ns) (n ∷ [])))
+falling (n ∷ ns) r = subst (λ (z : List ℕ). Falling z) (sym (ap (map serial_of) (reverse_cons n ns) ∙ map-append serial_of (reverse ns) (n ∷ [])))
     (falling_push (map serial_of (reverse ns)) (serial_of n) (falling ns r.1)
     (λ j i. let m = In-mapped serial_of j (reverse ns) i in subst (λ (z : ℕ). serial_of n < z) m.1 (r.0 m.0 (In-reverse m.0 ns m.2))))
 
@@ -83,7 +65,7 @@ departed_are_gone P w before now r b h = (falling (filter left before) (rising_f
         let none : has_serial now (serial_of n) ≡ false = false_from_ne_true _ (λ e.
         let m = any_in (λ (k : Node). eqb (serial_of k) (serial_of n)) now e in
         g.2.1 (subst (λ (z : Node). In z now) (Numbered-same 0 P.nodes w.numbered m.0 n (h m.0 m.1) (b n g.2.0) (eqb-true _ _ m.2)) m.1)) in
-        subst (λ (z : ℕ). In z (departed before now)) g.1 (In-map serial_of n (reverse (filter left before)) (In-turned n (filter left before) (In-kept left n before g.2.0 (ap not none))))
+        subst (λ (z : ℕ). In z (departed before now)) g.1 (in_map serial_of n (reverse (filter left before)) (In-reversed n (filter left before) (In-kept left n before g.2.0 (ap not none))))
 
 -- falling numbers are known by which they are
 pub falling_same : (ss us : List ℕ) → Falling ss → Falling us → ((s : ℕ) → In s ss → In s us) → ((s : ℕ) → In s us → In s ss) → ss ≡ us

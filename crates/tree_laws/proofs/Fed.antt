@@ -4,6 +4,7 @@ use Rattle.gcx_model.specs.Tree.{Node, Root, Under, serial_of, Tree, Token, grow
 use Rattle.tree_laws.proofs.Lists.{In, In-left}
 use Rattle.tree_laws.proofs.Matches.{Grown, Grown-grow, Grown-all, grow_nodes, added, Grown-opening}
 use Rattle.std.proofs.lemmas.Bool.{or_right, true≢false, not-true}
+use Rattle.std.proofs.lemmas.Option.{same_Some}
 use Rattle.gcx_model.specs.Members.{In}
 use Rattle.gcx_model.specs.Nodes.{Grown, Ordered}
 use Rattle.gcx_model.specs.Growth.{Leads}
@@ -44,12 +45,9 @@ grown_from P l = from_tokens (λ z. Grown z) grown P l
 pub root_from : (P : Tree) → Leads opening P → In Root P.nodes
 root_from P l = from_tokens (λ P. In Root P.nodes) root_in P l
 
-pub some_same : {X : Type 0} (x y : X) → Some x ≡ Some y → x ≡ y
-some_same x y e = cc
-
 pub ordered_opening : Ordered opening
 ordered_opening = record {
-  behind = λ p a b e i j l. absurd (same a b (only a (subst (λ (z : Node). In a (above z)) (sym (some_same _ _ e)) i)) j l);
+  behind = λ p a b e i j l. absurd (same a b (only a (subst (λ (z : Node). In a (above z)) (sym (same_Some _ _ e)) i)) j l);
   split = λ a b m i j h l n q. absurd (same a b (only a i) j l);
 }
   where

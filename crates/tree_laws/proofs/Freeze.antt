@@ -1,8 +1,9 @@
 -- What a closed node keeps while tokens come.
-use Rattle.std.proofs.Common.{◌≡◌, ℕ, ◌<◌, Bool, true, false, cond, not, ◌&&◌, ◌||◌, List, [], ◌∷◌, ◌++◌, length, refl, sym, ◌∙◌, ap, subst, inl, inr, arith, append_assoc, Some, None, Option, eqb}
+use Rattle.std.proofs.Common.{◌≡◌, ℕ, ◌<◌, Bool, true, false, cond, not, ◌&&◌, ◌||◌, List, [], ◌∷◌, ◌++◌, length, refl, sym, ◌∙◌, ap, subst, inl, inr, arith, Some, None, Option, eqb}
 use Rattle.std.specs.List.{flat_map}
 use Rattle.std.proofs.lemmas.List.{append-nil}
 use Rattle.std.proofs.lemmas.Bool.{or_cases, or_left, or_right, or_from, and_parts, true≢false, false≢true, eqb-true, eq-eqb, ne_eqb, not-true, false_from_ne_true}
+use Rattle.std.proofs.lemmas.Grind.{flat_map-append}
 use Rattle.gcx_model.specs.Tree.{Node, Root, Under, serial_of, kind_of, above, within, Tree, Token, Start, Chars, End, grow, grow_at, is_open_at, is_closed}
 use Rattle.gcx_base.specs.declared.steps.Step.{Step}
 use Rattle.gcx_base.specs.declared.steps.Axis.{Axis}
@@ -72,10 +73,6 @@ Matches-closed t P n path l c =
     ∙ (ap (λ x. matches P (serial_of n) path ++ x) (filter_none (hits (serial_of n) path) (added t P) (λ m i. hits_no (serial_of n) path m (closed_added t P n l c m i)))
     ∙ append-nil _)
 
-flat_map-append' : {X A : Type 0} (f : X → List A) (xs ys : List X) → flat_map f (xs ++ ys) ≡ flat_map f xs ++ flat_map f ys
-flat_map-append' f [] ys = refl
-flat_map-append' f (x ∷ xs) ys = ap (λ z. f x ++ z) (flat_map-append' f xs ys) ∙ sym (append_assoc (f x) (flat_map f xs) (flat_map f ys))
-
 flat_map-none : {X A : Type 0} (f : X → List A) (xs : List X) → ((x : X) → In x xs → f x ≡ []) → flat_map f xs ≡ []
 flat_map-none f [] h = refl
 flat_map-none f (x ∷ xs) h = rw (h x (inl refl)) (flat_map-none f xs (λ y k. h y (inr k)))
@@ -84,7 +81,7 @@ flat_map-none f (x ∷ xs) h = rw (h x (inl refl)) (flat_map-none f xs (λ y k. 
 pub value_closed : (t : Token) (P : Tree) (n : Node) → serial_of n < length P.nodes → is_closed P n ≡ true → value (grow t P) n ≡ value P n
 value_closed t P n l c =
     let f : Node → List ℕ = λ m. cond (within (serial_of n) m) (text_of (kind_of m)) [] in
-    ap (flat_map f) (grow_nodes t P) ∙ (flat_map-append' f P.nodes (added t P)
+    ap (flat_map f) (grow_nodes t P) ∙ (flat_map-append f P.nodes (added t P)
     ∙ (ap (λ x. flat_map f P.nodes ++ x) (flat_map-none f (added t P) (λ m i. rw (closed_added t P n l c m i) refl))
     ∙ append-nil _))
 

@@ -7,6 +7,7 @@ use Rattle.std.specs.Str.{chars}
 use lib.Utf8.{encodes}
 use Rattle.std.proofs.lemmas.Slice.Eq.{bytes_eq-Decides}
 use Rattle.std.proofs.lemmas.Str.{encodes-chars}
+use Rattle.std.proofs.lemmas.Option.{same_Some}
 use Rattle.gcx_base.specs.Name.{is_name, IsNameBytes}
 use Rattle.gcx_base.proofs.Names.{name_text, name_chars}
 use Rattle.gcx_base.specs.declared.kind.Kind.{Kind}
@@ -119,9 +120,6 @@ last_node-push r (m ∷ ns) n = last_node-push m ns n
 abbrev Tail : Tree → Type 0
 Tail P = (r : Node) × (ns : List Node) × (P.nodes ≡ r ∷ ns) × ((q : Node) → P.at ≡ Some q → In q (above (open_at (last_node r ns))))
 
-some_same : {X : Type 0} (x y : X) → Some x ≡ Some y → x ≡ y
-some_same x y e = cc
-
 above_self : (m : Node) → In m (above m)
 above_self Root = inl refl
 above_self (Under p s k) = inl refl
@@ -132,7 +130,7 @@ above_up p s k Root (inr h) = absurd h
 above_up p s k (Under q t j) (inl e) = let f : q ≡ p = cc in inr (subst (λ (z : Node). In z (above q)) f (above_self q))
 above_up p s k (Under q t j) (inr h) = inr (above_up p s k q h)
 
-level_above : (m q : Node) → In q (above m) → level q ≤ level m
+pub level_above : (m q : Node) → In q (above m) → level q ≤ level m
 level_above Root q (inl e) = let f = ap level e in omega arith
 level_above Root q (inr h) = absurd h
 level_above (Under p s k) q (inl e) = let f = ap level e in omega arith
@@ -146,10 +144,10 @@ Tail-new P n at t h = (t.0, t.1 ++ n ∷ [], ap (λ z. z ++ n ∷ []) t.2, λ q 
 
 Tail-grow_at : (at : Option Node) (t : Token) (P : Tree) → P.at ≡ at → Tail P → Tail (grow_at at t P)
 Tail-grow_at None t P e h = h
-Tail-grow_at (Some p) (Start name) P e h = Tail-new P (new_start p P name) (Some (new_start p P name)) h (λ q f. inl (some_same _ _ f))
-Tail-grow_at (Some p) (Chars b) P e h = Tail-new P (Under p (length P.nodes) (Text b)) (Some p) h (λ q f. subst (λ (z : Node). In z (above p)) (some_same _ _ f) (above_self p))
+Tail-grow_at (Some p) (Start name) P e h = Tail-new P (new_start p P name) (Some (new_start p P name)) h (λ q f. inl (same_Some _ _ f))
+Tail-grow_at (Some p) (Chars b) P e h = Tail-new P (Under p (length P.nodes) (Text b)) (Some p) h (λ q f. subst (λ (z : Node). In z (above p)) (same_Some _ _ f) (above_self p))
 Tail-grow_at (Some Root) End P e h = (h.0, h.1, h.2, λ q f. absurd (cc))
-Tail-grow_at (Some (Under p s k)) End P e h = (h.0, h.1, h.2, λ q f. subst (λ (z : Node). In z (above (open_at (last_node h.0 h.1)))) (some_same _ _ f) (above_up p s k _ (h.3 (Under p s k) e)))
+Tail-grow_at (Some (Under p s k)) End P e h = (h.0, h.1, h.2, λ q f. subst (λ (z : Node). In z (above (open_at (last_node h.0 h.1)))) (same_Some _ _ f) (above_up p s k _ (h.3 (Under p s k) e)))
 
 ends_push : (n : ℕ) → ends (suc n) ≡ ends n ++ End ∷ []
 ends_push zero = refl
@@ -207,4 +205,4 @@ found_from (t ∷ ts) P m h =
 
 pub tokens_found : (ts : List Token) → may_all ts opening ≡ true → tokens_of (grow_all ts opening) ≡ ts
 unfolding last_node
-tokens_found ts m = found_from ts opening m (Root, [], refl, λ q e. inl (some_same _ _ e))
+tokens_found ts m = found_from ts opening m (Root, [], refl, λ q e. inl (same_Some _ _ e))

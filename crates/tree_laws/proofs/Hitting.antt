@@ -1,6 +1,7 @@
 -- Matches, first matches and nested loops by the nodes that paths hit, and what a role's kind means.
 use Rattle.std.proofs.Common.{◌≡◌, ℕ, ◌≤◌, true, false, ◌&&◌, List, [], ◌∷◌, ◌++◌, refl, ◌∙◌, ap, inl, inr, arith, Some, None, Option, ◌+◌, Bool}
 use Rattle.std.proofs.lemmas.Bool.{and_parts, and_from, false≢true, eqb-true, eq-eqb}
+use Rattle.std.proofs.lemmas.Option.{same_Some}
 use Rattle.gcx_base.specs.declared.steps.Step.{Step}
 use Rattle.gcx_model.specs.Tree.{Node, serial_of, above, Tree}
 use Rattle.gcx_model.specs.Paths.{head, reach, hits, matches, any, first}
@@ -11,7 +12,6 @@ use Rattle.tree_laws.proofs.Lists.{any_in, any_from}
 use Rattle.tree_laws.proofs.Matches.{Matches-in, Matches-from, Matches-rising, Numbered-same}
 use Rattle.tree_laws.proofs.Order.{chain_is}
 use Rattle.tree_laws.proofs.Chains.{above_in, hits_above, chain_hits, chain_from, chain_once}
-use Rattle.tree_laws.proofs.Fed.{some_same}
 use Rattle.gcx_model.specs.Held.{is_node}
 
 pub hits_by_steps : HitsBySteps
@@ -30,7 +30,7 @@ matches_are_hits P w n path = ((λ m. ((λ i. Matches-in P n path m i), (λ h. M
 least_head : (ms : List Node) → Rising ms → (m : Node) → ((head ms ≡ Some m) → In m ms × ((j : Node) → In j ms → serial_of m ≤ serial_of j)) × (In m ms × ((j : Node) → In j ms → serial_of m ≤ serial_of j) → (head ms ≡ Some m))
 least_head [] r m = ((λ e. cc), (λ h. absurd h.0))
 least_head (a ∷ rest) r m = (
-  (λ e. (inl (some_same _ _ e), λ j i. let f = ap serial_of (some_same _ _ e) in elim i [ inl g ↦ (let k = ap serial_of g in omega arith) | inr k ↦ (let l = r.0 j k in omega arith) ])),
+  (λ e. (inl (same_Some _ _ e), λ j i. let f = ap serial_of (same_Some _ _ e) in elim i [ inl g ↦ (let k = ap serial_of g in omega arith) | inr k ↦ (let l = r.0 j k in omega arith) ])),
   (λ h. elim h.0 [ inl e ↦ ap Some e | inr k ↦ (let l = r.0 m k in let q = h.1 a (inl refl) in absurd (omega arith)) ]),
 )
 

@@ -1,6 +1,7 @@
-use Rattle.std.proofs.Common.{◌≡◌, Bool, true, false, cond, List, [], ◌∷◌, ◌++◌, refl, sym, ◌∙◌, ap, inl, inr, ◌⊎◌}
+use Rattle.std.proofs.Common.{◌≡◌, Bool, true, false, cond, List, [], ◌∷◌, ◌++◌, reverse, refl, sym, ◌∙◌, ap, subst, inl, inr, ◌⊎◌}
 use Rattle.std.specs.List.{filter}
 use Rattle.std.proofs.lemmas.Bool.{or_cases, or_left, or_right, false≢true}
+use Rattle.base_laws.proofs.Lists.{reverse_cons}
 pub use Rattle.gcx_model.specs.Members.{In, Once}
 use Rattle.gcx_model.specs.Paths.{any}
 
@@ -17,6 +18,18 @@ pub In-append : {X : Type 0} (m : X) (xs ys : List X) → In m (xs ++ ys) → In
 In-append m [] ys h = inr h
 In-append m (x ∷ xs) ys (inl e) = inl (inl e)
 In-append m (x ∷ xs) ys (inr h) = elim (In-append m xs ys h) [ inl k ↦ inl (inr k) | inr k ↦ inr k ]
+
+pub In-reverse : {X : Type 0} (m : X) (xs : List X) → In m (reverse xs) → In m xs
+In-reverse m [] i = i
+In-reverse {X} m (x ∷ xs) i = elim (In-append m (reverse xs) (x ∷ []) (subst (λ (z : List X). In m z) (reverse_cons x xs) i)) [
+  | inl j ↦ inr (In-reverse m xs j)
+  | inr j ↦ elim j [ inl e ↦ inl e | inr k ↦ absurd k ]
+]
+
+pub In-reversed : {X : Type 0} (m : X) (xs : List X) → In m xs → In m (reverse xs)
+In-reversed m [] i = i
+In-reversed {X} m (x ∷ xs) (inl e) = subst (λ (z : List X). In m z) (sym (reverse_cons x xs)) (In-right m (reverse xs) (x ∷ []) (inl e))
+In-reversed {X} m (x ∷ xs) (inr i) = subst (λ (z : List X). In m z) (sym (reverse_cons x xs)) (In-left m (reverse xs) (x ∷ []) (In-reversed m xs i))
 
 pub In-filter : {X : Type 0} (p : X → Bool) (m : X) (xs : List X) → In m (filter p xs) → In m xs × (p m ≡ true)
 In-filter p m [] h = absurd h

@@ -2,6 +2,7 @@ use Rattle.std.proofs.Common.{◌≡◌, ℕ, suc, ◌+◌, ◌<◌, ◌≤◌, 
 use Rattle.std.specs.List.{filter}
 use Rattle.std.proofs.lemmas.List.{append-nil}
 use Rattle.std.proofs.lemmas.List.Elements.{filter-append}
+use Rattle.std.proofs.lemmas.Option.{same_Some}
 pub use Rattle.gcx_model.specs.Nodes.{Numbered, Rising, Grown}
 use Rattle.gcx_base.specs.declared.kind.Kind.{Kind}
 use Rattle.gcx_base.specs.declared.kind.Kind.TheVariants.{Element, Text}
@@ -93,21 +94,18 @@ Grown-new P p k at w i h = record {
   ];
 }
 
-some_same : {X : Type 0} (x y : X) → Some x ≡ Some y → x ≡ y
-some_same x y e = cc
-
 Grown-grow_at : (at : Option Node) (t : Token) (P : Tree) → P.at ≡ at → Grown P → Grown (grow_at at t P)
 Grown-grow_at None t P e w = w
-Grown-grow_at (Some p) (Start name) P e w = Grown-new P p (Element name) (Some (Under p (length P.nodes) (Element name))) w (w.at_in p e) (λ q f. In-right q P.nodes (Under p (length P.nodes) (Element name) ∷ []) (inl (some_same _ _ f)))
-Grown-grow_at (Some p) (Chars b) P e w = Grown-new P p (Text b) (Some p) w (w.at_in p e) (λ q f. In-left q P.nodes (Under p (length P.nodes) (Text b) ∷ []) (subst (λ (x : Node). In x P.nodes) (some_same _ _ f) (w.at_in p e)))
+Grown-grow_at (Some p) (Start name) P e w = Grown-new P p (Element name) (Some (Under p (length P.nodes) (Element name))) w (w.at_in p e) (λ q f. In-right q P.nodes (Under p (length P.nodes) (Element name) ∷ []) (inl (same_Some _ _ f)))
+Grown-grow_at (Some p) (Chars b) P e w = Grown-new P p (Text b) (Some p) w (w.at_in p e) (λ q f. In-left q P.nodes (Under p (length P.nodes) (Text b) ∷ []) (subst (λ (x : Node). In x P.nodes) (same_Some _ _ f) (w.at_in p e)))
 Grown-grow_at (Some Root) End P e w = record { numbered = w.numbered; upward = w.upward; at_in = λ q f. cc; below = w.below }
-Grown-grow_at (Some (Under p s k)) End P e w = record { numbered = w.numbered; upward = w.upward; at_in = λ q f. subst (λ (x : Node). In x P.nodes) (some_same _ _ f) (w.upward p s k (w.at_in (Under p s k) e)); below = w.below }
+Grown-grow_at (Some (Under p s k)) End P e w = record { numbered = w.numbered; upward = w.upward; at_in = λ q f. subst (λ (x : Node). In x P.nodes) (same_Some _ _ f) (w.upward p s k (w.at_in (Under p s k) e)); below = w.below }
 
 pub Grown-grow : (t : Token) (P : Tree) → Grown P → Grown (grow t P)
 Grown-grow t P w = Grown-grow_at P.at t P refl w
 
 pub Grown-opening : Grown opening
-Grown-opening = record { numbered = (refl, tt); upward = λ p s k i. elim i [ inl e ↦ cc | inr j ↦ absurd j ]; at_in = λ p e. inl (some_same _ _ e); below = λ p s k i. elim i [ inl e ↦ cc | inr j ↦ absurd j ] }
+Grown-opening = record { numbered = (refl, tt); upward = λ p s k i. elim i [ inl e ↦ cc | inr j ↦ absurd j ]; at_in = λ p e. inl (same_Some _ _ e); below = λ p s k i. elim i [ inl e ↦ cc | inr j ↦ absurd j ] }
 
 pub Grown-all : (ts : List Token) (P : Tree) → Grown P → Grown (grow_all ts P)
 Grown-all [] P w = w

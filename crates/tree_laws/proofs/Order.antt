@@ -2,6 +2,7 @@
 use Rattle.std.proofs.Common.{◌≡◌, ◌<◌, ◌≤◌, true, List, [], ◌∷◌, ◌++◌, length, refl, sym, ◌∙◌, ap, subst, inl, inr, ◌⊎◌, arith, Some, None, Option}
 use Rattle.std.specs.List.{flat_map}
 use Rattle.std.proofs.lemmas.Bool.{and_parts}
+use Rattle.std.proofs.lemmas.Option.{same_Some}
 pub use Rattle.gcx_model.specs.Nodes.{Ordered}
 use Rattle.gcx_base.specs.declared.kind.Kind.{Kind}
 use Rattle.gcx_base.specs.declared.kind.Kind.TheVariants.{Element, Text}
@@ -12,9 +13,6 @@ use Rattle.gcx_model.specs.Paths.{hits, matches}
 use Rattle.tree_laws.proofs.Lists.{In, In-append}
 use Rattle.tree_laws.proofs.Matches.{Grown, Numbered-high, Rising, Rising-filter, Matches-in, Matches-from}
 use Rattle.tree_laws.proofs.Chains.{chain_at, In-flat_map, chain_hits, chain_from, hits_above, above_self, above_same, is_child, reach_depth, hits_one}
-
-some_same : {X : Type 0} (x y : X) → Some x ≡ Some y → x ≡ y
-some_same x y e = cc
 
 Ordered-new : (P : Tree) → Grown P → Ordered P → (p : Node) (k : Kind) (at : Option Node) → P.at ≡ Some p → ((q a : Node) → at ≡ Some q → In a (above q) → In a (above (Under p (length P.nodes) k))) → Ordered (record { nodes = P.nodes ++ Under p (length P.nodes) k ∷ []; at = at })
 Ordered-new P w o p k at e up = record {
@@ -47,10 +45,10 @@ Ordered-new P w o p k at e up = record {
 
 Ordered-grow_at : (at : Option Node) (t : Token) (P : Tree) → P.at ≡ at → Grown P → Ordered P → Ordered (grow_at at t P)
 Ordered-grow_at None t P e w o = o
-Ordered-grow_at (Some p) (Start name) P e w o = Ordered-new P w o p (Element name) _ e (λ q a f i. subst (λ (x : Node). In a (above x)) (sym (some_same _ _ f)) i)
-Ordered-grow_at (Some p) (Chars b) P e w o = Ordered-new P w o p (Text b) _ e (λ q a f i. inr (subst (λ (x : Node). In a (above x)) (sym (some_same _ _ f)) i))
+Ordered-grow_at (Some p) (Start name) P e w o = Ordered-new P w o p (Element name) _ e (λ q a f i. subst (λ (x : Node). In a (above x)) (sym (same_Some _ _ f)) i)
+Ordered-grow_at (Some p) (Chars b) P e w o = Ordered-new P w o p (Text b) _ e (λ q a f i. inr (subst (λ (x : Node). In a (above x)) (sym (same_Some _ _ f)) i))
 Ordered-grow_at (Some Root) End P e w o = record { behind = λ p a b f. cc; split = o.split }
-Ordered-grow_at (Some (Under p s k)) End P e w o = record { behind = λ q a b f i. o.behind (Under p s k) a b e (inr (subst (λ (x : Node). In a (above x)) (sym (some_same _ _ f)) i)); split = o.split }
+Ordered-grow_at (Some (Under p s k)) End P e w o = record { behind = λ q a b f i. o.behind (Under p s k) a b e (inr (subst (λ (x : Node). In a (above x)) (sym (same_Some _ _ f)) i)); split = o.split }
 
 pub Ordered-grow : (t : Token) (P : Tree) → Grown P → Ordered P → Ordered (grow t P)
 Ordered-grow t P w o = Ordered-grow_at P.at t P refl w o
@@ -76,7 +74,7 @@ Rising-same (x ∷ xs) (y ∷ ys) r s f g = rw (same, Rising-same xs ys r.1 s.1 
     tail_out : (z : Node) → In z ys → In z xs
     tail_out z i = elim (g z (inr i)) [ inl e ↦ (let a = s.0 z i in let b = ap serial_of e in let c = ap serial_of same in absurd (omega arith)) | inr j ↦ j ]
 
-Rising-append : (xs ys : List Node) → Rising xs → Rising ys → ((x y : Node) → In x xs → In y ys → serial_of x < serial_of y) → Rising (xs ++ ys)
+pub Rising-append : (xs ys : List Node) → Rising xs → Rising ys → ((x y : Node) → In x xs → In y ys → serial_of x < serial_of y) → Rising (xs ++ ys)
 Rising-append [] ys r s h = s
 Rising-append (x ∷ xs) ys r s h = (λ y i. elim (In-append y xs ys i) [ inl j ↦ r.0 y j | inr j ↦ h x y (inl refl) j ], Rising-append xs ys r.1 s (λ a b i j. h a b (inr i) j))
 

@@ -1,5 +1,5 @@
 -- A line is determined by its text: the text is a sign and words, each behind a space, and no word has a space or a line end.
-use Rattle.std.proofs.Common.{◌≡◌, ℕ, suc, ◌+◌, ◌<◌, ◌≤◌, ◌^◌, ◌%◌, Bool, true, false, List, [], ◌∷◌, ◌++◌, length, get_or, map, refl, sym, ◌∙◌, ap, subst, inl, inr, ◌⊎◌, arith, append_assoc}
+use Rattle.std.proofs.Common.{◌≡◌, ℕ, ◌+◌, ◌<◌, ◌≤◌, ◌^◌, ◌%◌, true, false, List, [], ◌∷◌, ◌++◌, get_or, map, refl, sym, ◌∙◌, ap, subst, inl, inr, ◌⊎◌, arith, append_assoc}
 use Rattle.std.specs.List.{flat_map, list_all}
 use Rattle.std.specs.Fmt.{decimal}
 use lib.Utf8.{encode, encodes}
@@ -11,6 +11,7 @@ use Rattle.gcx_base.specs.Characters.{is_start_char, is_part_char}
 use Rattle.gcx_base.specs.Name.{is_name, IsNameBytes}
 use Rattle.gcx_model.specs.Members.{In}
 use Rattle.gcx_model.specs.Demand.{LineKind, DocumentNode, ElementNode, TextNode, Line, Opened, Closed, Written, SignedOff, Left, kind_text, number_text, line_text, text_of_lines}
+use Rattle.base_laws.proofs.Members.{place_of, list_all_at}
 use Rattle.tree_laws.specs.LineTexts.{IsKind, IsPlain, LineByText, LinesByText}
 use Rattle.tree_laws.proofs.Lists.{In-append}
 
@@ -86,34 +87,24 @@ decimal_free b n l m = decimal_by_steps (λ k ds. Free b ds) one more n m
 
 -- names
 
-list_in : (p : ℕ → Bool) (b : ℕ) (cs : List ℕ) → list_all p cs ≡ true → In b cs → p b ≡ true
-list_in p b [] h i = absurd i
-list_in p b (c ∷ cs) h (inl e) = ap p (sym e) ∙ (and_parts (p c) (list_all p cs) h).0
-list_in p b (c ∷ cs) h (inr i) = list_in p b cs (and_parts (p c) (list_all p cs) h).1 i
-
-byte_at : (b : ℕ) (xs : List ℕ) → In b xs → (k : ℕ) × (k < length xs) × (get_or xs k 0 ≡ b)
-byte_at b [] i = absurd i
-byte_at b (x ∷ xs) (inl e) = (0, omega arith, e)
-byte_at b (x ∷ xs) (inr i) = let r = byte_at b xs i in (suc r.0, (let l = r.1 in omega arith), r.2)
-
 -- a byte below 128 of a text is a character of it
 char_in : (b : ℕ) (cs : List ℕ) → b < 128 → In b (encodes cs) → In b cs
 char_in b [] l i = i
 char_in b (c ∷ cs) l i = elim (In-append b (encode c) (encodes cs) i) [
-  | inl j ↦ (let r = byte_at b (encode c) j in
+  | inl j ↦ (let r = place_of b (encode c) j in
       let small : get_or (encode c) r.0 0 < 128 = subst (λ (z : ℕ). z < 128) (sym r.2) l in
       inl (inside_one c [] (encode c) r.0 (sym (append-nil (encode c))) r.1 small ∙ r.2))
   | inr j ↦ inr (char_in b cs l j)
 ]
 
-all_parts : (cs : List ℕ) → is_name cs ≡ true → list_all is_part_char cs ≡ true
+pub all_parts : (cs : List ℕ) → is_name cs ≡ true → list_all is_part_char cs ≡ true
 all_parts [] h = absurd (false≢true h)
 all_parts (c ∷ cs) h = let a = and_parts (is_start_char c) (list_all is_part_char cs) h in and_from _ _ (or_left (is_start_char c) _ a.0) a.1
 
 name_free : (b : ℕ) (name : List ℕ) → b < 128 → is_part_char b ≡ false → IsNameBytes name → Free b name
 name_free b name l h n i =
     let j = char_in b n.chars l (subst (λ (z : List ℕ). In b z) (sym n.parts) i) in
-    false≢true (sym h ∙ list_in is_part_char b n.chars (all_parts n.chars n.name) j)
+    false≢true (sym h ∙ list_all_at is_part_char b n.chars (all_parts n.chars n.name) j)
 
 -- lines
 

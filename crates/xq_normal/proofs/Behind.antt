@@ -45,10 +45,6 @@ abbrev mutual
   weights Nil = 0
   weights (Then i d) = suc (weight i + weights d)
 
-pub nothing_left : {X : Type 0} (l : List X) → length l ≡ 0 → l ≡ []
-nothing_left [] h = refl
-nothing_left (x ∷ xs) h = absurd (omega arith)
-
 -- ---- Runs
 
 pub none_flushed : (c : CondTree) (first : Bool) (items : List Item) (empty : Bool) → empty ≡ (length items == 0) → empty ≡ true → flush c first (body_in items) Nil ≡ Nil

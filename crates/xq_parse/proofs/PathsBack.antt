@@ -2,6 +2,7 @@
 use Rattle.std.proofs.Common.{ℕ, ◌≡◌, Bool, true, false, ◌||◌, cond, List, [], ◌∷◌, ◌++◌, Some, None, Result, Ok, Err, inl, inr, ◌⊎◌, eqb-true, refl, sym, ap, ◌∙◌, subst, append_assoc}
 use Rattle.std.specs.Prelude.{bytes_eq, slice_get}
 use Rattle.std.proofs.lemmas.Slice.Eq.{bytes_eq-Decides}
+use Rattle.std.proofs.lemmas.Bool.{or_cases}
 use Rattle.gcx_base.specs.declared.rel.Rel.{Rel}
 use Rattle.gcx_base.specs.declared.rel.Rel.TheVariants as rels
 use Rattle.gcx_base.specs.declared.steps.Axis.{Axis}
@@ -50,10 +51,6 @@ guarded false s u why e = absurd cc
 pub picked : (b : Bool) (x y u : State) → okay (cond b x y) ≡ okay u → ((b ≡ true) × (okay x ≡ okay u)) ⊎ ((b ≡ false) × (okay y ≡ okay u))
 picked true x y u e = inl (refl, e)
 picked false x y u e = inr (refl, e)
-
-pub either : (a b : Bool) → a || b ≡ true → (a ≡ true) ⊎ (b ≡ true)
-either true b e = inl refl
-either false b e = inr e
 
 pub same_is : (x y : List ℕ) → bytes_eq x y ≡ true → x ≡ y
 same_is x y e = (bytes_eq-Decides x y).0 e
@@ -107,7 +104,7 @@ test_back limit d k (TName x) w p u e h = go (picked (bytes_eq x text_ || bytes_
     with_call uncalled b i = (g.name_test x, put (TName x) b)
 
     go : (((bytes_eq x text_ || bytes_eq x node_) ≡ true) × (okay (call_or_name d x k) ≡ okay u)) ⊎ (((bytes_eq x text_ || bytes_eq x node_) ≡ false) × (okay (k (a_step d (tests.Named x))) ≡ okay u)) → Lang limit (test d k) (TName x ∷ w) p
-    go (inl c) = let l : Lang limit (call_or_name d x k) w p = along limit (call_or_name d x k) u w p c.1 h in with_call l.0 l.1 (either (bytes_eq x text_) (bytes_eq x node_) c.0)
+    go (inl c) = let l : Lang limit (call_or_name d x k) w p = along limit (call_or_name d x k) u w p c.1 h in with_call l.0 l.1 (or_cases (bytes_eq x text_) (bytes_eq x node_) c.0)
     go (inr c) = (g.name_test x, record { behind = w; parts = refl; goes_on = along limit (k (a_step d (tests.Named x))) u w p c.1 h })
 test_back limit d k (TSign signs.Star) w p u e h = (g.star_test, record { behind = w; parts = refl; goes_on = along limit (k (a_step d tests.AnyElement)) u w p e h })
 test_back limit d k (TVar at x) w p u e h = absurd cc
@@ -132,7 +129,7 @@ axis_back limit k (TName x) w p u e h = go (chosen (bytes_eq x child_ || bytes_e
     with_colons bare b i = (no_axis (g.name_test x), put (TName x) b)
 
     go : (((bytes_eq x child_ || bytes_eq x descendant_) ≡ true) × (okay (axis_or_name x k) ≡ okay u)) ⊎ (((bytes_eq x child_ || bytes_eq x descendant_) ≡ false) × (at_test axes.Child k (TName x) ≡ okay u)) → Lang limit (axis k) (TName x ∷ w) p
-    go (inl c) = let l : Lang limit (axis_or_name x k) w p = along limit (axis_or_name x k) u w p c.1 h in with_colons l.0 l.1 (either (bytes_eq x child_) (bytes_eq x descendant_) c.0)
+    go (inl c) = let l : Lang limit (axis_or_name x k) w p = along limit (axis_or_name x k) u w p c.1 h in with_colons l.0 l.1 (or_cases (bytes_eq x child_) (bytes_eq x descendant_) c.0)
     go (inr c) = no_axis_back limit k (TName x ∷ w) p (test_back limit axes.Child k (TName x) w p u c.1 h)
 axis_back limit k (TVar at x) w p u e h = absurd cc
 axis_back limit k (TNum x) w p u e h = absurd cc

@@ -1,7 +1,8 @@
 -- What the machine gives is what tokens spell, or what is wrong with them.
-use Rattle.std.proofs.Common.{ℕ, ◌≡◌, ◌+◌, ◌-◌, Bool, true, false, ◌&&◌, List, [], ◌∷◌, ◌++◌, length, Option, Some, None, Result, Ok, Err, refl, sym, ap, ◌∙◌, subst, append_assoc, arith, inl, inr, ◌⊎◌}
+use Rattle.std.proofs.Common.{ℕ, ◌≡◌, ◌+◌, ◌-◌, true, ◌&&◌, List, [], ◌∷◌, ◌++◌, length, Option, Some, None, Result, Ok, Err, refl, sym, ap, ◌∙◌, subst, append_assoc, arith, inl, inr, ◌⊎◌}
 use Rattle.std.specs.Prelude.{slice_get}
 use Rattle.std.proofs.lemmas.List.{length-append}
+use Rattle.std.proofs.lemmas.Bool.{and_parts}
 use Rattle.gcx_model.specs.declared.fault.QueryFault.{QueryFault}
 use Rattle.gcx_model.specs.declared.fault.QueryFault.TheVariants.{Utf8, Lex, Syntax, UnknownVar, TagMismatch, DescendantNotLast, IntegerWide, TooLarge, Memory}
 use Rattle.gcx_model.specs.declared.fault.What.TheVariants.{Text, Nesting, Loops, Steps, Conditions, Roles, Descendants}
@@ -286,10 +287,6 @@ pub no_fault : (ts : List Tok) (end : ℕ) (q : List ExprTree) (g : QueryFault) 
 no_fault ts end q g e h = ok_not_err q g (sym e ∙ fault_judged ts end g h)
 
 -- A sound query is accepted.
-and_is : (a b : Bool) → a && b ≡ true → (a ≡ true) × (b ≡ true)
-and_is true true e = (refl, refl)
-and_is true false e = absurd cc
-and_is false b e = absurd cc
 
 none_is : (xs : List ℕ) → none xs ≡ true → xs ≡ []
 none_is [] e = refl
@@ -298,5 +295,5 @@ none_is (x ∷ xs) e = absurd cc
 pub sound_accepted : (ts : List Tok) (end : ℕ) (q : List ExprTree) → Spells ts q → is_sound q ≡ true → judged ts end ≡ Ok q
 sound_accepted ts end q s t =
     let d = s.derivation in
-    let both = and_is (none (unknown_of d)) (none (late_of d)) (sym (sound_is d) ∙ ap is_sound s.tree ∙ t) in
+    let both = and_parts (none (unknown_of d)) (none (late_of d)) (sym (sound_is d) ∙ ap is_sound s.tree ∙ t) in
     derived_judged ts end d s.derives ∙ ap (λ (o : Option ℕ). judge_marks o (head (late_of d)) (derivation_tree d)) (ap head (none_is (unknown_of d) both.0)) ∙ ap (λ (o : Option ℕ). judge_marks None o (derivation_tree d)) (ap head (none_is (late_of d) both.1)) ∙ ap (λ (p : List ExprTree). let o : Verdict = Ok p in o) s.tree

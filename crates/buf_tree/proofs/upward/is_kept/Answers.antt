@@ -1,13 +1,13 @@
 use Rattle.std.proofs.Common.{arith, sym, ◌∙◌, ap, subst, refl, length, List, Bool, false, ◌≡◌, ◌&&◌, set, Vec, Global, get_or}
 use Rattle.std.specs.Prelude.{option_map}
 use Rattle.std.proofs.lemmas.List.{length-set}
-use Rattle.std.proofs.lemmas.Bool.{false≢true}
+use Rattle.std.proofs.lemmas.Bool.{false≢true, and_right}
 use Rattle.gcx_model.specs.ItemView.{role_kind}
 use Rattle.gcx_base.specs.declared.steps.Step.{Step}
 use Rattle.node_store.specs.declared.store.Place.{Place}
 use Rattle.buf_tree.specs.Ways.{Flags, is_waiting, tail_ends, tail_steps, ends_at}
 use Rattle.buf_tree.proofs.Climbing.{low_up, refilled, tells_descends, used_start, used_on, flags_count}
-use Rattle.buf_tree.proofs.Kept.{keeping_start, keeping_found, keeping_on, and_none}
+use Rattle.buf_tree.proofs.Kept.{keeping_start, keeping_found, keeping_on}
 use Rattle.buf_tree.proofs.upward.is_kept.Goals as goal
 use Rattle.buf_tree.proofs.upward.is_kept.Goals.{else-set_last-via-then-set_last+else-is_waiting, else-set_last-via-else-set_last}
 
@@ -57,7 +57,7 @@ up-preserved g c =
     let h = refilled c.set_last.new.flags c.go_up-in-Some.new.flags c.ends_here-end.new.trail.rels.len long three in
     let none : (c.set_last.result && is_waiting c.payload-row.result.now c.args.off.now) ≡ false =
     elim c.else-set_last.branch [
-      | else-set_last-via-then-set_last+else-is_waiting w ↦ and_none _ _ (sym w.is_waiting.ensures ∙ w.if-is_waiting.false)
+      | else-set_last-via-then-set_last+else-is_waiting w ↦ and_right _ _ (sym w.is_waiting.ensures ∙ w.if-is_waiting.false)
       | else-set_last-via-else-set_last w ↦ ap (λ z. z && is_waiting c.payload-row.result.now c.args.off.now) w.if-set_last.false
     ] in
     let up_tails = rw c.tail_of-tail.ensures at c.go_up.ensures.flags in

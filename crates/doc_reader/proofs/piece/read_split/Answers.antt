@@ -8,8 +8,8 @@ use Rattle.doc_chars.proofs.Streams.{are_text}
 use Rattle.doc_reader.specs.Piece.{ReadTo}
 use Rattle.doc_reader.specs.declared.stop.Stop.{Stop}
 use Rattle.doc_reader.proofs.Judgings.{text_size, reads_both, stops_before, stops_behind}
-use Rattle.doc_reader.proofs.Ties.{size_append}
 use Rattle.doc_reader.proofs.piece.read_split.Goals as goal
+use Rattle.doc_reader.proofs.Reading.{size_append}
 
 pub from_utf8_unchecked-text-requires : goal.from_utf8_unchecked-text-requires
 from_utf8_unchecked-text-requires c = are_text (slice_range c.args.piece.now c.args.split.used c.args.split.whole) c.requires.chars

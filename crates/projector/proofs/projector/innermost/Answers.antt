@@ -4,8 +4,9 @@ use Rattle.gcx_model.specs.Paths.{head}
 use Rattle.node_store.specs.declared.store.Place.{Place}
 use Rattle.buf_tree.specs.Shape.{Cell}
 use Rattle.buf_tree.specs.View.{Innermost}
+use Rattle.buf_tree.proofs.Reading.{innermost_used}
 use Rattle.projector.specs.Projector.{KeepsPlace}
-use Rattle.projector.proofs.Places.{root_innermost, kept_innermost, innermost_used}
+use Rattle.projector.proofs.Places.{root_innermost, kept_innermost}
 use Rattle.projector.proofs.projector.innermost.Goals as goal
 use Rattle.projector.proofs.projector.innermost.Goals.{in-Some, in-None}
 

@@ -1,9 +1,10 @@
 use Rattle.std.proofs.Common.{◌≡◌, ◌∷◌, [], length, ap, arith, sym, ◌∙◌}
 use Rattle.std.specs.Vec.Iter.{into_iter_items}
+use Rattle.std.proofs.lemmas.List.{nil_from_length}
 use Rattle.gcx_model.specs.ItemView.{body_tree, item_tree}
 use Rattle.gcx_model.specs.Normal.{join}
 use Rattle.xq_normal.specs.Raw.{moved, moved_item}
-use Rattle.xq_normal.proofs.Behind.{body_in, join-nil, join_more, nothing_left, weights}
+use Rattle.xq_normal.proofs.Behind.{body_in, join-nil, join_more, weights}
 use Rattle.xq_normal.proofs.moves.+moves.Goals as goal
 
 pub moved-loop-item-preserved : goal.moved-loop-item-preserved
@@ -26,7 +27,7 @@ pub moved-returns : goal.moved-returns
 moved-returns t c =
     let at = c.loop-item in
     let none = c.in-None.ensures.steps in
-    let empty : into_iter_items at.item-iterator ≡ [] = nothing_left _ (sym at.invariant.left ∙ none.0) in
+    let empty : into_iter_items at.item-iterator ≡ [] = nil_from_length _ (sym at.invariant.left ∙ none.0) in
     sym (join-nil (body_tree at.out))
     ∙ (ap (λ l. join (body_tree at.out) (moved (body_in l))) (sym empty)
     ∙ (at.invariant.put ∙ ap (λ l. moved (body_in l)) c.into_iter-item-iterator.ensures.into_iter_gives.0))

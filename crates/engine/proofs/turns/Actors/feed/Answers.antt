@@ -1,8 +1,9 @@
 use Rattle.std.proofs.Common.{◌≡◌, ◌+◌, length, refl, sym, arith}
+use Rattle.std.proofs.lemmas.List.{nil_from_length}
 use Rattle.buf_tree.specs.View.{capped}
 use Rattle.engine.specs.Going.{roles_in}
 use Rattle.engine.specs.declared.turns.Actors.{Actors}
-use Rattle.engine.proofs.TurnsFed.{feed_depth, feed_fits, feed_may, feed_nodes, feeds, feeds_none, none_in}
+use Rattle.engine.proofs.TurnsFed.{feed_depth, feed_fits, feed_may, feed_nodes, feeds, feeds_none}
 use Rattle.engine.proofs.turns.Actors.feed.Goals as goal
 
 pub returns-in_default-clause-fed : goal.returns-in_default-clause-fed
@@ -11,7 +12,7 @@ returns-in_default-clause-fed g c = λ plan ts s h.
     let d : Actors g.row.N.Denot g.row.C.Denot = record { projector = a.projector; buffer = a.buffer; machine = a.machine; tokens = c.pop_front.new.self; fed = a.fed; acted = a.acted; given = a.given } in
     let none : a.tokens.len ≡ 0 = c.in_default.ensures.cases.0 in
     let few : length a.tokens.items ≡ 0 = omega arith in
-    feeds_none g.C.Conds.stands plan ts s a h (none_in a.tokens.items few) d refl (sym c.in_default.ensures.items)
+    feeds_none g.C.Conds.stands plan ts s a h (nil_from_length a.tokens.items few) d refl (sym c.in_default.ensures.items)
 
 pub feed_token-requires-clause-may : goal.feed_token-requires-clause-may
 feed_token-requires-clause-may g c = let m = c.requires in feed_may g.C.Conds.stands m.plan m.tokens m.state c.args.self.now m.of c.in-Some.token c.pop_front.new.self.items c.in-Some.ensures.items
