@@ -69,7 +69,6 @@ module _ (core : BodyTree) (good : Good core) (plan : PlanTree) (placed : Placed
         given = d.given c.given ∙ ap (λ (T : Tree). capped (sum_given plan T)) (sym tree);
         peak = peaks_on ts us t may ahead few n.peak m.peak (length (held plan (grow t P) A)) d.peak refl c.peak;
         among = omega arith;
-        store = peaks_on ts us t may ahead few v.most w.most (length (held plan (grow t P) A)) most refl c.store;
         store_now = omega arith;
       }
 
@@ -86,17 +85,16 @@ module _ (core : BodyTree) (good : Good core) (plan : PlanTree) (placed : Placed
         given = c.given;
         peak = c.peak;
         among = c.among;
-        store = subst (λ (z : ℕ). Peaks (peak_of plan ts) ahead z) (sym e) c.store;
         store_now = omega arith;
       }
 
   -- the counts before any token
-  pub counts_opened : (ahead : ℕ) → 1 ≤ ahead → (v : View) (n : Counts) → n.given ≡ capped (sum_given plan opening) → n.peak ≡ 1 → v.most ≡ 1 → length v.rows ≡ length (held plan opening []) → CountsOf plan [] ahead v n
+  pub counts_opened : (ahead : ℕ) → 1 ≤ ahead → (v : View) (n : Counts) → n.given ≡ capped (sum_given plan opening) → n.peak ≡ 1 → 1 ≤ v.most → length v.rows ≡ length (held plan opening []) → CountsOf plan [] ahead v n
   counts_opened ahead one v n g p m r =
       let fits = (held_counts core good plan placed opening []).0 in
       let some : 1 ≤ length (held plan opening []) = root_held in
       let peak : peak_of plan [] ≡ length (held plan opening []) = omega arith in
-      record { given = g; peak = record { least = omega arith; near = omega arith }; among = omega arith; store = record { least = omega arith; near = omega arith }; store_now = omega arith }
+      record { given = g; peak = record { least = omega arith; near = omega arith }; among = omega arith; store_now = omega arith }
     where
       root_held : 1 ≤ length (held plan opening [])
       root_held = omega arith

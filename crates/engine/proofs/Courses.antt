@@ -1,5 +1,5 @@
 -- From one state for which an engine stands to a later one: bytes were fed, or the input ended.
-use Rattle.std.proofs.Common.{◌≡◌, ℕ, ◌+◌, ◌≤◌, Bool, false, List, [], ◌++◌, length, map, refl, sym, ◌∙◌, ap, subst, arith, append_assoc, Some, None, Option}
+use Rattle.std.proofs.Common.{◌≡◌, ℕ, ◌+◌, ◌≤◌, Bool, true, false, List, [], ◌++◌, length, map, refl, sym, ◌∙◌, ap, subst, arith, append_assoc, Some, None, Option}
 use Rattle.std.specs.Prelude.{flat_map, Result, OnOk, ⊤}
 use Rattle.std.proofs.lemmas.List.{append-nil, length-append}
 use Rattle.gcx_base.specs.declared.limits.Limits.{Limits}
@@ -16,7 +16,7 @@ use Rattle.doc_laws.proofs.LastTag.{seen_one}
 use Rattle.doc_reader.specs.Standing.{ReaderView, Stands, Keeps, IsFault, IsRefused, Answers, answer_by, said_of}
 use Rattle.doc_reader.proofs.Standings.{stands_still}
 use Rattle.engine.specs.declared.engine.Engine.{Engine}
-use Rattle.engine.specs.Engine.{GrewBy, GrewWithin, Kept, Lost, OnAnswer, OnRefusal, PartsStand, Settles, StandsOf, StandsSome}
+use Rattle.engine.specs.Engine.{GrewBy, GrewWithin, Kept, KeepsMost, Lost, OnAnswer, OnRefusal, PartsStand, Settles, StandsOf, StandsSome}
 use Rattle.engine.specs.Going.{Breaks, FedAll, GoesOn, all_of, bytes_at}
 use Rattle.engine.proofs.Nothing.{none_within}
 use Rattle.engine.proofs.Writing.{all_is, bytes_front}
@@ -58,9 +58,10 @@ on_answer (Some f) a A B e h = subst (λ (z : Result ⊤ DocFault). OnAnswer z A
 
 module _ {N C : Type 0} (stands : C → Tree → Type 0) (lim : Limits) (b : List ℕ) (was : Bool) (c : List ℕ) (ended : Bool) where
   -- the reader took what was fed, and all tokens that waited then were fed
-  pub fed_to : (old e d : Engine N C) → (s : StandsOf stands lim old b was) → e.plan ≡ old.plan → e.out ≡ old.out → Keeps e.reader d.reader → IsFault e.reader.refused lim c ended → d.counts.bytes ≡ length c
+  pub fed_to : (old e d : Engine N C) → (s : StandsOf stands lim old b was) → e.plan ≡ old.plan → e.out ≡ old.out → KeepsMost old e → Keeps e.reader d.reader → IsFault e.reader.refused lim c ended
+      → d.ended ≡ ended → d.counts.bytes ≡ length c
       → GoesOn stands lim e d c ended s.given → OnRefusal d.refused (Lost lim old d b was c ended) (Kept stands lim old d b was c ended)
-  fed_to old e d s plan out keeps fault bytes goes = refusal_map d.refused lost kept goes
+  fed_to old e d s plan out until keeps fault closing bytes goes = refusal_map d.refused lost kept goes
     where
       pl : PlanTree
       pl = plan_tree old.plan.now
@@ -96,12 +97,14 @@ module _ {N C : Type 0} (stands : C → Tree → Type 0) (lim : Limits) (b : Lis
               seen = seen;
               parts = h.fed.parts;
               none = h.none;
+              closing = closing;
               bytes = bytes;
               fault = subst (λ (z : Option DocFault). IsFault z lim c ended) (sym h.refused) fault;
               lasting = lasts;
               kept = λ n. sym same;
             };
             grew = record { old = before; more = g.more; settled = settled; settles = settled_by pl lim c ended (map said_of given) (before ++ g.more) seen written; grew = g.grew ∙ ap (λ z. z.items ++ g.more) out };
+            most = λ lent m. h.fed.most lent (until lent m);
           }
 
 -- What is settled by bytes is one text.
@@ -178,7 +181,7 @@ module _ {N C : Type 0} (stands : C → Tree → Type 0) (lim : Limits) (b : Lis
       pl = plan_tree old.plan.now
 
       kept : Kept stands lim old old b false b false
-      kept = record { of = s; grew = grew_none pl lim b false (bytes_at pl (seen_tree (map said_of s.given)) (all_of pl (seen_tree (map said_of s.given)))) old.out.items (settled_by pl lim b false (map said_of s.given) _ s.seen refl) }
+      kept = record { of = s; grew = grew_none pl lim b false (bytes_at pl (seen_tree (map said_of s.given)) (all_of pl (seen_tree (map said_of s.given)))) old.out.items (settled_by pl lim b false (map said_of s.given) _ s.seen refl); most = λ lent h. h }
 
   -- a slice more, where nothing was refused before
   pub piece_on : (old e d : Engine N C) (done slice : List ℕ) → e.plan ≡ old.plan → e.refused ≡ None → InPiece old e done
@@ -196,6 +199,7 @@ module _ {N C : Type 0} (stands : C → Tree → Type 0) (lim : Limits) (b : Lis
         of = q.of;
         grew = grew_on (plan_tree old.plan.now) lim b false (b ++ done) false ((b ++ done) ++ slice) false old.out.items e.out.items d.out.items k.grew
             (subst (λ z. GrewBy (plan_tree z.now) lim (b ++ done) false ((b ++ done) ++ slice) false e.out.items d.out.items) plan q.grew);
+        most = λ lent h. q.most lent (k.most lent h);
       })
       (fed (b ++ done) k.of))
 
@@ -221,7 +225,7 @@ module _ {N C : Type 0} (stands : C → Tree → Type 0) (lim : Limits) (b : Lis
             limits = s.parts.limits;
             reader = r;
             actors = s.parts.actors;
-            counts = record { given = s.parts.counts.given; peak = s.parts.counts.peak; among = s.parts.counts.among; store = s.parts.counts.store; store_now = s.parts.counts.store_now };
+            counts = record { given = s.parts.counts.given; peak = s.parts.counts.peak; among = s.parts.counts.among; store_now = s.parts.counts.store_now };
           }
 
           by_refusal : (o : Option DocFault) → e.refused ≡ o → Kept stands lim old counted b false ((b ++ done) ++ rest) false
@@ -232,8 +236,9 @@ module _ {N C : Type 0} (stands : C → Tree → Type 0) (lim : Limits) (b : Lis
               let l = length-append (b ++ done) rest in
               let y = s.bytes in
               subst (λ (x : List ℕ). Kept stands lim old counted b false x false) (sym c) (record {
-                of = record { given = s.given; seen = s.seen; parts = counted_parts (b ++ done) s.parts.reader; none = s.none; bytes = omega arith; fault = s.fault; lasting = s.lasting; kept = s.kept };
+                of = record { given = s.given; seen = s.seen; parts = counted_parts (b ++ done) s.parts.reader; none = s.none; closing = s.closing; bytes = omega arith; fault = s.fault; lasting = s.lasting; kept = s.kept };
                 grew = k.grew;
+                most = k.most;
               })
           by_refusal (Some g) f =
               let is : IsRefused e.reader = λ n. let q = s.kept (λ m. let x : Some g ≡ None = sym f ∙ m in cc) in let x : Some g ≡ None = sym f ∙ (sym q ∙ n) in cc in
@@ -250,12 +255,14 @@ module _ {N C : Type 0} (stands : C → Tree → Type 0) (lim : Limits) (b : Lis
                   seen = seen;
                   parts = counted_parts ((b ++ done) ++ rest) r;
                   none = s.none;
+                  closing = s.closing;
                   bytes = omega arith;
                   fault = subst (λ (z : Option DocFault). IsFault z lim ((b ++ done) ++ rest) false) same' r.fault;
                   lasting = s.lasting;
                   kept = s.kept;
                 };
                 grew = record { old = k.grew.old; more = k.grew.more; settled = k.grew.settled; settles = record { tokens = map said_of s.given; seen = seen; is = w }; grew = k.grew.grew };
+                most = k.most;
               }
 
 -- ---- what calls ask, and their answers
@@ -295,10 +302,11 @@ module _ {N C : Type 0} (stands : C → Tree → Type 0) (lim : Limits) where
     limits = s.parts.limits;
     reader = h;
     actors = s.parts.actors;
-    counts = record { given = s.parts.counts.given; peak = s.parts.counts.peak; among = s.parts.counts.among; store = s.parts.counts.store; store_now = s.parts.counts.store_now };
+    counts = record { given = s.parts.counts.given; peak = s.parts.counts.peak; among = s.parts.counts.among; store_now = s.parts.counts.store_now };
   }
 
-  pub parts_ended : (old : Engine N C) (b : List ℕ) (was : Bool) (c : List ℕ) (ended : Bool) (s : StandsOf stands lim old b was) (r : ReaderView) → Stands r lim c ended s.given → PartsStand stands lim (record old { reader = r }) c ended s.given
+  pub parts_ended : (old : Engine N C) (b : List ℕ) (was : Bool) (c : List ℕ) (ended : Bool) (s : StandsOf stands lim old b was) (r : ReaderView) → Stands r lim c ended s.given
+      → PartsStand stands lim (record old { reader = r; ended = true }) c ended s.given
   parts_ended old b was c ended s r h = record { limits = s.parts.limits; reader = h; actors = s.parts.actors; counts = s.parts.counts }
 
   -- bytes that aren't refused are few

@@ -17,7 +17,7 @@ use Rattle.doc_reader.specs.declared.token.Token.{Token}
 use Rattle.doc_reader.specs.Standing.{ReaderView, Stands, waiting, said_of}
 use Rattle.buf_tree.specs.View.{capped}
 use Rattle.engine.specs.declared.engine.Engine.{Engine}
-use Rattle.engine.specs.Engine.{Actors, CountsOf, PartsStand}
+use Rattle.engine.specs.Engine.{Actors, CountsOf, KeepsMost, PartsStand}
 use Rattle.engine.specs.Going.{ComesWithin, Counted, FeedsOne, FeedsSome, MayFeed, all_of}
 use Rattle.engine.proofs.Seeing.{next_comes, seeing, may_parts}
 use Rattle.engine.proofs.Counting.{counts_on}
@@ -47,6 +47,7 @@ module _ {N C : Type 0} (stands : C → Tree → Type 0) (lim : Limits) (b : Lis
           reader = subst (λ (z : List Token). Stands old.reader lim b ended z) e p.reader;
           actors = subst (λ (z : List Token). Actors stands old (seen_tree (map said_of z)) (all_of (plan_tree old.plan.now) (seen_tree (map said_of given)))) e p.actors;
           counts = subst (λ (z : List Token). CountsOf (plan_tree old.plan.now) (map said_of z) old.ahead old.buffer old.counts) e p.counts;
+          most = λ lent h. h;
           quietly = λ q. ap (λ (z : List Token). actions (plan_tree old.plan.now) (seen_tree (map said_of z))) (sym e);
         },
         omega arith,
@@ -99,6 +100,13 @@ module _ {N C : Type 0} (stands : C → Tree → Type 0) (lim : Limits) (b : Lis
           subst (λ (z : List Said). CountsOf pl z old.ahead d.buffer d.counts) (sym all)
           (counts_on is.core is.good pl (subst (λ (z : PlanTree). Placed is.core z) plan_is is.placed) ts us (said_of t) may old.ahead few e.buffer d.buffer e.counts d.counts c x)
 
+      most_next : KeepsMost old d
+      most_next lent h =
+          let before = f.most lent h in
+          let most = one.counted.most f.counts.store_now in
+          let peak = one.counted.peak in
+          omega arith
+
       still_quiet : (still && quiet) ≡ true → actions pl (seen_tree (map said_of (given ++ (f.more ++ t ∷ [])))) ≡ actions pl (seen_tree (map said_of given))
       still_quiet q =
           let two = and_parts still quiet q in
@@ -117,6 +125,7 @@ module _ {N C : Type 0} (stands : C → Tree → Type 0) (lim : Limits) (b : Lis
           reader = reads_on;
           actors = subst (λ (T : Tree). Actors stands d T k) (sym tree_is) one.actors;
           counts = counts_next;
+          most = most_next;
           quietly = still_quiet;
         },
         length-append f.more (t ∷ []),
@@ -131,6 +140,7 @@ module _ {N C : Type 0} (stands : C → Tree → Type 0) (lim : Limits) (b : Lis
     reader = subst (λ (z : List Token). Stands r lim b ended z) (append-nil (given ++ f.more)) s;
     actors = f.actors;
     counts = f.counts;
+    most = f.most;
     quietly = f.quietly;
   }
 

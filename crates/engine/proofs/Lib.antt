@@ -20,7 +20,6 @@ pub mod TurnsTaken
 pub mod FeedingOne
 pub mod ReadingOn
 pub mod TurnsFed
-pub mod EndingSo
 pub mod CallsOfTurns
 pub mod Departing
 pub mod Telling
@@ -29,4 +28,8 @@ pub mod TellingFed
 pub mod TellingStarts
 pub mod TellingGroups
 pub mod TellingCalls
-pub mod TellingRuns
+pub mod Answering
+pub mod RunOn
+pub mod Whole
+pub mod Closing
+pub mod Most

@@ -41,10 +41,11 @@ module _ {N C : Type 0} (stands : C → Tree → Type 0) (lim : Limits) where
   some_begin e h = record { tree = opening; taken = 0; of = h.actors }
 
   -- with every action taken it stands for no bytes
-  pub starts : (e d : Engine N C) → Begins stands lim e → 1 ≤ e.ahead → d.plan ≡ e.plan → d.reader ≡ e.reader → d.ahead ≡ e.ahead → d.counts ≡ e.counts → d.refused ≡ e.refused → d.buffer.most ≡ e.buffer.most
+  pub starts : (e d : Engine N C) → Begins stands lim e → 1 ≤ e.ahead → d.plan ≡ e.plan → d.reader ≡ e.reader → d.ahead ≡ e.ahead → d.counts ≡ e.counts → d.refused ≡ e.refused → d.ended ≡ e.ended
+      → d.buffer.most ≡ e.buffer.most
       → ActsOn stands e d opening 0
       → (d.tracing ≡ true → IsTrace (plan_tree d.plan.now) lim [] false d.trace.items) → Starts stands lim d
-  starts e d h one plan reader ahead counts refused most a traced =
+  starts e d h one plan reader ahead counts refused ended most a traced =
       let is = h.actors.beside.buffer.is_past in
       let pl = plan_tree e.plan.now in
       let plan' : plan_tree d.plan.now ≡ pl = ap (λ z. plan_tree z.now) plan in
@@ -64,6 +65,7 @@ module _ {N C : Type 0} (stands : C → Tree → Type 0) (lim : Limits) where
           seen = nothing_seen lim;
           parts = record { limits = h.limits; reader = subst (λ (z : ReaderView). Stands z lim [] false []) (sym reader) h.reader; actors = acts; counts = c };
           none = ap waiting reader ∙ h.none;
+          closing = ended ∙ h.unended;
           bytes = ap (λ z. z.bytes) counts ∙ h.bytes;
           fault = subst (λ z. IsFault z lim [] false) (sym fresh) (none_at_start lim);
           lasting = λ m. let x = sym fresh ∙ m in cc;

@@ -8,8 +8,8 @@ use Rattle.gcx_model.specs.PlanView.{plan_tree, role_row_tree}
 use Rattle.gcx_model.specs.declared.plan.Plan.{Plan}
 use Rattle.gcx_model.specs.Run.{Action}
 use Rattle.gcx_model.specs.Held.{held, sum_given, sum_taken}
-use Rattle.gcx_model.specs.Points.{actions, so_far}
-use Rattle.gcx_model.specs.Seen.{SeenIs, seen_tree}
+use Rattle.gcx_model.specs.Points.{so_far}
+use Rattle.gcx_model.specs.Seen.{seen_tree}
 use Rattle.run_laws.proofs.Summing.{taken_is_given}
 use Rattle.doc_laws.proofs.TreeBounds.{seen_within}
 use Rattle.doc_reader.specs.Standing.{said_of}

@@ -1,5 +1,5 @@
 -- All tokens that wait are fed, in groups.
-use Rattle.std.proofs.Common.{◌≡◌, ℕ, ◌≤◌, Bool, true, List, [], ◌++◌, length, map, refl, sym, ◌∙◌, ap, subst, arith, append_assoc, Some, None, Option}
+use Rattle.std.proofs.Common.{◌≡◌, ℕ, ◌≤◌, Bool, true, List, [], ◌++◌, length, map, max, refl, sym, ◌∙◌, ap, subst, arith, append_assoc, Some, None, Option}
 use Rattle.std.proofs.lemmas.List.{append-nil}
 use Rattle.std.specs.Prelude.{Result, OnOk, OnErr, ⊤}
 use Rattle.std.specs.declared.result.Result.TheVariants.{Ok, Err}
@@ -91,6 +91,7 @@ module _ {N C : Type 0} (stands : C → Tree → Type 0) (lim : Limits) (b : Lis
           more = f.more;
           waited = f.waited;
           parts = record { limits = f.limits; reader = f.reader; actors = subst (λ z. Actors stands e Q z) n f.actors; counts = c };
+          most = f.most;
           goes = subst (λ z. Goes pl P (all_of pl P) Q z old.out.items e.out.items) same
               (subst (λ (z : List ℕ). Goes pl P (all_of pl P) Q (all_of pl P) old.out.items z) (ap (λ z. z.items) (sym out)) (fed_goes old.out.items));
         }
@@ -116,6 +117,7 @@ module _ {N C : Type 0} (stands : C → Tree → Type 0) (lim : Limits) (b : Lis
           more = f.more;
           waited = f.waited ∙ ap (λ (z : ReaderView). f.more ++ waiting z) (sym reader);
           parts = record { limits = f.limits; reader = subst (λ (z : ReaderView). Stands z lim b ended (given ++ f.more)) (sym reader) f.reader; actors = acts; counts = c' };
+          most = λ lent h. most ∙ (f.most lent h ∙ ap (λ z. max lent z.peak) (sym counts));
           goes = goes_on pl P (all_of pl P) Q (all_of pl P) Q (all_of pl Q) old.out.items e.out.items d.out.items g0 g;
         }
 
@@ -146,7 +148,7 @@ module _ {N C : Type 0} (stands : C → Tree → Type 0) (lim : Limits) (b : Lis
   pub feeds_none : (old : Engine N C) → PartsStand stands lim old b ended given → FeedsOn stands lim old old b ended given
   feeds_none old p =
       let e : given ≡ given ++ [] = sym (append-nil given) in
-      record { more = []; waited = refl; parts = subst (λ (z : List Token). PartsStand stands lim old b ended z) e p; goes = none_goes e }
+      record { more = []; waited = refl; parts = subst (λ (z : List Token). PartsStand stands lim old b ended z) e p; most = λ lent h. h; goes = none_goes e }
     where
       none_goes : given ≡ given ++ [] → Goes (plan_tree old.plan.now) (seen_tree (map said_of given)) (all_of (plan_tree old.plan.now) (seen_tree (map said_of given))) (seen_tree (map said_of (given ++ []))) (all_of (plan_tree old.plan.now) (seen_tree (map said_of (given ++ [])))) old.out.items old.out.items
       none_goes e = subst (λ (z : List Token). Goes (plan_tree old.plan.now) (seen_tree (map said_of given)) (all_of (plan_tree old.plan.now) (seen_tree (map said_of given))) (seen_tree (map said_of z)) (all_of (plan_tree old.plan.now) (seen_tree (map said_of z))) old.out.items old.out.items) e
@@ -165,6 +167,7 @@ module _ {N C : Type 0} (stands : C → Tree → Type 0) (lim : Limits) (b : Lis
         more = f.more ++ g.more;
         waited = f.waited ∙ (ap (λ (z : List Token). f.more ++ z) g.waited ∙ sym (append_assoc f.more g.more (waiting d.reader)));
         parts = subst (λ (z : List Token). PartsStand stands lim d b ended z) a g.parts;
+        most = λ lent h. g.most lent (f.most lent h);
         goes = goes_on pl (tree given) (all_of pl (tree given)) (tree (given ++ f.more)) (all_of pl (tree (given ++ f.more))) (tree (given ++ (f.more ++ g.more))) (all_of pl (tree (given ++ (f.more ++ g.more)))) old.out.items e.out.items d.out.items f.goes later;
       }
 
@@ -214,6 +217,7 @@ goes_by stands lim b ended given old e d o (Ok u) is plan feeds none breaks same
       more = feeds.more;
       waited = feeds.waited;
       parts = record { limits = feeds.parts.limits; reader = feeds.parts.reader; actors = feeds.parts.actors; counts = feeds.parts.counts };
+      most = feeds.most;
       goes = feeds.goes;
     } in
     subst (λ z. GoesOn stands lim old z b ended given) (sym same) (on_refusal o (feeds_break stands lim b ended given old mid plan f) (record { fed = f; none = none; refused = is }))

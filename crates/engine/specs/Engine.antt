@@ -1,5 +1,5 @@
 -- What an engine stands for, and what its calls write (this project's).
-use Rattle.std.specs.Prelude.{◌≡◌, ◌≤◌, ◌<◌, ◌+◌, ℕ, Bool, true, false, List, [], ◌++◌, length, map, Option, Some, None, Result, Ok, Err, ⊤}
+use Rattle.std.specs.Prelude.{◌≡◌, ◌≤◌, ◌<◌, ◌+◌, ℕ, Bool, true, false, List, [], ◌++◌, length, map, max, Option, Some, None, Result, Ok, Err, ⊤}
 use Rattle.gcx_base.specs.declared.limits.Limits.{Limits}
 use Rattle.gcx_model.specs.declared.fault.DocFault.{DocFault}
 use Rattle.gcx_model.specs.declared.fault.DocFault.TheVariants.{Memory}
@@ -44,18 +44,25 @@ pub record Peaks (peak ahead most : ℕ) : Type 0 where
   pub least : peak ≤ most
   pub near : most < peak + ahead
 
--- The numbers of these tokens: of the roles given, of the rows that were counted, and of the store's.
+-- The numbers of these tokens: of the roles given, and of the rows that were counted.
 pub record CountsOf (plan : PlanTree) (ts : List Said) (ahead : ℕ) (v : View) (n : Counts) : Type 0 where
   pub given : n.given ≡ capped (sum_given plan (seen_tree ts))
   pub peak : Peaks (peak_of plan ts) ahead n.peak
   pub among : n.peak ≤ length (seen_tree ts).nodes
-  pub store : Peaks (peak_of plan ts) ahead v.most
   pub store_now : length v.rows ≤ v.most
 
 -- the limits that a reader may have
 pub record MayLimit (lim : Limits) : Type 0 where
   pub depth : lim.depth ≤ 1000
   pub bytes : lim.bytes ≤ 1099511627776
+
+-- The most rows that the store ever had: those that were counted, or those that it had had when it was lent.
+abbrev pub MostIs : {N C : Type 0} → (lent : ℕ) → Engine N C → Type 0
+MostIs lent e = e.buffer.most ≡ max lent e.counts.peak
+
+-- So it is later too, whatever the store had had.
+abbrev pub KeepsMost : {N C : Type 0} → (old new : Engine N C) → Type 0
+KeepsMost old new = (lent : ℕ) → MostIs lent old → MostIs lent new
 
 -- the actors of an engine stand for the state (P, k)
 abbrev pub Actors : {N C : Type 0} → (C → Tree → Type 0) → Engine N C → Tree → ℕ → Type 0
@@ -74,6 +81,7 @@ pub record StandsOf {N C : Type 0} (stands : C → Tree → Type 0) (lim : Limit
   pub seen : SeenIs lim b ended (map said_of given)
   pub parts : PartsStand stands lim e b ended given
   pub none : waiting e.reader ≡ []
+  pub closing : e.ended ≡ ended
   pub bytes : e.counts.bytes ≡ length b
   pub fault : IsFault e.refused lim b ended
   pub lasting : e.refused ≡ Some Memory → ⊥
@@ -167,7 +175,8 @@ pub record IsSilent {N C : Type 0} (e : Engine N C) : Type 0 where
   pub untold : e.tracing ≡ false
   pub empty : e.trace.items ≡ []
 
--- What a call that fed these bytes made: the output grew by what they settle, and the engine stands for them; or memory ran out on the way.
+-- What a call that fed these bytes made: the output grew by what they settle, and the engine stands for them; or memory ran out
+-- on the way.
 pub record Lost {N C : Type 0} (lim : Limits) (old new : Engine N C) (b : List ℕ) (was : Bool) (c : List ℕ) (ended : Bool) : Type 0 where
   pub grew : GrewWithin (plan_tree old.plan.now) lim b was c ended old.out.items new.out.items
   pub balance : Balanced new
@@ -175,3 +184,4 @@ pub record Lost {N C : Type 0} (lim : Limits) (old new : Engine N C) (b : List �
 pub record Kept {N C : Type 0} (stands : C → Tree → Type 0) (lim : Limits) (old new : Engine N C) (b : List ℕ) (was : Bool) (c : List ℕ) (ended : Bool) : Type 0 where
   pub of : StandsOf stands lim new c ended
   pub grew : GrewBy (plan_tree old.plan.now) lim b was c ended old.out.items new.out.items
+  pub most : KeepsMost old new

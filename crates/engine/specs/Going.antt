@@ -20,7 +20,7 @@ use Rattle.projector.specs.declared.projector.Fed.{Fed}
 use Rattle.projector.specs.declared.projector.Fed.TheVariants.{Opened, Closed}
 use Rattle.engine.specs.declared.engine.Counts.{Counts}
 use Rattle.engine.specs.declared.engine.Engine.{Engine}
-use Rattle.engine.specs.Engine.{Actors, Balanced, CountsOf, MayLimit, PartsStand, OnRefusal}
+use Rattle.engine.specs.Engine.{Actors, Balanced, CountsOf, KeepsMost, MayLimit, PartsStand, OnRefusal}
 
 -- what the first k actions of the plan's run over P write
 abbrev pub bytes_at : PlanTree → Tree → ℕ → List ℕ
@@ -47,7 +47,8 @@ pub record Begins {N C : Type 0} (stands : C → Tree → Type 0) (lim : Limits)
   pub bytes : e.counts.bytes ≡ 0
   pub peak : e.counts.peak ≡ 1
   pub given : e.counts.given ≡ capped (sum_given (plan_tree e.plan.now) opening)
-  pub most : e.buffer.most ≡ 1
+  pub most : 1 ≤ e.buffer.most
+  pub unended : e.ended ≡ false
   pub fresh : e.refused ≡ None
 
 -- the actors of an engine stand for some state
@@ -138,6 +139,7 @@ pub record FeedsSome {N C : Type 0} (stands : C → Tree → Type 0) (lim : Limi
   pub reader : Stands new.reader lim b ended (given ++ more)
   pub actors : Actors stands new (seen_tree (map said_of (given ++ more))) (all_of (plan_tree old.plan.now) (seen_tree (map said_of given)))
   pub counts : CountsOf (plan_tree old.plan.now) (map said_of (given ++ more)) old.ahead new.buffer new.counts
+  pub most : KeepsMost old new
   pub quietly : quiet ≡ true → actions (plan_tree old.plan.now) (seen_tree (map said_of (given ++ more))) ≡ actions (plan_tree old.plan.now) (seen_tree (map said_of given))
 
 -- more tokens were fed
@@ -145,6 +147,7 @@ pub record FeedsOn {N C : Type 0} (stands : C → Tree → Type 0) (lim : Limits
   pub more : List Token
   pub waited : waiting old.reader ≡ more ++ waiting new.reader
   pub parts : PartsStand stands lim new b ended (given ++ more)
+  pub most : KeepsMost old new
   pub goes : Goes (plan_tree old.plan.now) (seen_tree (map said_of given)) (all_of (plan_tree old.plan.now) (seen_tree (map said_of given))) (seen_tree (map said_of (given ++ more))) (all_of (plan_tree old.plan.now) (seen_tree (map said_of (given ++ more)))) old.out.items new.out.items
 
 -- Memory ran out on the way: what was written more is a front of what the run over the tree of all tokens writes more.

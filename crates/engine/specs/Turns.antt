@@ -1,11 +1,10 @@
 -- What turns of the two actors reach, as an answer tells it (this project's).
-use Rattle.std.specs.Prelude.{◌≡◌, ◌≤◌, ◌+◌, ◌^◌, true, ℕ, List, ◌++◌, length, map, drop, Some}
-use Rattle.gcx_model.specs.Tree.{Node, Tree, Token as Said, opening}
+use Rattle.std.specs.Prelude.{◌≡◌, ◌≤◌, true, ℕ, List, length, map, drop}
+use Rattle.gcx_model.specs.Tree.{Tree, Token as Said, opening}
 use Rattle.gcx_model.specs.Core.{PlanTree}
 use Rattle.gcx_model.specs.Held.{held, sum_given, sum_taken}
-use Rattle.gcx_model.specs.Growth.{may_all, level}
+use Rattle.gcx_model.specs.Growth.{may_all}
 use Rattle.gcx_model.specs.Points.{so_far}
-use Rattle.gcx_model.specs.Seen.{seen_tree}
 use Rattle.gcx_model.specs.Turning.{Turn, Turned, turn, turned, tree_fed}
 use Rattle.gcx_model.specs.Turning as model
 use Rattle.doc_reader.specs.Standing.{said_of}

@@ -1,5 +1,5 @@
 //! The engine.
-ghost use Rattle.std.specs.Prelude.{◌≡◌, ◌≤◌, ◌<◌, ◌+◌, ◌^◌, ◌++◌, ◌&&◌, ℕ, Bool, true, false, [], List, length, map as mapped, None, Some, Err, IfOk, OnOk, OnErr};
+ghost use Rattle.std.specs.Prelude.{◌≡◌, ◌≤◌, ◌<◌, ◌+◌, ◌^◌, ◌++◌, ◌&&◌, ℕ, Bool, true, false, [], List, length, map as mapped, max, None, Some, Err, IfOk, OnOk, OnErr};
 ghost use Rattle.std.specs.FinMap as map;
 ghost use Rattle.gcx_base.specs.declared.limits.Limits.{Limits};
 ghost use Rattle.gcx_model.specs.Core.{BodyTree};
@@ -17,7 +17,7 @@ ghost use Rattle.doc_reader.specs.Standing.{Answers, Keeps, answer_by, answer_of
 ghost use Rattle.doc_reader.specs.declared.token.Token.{Token};
 ghost use Rattle.buf_tree.specs.Shape.{Shape, cells};
 ghost use Rattle.buf_tree.specs.View.{View, capped};
-ghost use Rattle.engine.specs.Engine.{Actors, Balanced, IsSilent, Kept, Lost, MayGoOn, OnAnswer, OnRefusal, PartsStand, Starts, StandsOf, StandsSome, IsTold, TraceGrewBy, TraceGrewWithin};
+ghost use Rattle.engine.specs.Engine.{Actors, Balanced, IsSilent, Kept, Lost, MayGoOn, MostIs, OnAnswer, OnRefusal, PartsStand, Starts, StandsOf, StandsSome, IsTold, TraceGrewBy, TraceGrewWithin};
 ghost use Rattle.engine.specs.Going.{ActsOn, ActsOne, ActsSome, Begins, Breaks, counted, FeedsSome, is_quiet, lacking, refusal_of, roles_in, ComesWithin, FeedsOn, FeedsOne, GoesOn, MayFeed, SomeActors, SomeParts, all_of};
 ghost use Rattle.engine.specs.Telling.{GrewPart, ToldOne, ToldSome, acted_lines, fed_lines, lines_to, more_lines, next_lines, told_lines};
 
@@ -57,6 +57,8 @@ pub struct Engine<'p, N: NodeStore<Row>, C> {
     pub(crate) out: Vec<u8>,
     pub(crate) trace: Vec<u8>,
     pub(crate) tracing: bool,
+    /// Whether `finish` was called.
+    pub(crate) ended: bool,
     /// The most tokens between two times at which every possible action is taken.
     pub(crate) ahead: u32,
     pub(crate) counts: Counts,
@@ -77,12 +79,12 @@ impl<'p, N: NodeStore<Row> + Drop, C: Conds + Drop> Engine<'p, N, C> {
     ) -> Result<Engine<'p, N, C>, Memory>
         requires placed { (core : BodyTree) × Good core × Placed core (plan_tree plan.now) }
         requires empty { N.rows nodes ≡ map.empty }
-        requires unused { N.most_held nodes ≡ 0 }
         requires conds { C.stands conds opening }
         requires depth { limits.depth ≤ 1000 }
         requires bytes { limits.bytes ≤ 1099511627776 }
         requires ahead { (1 ≤ ahead) × (ahead ≤ 1000) }
         ensures starts { IfOk result (λ e. Starts C.stands limits e) }
+        ensures most { IfOk result (λ e. MostIs (N.most_held nodes) e) }
         ensures plan { IfOk result (λ e. e.plan ≡ plan.entry) }
         ensures ahead { IfOk result (λ e. e.ahead ≡ ahead) }
         ensures tracing { IfOk result (λ e. e.tracing ≡ tracing) }
@@ -106,11 +108,11 @@ impl<'p, N: NodeStore<Row> + Drop, C: Conds + Drop> Engine<'p, N, C> {
     ) -> Result<Engine<'p, N, C>, Memory>
         requires placed { (core : BodyTree) × Good core × Placed core (plan_tree plan.now) }
         requires empty { N.rows nodes ≡ map.empty }
-        requires unused { N.most_held nodes ≡ 0 }
         requires conds { C.stands conds opening }
         requires depth { limits.depth ≤ 1000 }
         requires bytes { limits.bytes ≤ 1099511627776 }
         ensures begins { IfOk result (λ e. Begins C.stands limits e) }
+        ensures most { IfOk result (λ e. e.buffer.most ≡ max (N.most_held nodes) 1) }
         ensures plan { IfOk result (λ e. e.plan ≡ plan.entry) }
         ensures ahead { IfOk result (λ e. e.ahead ≡ ahead) }
         ensures tracing { IfOk result (λ e. e.tracing ≡ tracing) }
@@ -133,6 +135,7 @@ impl<'p, N: NodeStore<Row> + Drop, C: Conds + Drop> Engine<'p, N, C> {
             out: Vec::new(alloc),
             trace,
             tracing,
+            ended: false,
             ahead,
             counts: Counts {
                 bytes: 0,
@@ -160,6 +163,7 @@ impl<'p, N: NodeStore<Row> + Drop, C: Conds + Drop> Engine<'p, N, C> {
             out: _,
             trace: _,
             tracing: _,
+            ended: _,
             ahead: _,
             counts: _,
             refused: _,
@@ -212,7 +216,8 @@ impl<'p, N: NodeStore<Row>, C: Conds> Engine<'p, N, C> {
         self.counts.bytes += rest.len() as u64;
     }
 
-    /// Ends the document: Ok exactly where it is one, and then the buffer is empty.
+    /// Ends the document: Ok exactly where it is one, and then the buffer is empty. A second call answers the same, and
+    /// changes nothing.
     pub fn finish(&mut self, alloc: Global) -> Result<(), DocFault>
         requires { (ended : Bool) × MayGoOn C.stands self.old ended }
         ensures ended { (lim : Limits) (b : List ℕ) (ended : Bool) → StandsOf C.stands lim self.old b ended → self.old.refused ≡ None → OnAnswer result (Lost lim self.old self.new b ended b true) (Kept C.stands lim self.old self.new b ended b true) }
@@ -222,11 +227,15 @@ impl<'p, N: NodeStore<Row>, C: Conds> Engine<'p, N, C> {
         ensures balance { OnOk result (self.new.counts.given ≡ self.new.buffer.taken) }
         ensures answer { result ≡ answer_by self.new.refused }
         ensures again { (f : DocFault) → self.old.refused ≡ Some f → self.new ≡ self.old }
+        ensures once { (lim : Limits) (b : List ℕ) → StandsOf C.stands lim self.old b true → self.new ≡ self.old }
         ensures bytes { self.new.counts.bytes ≡ self.old.counts.bytes }
         ensures same { (self.new.plan ≡ self.old.plan) × (self.new.ahead ≡ self.old.ahead) × (self.new.tracing ≡ self.old.tracing) }
         ensures silent { IsSilent self.old → IsSilent self.new }
         ensures loans { self.new.buffer.loans ≡ self.old.buffer.loans }
     {
+        if self.ended {
+            return self.answer();
+        }
         match self.refused {
             Some(fault) => Err(fault),
             None => {
@@ -250,6 +259,7 @@ impl<'p, N: NodeStore<Row>, C: Conds> Engine<'p, N, C> {
         ensures loans { self.new.buffer.loans ≡ self.old.buffer.loans }
     {
         let ended = self.reader.finish();
+        self.ended = true;
         self.go_on(alloc, ended);
     }
 
@@ -287,7 +297,8 @@ impl<'p, N: NodeStore<Row>, C: Conds> Engine<'p, N, C> {
         ensures told { IsTold self.old → (lim : Limits) (b : List ℕ) (ended : Bool) (given : List Token) → PartsStand C.stands lim self.old b ended given → OnRefusal self.new.refused (GrewPart self.old.trace.items self.new.trace.items (text_of_lines (more_lines (plan_tree self.old.plan.now) (seen_tree (mapped said_of given)) (waiting self.old.reader)))) (self.new.trace.items ≡ self.old.trace.items ++ text_of_lines (more_lines (plan_tree self.old.plan.now) (seen_tree (mapped said_of given)) (waiting self.old.reader))) }
         ensures keeps { Keeps self.old.reader self.new.reader }
         ensures bytes { self.new.counts.bytes ≡ self.old.counts.bytes }
-        ensures same { (self.new.plan ≡ self.old.plan) × (self.new.ahead ≡ self.old.ahead) × (self.new.tracing ≡ self.old.tracing) }
+        ensures same { (self.new.plan ≡ self.old.plan) × (self.new.ahead ≡ self.old.ahead) ×
+            (self.new.tracing ≡ self.old.tracing) × (self.new.ended ≡ self.old.ended) }
         ensures silent { IsSilent self.old → IsSilent self.new }
         ensures loans { self.new.buffer.loans ≡ self.old.buffer.loans }
     {

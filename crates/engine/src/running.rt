@@ -1,14 +1,11 @@
 //! A whole run, from a source to a sink.
-ghost use Rattle.std.specs.Prelude.{◌≡◌, ◌⊎◌, ◌≤◌, ◌<◌, ◌+◌, ◌++◌, ℕ, List, Option, [], Bool, None, Some, Ok, Err, false, true, length, take, OnOk, OnErr, IfSome};
+ghost use Rattle.std.specs.Prelude.{◌≡◌, ◌≤◌, ◌<◌, ℕ, List, Option, [], Bool, None, Some, Ok, Err, length, OnOk, OnErr};
 ghost use Rattle.gcx_base.specs.declared.limits.Limits.{Limits};
-ghost use Rattle.gcx_io.specs.Bytes.{Grows, GrowsWithin};
-ghost use Rattle.gcx_io.specs.Causes.{Rose};
+ghost use Rattle.gcx_io.specs.Views.{SourceView};
 ghost use Rattle.gcx_model.specs.PlanView.{plan_tree};
-ghost use Rattle.gcx_model.specs.Faults.{FaultIs};
-ghost use Rattle.gcx_model.specs.declared.fault.DocFault.{DocFault};
-ghost use Rattle.gcx_model.specs.declared.fault.DocFault.TheVariants.{Memory as Lack};
-ghost use Rattle.engine.specs.Engine.{Balanced, IsSilent, IsTold, Settles, Starts, StandsOf};
-ghost use Rattle.engine.specs.Runs.{Between, EndsSo, Numbers, Ran, Reports, TraceBetween, Traced, TraceTurnsTo, TurnsTo, WriteFails, ended_by};
+ghost use Rattle.run_words.specs.Writing.{Sinks};
+ghost use Rattle.engine.specs.Engine.{Balanced, IsSilent, MostIs, Starts, StandsOf};
+ghost use Rattle.engine.specs.Runs.{Between, EndsWaiting, GoesOnFrom, Numbers, Ran, Reports, StopsInWaiting, TellsBy, TurnsTo, UnlessLost, UnlessMemory, WroteWaiting, ended_by, sinks};
 
 use crate::engine::Engine;
 use crate::report::{Ended, Report, few_roles};
@@ -28,12 +25,12 @@ fn write_waiting<N: NodeStore<Row>, C: Conds, O: Sink, E: Sink>(
     out: &mut O,
     err: &mut E,
 ) -> Result<(), Failed>
-    ensures all { OnOk result (Grows (O.taken out.old) (O.taken out.new) engine.old.out.items × (engine.new.out.items ≡ [])) }
-    ensures part { OnErr result (GrowsWithin (O.taken out.old) (O.taken out.new) engine.old.out.items) }
-    ensures traced { OnOk result (Grows (E.taken err.old) (E.taken err.new) engine.old.trace.items × (engine.new.trace.items ≡ [])) }
-    ensures trace_part { OnErr result (GrowsWithin (E.taken err.old) (E.taken err.new) engine.old.trace.items) }
+    ensures wrote { OnOk result (WroteWaiting engine.old.out.items engine.old.trace.items
+        (sinks (O.seen out.old) (E.seen err.old)) (sinks (O.seen out.new) (E.seen err.new))) }
+    ensures stops { OnErr result (StopsInWaiting engine.old.out.items engine.old.trace.items
+        (sinks (O.seen out.old) (E.seen err.old)) (sinks (O.seen out.new) (E.seen err.new))) }
+    ensures empty { OnOk result ((engine.new.out.items ≡ []) × (engine.new.trace.items ≡ [])) }
     ensures rest { engine.new ≡ record engine.old { out = engine.new.out; trace = engine.new.trace } }
-    ensures cause { OnErr result (WriteFails (IsSilent engine.old) (O.faults out.old) (O.faults out.new) (E.faults err.old) (E.faults err.new)) }
     ensures write_count { O.faults out.old ≤ O.faults out.new }
     ensures trace_count { E.faults err.old ≤ E.faults err.new }
     ensures silent { IsSilent engine.old → IsSilent engine.new × (err.new ≡ err.old) }
@@ -54,10 +51,9 @@ fn end_with<N: NodeStore<Row>, C: Conds, O: Sink, E: Sink>(
     err: &mut E,
     answer: Result<(), DocFault>,
 ) -> Ended
-    ensures ends { EndsSo answer result (O.taken out.old) (O.taken out.new) engine.old.out.items }
-    ensures traced { EndsSo answer result (E.taken err.old) (E.taken err.new) engine.old.trace.items }
+    ensures ends { EndsWaiting answer result engine.old.out.items engine.old.trace.items
+        (sinks (O.seen out.old) (E.seen err.old)) (sinks (O.seen out.new) (E.seen err.new)) }
     ensures rest { engine.new ≡ record engine.old { out = engine.new.out; trace = engine.new.trace } }
-    ensures write { result ≡ Ended.WriteFault → WriteFails (IsSilent engine.old) (O.faults out.old) (O.faults out.new) (E.faults err.old) (E.faults err.new) }
     ensures write_count { O.faults out.old ≤ O.faults out.new }
     ensures trace_count { E.faults err.old ≤ E.faults err.new }
     ensures silent { IsSilent engine.old → IsSilent engine.new × (err.new ≡ err.old) }
@@ -92,24 +88,25 @@ fn turn<N: NodeStore<Row>, C: Conds, D: Source, O: Sink, E: Sink>(
     err: &mut E,
     buf: &mut [u8],
 ) -> Option<Ended>
-    requires between { (lim : Limits) × (b : List ℕ) × (left taken : Option (List ℕ)) × Between C.stands lim engine.old b left (D.left doc.old) taken (O.taken out.old) }
+    requires stands { (lim : Limits) × GoesOnFrom C.stands lim engine.old }
     requires size { length buf.old ≡ 65536 }
     ensures size { length buf.new ≡ 65536 }
-    ensures goes { (lim : Limits) (b : List ℕ) (left taken : Option (List ℕ)) → Between C.stands lim engine.old b left (D.left doc.old) taken (O.taken out.old) → TurnsTo C.stands lim engine.new result left (D.left doc.new) taken (O.taken out.new) }
-    ensures traced { IsTold engine.old → (lim : Limits) (b : List ℕ) (left taken told : Option (List ℕ)) → Between C.stands lim engine.old b left (D.left doc.old) taken (O.taken out.old) → TraceBetween (plan_tree engine.old.plan.now) lim b engine.old.trace.items told (E.taken err.old) → TraceTurnsTo C.stands lim engine.new result left (D.left doc.new) taken (O.taken out.new) told (E.taken err.new) }
-    ensures tracing { engine.new.tracing ≡ engine.old.tracing }
+    ensures goes { (lim : Limits) (tracing : Bool) (left : SourceView) (before : Sinks) →
+        Between C.stands lim tracing engine.old left (D.seen doc.old) before (sinks (O.seen out.old) (E.seen err.old)) →
+        TurnsTo C.stands lim tracing engine.new result left (D.seen doc.new)
+        before (sinks (O.seen out.new) (E.seen err.new)) }
+    ensures stands { result ≡ None → (lim : Limits) → GoesOnFrom C.stands lim engine.old →
+        GoesOnFrom C.stands lim engine.new }
     ensures balanced { result ≡ Some Ended.Ok → engine.new.counts.given ≡ engine.new.buffer.taken }
+    ensures most { (lent : ℕ) → MostIs lent engine.old → UnlessLost result (MostIs lent engine.new) }
     ensures fewer { result ≡ None → engine.old.counts.bytes < engine.new.counts.bytes }
     ensures plan { engine.new.plan ≡ engine.old.plan }
     ensures ahead { engine.new.ahead ≡ engine.old.ahead }
     ensures balance { Balanced engine.new }
-    ensures read { result ≡ Some Ended.ReadFault → Rose (D.faults doc.old) (D.faults doc.new) }
-    ensures write { result ≡ Some Ended.WriteFault → WriteFails (IsSilent engine.old) (O.faults out.old) (O.faults out.new) (E.faults err.old) (E.faults err.new) }
     ensures kept { D.keeps doc.old doc.new }
     ensures read_count { D.faults doc.old ≤ D.faults doc.new }
     ensures write_count { O.faults out.old ≤ O.faults out.new }
     ensures trace_count { E.faults err.old ≤ E.faults err.new }
-    ensures silent { IsSilent engine.old → IsSilent engine.new × (err.new ≡ err.old) }
     ensures loans { engine.new.buffer.loans ≡ engine.old.buffer.loans }
 {
     if write_waiting(engine, out, err).is_err() {
@@ -137,19 +134,18 @@ fn run<N: NodeStore<Row>, C: Conds, D: Source, O: Sink, E: Sink>(
     err: &mut E,
 ) -> Ended
     requires starts { (lim : Limits) × Starts C.stands lim engine.old }
-    ensures ran { (lim : Limits) → Starts C.stands lim engine.old → Ran C.stands lim engine.new result (D.left doc.old) (D.left doc.new) (O.taken out.old) (O.taken out.new) }
-    ensures traced { (lim : Limits) → Starts C.stands lim engine.old → IsTold engine.old → Traced (plan_tree engine.old.plan.now) lim result (D.left doc.old) (D.left doc.new) (E.taken err.old) (E.taken err.new) }
+    ensures ran { (lim : Limits) (tracing : Bool) → Starts C.stands lim engine.old → TellsBy tracing engine.old →
+        Ran C.stands lim tracing engine.new result (D.seen doc.old) (D.seen doc.new)
+        (sinks (O.seen out.old) (E.seen err.old)) (sinks (O.seen out.new) (E.seen err.new)) }
     ensures balanced { result ≡ Ended.Ok → engine.new.counts.given ≡ engine.new.buffer.taken }
+    ensures most { (lent : ℕ) → MostIs lent engine.old → UnlessMemory result (MostIs lent engine.new) }
     ensures plan { engine.new.plan ≡ engine.old.plan }
     ensures ahead { engine.new.ahead ≡ engine.old.ahead }
     ensures balance { Balanced engine.new }
-    ensures read { result ≡ Ended.ReadFault → Rose (D.faults doc.old) (D.faults doc.new) }
-    ensures write { result ≡ Ended.WriteFault → WriteFails (IsSilent engine.old) (O.faults out.old) (O.faults out.new) (E.faults err.old) (E.faults err.new) }
     ensures kept { D.keeps doc.old doc.new }
     ensures read_count { D.faults doc.old ≤ D.faults doc.new }
     ensures write_count { O.faults out.old ≤ O.faults out.new }
     ensures trace_count { E.faults err.old ≤ E.faults err.new }
-    ensures silent { IsSilent engine.old → IsSilent engine.new × (err.new ≡ err.old) }
     ensures loans { engine.new.buffer.loans ≡ engine.old.buffer.loans }
 {
     let mut buf = [0u8; PIECE];
@@ -160,8 +156,9 @@ fn run<N: NodeStore<Row>, C: Conds, D: Source, O: Sink, E: Sink>(
     }
 }
 
-/// Runs an engine, as `new` made it, over all that the source gives, in reads of 65,536 bytes. Before each read all output
-/// that waits is written to `out`, and then the trace to `err`.
+/// Runs an engine, as `new` made it, over all that the source gives, in reads of 65,536 bytes. Before each read all
+/// output that waits is written to `out`, and then the trace to `err`. No call comes behind one that failed, and no read
+/// behind the end or a fault of the bytes.
 pub fn run_query<N: NodeStore<Row>, C: Conds, D: Source, O: Sink, E: Sink>(
     engine: &mut Engine<'_, N, C>,
     alloc: Global,
@@ -170,21 +167,21 @@ pub fn run_query<N: NodeStore<Row>, C: Conds, D: Source, O: Sink, E: Sink>(
     err: &mut E,
 ) -> Report
     requires starts { (lim : Limits) × Starts C.stands lim engine.old }
-    ensures ran { (lim : Limits) → Starts C.stands lim engine.old → Ran C.stands lim engine.new result.ended (D.left doc.old) (D.left doc.new) (O.taken out.old) (O.taken out.new) }
-    ensures traced { (lim : Limits) → Starts C.stands lim engine.old → IsTold engine.old → Traced (plan_tree engine.old.plan.now) lim result.ended (D.left doc.old) (D.left doc.new) (E.taken err.old) (E.taken err.new) }
+    ensures ran { (lim : Limits) (tracing : Bool) → Starts C.stands lim engine.old → TellsBy tracing engine.old →
+        Ran C.stands lim tracing engine.new result.ended (D.seen doc.old) (D.seen doc.new)
+        (sinks (O.seen out.old) (E.seen err.old)) (sinks (O.seen out.new) (E.seen err.new)) }
     ensures balanced { result.ended ≡ Ended.Ok → result.given ≡ result.taken }
+    ensures most { (lent : ℕ) → MostIs lent engine.old → UnlessMemory result.ended (MostIs lent engine.new) }
     ensures report { Reports result engine.new }
-    ensures numbers { (lim : Limits) (b : List ℕ) (ended : Bool) → StandsOf C.stands lim engine.new b ended → Numbers (plan_tree engine.new.plan.now) lim b ended engine.new.ahead result }
+    ensures numbers { (lim : Limits) (b : List ℕ) (ended : Bool) → StandsOf C.stands lim engine.new b ended →
+        Numbers (plan_tree engine.new.plan.now) lim b ended engine.new.ahead result }
     ensures plan { engine.new.plan ≡ engine.old.plan }
     ensures ahead { engine.new.ahead ≡ engine.old.ahead }
     ensures balance { result.taken ≤ result.given }
-    ensures read { result.ended ≡ Ended.ReadFault → Rose (D.faults doc.old) (D.faults doc.new) }
-    ensures write { result.ended ≡ Ended.WriteFault → WriteFails (IsSilent engine.old) (O.faults out.old) (O.faults out.new) (E.faults err.old) (E.faults err.new) }
     ensures kept { D.keeps doc.old doc.new }
     ensures read_count { D.faults doc.old ≤ D.faults doc.new }
     ensures write_count { O.faults out.old ≤ O.faults out.new }
     ensures trace_count { E.faults err.old ≤ E.faults err.new }
-    ensures silent { IsSilent engine.old → err.new ≡ err.old }
     ensures loans { engine.new.buffer.loans ≡ engine.old.buffer.loans }
 {
     let ended = run(engine, alloc, doc, out, err);

@@ -120,7 +120,6 @@ fn run_through<N: NodeStore<Row> + Drop, C: Conds + Drop>(
 ) -> Result<(Report, N), Fail>
     requires placed { (core : BodyTree) × Good core × Placed core (plan_tree plan.now) }
     requires empty { N.rows nodes ≡ map.empty }
-    requires unused { N.most_held nodes ≡ 0 }
     requires conds { C.stands conds opening }
     requires ahead { ahead ≤ 1000 }
 {
@@ -156,7 +155,6 @@ fn run_with<N: NodeStore<Row> + Drop, C: Conds + Drop>(
 ) -> Result<(Ran, N), Fail>
     requires placed { (core : BodyTree) × Good core × Placed core (plan_tree plan.now) }
     requires empty { N.rows nodes ≡ map.empty }
-    requires unused { N.most_held nodes ≡ 0 }
     requires conds { C.stands conds opening }
     requires ahead { ahead ≤ 1000 }
 {
@@ -177,7 +175,6 @@ fn run_over<N: NodeStore<Row> + Drop, C: Conds + Drop>(
 ) -> Result<(Ran, N), Fail>
     requires placed { (core : BodyTree) × Good core × Placed core (plan_tree plan.now) }
     requires empty { N.rows nodes ≡ map.empty }
-    requires unused { N.most_held nodes ≡ 0 }
     requires conds { C.stands conds opening }
     requires ahead { how.ahead ≤ 1000 }
 {

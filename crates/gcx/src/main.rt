@@ -1,10 +1,11 @@
-//! The program: it makes the real shelf, the standard streams and the store of nodes, takes its words and ends with the exit status.
+//! The program: it makes the real shelf, the standard streams and the store of nodes, takes its words and ends with the
+//! exit status.
 #![tactic(auto)]
 
 mod help;
 
 use gcx_base::Text;
-use gcx_cmd::{Status, gcx_main};
+use gcx_cmd::{Status, diagnose, gcx_files};
 use gcx_io::{FileShelf, StdErr, StdOut};
 use help::text_asked_for;
 use raw_nodes::RawNodes;
@@ -12,17 +13,17 @@ use std::env;
 use std::io::{ErrorKind, Write};
 use std::process::ExitCode;
 
-/// The words after the program's name, or the code to end with.
-fn words(rt: HostRuntime) -> Result<Vec<Text>, u8> {
+/// The words after the program's name, or the status to end with.
+fn words(rt: HostRuntime) -> Result<Vec<Text>, Status> {
     let all = match env::args(&rt) {
         Ok(all) => all,
-        Err(error) if error.kind() == ErrorKind::OutOfMemory => return Err(Status::Memory.code()),
-        Err(_) => return Err(Status::Usage.code()),
+        Err(error) if error.kind() == ErrorKind::OutOfMemory => return Err(Status::Memory),
+        Err(_) => return Err(Status::Usage),
     };
     let mut words = Vec::new(rt.alloc());
     for word in all.skip(1) {
         if words.push(Text::from_string(word)).is_err() {
-            return Err(Status::Memory.code());
+            return Err(Status::Memory);
         }
     }
     Ok(words)
@@ -34,7 +35,7 @@ fn run(rt: HostRuntime, words: &[Text]) -> Status {
     let mut out = StdOut::new(rt);
     let mut err = StdErr::new(rt);
     let mut nodes = RawNodes::new(rt.alloc());
-    gcx_main(
+    gcx_files(
         rt.alloc(),
         words,
         &mut files,
@@ -47,7 +48,10 @@ fn run(rt: HostRuntime, words: &[Text]) -> Status {
 fn main(rt: HostRuntime) -> ExitCode {
     let words = match words(rt) {
         Ok(words) => words,
-        Err(code) => return ExitCode::from(code),
+        Err(status) => {
+            diagnose(&mut StdErr::new(rt), status);
+            return ExitCode::from(status.code());
+        }
     };
     let status = run(rt, &words);
     if matches!(status, Status::Usage)

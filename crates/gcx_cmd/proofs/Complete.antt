@@ -1,7 +1,6 @@
 -- Completeness, from what each status says and from the causes of faults.
-use Rattle.std.proofs.Common.{◌≡◌, ◌⊎◌, ℕ, ◌+◌, ◌≤◌, true, List, inl, inr, ⊎_elim, refl, sym, ◌∙◌, ap, subst}
+use Rattle.std.proofs.Common.{◌≡◌, ◌⊎◌, ℕ, true, List, inl, inr, refl, sym, ◌∙◌, ap, subst}
 use Rattle.std.specs.declared.option.Option.TheVariants as o
-use Rattle.std.specs.declared.result.Result.TheVariants as r
 use Rattle.gcx_base.specs.Limits.{full_limits}
 use Rattle.gcx_model.specs.declared.fault.DocFault.{DocFault}
 use Rattle.gcx_model.specs.declared.fault.QueryFault.{QueryFault}
@@ -11,8 +10,7 @@ use Rattle.gcx_model.specs.Query.{ExprTree}
 use Rattle.signoff_place.specs.Refused.{refusal_of}
 use Rattle.doc_laws.proofs.Unique.{fault_one}
 use Rattle.gcx_io.specs.Shelf.{Names, content_of, IsMissing}
-use Rattle.gcx_cmd.specs.Main.{IsQuery, IsOneQuery, IsDocument, SaysOfQuery, SaysOfDocument, AttachesQuery, AttachesDocument, QueryFaultOf}
-use Rattle.gcx_cmd.proofs.Handles.{at_most_one}
+use Rattle.gcx_cmd.specs.Main.{IsQuery, IsDocument, SaysOfQuery, SaysOfDocument, QueryFaultOf}
 use Rattle.gcx_cmd.specs.declared.status.Status.{Status}
 use Rattle.gcx_cmd.specs.declared.status.Status.TheVariants.{Ok, Usage, QueryRefused, DocumentRefused, ReadFault, WriteFault, Memory}
 
@@ -42,7 +40,7 @@ one_refusal query f g (inl h) (inr k) = absurd (h.1.no_query k.query k.spells k.
 one_refusal query f g (inr h) (inl k) = absurd (k.1.no_query h.query h.spells h.sound)
 one_refusal query f g (inr h) (inr k) = some_one f g (sym h.limit ∙ subst (λ (q : List ExprTree). refusal_of (normal q) ≡ o.Some g) (h.only.once k.query k.spells) k.limit)
 
-refused_from : (status : Status) (query : List ℕ) (f : QueryFault) → SaysOfQuery status query → QueryFaultOf query f → (status ≡ Usage → ⊥) → (status ≡ ReadFault → ⊥) → (status ≡ QueryRefused f) ⊎ (status ≡ Memory)
+pub refused_from : (status : Status) (query : List ℕ) (f : QueryFault) → SaysOfQuery status query → QueryFaultOf query f → (status ≡ Usage → ⊥) → (status ≡ ReadFault → ⊥) → (status ≡ QueryRefused f) ⊎ (status ≡ Memory)
 refused_from Ok query f says refused not_usage not_read = absurd (refused_not query f refused (says.0, says.1))
 refused_from Usage query f says refused not_usage not_read = absurd (not_usage refl)
 refused_from (QueryRefused g) query f says refused not_usage not_read = inl (ap QueryRefused (one_refusal query g f says refused))
@@ -50,16 +48,6 @@ refused_from (DocumentRefused g) query f says refused not_usage not_read = absur
 refused_from ReadFault query f says refused not_usage not_read = absurd (not_read refl)
 refused_from WriteFault query f says refused not_usage not_read = absurd (refused_not query f refused (says.0, says.1))
 refused_from Memory query f says refused not_usage not_read = inr refl
-
--- the query isn't accepted, and no count rose
-pub query_stops : (T : Type 0) (status : Status) (names : Names) (name query : List ℕ) (f : QueryFault) (before after : ℕ) (rose : Type 0) → content_of names name ≡ o.Some query
-    → SaysOfQuery status query → AttachesQuery {T = T} (r.Err status) before after → (status ≡ ReadFault → rose ⊎ IsMissing names name) → QueryFaultOf query f → (rose → ⊥)
-    → ((status ≡ QueryRefused f) ⊎ (status ≡ Memory)) × (after ≤ before + 1)
-query_stops T status names name query f before after rose told says attaches read refused not_rose = (
-  refused_from status query f says refused (λ is. subst (λ (s : Status). AttachesQuery {T = T} (r.Err s) before after) is attaches)
-      (λ is. ⊎_elim not_rose (there names name query told) (read is)),
-  at_most_one T status before after attaches,
-)
 
 pub complete_from : (status : Status) (query document : List ℕ) → SaysOfQuery status query → SaysOfDocument status document → IsQuery query → IsDocument document
     → (status ≡ ReadFault → ⊥) → (status ≡ WriteFault → ⊥) → (status ≡ Ok) ⊎ (status ≡ Memory)
@@ -84,13 +72,3 @@ document_refused_from (DocumentRefused g) q d f says_q says_d good_q bad_d not_r
 document_refused_from ReadFault q d f says_q says_d good_q bad_d not_read not_write = absurd (not_read refl)
 document_refused_from WriteFault q d f says_q says_d good_q bad_d not_read not_write = absurd (not_write refl)
 document_refused_from Memory q d f says_q says_d good_q bad_d not_read not_write = inr refl
-
--- a run that came to the document has a query
-pub says_of_query : (status : Status) (query : List ℕ) (before after : ℕ) → AttachesDocument status before after → IsOneQuery query → SaysOfQuery status query
-says_of_query Ok q before after came good = good
-says_of_query Usage q before after came good = absurd came
-says_of_query (QueryRefused f) q before after came good = absurd came
-says_of_query (DocumentRefused f) q before after came good = good
-says_of_query ReadFault q before after came good = tt
-says_of_query WriteFault q before after came good = good
-says_of_query Memory q before after came good = tt

@@ -1,27 +1,24 @@
 -- Documents: what bytes without a fault spell, and faults that bytes can't have.
-use Rattle.std.proofs.Common.{◌≡◌, ℕ, ◌≤◌, Bool, true, false, List, [], ◌∷◌, ◌++◌, length, take, Option, Some, None, refl, sym, ◌∙◌, ap, subst, arith, append-nil}
+use Rattle.std.proofs.Common.{◌≡◌, ℕ, Bool, true, false, List, [], ◌∷◌, ◌++◌, take, Option, Some, None, refl, sym, ◌∙◌, ap, subst, append-nil}
 use Rattle.std.specs.Prelude.{chars}
-use Rattle.std.proofs.lemmas.Bool.{true≢false}
 use Rattle.std.proofs.lemmas.Str.{chars-encodes}
 use Rattle.std.specs.Io.KnownBytes.{Consumes}
-use lib.Utf8.{encode, encodes}
+use lib.Utf8.{encodes}
 use Rattle.gcx_base.specs.declared.limits.Limits.{Limits}
-use Rattle.gcx_base.specs.Utf8.{IsCharFront}
 use Rattle.gcx_model.specs.Document.{Nodes, tree_of}
 use Rattle.gcx_model.specs.Tree.{Token, End}
 use Rattle.gcx_model.specs.Grammar.{SpellsDocument}
-use Rattle.gcx_model.specs.Faults.{Decodes, Clean, FaultIs, within_limit, before_limit, past_limit, FaultWithin, by_character, by_sequence, by_cut, by_end, none_yet, none_whole, Refusal, AtSyntax, AtDepth, AtName, AtText, fault_of}
+use Rattle.gcx_model.specs.Faults.{FaultIs, within_limit, before_limit, past_limit, FaultWithin, by_character, by_sequence, by_cut, by_end, none_yet, none_whole, Refusal, AtSyntax, AtDepth, AtName, AtText, fault_of}
 use Rattle.gcx_model.specs.Seen.{SeenIs, seen_tree}
 use Rattle.gcx_model.specs.declared.fault.DocFault.{DocFault}
 use Rattle.gcx_model.specs.declared.fault.DocFault.TheVariants as fault
-use Rattle.tree_laws.specs.Growth.{AllClosed}
-use Rattle.tree_laws.proofs.Documents.{whole_closed}
 use Rattle.doc_laws.specs.Machine.{State, is_whole}
 use Rattle.doc_laws.proofs.LastTag.{longest_so_far, seen_whole, seen_one}
 use Rattle.doc_laws.proofs.Pieces.{Stands as Kept}
 use Rattle.doc_laws.proofs.Theorems.{whole_spells, not_whole, spells_one}
 use Rattle.doc_laws.proofs.Unique.{clean_reads}
 use Rattle.tree_read.specs.Document.{BytesSpell}
+use Rattle.engine.proofs.Whole.{whole_of}
 
 -- ---- want of memory is no fault of bytes
 
@@ -51,44 +48,11 @@ no_memory lim b ended (past_limit h w o) = let no : ⊥ = cc in no
 
 -- ---- no bytes
 
-no_character : IsCharFront []
-unfolding encode
-no_character = record { c = 97; rest = 97 ∷ []; scalar = refl; bytes = refl; more = omega arith }
-
-nowhere : (front rest : List ℕ) (c : ℕ) → [] ≡ front ++ (c ∷ rest) → ⊥
-nowhere [] rest c e = cc
-nowhere (x ∷ front) rest c e = cc
-
-pub none_at_start : (lim : Limits) → FaultIs lim [] false None
-none_at_start lim = within_limit (omega arith) (none_yet [] [] (record { chars = refl; parts = refl; part = no_character }) (λ front c rest f e comes. nowhere front rest c e) refl refl)
-
 pub consumes_none : (a : Option (List ℕ)) → Consumes a a []
 consumes_none None = tt
 consumes_none (Some xs) = refl
 
 -- ---- a whole document
-
--- what its bytes are
-record Whole (lim : Limits) (b : List ℕ) : Type 0 where
-  pub cs : List ℕ
-  pub document : Nodes
-  pub within : length b ≤ lim.bytes
-  pub decodes : Decodes b cs []
-  pub clean : Clean lim cs
-  pub spells : SpellsDocument cs document
-
-whole_within : (lim : Limits) (b : List ℕ) → length b ≤ lim.bytes → FaultWithin lim b true None → Whole lim b
-whole_within lim b h (by_character cs rest f s e c o) = no_some (fault_of f) o
-whole_within lim b h (by_sequence cs i c o) = no_some _ o
-whole_within lim b h (by_cut cs tail d c n e o) = no_some _ o
-whole_within lim b h (by_end cs d c n e o) = no_some _ o
-whole_within lim b h (none_yet cs tail d c e o) = absurd (true≢false e)
-whole_within lim b h (none_whole cs d dd c sp e o) = record { cs = cs; document = d; within = h; decodes = dd; clean = c; spells = sp }
-
-whole_of : (lim : Limits) (b : List ℕ) → FaultIs lim b true None → Whole lim b
-whole_of lim b (within_limit h w) = whole_within lim b h w
-whole_of lim b (before_limit f h w o) = no_some f o
-whole_of lim b (past_limit h w o) = no_some _ o
 
 -- The bytes spell a document, and the tree of the tags seen in them is its tree.
 pub record SeenWhole (b : List ℕ) (ts : List Token) : Type 0 where
@@ -119,6 +83,3 @@ pub one_spelled : (b : List ℕ) (d e : Nodes) → BytesSpell b d → BytesSpell
 one_spelled b d e h k =
     let same : h.chars ≡ k.chars = sym (chars-encodes h.chars h.characters) ∙ ap chars (sym h.encoded ∙ k.encoded) ∙ chars-encodes k.chars k.characters in
     spells_one k.chars d e (subst (λ (l : List ℕ). SpellsDocument l d) same h.spells) k.spells
-
-pub all_closed : (d : Nodes) → AllClosed (tree_of d)
-all_closed d = λ m i. rw (whole_closed d) refl

@@ -1,18 +1,26 @@
-pub mod Complete
-pub mod Growing
-pub mod Documents
-pub mod Queries
-pub mod Rows
-pub mod Runs
-pub mod Left
-pub mod Stopping
-pub mod Handles
-pub mod Ends
-pub mod Answered
+mod Lists
+mod Along
+mod QueryRead
+mod DocRead
+mod FileRead
+mod Documents
+mod Rows
+mod Queries
+mod Stops
+mod Explained
+mod Tells
+mod Runs
+mod Behind
+mod Ran
+mod Trees
+mod DocRuns
+mod Wholes
+mod Peaks
+mod Says
+mod Complete
+mod Completing
+mod Measures
+mod Obeyed
+pub mod Refuted
+pub mod RefutedWrites
 mod Texts
-pub mod Measured
-pub mod Traces
-pub mod Peaking
-pub mod Obeyed
-pub mod Finished
-pub mod Selfrun

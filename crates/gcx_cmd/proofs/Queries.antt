@@ -1,51 +1,27 @@
 -- What QUERY holds, from what was read.
-use Rattle.std.proofs.Common.{◌≡◌, ℕ, ◌≤◌, ◌<◌, List, ◌++◌, length, refl, sym, ◌∙◌, ap, subst, arith, length-append, append-nil, inl, inr}
+use Rattle.std.proofs.Common.{◌≡◌, ℕ, List, sym, subst, inl, inr}
+use Rattle.std.specs.Prelude.{Result, Ok, Err, IfErr, IfOk, MatchResult}
 use Rattle.std.specs.declared.option.Option.TheVariants.{None, Some}
 use Rattle.gcx_model.specs.Normal.{normal}
 use Rattle.gcx_model.specs.Query.{ExprTree, query_trees}
 use Rattle.gcx_model.specs.PlanView.{plan_tree}
-use Rattle.gcx_cmd.specs.Accepted.{IsAcceptedOf}
-use Rattle.gcx_cmd.specs.declared.files.Accepted.{Accepted}
+use Rattle.gcx_cmd.specs.Accepted.{IsAcceptedOf, EndsQuery}
+use Rattle.gcx_cmd.specs.QueryDoes.{AcceptsQuery, ReadsText, StopsInQuery}
+use Rattle.gcx_cmd.specs.Reads.{Opens}
+use Rattle.gcx_io.specs.Views.{ShelfView}
+use Rattle.run_words.specs.Stops.{End}
+use Rattle.gcx_cmd.specs.declared.query.Accepted.{Accepted}
 use Rattle.gcx_cmd.specs.declared.status.Status.{Status}
-use Rattle.std.specs.Prelude.{Result, Ok, Err, IfOk, MatchResult}
 use Rattle.signoff_place.specs.Refused.{refusal_of}
 use Rattle.gcx_model.specs.declared.fault.QueryFault.{QueryFault}
 use Rattle.gcx_model.specs.declared.fault.QueryFault.TheVariants.{Utf8, Lex, Syntax, UnknownVar, TagMismatch, DescendantNotLast, IntegerWide, TooLarge, Memory}
-use Rattle.gcx_model.specs.declared.fault.What.{What}
-use Rattle.gcx_model.specs.declared.fault.What.TheVariants.{Text}
-use Rattle.xq_parse.specs.Faults.{TextFaultOf, HasOnlyRefusal}
+use Rattle.xq_parse.specs.Faults.{TextFaultOf, HasOnlyQuery, HasOnlyRefusal}
 use Rattle.gcx_model.specs.Refusals.{UnlessMemory}
 use Rattle.gcx_cmd.specs.declared.status.Status.TheVariants as status
-use Rattle.gcx_cmd.specs.Main.{SpellsOne, Accepts, SaysOfQuery, IsQuery, IsOneQuery, PassesLimit}
+use Rattle.gcx_cmd.specs.Main.{SpellsOne, Accepts, HasNoMemory, QueryFaultOf, SaysOfQuery, PassesLimit}
 use Rattle.gcx_cmd.specs.Running.{IsPlanOf, IsPlaced}
 use Rattle.gcx_cmd.specs.ReadEnd.{query_status}
-use Rattle.gcx_cmd.specs.Reading.{IsReadUpTo}
 use Rattle.placed_laws.proofs.Moved.{normal_good}
-
-too_large : (bytes : List ℕ) → 1048576 < length bytes → TextFaultOf bytes (TooLarge Text 1048576)
-too_large bytes long = inl (refl, refl, long)
-
--- the one fault of bytes that are too many
-same_fault : (bytes : List ℕ) (f : QueryFault) → 1048576 < length bytes → TextFaultOf bytes f → f ≡ TooLarge Text 1048576
-same_fault bytes f long (inr h) = absurd (let s = h.lexed.short in omega arith)
-same_fault bytes (Utf8 at) long (inl h) = absurd (let s = h.0 in omega arith)
-same_fault bytes (Lex at) long (inl h) = absurd (let s = h.short in omega arith)
-same_fault bytes (IntegerWide at) long (inl h) = absurd (let s = h.short in omega arith)
-same_fault bytes (Syntax at) long (inl h) = absurd h
-same_fault bytes (TagMismatch at) long (inl h) = absurd h
-same_fault bytes (UnknownVar at) long (inl h) = absurd h
-same_fault bytes (DescendantNotLast at) long (inl h) = absurd h
-same_fault bytes (TooLarge what limit) long (inl h) = subst (λ (w : What). TooLarge w limit ≡ TooLarge Text 1048576) (sym h.0) (ap (λ (n : ℕ). TooLarge Text n) h.1)
-same_fault bytes Memory long (inl h) = absurd h
-
-pub long_query : (bytes read : List ℕ) → IsReadUpTo 1048576 bytes read → 1048576 < length read → SaysOfQuery (status.QueryRefused (TooLarge Text 1048576)) bytes
-long_query bytes read h over = inl (too_large bytes long, record { once = λ f k. same_fault bytes f long k; no_query = λ q s _. let short = s.lexed.short in let over = long in omega arith })
-  where
-    long : 1048576 < length bytes
-    long = let e = ap length h.split in let f = length-append read h.rest in omega arith
-
-pub whole_query : (bytes read : List ℕ) → IsReadUpTo 1048576 bytes read → length read ≤ 1048576 → read ≡ bytes
-whole_query bytes read h short = sym (h.split ∙ ap (λ (l : List ℕ). read ++ l) (h.whole short) ∙ append-nil read)
 
 pub accepted_of : (bytes : List ℕ) (q : List ExprTree) → SpellsOne bytes q → refusal_of (normal q) ≡ None → Accepts bytes q
 accepted_of bytes q one within = record { spells = one.spells; sound = one.sound; within = within }
@@ -76,20 +52,76 @@ refused_by bytes (DescendantNotLast at) h k = inl (h, k)
 refused_by bytes (TooLarge what limit) h k = inl (h, k)
 refused_by bytes Memory h k = tt
 
--- what is said of the query where the document decides
-pub one_query : (bytes : List ℕ) (a : Accepted) → IsAcceptedOf bytes a → IsOneQuery bytes
-one_query bytes a h = (query_trees a.query, h.accepts, h.only)
+-- ---- what was read of QUERY
 
-pub is_query : (bytes : List ℕ) (a : Accepted) → IsAcceptedOf bytes a → IsQuery bytes
-is_query bytes a h = (query_trees a.query, h.accepts)
+pub accepts_text : (q text : List ℕ) (a b : ShelfView) (x : Accepted) → ReadsText q text a b → IsAcceptedOf text x → AcceptsQuery q a b (query_trees x.query)
+accepts_text q text a b x r is = record {
+  pieces = r.pieces;
+  reads = r.reads;
+  within = r.within;
+  accepts = subst (λ (l : List ℕ). Accepts l (query_trees x.query)) (sym r.whole) is.accepts;
+  only = subst (λ (l : List ℕ). HasOnlyQuery l (query_trees x.query)) (sym r.whole) is.only;
+}
 
--- the plan is that of each query that the bytes spell
-pub plan_is : (bytes : List ℕ) (a : Accepted) (q : List ExprTree) → IsAcceptedOf bytes a → Accepts bytes q → IsPlanOf q (plan_tree a.plan)
-plan_is bytes a q h accepted = subst (λ (r : List ExprTree). IsPlanOf r (plan_tree a.plan)) (sym (h.only.once q accepted.spells)) h.plan_is
+-- it isn't accepted, or memory ran out
+pub stops_text : (q text : List ℕ) (a b : ShelfView) (s : Status) → Opens 1 a b → ReadsText q text a b → SaysOfQuery s text → EndsQuery s → StopsInQuery q s a b
+stops_text q text a b status.Ok one r says ends = absurd ends
+stops_text q text a b status.Usage one r says ends = absurd ends
+stops_text q text a b (status.QueryRefused f) one r says ends =
+    record { opens = one; pieces = r.pieces; why = inl (r.reads, r.within, subst (λ (l : List ℕ). QueryFaultOf l f) (sym r.whole) says) }
+stops_text q text a b (status.DocumentRefused f) one r says ends = absurd ends
+stops_text q text a b status.ReadFault one r says ends = absurd ends
+stops_text q text a b status.WriteFault one r says ends = absurd ends
+stops_text q text a b status.Memory one r says ends = inr (one, r.pieces, End, r.reads, inl (tt, r.within))
 
-pub plan_placed : (bytes : List ℕ) (a : Accepted) → IsAcceptedOf bytes a → IsPlaced (plan_tree a.plan)
-plan_placed bytes a h = (normal (query_trees a.query), normal_good (query_trees a.query), h.plan_is.placed)
+pub no_read_fault : (s : Status) → EndsQuery s → s ≡ status.ReadFault → ⊥
+no_read_fault status.Ok ends e = ends
+no_read_fault status.Usage ends e = ends
+no_read_fault (status.QueryRefused f) ends e = cc
+no_read_fault (status.DocumentRefused f) ends e = ends
+no_read_fault status.ReadFault ends e = ends
+no_read_fault status.WriteFault ends e = ends
+no_read_fault status.Memory ends e = cc
 
-pub placed_of : (r : Result Accepted Status) (bytes : List ℕ) → MatchResult r (IsAcceptedOf bytes) (λ (s : Status). SaysOfQuery s bytes) → IfOk r (λ (a : Accepted). IsPlaced (plan_tree a.plan))
-placed_of (Ok a) bytes h = plan_placed bytes a h
-placed_of (Err s) bytes h = tt
+pub ends_memory : (s : Status) → EndsQuery s → HasNoMemory s
+ends_memory status.Ok ends = absurd ends
+ends_memory status.Usage ends = absurd ends
+ends_memory (status.QueryRefused f) ends = ends
+ends_memory (status.DocumentRefused f) ends = absurd ends
+ends_memory status.ReadFault ends = absurd ends
+ends_memory status.WriteFault ends = absurd ends
+ends_memory status.Memory ends = tt
+
+pub placed_by : (x : Accepted) → IsPlanOf (query_trees x.query) (plan_tree x.plan) → IsPlaced (plan_tree x.plan)
+placed_by x is = (normal (query_trees x.query), normal_good (query_trees x.query), is.placed)
+
+-- ---- the same of the answer
+
+module _ (q text : List ℕ) (a b : ShelfView) (one : Opens 1 a b) (r : ReadsText q text a b) where
+  pub query_accepted : (x : Result Accepted Status) → MatchResult x (IsAcceptedOf text) (λ (s : Status). SaysOfQuery s text)
+      → IfOk x (λ (y : Accepted). Opens 1 a b × AcceptsQuery q a b (query_trees y.query))
+  query_accepted (Ok y) told = (one, accepts_text q text a b y r told)
+  query_accepted (Err s) told = tt
+
+  pub query_stops : (x : Result Accepted Status) → MatchResult x (IsAcceptedOf text) (λ (s : Status). SaysOfQuery s text) → IfErr x EndsQuery
+      → IfErr x (λ (s : Status). StopsInQuery q s a b)
+  query_stops (Ok y) told ends = tt
+  query_stops (Err s) told ends = stops_text q text a b s one r told ends
+
+pub query_plan : (text : List ℕ) (x : Result Accepted Status) → MatchResult x (IsAcceptedOf text) (λ (s : Status). SaysOfQuery s text)
+    → IfOk x (λ (y : Accepted). IsPlanOf (query_trees y.query) (plan_tree y.plan))
+query_plan text (Ok y) told = told.plan_is
+query_plan text (Err s) told = tt
+
+pub query_placed : (text : List ℕ) (x : Result Accepted Status) → MatchResult x (IsAcceptedOf text) (λ (s : Status). SaysOfQuery s text)
+    → IfOk x (λ (y : Accepted). IsPlaced (plan_tree y.plan))
+query_placed text (Ok y) told = placed_by y told.plan_is
+query_placed text (Err s) told = tt
+
+pub query_memory : (x : Result Accepted Status) → IfErr x EndsQuery → IfErr x HasNoMemory
+query_memory (Ok y) ends = tt
+query_memory (Err s) ends = ends_memory s ends
+
+pub query_never : (x : Result Accepted Status) → IfErr x EndsQuery → x ≡ Err status.ReadFault → ⊥
+query_never (Ok y) ends e = cc
+query_never (Err s) ends e = (let same : s ≡ status.ReadFault = cc in no_read_fault s ends same)

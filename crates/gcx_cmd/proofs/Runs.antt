@@ -1,48 +1,56 @@
 -- A run of the engine is one of the query: what it wrote, how it ended, and the rows that it left.
-use Rattle.std.proofs.Common.{◌≡◌, ℕ, ◌+◌, ◌-◌, ◌≤◌, Bool, true, false, List, [], ◌∷◌, length, take, Option, Some, None, refl, sym, ◌∙◌, ap, subst, arith}
+use Rattle.std.proofs.Common.{◌≡◌, ℕ, ◌+◌, ◌<◌, ◌≤◌, Bool, true, false, List, [], ◌∷◌, length, take, map, Some, None, refl, sym, ◌∙◌, ap, subst, arith}
 use Rattle.std.specs.FinMap.{empty}
 use Rattle.gcx_base.specs.Limits.{full_limits}
-use Rattle.gcx_io.specs.Bytes.{Grows, GrowsWithin}
-use Rattle.gcx_model.specs.Answer.{answer}
+use Rattle.gcx_io.proofs.Written.{takes_none}
+use Rattle.gcx_io.specs.Causes.{Rose}
+use Rattle.gcx_io.specs.Views.{SinkView, SourceView}
+use Rattle.gcx_io.specs.Writing.{joined}
 use Rattle.gcx_model.specs.Core.{PlanTree}
-use Rattle.gcx_model.specs.Demand.{peak_of}
-use Rattle.gcx_model.specs.Document.{Nodes, tree_of}
+use Rattle.gcx_model.specs.Demand.{peak_of, text_of_lines, trace_lines}
 use Rattle.gcx_model.specs.Faults.{FaultIs}
-use Rattle.gcx_model.specs.Held.{held}
+use Rattle.gcx_model.specs.Held.{held, sum_given, sum_taken}
 use Rattle.gcx_model.specs.Normal.{normal, known}
 use Rattle.gcx_model.specs.Placed.{plan_of}
+use Rattle.gcx_model.specs.PlanView.{plan_tree}
 use Rattle.gcx_model.specs.Points.{actions, so_far}
 use Rattle.gcx_model.specs.Query.{ExprTree}
 use Rattle.gcx_model.specs.Run.{Action}
 use Rattle.gcx_model.specs.Seen.{SeenIs, seen_tree}
-use Rattle.gcx_model.specs.Sound.{is_sound}
 use Rattle.gcx_model.specs.Tree.{Tree, Token, Node}
 use Rattle.gcx_model.specs.declared.fault.DocFault.{DocFault}
 use Rattle.tree_laws.specs.Growth.{AllClosed}
-use Rattle.placed_laws.proofs.Meaning.{normal_law}
 use Rattle.placed_laws.proofs.PlanWriting.{plan_bytes}
 use Rattle.placed_laws.proofs.Balances.{empty_law}
 use Rattle.doc_laws.proofs.Found.{found_seen}
 use Rattle.doc_laws.proofs.Growing.{seen_leads}
+use Rattle.doc_reader.specs.Standing.{said_of}
 use Rattle.buf_tree.specs.Shape.{Store, Shape}
-use Rattle.buf_tree.specs.Stands.{StandsFor, told}
+use Rattle.buf_tree.specs.Stands.{StandsFor}
 use Rattle.buf_tree.specs.View.{View}
-use Rattle.engine.specs.Engine.{past_at, Peaks, Settles as PlanSettles}
-use Rattle.engine.specs.Runs.{Gave as PlanGave, Lags as PlanLags, WritesAll as PlanWrites, Ends as PlanEnds}
+use Rattle.run_words.proofs.Mapping.{ends_map}
+use Rattle.run_words.proofs.Sourcing.{clean_none, on_clean, source_none}
+use Rattle.run_words.specs.Ends.{EndsRun, Unread}
+use Rattle.run_words.specs.Reading.{CountsFault}
+use Rattle.run_words.specs.Stops.{Stop, More, End, is_end}
+use Rattle.run_words.specs.Writing.{Sinks, TakesFront, TracesFront}
+use Rattle.engine.proofs.Most.{most_fresh, unless_both}
+use Rattle.engine.specs.Engine.{past_at, IsTrace as PlanTrace, MostIs, Peaks, Settles as PlanSettles, StandsOf}
+use Rattle.engine.specs.Runs.{Numbers, Ran, UnlessMemory as UnlessLost, run_end, sinks}
+use Rattle.engine.specs.declared.engine.Engine.{Engine}
 use Rattle.engine.specs.declared.report.Ended.{Ended}
 use Rattle.engine.specs.declared.report.Ended.TheVariants as end
-use Rattle.gcx_cmd.specs.declared.status.Status.{Status}
-use Rattle.gcx_cmd.specs.declared.status.Status.TheVariants.{Ok, Memory}
-use Rattle.tree_read.specs.Document.{BytesSpell}
+use Rattle.engine.specs.declared.report.Report.{Report}
 use Rattle.gcx_cmd.specs.Main.{HasNoMemory}
-use Rattle.gcx_cmd.specs.Running.{Settles, WritesAll, Lags, Ends, RowsAre, held_by, Holds, Ran, IsPlanOf, IsPlaced}
-use Rattle.tree_read.specs.Reading.{Gave}
+use Rattle.gcx_cmd.specs.RunDoes.{EndsBy, HoldsSeen}
+use Rattle.gcx_cmd.specs.Running.{Settles, RowsAre, held_by, Holds, IsPlanOf, IsPlaced, UnlessMemory}
+use Rattle.gcx_cmd.specs.Runs.{NumbersOf, SourceRuns, stored}
 use Rattle.gcx_cmd.specs.Status.{ended_status}
-use Rattle.gcx_cmd.specs.Stopping.{SaysOfGiven}
-use Rattle.gcx_cmd.proofs.Documents.{no_memory, none_at_start, seen_document, one_spelled, all_closed}
-use Rattle.gcx_cmd.proofs.Growing.{grows_none}
+use Rattle.gcx_cmd.specs.Tracing.{IsTrace}
+use Rattle.engine.proofs.Nothing.{none_at_start}
+use Rattle.engine.proofs.Whole.{all_closed}
+use Rattle.gcx_cmd.proofs.Documents.{no_memory, seen_document}
 use Rattle.gcx_cmd.proofs.Rows.{rows_are, no_rows}
-use Rattle.gcx_cmd.proofs.Stopping.{gave_none, given_all}
 
 -- ---- what was written
 
@@ -50,46 +58,28 @@ module _ (q : List ExprTree) (plan : PlanTree) (is : IsPlanOf q plan) where
   settles_on : (b : List ℕ) (ended : Bool) (w : List ℕ) → PlanSettles plan full_limits b ended w → Settles q b ended w
   settles_on b ended w s = (s.tokens, s.seen, s.is ∙ plan_bytes q plan is.placed (seen_tree s.tokens))
 
-  writes_on : (b : List ℕ) (ended : Bool) (before after : Option (List ℕ)) → PlanWrites plan full_limits b ended before after → WritesAll q b ended before after
-  writes_on b ended before after h = (h.settled, settles_on b ended h.settled h.is, h.grew)
+  trace_on : (b : List ℕ) (ended : Bool) (t : List ℕ) → PlanTrace plan full_limits b ended t → IsTrace q b ended t
+  trace_on b ended t (ts, seen, text) = (ts, seen, text ∙ ap (λ (p : PlanTree). text_of_lines (trace_lines p ts)) is.is_plan)
 
-  lags_on : (b : List ℕ) (ended : Bool) (before after : Option (List ℕ)) → PlanLags plan full_limits b ended before after → Lags q b ended before after
-  lags_on b ended before after h = record {
-    settled = h.settled;
-    is = settles_on b ended h.settled h.is;
-    part = h.part;
-    sure = h.sure;
-    earlier = settles_on (take (length b - 65536) b) false h.sure h.earlier;
-    least = h.least;
-  }
+  -- the end of the run in the words of the status
+  pub ends_on : (tracing : Bool) (x : Ended) (ps : List (List ℕ)) (stop : Stop) (a b : Sinks)
+      → EndsRun (PlanSettles plan full_limits) (PlanTrace plan full_limits) full_limits tracing (run_end x) ps stop a b
+      → EndsBy q tracing (ended_status x) ps stop a b
+  ends_on tracing end.Ok ps stop a b h = ends_map _ _ _ _ settles_on trace_on full_limits tracing (run_end end.Ok) ps stop a b h
+  ends_on tracing (end.Refused f) ps stop a b h = ends_map _ _ _ _ settles_on trace_on full_limits tracing (run_end (end.Refused f)) ps stop a b h
+  ends_on tracing end.ReadFault ps stop a b h = ends_map _ _ _ _ settles_on trace_on full_limits tracing (run_end end.ReadFault) ps stop a b h
+  ends_on tracing end.WriteFault ps stop a b h = ends_map _ _ _ _ settles_on trace_on full_limits tracing (run_end end.WriteFault) ps stop a b h
+  ends_on tracing end.Memory ps stop a b h = ends_map _ _ _ _ settles_on trace_on full_limits tracing (run_end end.Memory) ps stop a b h
 
-  writes_at : (b : List ℕ) (was ended : Bool) (before after : Option (List ℕ)) → was ≡ ended → PlanWrites plan full_limits b was before after → WritesAll q b ended before after
-  writes_at b was ended before after e h = subst (λ (x : Bool). WritesAll q b x before after) e (writes_on b was before after h)
-
-  pub ends_on : (e : Ended) (b : List ℕ) (ended : Bool) (before after : Option (List ℕ)) → PlanEnds plan full_limits b ended before after e → Ends q (ended_status e) b ended before after
-  ends_on end.Ok b ended before after h = (h.0, h.1, writes_at b ended true before after h.0 h.2)
-  ends_on (end.Refused f) b ended before after h = (h.0, writes_on b ended before after h.1)
-  ends_on end.ReadFault b ended before after h = (h.0, h.1, writes_at b ended false before after h.0 h.2)
-  ends_on end.WriteFault b ended before after h = lags_on b ended before after h
-  ends_on end.Memory b ended before after h = lags_on b ended before after h
-
--- what the end says of the bytes
-pub says_on : (e : Ended) (plan : PlanTree) (b : List ℕ) (ended : Bool) (before after : Option (List ℕ)) → PlanEnds plan full_limits b ended before after e → SaysOfGiven (ended_status e) b ended
-says_on end.Ok plan b ended before after h = (h.0, h.1)
-says_on (end.Refused f) plan b ended before after h = h.0
-says_on end.ReadFault plan b ended before after h = (h.0, h.1)
-says_on end.WriteFault plan b ended before after h = tt
-says_on end.Memory plan b ended before after h = tt
-
-pub no_memory_told : (e : Ended) (plan : PlanTree) (b : List ℕ) (ended : Bool) (before after : Option (List ℕ)) → PlanEnds plan full_limits b ended before after e → HasNoMemory (ended_status e)
-no_memory_told end.Ok plan b ended before after h = tt
-no_memory_told (end.Refused f) plan b ended before after h = λ is. no_memory full_limits b ended (subst (λ (g : DocFault). FaultIs full_limits b ended (Some g)) is h.0)
-no_memory_told end.ReadFault plan b ended before after h = tt
-no_memory_told end.WriteFault plan b ended before after h = tt
-no_memory_told end.Memory plan b ended before after h = tt
-
-pub gave_on : (before after : Option (List ℕ)) (b : List ℕ) (ended : Bool) → PlanGave before after b ended → Gave before after b ended
-gave_on before after b ended g = record { moved = g.moved; at_end = g.at_end }
+-- no refusal is want of memory
+no_memory_told : (W T : List ℕ → Bool → List ℕ → Type 0) (tracing : Bool) (x : Ended) (ps : List (List ℕ)) (stop : Stop) (a b : Sinks)
+    → EndsRun W T full_limits tracing (run_end x) ps stop a b → HasNoMemory (ended_status x)
+no_memory_told W T tracing end.Ok ps stop a b h = tt
+no_memory_told W T tracing (end.Refused f) ps stop a b h =
+    λ is. no_memory full_limits (joined ps) (is_end stop) (subst (λ (g : DocFault). FaultIs full_limits (joined ps) (is_end stop) (Some g)) is h.1)
+no_memory_told W T tracing end.ReadFault ps stop a b h = tt
+no_memory_told W T tracing end.WriteFault ps stop a b h = tt
+no_memory_told W T tracing end.Memory ps stop a b h = tt
 
 -- ---- the rows
 
@@ -111,11 +101,11 @@ module _ (plan : PlanTree) (ts : List Token) (v : View) (fed : ℕ) (st : Stands
   pub holds_on : (q : List ExprTree) (ahead : ℕ) (m : Store) (most : ℕ) → plan ≡ plan_of (normal q) → Shape m v.rows → Peaks (peak_of plan ts) ahead v.most → most ≡ v.most → Holds q ahead ts m most
   holds_on q ahead m most is s p e =
       let least : peak_of plan ts ≤ most = let a = p.least in let b = e in omega arith in
-      let near : most ≤ peak_of plan ts + ahead = let a = p.near in let b = e in omega arith in
+      let near : most < peak_of plan ts + ahead = let a = p.near in let b = e in omega arith in
       record {
         rows_are = subst (λ (x : PlanTree). RowsAre m (seen_tree ts) (held_by x (seen_tree ts))) is (rows_on m s);
         least = subst (λ (x : PlanTree). peak_of x ts ≤ most) is least;
-        most_is = subst (λ (x : PlanTree). most ≤ peak_of x ts + ahead) is near;
+        near = subst (λ (x : PlanTree). most < peak_of x ts + ahead) is near;
       }
 
   -- behind a whole document none is left
@@ -126,46 +116,124 @@ module _ (plan : PlanTree) (ts : List Token) (v : View) (fed : ℕ) (st : Stands
       let none : held_by plan (seen_tree ts) ≡ [] = empty_law placed.0 placed.1 plan placed.2 (seen_tree ts) (seen_leads full_limits b true ts s) closed in
       no_rows m (seen_tree ts) (subst (λ (l : List Node). RowsAre m (seen_tree ts) l) none (rows_on m shape))
 
--- ---- where memory ran out before anything was read
+-- ---- a run
 
-within_none : (a : Option (List ℕ)) (w : List ℕ) → GrowsWithin a a w
-within_none a w = record { count = 0; taken = grows_none a }
+unless : (x : Ended) (X Y : Type 0) → (X → Y) → UnlessLost x X → UnlessMemory (ended_status x) Y
+unless end.Ok X Y f h = f h
+unless (end.Refused d) X Y f h = f h
+unless end.ReadFault X Y f h = f h
+unless end.WriteFault X Y f h = f h
+unless end.Memory X Y f h = tt
 
-settles_none : (q : List ExprTree) → (w : List ℕ) × Settles q [] false w
-settles_none q = let s = found_seen full_limits [] false in (known q (seen_tree s.0), (s.0, s.1, refl))
-
-pub ran_nothing : (q : List ExprTree) (ahead : ℕ) (left taken : Option (List ℕ)) (rows : Store) (most : ℕ) → Ran q ahead Memory left left taken taken rows most
-ran_nothing q ahead left taken rows most =
-    let w = settles_none q in
+-- one token at a time the greatest number of rows is the peak
+numbers_of : (q : List ExprTree) (plan : PlanTree) (bytes : List ℕ) (t : Report) (n : Numbers plan full_limits bytes true 1 t) → plan ≡ plan_of (normal q)
+    → NumbersOf q n.tokens t
+numbers_of q plan bytes t n is =
+    let ts = n.tokens in
+    let P = seen_tree ts in
+    let peak_is : t.peak ≡ peak_of plan ts = let a = n.peak.least in let b = n.peak.near in omega arith in
     record {
-      bytes = [];
-      ended = false;
-      gave = gave_none left;
-      earlier = none_at_start full_limits;
-      bound = omega arith;
-      end = record { settled = w.0; is = w.1; part = within_none taken w.0; sure = w.0; earlier = w.1; least = λ some. absurd (some refl) };
-      holds = tt;
+      peak = subst (λ (p : PlanTree). t.peak ≡ peak_of p ts) is peak_is;
+      nodes = n.nodes;
+      given = subst (λ (p : PlanTree). t.given ≡ sum_given p P) is n.given;
+      taken = subst (λ (p : PlanTree). t.taken ≡ sum_taken p P (actions p P)) is n.taken;
     }
 
--- ---- at Ok the answer is written
+module _ {N C : Type 0} (stands : C → Tree → Type 0) (tracing : Bool) (e : Engine N C) (t : Report) (s0 s1 : SourceView) (o p d f : SinkView)
+    (r : Ran stands full_limits tracing e t.ended s0 s1 (sinks o d) (sinks p f)) where
+  abbrev plan : PlanTree
+  plan = plan_tree e.plan.now
 
-pub answer_written : (q : List ExprTree) (ahead : ℕ) (bytes : List ℕ) (d : Nodes) (left_after taken_before taken_after : Option (List ℕ)) (rows : Store) (most : ℕ) → is_sound q ≡ true → BytesSpell bytes d
-    → Ran q ahead Ok (Some bytes) left_after taken_before taken_after rows most → Grows taken_before taken_after (answer q d)
-answer_written q ahead bytes d left_after taken_before taken_after rows most sound spelled ran =
-    let all : bytes ≡ ran.bytes = given_all bytes ran.bytes left_after ran.gave.moved (ran.gave.at_end ran.end.0) in
-    let written : WritesAll q ran.bytes true taken_before taken_after = ran.end.2 in
-    let w = seen_document full_limits ran.bytes written.1.0 ran.end.1 written.1.1 in
-    let same : d ≡ w.document = one_spelled ran.bytes d w.document (subst (λ (l : List ℕ). BytesSpell l d) all spelled) w.spells in
-    let is : written.0 ≡ answer q d = written.1.2 ∙ ap (known q) (w.tree_is ∙ ap tree_of (sym same)) ∙ normal_law q sound d in
-    subst (λ (l : List ℕ). Grows taken_before taken_after l) is written.2
+  stands_hold : (q : List ExprTree) (ahead : ℕ) (m : Store) (most : ℕ) → IsPlanOf q plan → e.ahead ≡ ahead → Shape m e.buffer.rows → most ≡ e.buffer.most
+      → StandsOf stands full_limits e (joined r.pieces) (is_end r.stop) → MostIs 0 e → HoldsSeen q ahead r.pieces r.stop (stored m most)
+  stands_hold q ahead m most is one s h st fresh =
+      let peak = peak_of plan (map said_of st.given) in
+      record {
+        tokens = map said_of st.given;
+        seen = st.seen;
+        holds = holds_on plan (map said_of st.given) e.buffer st.parts.actors.fed st.parts.actors.beside.buffer q ahead m most is.is_plan s
+            (subst (λ (a : ℕ). Peaks peak a e.buffer.most) one (most_fresh peak e.ahead e.counts.peak e.buffer.most st.parts.counts.peak fresh)) h;
+      }
 
-pub answer_told : (q : List ExprTree) (ahead : ℕ) (status : Status) (told_before : Option (List ℕ)) (bytes : List ℕ) (d : Nodes) (left_after taken_before taken_after : Option (List ℕ)) (rows : Store) (most : ℕ) → status ≡ Ok → told_before ≡ Some bytes → is_sound q ≡ true → BytesSpell bytes d
-    → Ran q ahead status told_before left_after taken_before taken_after rows most → Grows taken_before taken_after (answer q d)
-answer_told q ahead status told_before bytes d left_after taken_before taken_after rows most ok told sound spelled ran =
-    answer_written q ahead bytes d left_after taken_before taken_after rows most sound spelled
-    (subst (λ (o : Option (List ℕ)). Ran q ahead Ok o left_after taken_before taken_after rows most) told
-    (subst (λ (s : Status). Ran q ahead s told_before left_after taken_before taken_after rows most) ok ran))
+  -- where the input came to its end
+  at_end : t.ended ≡ end.Ok → (r.stop ≡ End) × FaultIs full_limits (joined r.pieces) true None × StandsOf stands full_limits e (joined r.pieces) true
+  at_end ok =
+      let ends = subst (λ (x : Ended). EndsRun (PlanSettles plan full_limits) (PlanTrace plan full_limits) full_limits tracing (run_end x) r.pieces r.stop (sinks o d) (sinks p f)) ok r.ends in
+      let st = subst (λ (x : Ended). UnlessLost x (StandsOf stands full_limits e (joined r.pieces) (is_end r.stop))) ok r.stand in
+      (ends.0, ends.1, subst (λ (x : Stop). StandsOf stands full_limits e (joined r.pieces) (is_end x)) ends.0 st)
 
--- the same of a run that ended so
-pub ran_lost : (q : List ExprTree) (ahead : ℕ) (x : Ended) (left taken : Option (List ℕ)) (rows : Store) (most : ℕ) → x ≡ end.Memory → Ran q ahead (ended_status x) left left taken taken rows most
-ran_lost q ahead x left taken rows most is = subst (λ (y : Ended). Ran q ahead (ended_status y) left left taken taken rows most) (sym is) (ran_nothing q ahead left taken rows most)
+  pub source_runs : (q : List ExprTree) (ahead : ℕ) (m : Store) (most : ℕ) → IsPlanOf q plan → e.ahead ≡ ahead → Shape m e.buffer.rows → most ≡ e.buffer.most
+      → UnlessLost t.ended (MostIs 0 e) → ((b : List ℕ) (ended : Bool) → StandsOf stands full_limits e b ended → Numbers plan full_limits b ended e.ahead t)
+      → SourceRuns tracing ahead q t s0 s1 o p d f (stored m most)
+  source_runs q ahead m most is same s h fresh told = record {
+    pieces = r.pieces;
+    stop = r.stop;
+    gave = r.gave;
+    reads_on = r.reads_on;
+    ends = ends_on q plan is tracing t.ended r.pieces r.stop (sinks o d) (sinks p f) r.ends;
+    holds = unless t.ended (StandsOf stands full_limits e (joined r.pieces) (is_end r.stop) × MostIs 0 e) (HoldsSeen q ahead r.pieces r.stop (stored m most))
+        (λ both. stands_hold q ahead m most is same s h both.0 both.1) (unless_both t.ended _ _ r.stand fresh);
+    numbers = λ one ok.
+        let n = subst (λ (k : ℕ). Numbers plan full_limits (joined r.pieces) true k t) (same ∙ one) (told (joined r.pieces) true (at_end ok).2) in
+        record { tokens = n.tokens; seen = n.seen; numbers = numbers_of q plan (joined r.pieces) t n is.is_plan };
+  }
+
+  pub no_memory_by : HasNoMemory (ended_status t.ended)
+  no_memory_by = no_memory_told (PlanSettles plan full_limits) (PlanTrace plan full_limits) tracing t.ended r.pieces r.stop (sinks o d) (sinks p f) r.ends
+
+  -- a read fault is one of the source
+  pub rose_by : t.ended ≡ end.ReadFault → Rose s0.faults s1.faults
+  rose_by is =
+      let ends = subst (λ (x : Ended). EndsRun (PlanSettles plan full_limits) (PlanTrace plan full_limits) full_limits tracing (run_end x) r.pieces r.stop (sinks o d) (sinks p f)) is r.ends in
+      subst (λ (x : Stop). CountsFault x s0.faults s1.faults) ends.0 r.gave.faults
+
+  -- at Ok the store is empty
+  pub emptied_by : (m : Store) → IsPlaced plan → Shape m e.buffer.rows → t.ended ≡ end.Ok → m ≡ empty
+  emptied_by m placed s ok =
+      let q = at_end ok in
+      emptied_on plan (map said_of q.2.given) e.buffer q.2.parts.actors.fed q.2.parts.actors.beside.buffer (joined r.pieces) m placed q.2.seen q.1 s
+
+-- ---- where memory ran out before anything was read
+
+settled_none : (q : List ExprTree) → (ts : List Token) × SeenIs full_limits [] false ts
+settled_none q = found_seen full_limits [] false
+
+-- nothing of a text, or of a trace
+front_none : (a : SinkView) (w : List ℕ) → TakesFront a a [] w
+front_none a w = record { more = []; rest = w; took = takes_none a; split = refl }
+
+trace_front_none : (tracing : Bool) (a : SinkView) (t : List ℕ) → TracesFront tracing a a [] t
+trace_front_none true a t = front_none a t
+trace_front_none false a t = refl
+
+pub runs_nothing : (tracing : Bool) (ahead : ℕ) (q : List ExprTree) (t : Report) (s : SourceView) (o d : SinkView) (m : Store) (most : ℕ) → t.ended ≡ end.Memory
+    → SourceRuns tracing ahead q t s s o o d d (stored m most)
+runs_nothing tracing ahead q t s o d m most memory =
+    let w = settled_none q in
+    record {
+      pieces = [];
+      stop = More;
+      gave = source_none s;
+      reads_on = on_clean full_limits [] More (clean_none full_limits (none_at_start full_limits));
+      ends = subst (λ (x : Ended). EndsBy q tracing (ended_status x) [] More (sinks o d) (sinks o d)) (sym memory) (
+        tt,
+        record {
+          wrote = [];
+          w = known q (seen_tree w.0);
+          told = [];
+          t = text_of_lines (trace_lines (plan_of (normal q)) w.0);
+          reached = record { settled = (w.0, w.1, refl); before = Unread refl refl refl; traced = (w.0, w.1, refl); traced_before = Unread refl refl refl };
+          front = front_none o (known q (seen_tree w.0));
+          trace_front = trace_front_none tracing d (text_of_lines (trace_lines (plan_of (normal q)) w.0));
+        },
+      );
+      holds = subst (λ (x : Ended). UnlessMemory (ended_status x) (HoldsSeen q ahead [] More (stored m most))) (sym memory) tt;
+      numbers = λ one ok. absurd (apart (sym memory ∙ ok));
+    }
+  where
+    apart : end.Memory ≡ end.Ok → ⊥
+    apart e = cc
+
+-- loans that are the same begin with the same name
+pub same_name : {n m : ℕ} {ns ms : List ℕ} → (n ∷ ns) ≡ (m ∷ ms) → m ≡ n
+same_name {n} {m} {ns} {ms} e = let f : n ≡ m = cc in sym f

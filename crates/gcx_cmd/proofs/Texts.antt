@@ -1,7 +1,7 @@
 -- The texts of the commands computed on examples.
 use Rattle.std.proofs.Common.{◌≡◌, [], ◌∷◌, ◌++◌, codes, refl, arith}
 use Rattle.std.specs.Fmt.{decimal}
-use Rattle.std.proofs.lemmas.Fmt.{decimal_digit, decimal_step}
+use Rattle.std.proofs.lemmas.Fmt.{decimal_digit}
 use Rattle.gcx_cmd.specs.Texts.{peak_line}
 
 four_is : decimal 4 ≡ codes "4"

@@ -6,7 +6,7 @@ use Rattle.gcx_model.specs.Query.{query_trees}
 use Rattle.xq_parse.specs.Faults.{HasOnlyQuery}
 use Rattle.gcx_cmd.specs.Main.{Accepts}
 use Rattle.gcx_cmd.specs.Running.{IsPlanOf}
-use Rattle.gcx_cmd.specs.declared.files.Accepted.{Accepted}
+use Rattle.gcx_cmd.specs.declared.query.Accepted.{Accepted}
 use Rattle.gcx_cmd.specs.declared.status.Status.{Status}
 use Rattle.gcx_cmd.specs.declared.status.Status.TheVariants as status
 
@@ -17,7 +17,7 @@ pub record IsAcceptedOf (bytes : List ℕ) (a : Accepted) : Type 0 where
   pub plan_is : IsPlanOf (query_trees a.query) (plan_tree a.plan)
 
 -- a query is refused, or memory ran out
-abbrev pub RefusesQuery : Status → Type 0
-RefusesQuery (status.QueryRefused f) = f ≢ fault.Memory
-RefusesQuery status.Memory = ⊤
-RefusesQuery s = ⊥
+abbrev pub EndsQuery : Status → Type 0
+EndsQuery (status.QueryRefused f) = f ≢ fault.Memory
+EndsQuery status.Memory = ⊤
+EndsQuery s = ⊥

@@ -1,8 +1,5 @@
 -- The line that says why a run didn't end well (this project's).
-use Rattle.std.specs.Prelude.{◌≤◌, ◌⊎◌, ℕ, List, [], ◌∷◌, ◌++◌, codes, decimal}
-use Rattle.std.specs.declared.option.Option.{Option}
-use Rattle.gcx_io.specs.Bytes.{Grows, GrowsWithin}
-use Rattle.gcx_io.specs.Causes.{Rose}
+use Rattle.std.specs.Prelude.{ℕ, List, [], ◌∷◌, ◌++◌, codes, decimal}
 use Rattle.gcx_model.specs.declared.fault.DocFault.{DocFault}
 use Rattle.gcx_model.specs.declared.fault.DocFault.TheVariants as doc
 use Rattle.gcx_model.specs.declared.fault.QueryFault.{QueryFault}
@@ -59,9 +56,3 @@ line_of (status.DocumentRefused f) = document_line f
 line_of status.ReadFault = codes "gcx: read fault" ++ newline
 line_of status.WriteFault = codes "gcx: write fault" ++ newline
 line_of status.Memory = codes "gcx: out of memory" ++ newline
-
--- The line was taken; less of it only where the count of faults rose.
-pub record TakesLine (before after : Option (List ℕ)) (faults_before faults_after : ℕ) (line : List ℕ) : Type 0 where
-  pub part : GrowsWithin before after line
-  pub whole : Grows before after line ⊎ Rose faults_before faults_after
-  pub later : faults_before ≤ faults_after

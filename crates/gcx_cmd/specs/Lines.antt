@@ -1,5 +1,5 @@
 -- What the parts of a line write.
-use Rattle.std.specs.Prelude.{ℕ, List, [], ◌++◌, decimal, Option, Some, None}
+use Rattle.std.specs.Prelude.{ℕ, ◌≤◌, List, [], ◌++◌, length, decimal, Option, Some, None}
 use Rattle.gcx_cmd.specs.declared.diagnosis.Line.{Line}
 use Rattle.gcx_cmd.specs.Diagnosis.{newline}
 
@@ -14,3 +14,7 @@ bytes_of line = line.words.now ++ (number_bytes line.number ++ newline)
 abbrev pub line_bytes : Option Line → List ℕ
 line_bytes None = []
 line_bytes (Some line) = bytes_of line
+
+-- its words are few bytes
+abbrev pub IsShort : Line → Type 0
+IsShort line = length line.words.now ≤ 38

@@ -1,9 +1,6 @@
--- The files of a command, and how it ends (this project's).
-use Rattle.std.specs.Prelude.{◌≡◌, ◌≢◌, ◌⊎◌, ◌≤◌, ◌<◌, ℕ, ◌+◌, List, true, ⊤}
-use Rattle.std.specs.declared.option.Option.{Option}
+-- What QUERY's and DOC's bytes are, and what a status says of them (this project's).
+use Rattle.std.specs.Prelude.{◌≡◌, ◌≢◌, ◌⊎◌, ℕ, List, true, ⊤}
 use Rattle.std.specs.declared.option.Option.TheVariants as option
-use Rattle.std.specs.declared.result.Result.{Result}
-use Rattle.std.specs.declared.result.Result.TheVariants as result
 use Rattle.gcx_base.specs.Limits.{full_limits}
 use Rattle.gcx_model.specs.Query.{ExprTree}
 use Rattle.gcx_model.specs.Sound.{is_sound}
@@ -83,47 +80,3 @@ abbrev pub HasNoMemory : Status → Type 0
 HasNoMemory (QueryRefused f) = f ≢ query_fault.Memory
 HasNoMemory (DocumentRefused f) = f ≢ doc_fault.Memory
 HasNoMemory status = ⊤
-
--- handles are given more, at most so many
-abbrev pub GivesAtMost : ℕ → ℕ → ℕ → Type 0
-GivesAtMost most before after = (before ≤ after) × (after ≤ before + most)
-
--- no handle that was given before has less left, or other bytes
-abbrev pub KeepsGiven : ℕ → (before after : ℕ → Option (List ℕ)) → Type 0
-KeepsGiven count before after = (k : ℕ) → k < count → after k ≡ before k
-
--- how many handles are given more, where the command reads so many files: DOC is attached behind QUERY
-abbrev pub Attaches : (files : ℕ) → Status → ℕ → ℕ → Type 0
-Attaches files Ok before after = after ≡ before + files
-Attaches files Usage before after = after ≡ before
-Attaches files (QueryRefused f) before after = after ≡ before + 1
-Attaches files (DocumentRefused f) before after = after ≡ before + files
-Attaches files ReadFault before after = GivesAtMost files before after
-Attaches files WriteFault before after = after ≡ before + files
-Attaches files Memory before after = GivesAtMost files before after
-
--- QUERY is attached, where it was read
-abbrev pub AttachesQuery : {T : Type 0} → Result T Status → ℕ → ℕ → Type 0
-AttachesQuery (result.Ok x) before after = after ≡ before + 1
-AttachesQuery (result.Err (QueryRefused f)) before after = after ≡ before + 1
-AttachesQuery (result.Err ReadFault) before after = GivesAtMost 1 before after
-AttachesQuery (result.Err Memory) before after = GivesAtMost 1 before after
-AttachesQuery (result.Err status) before after = ⊥
-
--- DOC is attached, where a run began
-abbrev pub AttachesDocument : Status → ℕ → ℕ → Type 0
-AttachesDocument Ok before after = after ≡ before + 1
-AttachesDocument Usage before after = ⊥
-AttachesDocument (QueryRefused f) before after = ⊥
-AttachesDocument (DocumentRefused f) before after = after ≡ before + 1
-AttachesDocument ReadFault before after = GivesAtMost 1 before after
-AttachesDocument WriteFault before after = after ≡ before + 1
-AttachesDocument Memory before after = GivesAtMost 1 before after
-
--- DOC is attached, where it was read
-abbrev pub StopsDocument : {T : Type 0} → Result T Status → ℕ → ℕ → Type 0
-StopsDocument (result.Ok x) before after = after ≡ before + 1
-StopsDocument (result.Err (DocumentRefused f)) before after = after ≡ before + 1
-StopsDocument (result.Err ReadFault) before after = GivesAtMost 1 before after
-StopsDocument (result.Err Memory) before after = GivesAtMost 1 before after
-StopsDocument (result.Err status) before after = ⊥

@@ -1,16 +1,10 @@
--- How a run ends where a file isn't read (this project's).
+-- The status of a query that isn't accepted, and of a document that isn't read (this project's).
 use Rattle.gcx_model.specs.declared.fault.QueryFault.{QueryFault}
 use Rattle.gcx_model.specs.declared.fault.QueryFault.TheVariants as query
 use Rattle.tree_read.specs.declared.reading.DocumentEnd.{DocumentEnd}
 use Rattle.tree_read.specs.declared.reading.DocumentEnd.TheVariants as document
-use Rattle.gcx_cmd.specs.declared.reading.ReadEnd.{ReadEnd}
-use Rattle.gcx_cmd.specs.declared.reading.ReadEnd.TheVariants as end
 use Rattle.gcx_cmd.specs.declared.status.Status.{Status}
 use Rattle.gcx_cmd.specs.declared.status.Status.TheVariants as status
-
-abbrev pub status_of : ReadEnd → Status
-status_of end.Fault = status.ReadFault
-status_of end.Memory = status.Memory
 
 abbrev pub document_status : DocumentEnd → Status
 document_status (document.Refused f) = status.DocumentRefused f

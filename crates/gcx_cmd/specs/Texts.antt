@@ -1,6 +1,5 @@
 -- What the commands but `run` write (this project's).
-use Rattle.std.specs.Prelude.{◌≡◌, ℕ, List, ◌++◌, codes, decimal, length, Option}
-use Rattle.gcx_io.specs.Bytes.{Grows, GrowsWithin}
+use Rattle.std.specs.Prelude.{ℕ, List, ◌++◌, codes, decimal, length}
 use Rattle.gcx_model.specs.Demand.{peak_of}
 use Rattle.gcx_model.specs.Held.{sum_given, sum_taken}
 use Rattle.gcx_model.specs.Normal.{normal}
@@ -11,16 +10,6 @@ use Rattle.gcx_model.specs.Seen.{seen_tree}
 use Rattle.gcx_model.specs.Tree.{Token}
 use Rattle.signoff_place.specs.Explained.{explained}
 use Rattle.gcx_cmd.specs.Diagnosis.{newline}
-use Rattle.gcx_cmd.specs.declared.status.Status.{Status}
-use Rattle.gcx_cmd.specs.declared.status.Status.TheVariants.{Ok, WriteFault, Memory}
-
--- What each status says of the bytes of a text that were written: all of them at Ok, a front of them where a write failed or
--- memory ran out, else none.
-abbrev pub WritesText : Status → (before after : Option (List ℕ)) → List ℕ → Type 0
-WritesText Ok before after text = Grows before after text
-WritesText WriteFault before after text = GrowsWithin before after text
-WritesText Memory before after text = GrowsWithin before after text
-WritesText status before after text = after ≡ before
 
 -- `explain` writes the plan of the query
 abbrev pub explain_text : List ExprTree → List ℕ

@@ -1,15 +1,19 @@
 //! The line that says why a run didn't end well.
-ghost use Rattle.std.specs.Prelude.{◌≡◌, Some, None, OnOk, OnErr};
-ghost use Rattle.gcx_io.specs.Bytes.{Grows, GrowsWithin};
-ghost use Rattle.gcx_io.specs.Causes.{HasCause};
+ghost use Rattle.std.specs.Prelude.{◌≡◌, ◌≤◌, ◌++◌, ◌+◌, Some, None, length, IfSome};
+ghost use Rattle.arrayvec.specs.ArrayVec.{array_vec_len};
 ghost use Rattle.gcx_cmd.specs.declared.status.Status.TheVariants.{Ok as well};
-ghost use Rattle.gcx_cmd.specs.Diagnosis.{limit_words, query_line, document_line, line_of, TakesLine};
-ghost use Rattle.gcx_cmd.specs.Lines.{number_bytes, bytes_of, line_bytes};
+ghost use Rattle.gcx_cmd.specs.Diagnosis.{limit_words, query_line, document_line, line_of};
+ghost use Rattle.gcx_cmd.specs.Does.{Tells};
+ghost use Rattle.gcx_cmd.specs.Lines.{IsShort, bytes_of, line_bytes};
 
 use crate::Status;
-use gcx_io::{Failed, Sink, write_all};
+use arrayvec::ArrayVec;
+use gcx_io::{Sink, write_all};
 use gcx_model::{DocFault, QueryFault, What};
 use itoa::Buffer;
+
+/// Room for a line: words of at most 38 bytes, a number and the end. Its longest has 53 bytes.
+const ROOM: usize = 80;
 
 /// What a line says, without its end: words, and perhaps a number behind them.
 #[derive(Clone, Copy)]
@@ -20,7 +24,8 @@ struct Line {
 
 /// The words before the limit that a query passes.
 fn limit_words(what: What) -> &'static [u8]
-    ensures { result.now ≡ limit_words what }
+    ensures words { result.now ≡ limit_words what }
+    ensures short { length result.now ≤ 38 }
 {
     match what {
         What::Text => b"gcx: query TooLarge Text ",
@@ -57,7 +62,8 @@ impl Line {
     }
 
     fn of_query(fault: QueryFault) -> Line
-        ensures { bytes_of result ≡ query_line fault }
+        ensures line { bytes_of result ≡ query_line fault }
+        ensures short { IsShort result }
     {
         match fault {
             QueryFault::Utf8(at) => Line::numbered(b"gcx: query Utf8 ", at),
@@ -76,7 +82,8 @@ impl Line {
     }
 
     fn of_document(fault: DocFault) -> Line
-        ensures { bytes_of result ≡ document_line fault }
+        ensures line { bytes_of result ≡ document_line fault }
+        ensures short { IsShort result }
     {
         match fault {
             DocFault::Utf8(at) => Line::numbered(b"gcx: document Utf8 ", at),
@@ -93,6 +100,7 @@ impl Line {
     /// The line of a status. None at Ok.
     fn of(status: Status) -> Option<Line>
         ensures line { line_bytes result ≡ line_of status }
+        ensures short { IfSome result IsShort }
         ensures silent { status ≡ well → result ≡ None }
     {
         match status {
@@ -107,38 +115,37 @@ impl Line {
     }
 }
 
-/// Writes a number, if there is one.
-fn put_number<E: Sink>(err: &mut E, number: Option<u64>) -> Result<(), Failed>
-    ensures all { OnOk result (Grows (E.taken err.old) (E.taken err.new) (number_bytes number)) }
-    ensures part { OnErr result (GrowsWithin (E.taken err.old) (E.taken err.new) (number_bytes number)) }
-    ensures cause { HasCause (E.faults err.old) (E.faults err.new) result }
+/// Appends what there is room for.
+fn put(line: &mut ArrayVec<u8, ROOM>, bytes: &[u8])
+    requires { array_vec_len line.old + length bytes.now ≤ 80 }
+    ensures { line.new.items ≡ line.old.items ++ bytes.now }
 {
-    match number {
-        Some(number) => {
-            let mut buffer = Buffer::new();
-            write_all(err, buffer.format(number).as_bytes())
-        }
-        None => Ok(()),
+    let _ = line.try_extend_from_slice(bytes);
+}
+
+/// A line with its end.
+fn text_of(line: Line) -> ArrayVec<u8, ROOM>
+    requires { IsShort line }
+    ensures { result.items ≡ bytes_of line }
+{
+    let mut text = ArrayVec::new();
+    put(&mut text, line.words);
+    if let Some(number) = line.number {
+        let mut buffer = Buffer::new();
+        put(&mut text, buffer.format(number).as_bytes());
     }
+    put(&mut text, b"\n");
+    text
 }
 
-/// Writes a line and its end.
-fn put_line<E: Sink>(err: &mut E, line: Line) -> Result<(), Failed>
-    ensures all { OnOk result (Grows (E.taken err.old) (E.taken err.new) (bytes_of line)) }
-    ensures part { OnErr result (GrowsWithin (E.taken err.old) (E.taken err.new) (bytes_of line)) }
-    ensures cause { HasCause (E.faults err.old) (E.faults err.new) result }
-{
-    write_all(err, line.words)?;
-    put_number(err, line.number)?;
-    write_all(err, b"\n")
-}
-
-/// Writes the line of the status: nothing at Ok. A fault of `err` changes nothing else.
-pub(crate) fn diagnose<E: Sink>(err: &mut E, status: Status)
-    ensures line { TakesLine (E.taken err.old) (E.taken err.new) (E.faults err.old) (E.faults err.new) (line_of status) }
+/// Writes the line of the status in one piece: nothing at Ok. It takes no memory, and a fault of `err` changes nothing
+/// else.
+pub fn diagnose<E: Sink>(err: &mut E, status: Status)
+    ensures tells { Tells status (E.seen err.old) (E.seen err.new) }
+    ensures later { (E.seen err.old).faults ≤ (E.seen err.new).faults }
     ensures silent { status ≡ well → err.new ≡ err.old }
 {
     if let Some(line) = Line::of(status) {
-        let _ = put_line(err, line);
+        let _ = write_all(err, text_of(line).as_slice());
     }
 }

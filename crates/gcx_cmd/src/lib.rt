@@ -3,13 +3,21 @@
 
 mod command;
 mod diagnosis;
-mod files;
+mod document;
+mod explain;
 mod lines;
-mod measuring;
-mod reading;
+mod made;
+mod peak;
+mod query;
+mod real;
 mod running;
+mod selfrun;
 mod status;
+mod text;
 mod whole;
+mod writing;
 
 pub use command::gcx_main;
+pub use diagnosis::diagnose;
+pub use real::gcx_files;
 pub use status::Status;

@@ -1,12 +1,9 @@
 //! The lines that `peak` and `selfrun` print.
-ghost use Rattle.std.specs.Prelude.{◌≡◌, ◌⊎◌, ◌≤◌, ◌++◌, decimal, OnOk};
-ghost use Rattle.gcx_io.specs.Causes.{Rose};
-ghost use Rattle.gcx_cmd.specs.Texts.{answer_line, peak_line, WritesText};
+ghost use Rattle.std.specs.Prelude.{◌≡◌, ◌++◌, decimal, OnOk};
+ghost use Rattle.gcx_cmd.specs.Texts.{answer_line, peak_line};
 
-use crate::Status;
 use engine::Report;
 use gcx_base::Memory;
-use gcx_io::{Failed, Sink, write_all};
 use itoa::Buffer;
 
 fn put_number(line: &mut Vec<u8>, number: u64) -> Result<(), Memory>
@@ -27,7 +24,8 @@ fn put_sum(line: &mut Vec<u8>, sum: u128) -> Result<(), Memory>
 
 /// Appends the line of a run's numbers.
 pub(crate) fn put_peak_line(line: &mut Vec<u8>, report: &Report) -> Result<(), Memory>
-    ensures { OnOk result (line.new.items ≡ line.old.items ++ peak_line report.now.peak report.now.nodes report.now.given report.now.taken) }
+    ensures { OnOk result (line.new.items ≡ line.old.items
+        ++ peak_line report.now.peak report.now.nodes report.now.given report.now.taken) }
 {
     line.extend_from_slice(b"peak ")?;
     put_number(line, report.peak)?;
@@ -47,23 +45,11 @@ pub(crate) fn put_answer_line(
     answer: u64,
     report: &Report,
 ) -> Result<(), Memory>
-    ensures { OnOk result (line.new.items ≡ line.old.items ++ answer_line answer report.now.peak report.now.nodes report.now.given report.now.taken) }
+    ensures { OnOk result (line.new.items ≡ line.old.items
+        ++ answer_line answer report.now.peak report.now.nodes report.now.given report.now.taken) }
 {
     line.extend_from_slice(b"answer ")?;
     put_number(line, answer)?;
     line.extend_from_slice(b" ")?;
     put_peak_line(line, report)
-}
-
-/// Writes a text, and answers the status to end with.
-pub(crate) fn write_text<O: Sink>(out: &mut O, text: &[u8]) -> Status
-    ensures written { WritesText result (O.taken out.old) (O.taken out.new) text.now }
-    ensures which { (result ≡ Status.Ok) ⊎ (result ≡ Status.WriteFault) }
-    ensures cause { result ≡ Status.WriteFault → Rose (O.faults out.old) (O.faults out.new) }
-    ensures later { O.faults out.old ≤ O.faults out.new }
-{
-    match write_all(out, text) {
-        Ok(()) => Status::Ok,
-        Err(Failed) => Status::WriteFault,
-    }
 }

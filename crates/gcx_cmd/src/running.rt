@@ -1,24 +1,24 @@
-//! A run of a plan over DOC.
-ghost use Rattle.std.specs.Prelude.{◌≡◌, ◌≢◌, ◌⊎◌, ◌≤◌, ◌+◌, ℕ, List, Bool, true, false};
+//! `run`: the answer of QUERY over DOC, written while DOC is read.
+ghost use Rattle.std.specs.Prelude.{◌≡◌, ◌≤◌, List, Some, true};
 ghost use Rattle.std.specs.FinMap as map;
 ghost use Rattle.gcx_io.specs.Causes.{Rose};
-ghost use Rattle.gcx_io.specs.Shelf.{content_of, IsMissing};
 ghost use Rattle.gcx_model.specs.PlanView.{plan_tree};
 ghost use Rattle.gcx_model.specs.Query.{ExprTree};
-ghost use Rattle.gcx_cmd.specs.Main.{HasNoMemory, KeepsGiven, AttachesDocument};
-ghost use Rattle.gcx_cmd.specs.Measuring.{Measures};
-ghost use Rattle.gcx_cmd.specs.Running.{IsPlaced, IsPlanOf, Ran};
-ghost use Rattle.gcx_cmd.specs.Stopping.{SaysOfGiven};
-ghost use Rattle.tree_read.specs.Reading.{DocumentGave};
+ghost use Rattle.gcx_words.specs.declared.command.Command.TheVariants.{Run};
+ghost use Rattle.gcx_cmd.specs.Does.{DoesIf};
+ghost use Rattle.gcx_cmd.specs.Main.{HasNoMemory};
+ghost use Rattle.gcx_cmd.specs.Outside.{outside};
+ghost use Rattle.gcx_cmd.specs.Reads.{CausesFault, KeepsShelf};
+ghost use Rattle.gcx_cmd.specs.Running.{IsPlaced, IsPlanOf};
+ghost use Rattle.gcx_cmd.specs.Runs.{DocumentRuns, SourceRuns, stored};
 ghost use Rattle.gcx_cmd.specs.Status.{ended_status};
-ghost use Rattle.gcx_cmd.specs.Tracing.{Traced};
 
 use crate::Status;
-use crate::reading::attach;
+use crate::query::read_query;
 use buf_tree::Row;
 use engine::{Ended, Engine, Report, run_query};
 use gcx_base::{Limits, Text};
-use gcx_io::{Opened, Shelf, Sink, Source};
+use gcx_io::{AttachFault, Opened, Shelf, Sink, Source};
 use gcx_model::Plan;
 use node_store::NodeStore;
 use pull_eval::Marked;
@@ -52,8 +52,8 @@ fn nothing_run() -> Report
     }
 }
 
-/// Runs the plan over the document that the source gives: before each read all settled output is written, and with `tracing`
-/// the trace behind it. The rows stand in the lent store. At most `ahead` tokens are fed at once.
+/// Runs the plan over the document that the source gives: before each read all settled output is written, and with
+/// `tracing` the trace behind it. The rows stand in the lent store. At most `ahead` tokens are fed at once.
 pub(crate) fn run_plan<S: Source, O: Sink, E: Sink, N: NodeStore<Row> + Drop>(
     alloc: Global,
     plan: &Plan,
@@ -65,25 +65,18 @@ pub(crate) fn run_plan<S: Source, O: Sink, E: Sink, N: NodeStore<Row> + Drop>(
     nodes: &mut N,
 ) -> Report
     requires placed { IsPlaced (plan_tree plan.now) }
-    requires ahead { (1 ≤ ahead) × (ahead ≤ 1000) }
-    requires traced { tracing ≡ true → ahead ≡ 1 }
-    requires empty { N.rows nodes.old ≡ map.empty }
-    requires fresh { N.most_held nodes.old ≡ 0 }
-    ensures ran { (q : List ExprTree) → IsPlanOf q (plan_tree plan.now) →
-        Ran q ahead (ended_status result.ended) (S.left source.old) (S.left source.new) (O.taken out.old) (O.taken out.new) (N.rows nodes.new) (N.most_held nodes.new) }
-    ensures numbers { (q : List ExprTree) → IsPlanOf q (plan_tree plan.now) → ahead ≡ 1 → result.ended ≡ Ended.Ok → Measures q result (S.left source.old) (S.left source.new) }
-    ensures traced { (q : List ExprTree) → IsPlanOf q (plan_tree plan.now) → tracing ≡ true →
-        Traced q (ended_status result.ended) (S.left source.old) (S.left source.new) (E.taken err.old) (E.taken err.new) }
-    ensures stopped { DocumentGave (S.left source.old) (S.left source.new) (SaysOfGiven (ended_status result.ended)) }
+    requires ahead { (1 ≤ ahead) × (ahead ≤ 1000) × (tracing ≡ true → ahead ≡ 1) }
+    requires new { (N.rows nodes.old ≡ map.empty) × (N.most_held nodes.old ≡ 0) }
+    ensures runs { (q : List ExprTree) → IsPlanOf q (plan_tree plan.now) →
+        SourceRuns tracing ahead q result (S.seen source.old) (S.seen source.new)
+        (O.seen out.old) (O.seen out.new) (E.seen err.old) (E.seen err.new)
+        (stored (N.rows nodes.new) (N.most_held nodes.new)) }
     ensures emptied { result.ended ≡ Ended.Ok → N.rows nodes.new ≡ map.empty }
     ensures memory { HasNoMemory (ended_status result.ended) }
+    ensures cause { result.ended ≡ Ended.ReadFault → Rose (S.faults source.old) (S.faults source.new) }
     ensures kept { S.keeps source.old source.new }
-    ensures read { result.ended ≡ Ended.ReadFault → Rose (S.faults source.old) (S.faults source.new) }
-    ensures write { result.ended ≡ Ended.WriteFault → Rose (O.faults out.old) (O.faults out.new) ⊎ ((tracing ≡ true) × Rose (E.faults err.old) (E.faults err.new)) }
-    ensures read_count { S.faults source.old ≤ S.faults source.new }
-    ensures write_count { O.faults out.old ≤ O.faults out.new }
-    ensures trace_count { E.faults err.old ≤ E.faults err.new }
-    ensures silent { tracing ≡ false → err.new ≡ err.old }
+    ensures counts { (S.faults source.old ≤ S.faults source.new)
+        × ((O.seen out.old).faults ≤ (O.seen out.new).faults) × ((E.seen err.old).faults ≤ (E.seen err.new).faults) }
 {
     let conds = Marked::new(alloc);
     let limits = Limits::full();
@@ -96,7 +89,7 @@ pub(crate) fn run_plan<S: Source, O: Sink, E: Sink, N: NodeStore<Row> + Drop>(
 }
 
 /// Attaches DOC and runs the plan over it.
-pub(crate) fn run_document<F: Shelf, O: Sink, E: Sink, N: NodeStore<Row> + Drop>(
+fn run_document<F: Shelf, O: Sink, E: Sink, N: NodeStore<Row> + Drop>(
     alloc: Global,
     plan: &Plan,
     tracing: bool,
@@ -108,34 +101,52 @@ pub(crate) fn run_document<F: Shelf, O: Sink, E: Sink, N: NodeStore<Row> + Drop>
     nodes: &mut N,
 ) -> Status
     requires placed { IsPlaced (plan_tree plan.now) }
-    requires ahead { (1 ≤ ahead) × (ahead ≤ 1000) }
-    requires traced { tracing ≡ true → ahead ≡ 1 }
-    requires empty { N.rows nodes.old ≡ map.empty }
-    requires fresh { N.most_held nodes.old ≡ 0 }
-    ensures ran { (q : List ExprTree) → IsPlanOf q (plan_tree plan.now) → F.handles files.new ≡ F.handles files.old + 1 →
-        Ran q ahead result (content_of (F.names files.old) name.now) (F.left files.new (F.handles files.old)) (O.taken out.old) (O.taken out.new) (N.rows nodes.new) (N.most_held nodes.new) }
-    ensures traced { (q : List ExprTree) → IsPlanOf q (plan_tree plan.now) → F.handles files.new ≡ F.handles files.old + 1 → tracing ≡ true →
-        Traced q result (content_of (F.names files.old) name.now) (F.left files.new (F.handles files.old)) (E.taken err.old) (E.taken err.new) }
-    ensures stopped { F.handles files.new ≡ F.handles files.old + 1 →
-        DocumentGave (content_of (F.names files.old) name.now) (F.left files.new (F.handles files.old)) (SaysOfGiven result) }
-    ensures not_begun { F.handles files.new ≢ F.handles files.old + 1 → (out.new ≡ out.old) × (err.new ≡ err.old) × (nodes.new ≡ nodes.old) }
+    requires ahead { (1 ≤ ahead) × (ahead ≤ 1000) × (tracing ≡ true → ahead ≡ 1) }
+    requires new { (N.rows nodes.old ≡ map.empty) × (N.most_held nodes.old ≡ 0) }
+    ensures runs { (q : List ExprTree) → IsPlanOf q (plan_tree plan.now) → DocumentRuns tracing ahead q name.now result
+        (outside (F.seen files.old) (O.seen out.old) (E.seen err.old) (N.rows nodes.old) (N.most_held nodes.old))
+        (outside (F.seen files.new) (O.seen out.new) (E.seen err.new) (N.rows nodes.new) (N.most_held nodes.new)) }
     ensures emptied { result ≡ Status.Ok → N.rows nodes.new ≡ map.empty }
-    ensures attaches { AttachesDocument result (F.handles files.old) (F.handles files.new) }
-    ensures others { KeepsGiven (F.handles files.old) (F.left files.old) (F.left files.new) }
+    ensures keeps { KeepsShelf (F.seen files.old) (F.seen files.new) }
+    ensures cause { result ≡ Status.ReadFault → CausesFault name.now (F.seen files.old) (F.seen files.new) }
     ensures memory { HasNoMemory result }
-    ensures read { result ≡ Status.ReadFault → Rose (F.faults files.old) (F.faults files.new) ⊎ IsMissing (F.names files.old) name.now }
-    ensures write { result ≡ Status.WriteFault → Rose (O.faults out.old) (O.faults out.new) ⊎ ((tracing ≡ true) × Rose (E.faults err.old) (E.faults err.new)) }
-    ensures names { F.names files.new ≡ F.names files.old }
-    ensures read_count { F.faults files.old ≤ F.faults files.new }
-    ensures write_count { O.faults out.old ≤ O.faults out.new }
-    ensures trace_count { E.faults err.old ≤ E.faults err.new }
-    ensures silent { tracing ≡ false → err.new ≡ err.old }
+    ensures counts { ((O.seen out.old).faults ≤ (O.seen out.new).faults)
+        × ((E.seen err.old).faults ≤ (E.seen err.new).faults) }
 {
-    let handle = match attach(files, name) {
+    let handle = match files.attach(name) {
         Ok(handle) => handle,
-        Err(end) => return Status::from(end),
+        Err(AttachFault::Failed) => return Status::ReadFault,
+        Err(AttachFault::Memory) => return Status::Memory,
     };
     let mut source = Opened::new(files, handle);
     let report = run_plan(alloc, plan, tracing, ahead, &mut source, out, err, nodes);
     status_of(report.ended)
+}
+
+/// Runs `run [--trace] [--ahead K] QUERY DOC`.
+pub(crate) fn write_run<F: Shelf, O: Sink, E: Sink, N: NodeStore<Row> + Drop>(
+    alloc: Global,
+    tracing: bool,
+    ahead: u32,
+    query: &Text,
+    document: &Text,
+    files: &mut F,
+    out: &mut O,
+    err: &mut E,
+    nodes: &mut N,
+) -> Status
+    requires ahead { (1 ≤ ahead) × (ahead ≤ 1000) × (tracing ≡ true → ahead ≡ 1) }
+    requires new { (N.rows nodes.old ≡ map.empty) × (N.most_held nodes.old ≡ 0) }
+    ensures does { DoesIf (Some (Run tracing ahead query.now document.now)) result
+        (outside (F.seen files.old) (O.seen out.old) (E.seen err.old) (N.rows nodes.old) (N.most_held nodes.old))
+        (outside (F.seen files.new) (O.seen out.new) (E.seen err.new) (N.rows nodes.new) (N.most_held nodes.new)) }
+{
+    let accepted = match read_query(alloc, files, query) {
+        Ok(accepted) => accepted,
+        Err(refused) => return refused,
+    };
+    let plan = &accepted.plan;
+    run_document(
+        alloc, plan, tracing, ahead, files, document, out, err, nodes,
+    )
 }

@@ -1,8 +1,9 @@
 -- Items piece by piece.
-use Rattle.std.proofs.Common.{◌≡◌, ℕ, zero, suc, ◌+◌, ◌-◌, ◌<◌, ◌≤◌, List, [], ◌∷◌, ◌++◌, length, take, drop, Option, Some, None, refl, sym, ap, subst, ◌∙◌, arith, append_assoc, append-nil, codes}
-use Rattle.std.specs.Prelude.{Result, Ok, Err, OnErr}
-use Rattle.gcx_io.specs.Bytes.{Grows, GrowsWithin}
-use Rattle.gcx_io.proofs.Grown.{grows_on}
+use Rattle.std.proofs.Common.{◌≡◌, ℕ, zero, suc, ◌+◌, ◌-◌, ◌<◌, ◌≤◌, List, [], ◌∷◌, ◌++◌, refl, sym, ap, subst, ◌∙◌, arith, append_assoc, append-nil, codes}
+use Rattle.gcx_io.specs.Views.{SinkView}
+use Rattle.gcx_io.specs.Writing.{Takes, Owes}
+use Rattle.run_words.proofs.Joining.{takes_then, owes_then, owes_more, owes_less}
+use Rattle.run_words.specs.Writing.{TakesFront}
 use Rattle.gcx_gen.specs.Generated.{item, items, document}
 
 -- items in two parts
@@ -54,36 +55,9 @@ four_on a b c d e w x y z first second third fourth =
     fourth ∙ ap (λ (l : List ℕ). l ++ z) (three_on a b c d w x y first second third)
     ∙ append_assoc a (w ++ (x ++ y)) z ∙ ap (λ (l : List ℕ). a ++ l) (append_assoc w (x ++ y) z ∙ ap (λ (l : List ℕ). w ++ l) (append_assoc x y z))
 
-front_again : (n : ℕ) (xs ys : List ℕ) → take (length (take n xs)) (xs ++ ys) ≡ take n xs
-front_again zero xs ys = refl
-front_again (suc n) [] ys = refl
-front_again (suc n) (x ∷ xs) ys = ap (λ (l : List ℕ). x ∷ l) (front_again n xs ys)
-
-front_on : (n : ℕ) (xs ys : List ℕ) → take (length xs + n) (xs ++ ys) ≡ xs ++ take n ys
-front_on n [] ys = ap (λ (k : ℕ). take k ys) (omega arith)
-front_on n (x ∷ xs) ys =
-    let more : length (x ∷ xs) + n ≡ suc (length xs + n) = omega arith in
-    ap (λ (k : ℕ). take k (x ∷ (xs ++ ys))) more ∙ ap (λ (l : List ℕ). x ∷ l) (front_on n xs ys)
-
--- a part of the first piece
-pub within_first : (a b : Option (List ℕ)) (xs ys : List ℕ) → GrowsWithin a b xs → GrowsWithin a b (xs ++ ys)
-within_first a b xs ys h = record { count = length (take h.count xs); taken = subst (λ (l : List ℕ). Grows a b l) (sym (front_again h.count xs ys)) h.taken }
-
--- the first piece, and a part of the next
-pub within_next : (a b c : Option (List ℕ)) (xs ys : List ℕ) → Grows a b xs → GrowsWithin b c ys → GrowsWithin a c (xs ++ ys)
-within_next a b c xs ys g h = record { count = length xs + h.count; taken = subst (λ (l : List ℕ). Grows a c l) (sym (front_on h.count xs ys)) (grows_on a b c xs (take h.count ys) g h.taken) }
-
--- nothing yet of a piece
-pub within_none : (a b : Option (List ℕ)) (xs ys : List ℕ) → Grows a b xs → GrowsWithin a b (xs ++ ys)
-within_none a b xs ys g = record { count = length xs; taken = subst (λ (l : List ℕ). Grows a b l) (sym (front_zero xs ys)) g }
-  where
-    front_zero : (xs ys : List ℕ) → take (length xs) (xs ++ ys) ≡ xs
-    front_zero [] ys = refl
-    front_zero (x ∷ xs) ys = ap (λ (l : List ℕ). x ∷ l) (front_zero xs ys)
-
 -- what was written before the item of this number
-abbrev pub Written : (before now : Option (List ℕ)) → (seed at : ℕ) → Type 0
-Written before now seed at = Grows before now (codes "<items>" ++ items seed 0 at)
+abbrev pub Written : (before now : SinkView) → (seed at : ℕ) → Type 0
+Written before now seed at = Takes before now (codes "<items>" ++ items seed 0 at)
 
 -- the document is what was written before an item, and what comes behind
 pub document_at : (seed at to count : ℕ) → at ≤ to → to ≤ count
@@ -97,23 +71,52 @@ document_at seed at to count low high =
     ∙ sym (append_assoc (codes "<items>") (items seed 0 at) (items seed at (to - at) ++ (items seed to (count - to) ++ codes "</items>")))
 
 -- a piece more
-pub written_on : (before now after : Option (List ℕ)) (seed at to : ℕ) → at ≤ to → Written before now seed at → Grows now after (items seed at (to - at)) → Written before after seed to
+pub written_on : (before now after : SinkView) (seed at to : ℕ) → at ≤ to → Written before now seed at → Takes now after (items seed at (to - at))
+    → Written before after seed to
 written_on before now after seed at to low w g =
-    subst (λ (l : List ℕ). Grows before after l) (append_assoc (codes "<items>") (items seed 0 at) (items seed at (to - at)) ∙ ap (λ (l : List ℕ). codes "<items>" ++ l) (items_first seed at to low))
-    (grows_on before now after (codes "<items>" ++ items seed 0 at) (items seed at (to - at)) w g)
+    subst (λ (l : List ℕ). Takes before after l)
+    (append_assoc (codes "<items>") (items seed 0 at) (items seed at (to - at)) ∙ ap (λ (l : List ℕ). codes "<items>" ++ l) (items_first seed at to low))
+    (takes_then before now after (codes "<items>" ++ items seed 0 at) (items seed at (to - at)) w g)
 
 -- a part of a piece more
-pub written_part : (before now after : Option (List ℕ)) (seed at to count : ℕ) → at ≤ to → to ≤ count → Written before now seed at → GrowsWithin now after (items seed at (to - at)) → GrowsWithin before after (document seed count)
-written_part before now after seed at to count low high w g =
-    subst (λ (l : List ℕ). GrowsWithin before after l) (sym (document_at seed at to count low high))
-    (within_next before now after (codes "<items>" ++ items seed 0 at) (items seed at (to - at) ++ (items seed to (count - to) ++ codes "</items>")) w
-    (within_first now after (items seed at (to - at)) (items seed to (count - to) ++ codes "</items>") g))
+pub written_part : (before now after : SinkView) (seed at to count : ℕ) → at ≤ to → to ≤ count → Written before now seed at
+    → Owes now after [] (items seed at (to - at)) → Owes before after [] (document seed count)
+written_part before now after seed at to count low high w o =
+    let rest : List ℕ = items seed to (count - to) ++ codes "</items>" in
+    subst (λ (l : List ℕ). Owes before after [] l) (sym (document_at seed at to count low high))
+    (owes_less before after (codes "<items>" ++ items seed 0 at) ((codes "<items>" ++ items seed 0 at) ++ (items seed at (to - at) ++ rest))
+    (owes_then before now after (codes "<items>" ++ items seed 0 at) (items seed at (to - at) ++ rest) w (owes_more now after [] (items seed at (to - at)) rest o)))
+
+-- nothing more
+pub written_front : (before now after : SinkView) (seed at to count : ℕ) → at ≤ to → to ≤ count → Written before now seed at → after ≡ now
+    → TakesFront before after [] (document seed count)
+written_front before now after seed at to count low high w same = record {
+  more = codes "<items>" ++ items seed 0 at;
+  rest = items seed at (to - at) ++ (items seed to (count - to) ++ codes "</items>");
+  took = subst (λ (v : SinkView). Takes before v (codes "<items>" ++ items seed 0 at)) (sym same) w;
+  split = document_at seed at to count low high;
+}
 
 -- the document is what was written before its end, and the end
 pub document_end : (seed count : ℕ) → document seed count ≡ (codes "<items>" ++ items seed 0 count) ++ codes "</items>"
 document_end seed count = sym (append_assoc (codes "<items>") (items seed 0 count) (codes "</items>"))
 
--- where a call failed, or not
-pub always_err : {T E : Type 0} (r : Result T E) (P : Type 0) → P → OnErr r P
-always_err (Ok x) P h = tt
-always_err (Err e) P h = h
+-- the end, or a part of it
+pub written_all : (before now after : SinkView) (seed at count : ℕ) → at ≡ count → Written before now seed at → Takes now after (codes "</items>")
+    → Takes before after (document seed count)
+written_all before now after seed at count end w t =
+    let all : Written before now seed count = subst (λ (k : ℕ). Written before now seed k) end w in
+    subst (λ (l : List ℕ). Takes before after l) (sym (document_end seed count))
+    (takes_then before now after (codes "<items>" ++ items seed 0 count) (codes "</items>") all t)
+
+pub written_end : (before now after : SinkView) (seed at count : ℕ) → at ≡ count → Written before now seed at → Owes now after [] (codes "</items>")
+    → Owes before after [] (document seed count)
+written_end before now after seed at count end w o =
+    let all : Written before now seed count = subst (λ (k : ℕ). Written before now seed k) end w in
+    subst (λ (l : List ℕ). Owes before after [] l) (sym (document_end seed count))
+    (owes_less before after (codes "<items>" ++ items seed 0 count) ((codes "<items>" ++ items seed 0 count) ++ codes "</items>")
+    (owes_then before now after (codes "<items>" ++ items seed 0 count) (codes "</items>") all o))
+
+-- the first words, or a part of them
+pub written_first : (before after : SinkView) (seed count : ℕ) → Owes before after [] (codes "<items>") → Owes before after [] (document seed count)
+written_first before after seed count o = owes_more before after [] (codes "<items>") (items seed 0 count ++ codes "</items>") o

@@ -1,7 +1,7 @@
 //! A document in pieces.
-ghost use Rattle.std.specs.Prelude.{◌≡◌, ◌≤◌, ◌<◌, ◌-◌, IsErrOf, OnOk, OnErr};
-ghost use Rattle.gcx_io.specs.Bytes.{Grows, GrowsWithin};
-ghost use Rattle.gcx_io.specs.Causes.{Rose};
+ghost use Rattle.std.specs.Prelude.{◌≡◌, ◌≤◌, ◌<◌, ◌-◌, [], IsErrOf, OnOk};
+ghost use Rattle.gcx_io.specs.Writing.{Owes, Takes};
+ghost use Rattle.run_words.specs.Writing.{TakesFront};
 ghost use Rattle.gcx_gen.specs.Generated.{document, items};
 
 use crate::document::put_items;
@@ -61,9 +61,10 @@ fn write_items<O: Sink>(
     to: u32,
 ) -> Result<(), WriteEnd>
     requires { from ≤ to }
-    ensures all { OnOk result (Grows (O.taken out.old) (O.taken out.new) (items seed from (to - from))) }
-    ensures part { OnErr result (GrowsWithin (O.taken out.old) (O.taken out.new) (items seed from (to - from))) }
-    ensures cause { IsErrOf result WriteEnd.Failed → Rose (O.faults out.old) (O.faults out.new) }
+    ensures takes { OnOk result (Takes (O.seen out.old) (O.seen out.new) (items seed from (to - from))) }
+    ensures owes { IsErrOf result WriteEnd.Failed →
+        Owes (O.seen out.old) (O.seen out.new) [] (items seed from (to - from)) }
+    ensures untouched { IsErrOf result WriteEnd.Memory → O.seen out.new ≡ O.seen out.old }
     ensures later { O.faults out.old ≤ O.faults out.new }
 {
     let mut piece = Vec::new(alloc);
@@ -72,16 +73,18 @@ fn write_items<O: Sink>(
     Ok(())
 }
 
-/// Writes the document of this seed and so many items, a thousand items at a time. After an error a front of it was taken.
+/// Writes the document of this seed and so many items, a thousand items at a time. After an error a front of it was taken, and
+/// no call comes behind one that failed.
 pub fn write_document<O: Sink>(
     alloc: Global,
     out: &mut O,
     seed: u32,
     count: u32,
 ) -> Result<(), WriteEnd>
-    ensures all { OnOk result (Grows (O.taken out.old) (O.taken out.new) (document seed count)) }
-    ensures part { OnErr result (GrowsWithin (O.taken out.old) (O.taken out.new) (document seed count)) }
-    ensures cause { IsErrOf result WriteEnd.Failed → Rose (O.faults out.old) (O.faults out.new) }
+    ensures takes { OnOk result (Takes (O.seen out.old) (O.seen out.new) (document seed count)) }
+    ensures owes { IsErrOf result WriteEnd.Failed → Owes (O.seen out.old) (O.seen out.new) [] (document seed count) }
+    ensures front { IsErrOf result WriteEnd.Memory →
+        TakesFront (O.seen out.old) (O.seen out.new) [] (document seed count) }
     ensures later { O.faults out.old ≤ O.faults out.new }
 {
     write_all(out, b"<items>")?;

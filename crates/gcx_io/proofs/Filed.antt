@@ -1,15 +1,15 @@
 -- How the writing of a text into a handle goes on over several calls.
-use Rattle.std.proofs.Common.{◌≡◌, ◌≢◌, ◌⊎◌, inl, inr, ℕ, zero, suc, ◌+◌, ◌-◌, ◌<◌, ◌≤◌, List, [], ◌∷◌, ◌++◌, take, drop, length, map, slice_get, slice_set, Result, Ok, Err, Option, None, Some, refl, sym, ap, subst, ◌∙◌, append_assoc, append-nil, arith, length-drop, take-append-drop}
+use Rattle.std.proofs.Common.{◌≡◌, ◌≢◌, inl, inr, ℕ, zero, suc, ◌+◌, ◌-◌, ◌<◌, ◌≤◌, List, [], ◌∷◌, ◌++◌, take, drop, length, map, slice_get, slice_set, Result, Ok, Err, Option, None, Some, refl, sym, ap, subst, ◌∙◌, append_assoc, append-nil, arith, length-drop, take-append-drop}
 use Rattle.std.specs.Prelude.{unwrap_or, option_map}
 use Rattle.std.proofs.lemmas.List.{map_push, length-take-le, take_rest}
-use Rattle.std.proofs.lemmas.Option.{slice_get-map, slice_get-get_or, slice_get_within}
+use Rattle.std.proofs.lemmas.Option.{slice_get-map}
 use Rattle.std.proofs.Math.Seq.{take-add}
 use Rattle.std.proofs.lemmas.List.Elements.{All-push}
-use Rattle.gcx_io.specs.Causes.{Rose, HasCause}
-use Rattle.gcx_io.specs.Shelf.{Names, Appends, AppendsAll, Stays, LeavesOtherNames}
-use Rattle.gcx_io.specs.Views.{Call, Took, Failed, HandleCalls, HandleView, ShelfView, calls_of}
+use Rattle.gcx_io.specs.Causes.{Rose}
+use Rattle.gcx_io.specs.Shelf.{Names, Appends, AppendsAll, Stays, OthersStay}
+use Rattle.gcx_io.specs.Views.{Call, Took, HandleCalls, HandleView, ShelfView, calls_of}
 use Rattle.gcx_io.specs.Calls.{write_call, WritesHandle}
-use Rattle.gcx_io.specs.Writing.{IsSomeBytes, joined, Answers, TakesInto, OwesInto}
+use Rattle.gcx_io.specs.Writing.{IsSomeBytes, Answers, TakesInto, OwesInto}
 use Rattle.gcx_io.proofs.Written.{joined_push, is_some}
 
 -- ---- what the names hold
@@ -37,12 +37,11 @@ stays_on a b c (inl e) (inr n) = inr n
 stays_on a b c (inr n) (inl f) = inr (f ∙ n)
 stays_on a b c (inr n) (inr m) = inr m
 
-pub leaves_same : (owners left : ℕ → Option (List ℕ)) (count : ℕ) (owner : Option (List ℕ)) → LeavesOtherNames owners left left count owner
-leaves_same owners left count owner k within other = inl refl
+pub leaves_same : (owners left : ℕ → Option (List ℕ)) (count handle : ℕ) → OthersStay owners left left count handle
+leaves_same owners left count handle k within other = inl refl
 
-pub leaves_on : (owners a b c : ℕ → Option (List ℕ)) (count : ℕ) (owner : Option (List ℕ)) → LeavesOtherNames owners a b count owner → LeavesOtherNames owners b c count owner
-    → LeavesOtherNames owners a c count owner
-leaves_on owners a b c count owner first second k within other = stays_on (a k) (b k) (c k) (first k within other) (second k within other)
+pub leaves_on : (owners a b c : ℕ → Option (List ℕ)) (count handle : ℕ) → OthersStay owners a b count handle → OthersStay owners b c count handle → OthersStay owners a c count handle
+leaves_on owners a b c count handle first second k within other = stays_on (a k) (b k) (c k) (first k within other) (second k within other)
 
 -- ---- the calls of the handle
 
@@ -56,7 +55,7 @@ set_same [] h x is = refl
 set_same (z ∷ l) zero x is = cc
 set_same (z ∷ l) (suc h) x is = ap (λ (r : List _). z ∷ r) (set_same l h x is)
 
-get_set : {X : Type 0} (l : List X) (h : ℕ) (x y : X) → slice_get l h ≡ Some x → slice_get (slice_set l h y) h ≡ Some y
+pub get_set : {X : Type 0} (l : List X) (h : ℕ) (x y : X) → slice_get l h ≡ Some x → slice_get (slice_set l h y) h ≡ Some y
 get_set [] h x y is = cc
 get_set (z ∷ l) zero x y is = refl
 get_set (z ∷ l) (suc h) x y is = get_set l h x y is

@@ -1,28 +1,17 @@
 -- What handles have left, and their names.
-use Rattle.std.proofs.Common.{inl, inr, ◌≡◌, ◌≢◌, ℕ, ◌<◌, min, Bool, true, false, List, [], ◌∷◌, ◌++◌, length, take, drop, get_or, slice_get, slice_set, Some, sym, ◌∙◌, ap, subst, arith, refl, zero, suc, length-append}
+use Rattle.std.proofs.Common.{inl, inr, ◌≡◌, ◌≢◌, ℕ, ◌<◌, Bool, true, false, List, [], ◌∷◌, ◌++◌, length, take, get_or, slice_get, slice_set, Some, sym, ◌∙◌, ap, subst, arith, refl, zero, suc, length-append}
 use Rattle.std.specs.declared.option.Option.{Option}
 use Rattle.std.specs.Io.KnownBytes.{Consumes, IsAtEnd}
 use Rattle.gcx_io.specs.Held.{Opening, rest_at, name_at, read_opening, read_at, noted_opening, noted_at}
 use Rattle.gcx_io.specs.Files.{while_whole, opened, names_of, rests_of, told_rest}
-use Rattle.gcx_io.specs.Views.{Call, Gave}
-use Rattle.gcx_io.specs.Shelf.{Adds, AddsName, LeavesOthers, Names, LeavesOtherNames}
-use Rattle.gcx_io.proofs.Moved.{front_of}
+use Rattle.gcx_io.specs.Views.{Call}
+use Rattle.gcx_io.specs.Shelf.{Adds, AddsName, LeavesOthers, Names, OthersStay}
 use Rattle.gcx_io.proofs.Mapped.{apart}
 
 pub name_there : (os : List Opening) (handle : ℕ) → handle < length os → slice_get (names_of os) handle ≡ Some (name_at os handle)
 name_there [] handle given = absurd (omega arith)
 name_there (o ∷ os) zero given = refl
 name_there (o ∷ os) (suc handle) given = name_there os handle (omega arith)
-
-rest_there : (os : List Opening) (handle : ℕ) → handle < length os → slice_get (rests_of os) handle ≡ Some (rest_at os handle)
-rest_there [] handle given = absurd (omega arith)
-rest_there (o ∷ os) zero given = refl
-rest_there (o ∷ os) (suc handle) given = rest_there os handle (omega arith)
-
-rest_read : (os : List Opening) (handle n : ℕ) → handle < length os → slice_get (rests_of (read_at os handle n)) handle ≡ Some (drop n (rest_at os handle))
-rest_read [] handle n given = absurd (omega arith)
-rest_read (o ∷ os) zero n given = refl
-rest_read (o ∷ os) (suc handle) n given = rest_read os handle n (omega arith)
 
 other_read : (os : List Opening) (handle n k : ℕ) → k ≢ handle → slice_get (rests_of (read_at os handle n)) k ≡ slice_get (rests_of os) k
 other_read [] handle n k other = refl
@@ -63,32 +52,12 @@ others_stay whole os handle n k other = ap (λ (o : Option (List ℕ)). while_wh
 abbrev pub Consumed : Option (List ℕ) → Option (List ℕ) → ℕ → List ℕ → Type 0
 Consumed before after n buf = Consumes before after (take n buf) × (n ≡ 0 → 0 < length buf → IsAtEnd after)
 
-pub rest_moves : (whole : Bool) (os : List Opening) (handle n most : ℕ) (buf now : List ℕ) → handle < length os → 0 < most → 0 < length buf
-    → n ≡ min (min (length (rest_at os handle)) (length buf)) most → now ≡ take n (rest_at os handle) ++ drop n buf
-    → Consumed (told_rest whole os handle) (told_rest whole (read_at os handle n) handle) n now
-rest_moves false os handle n most buf now given some room count moved = (tt, λ none some_room. tt)
-rest_moves true os handle n most buf now given some room count moved =
-    let front = front_of (rest_at os handle) buf now n most some room count moved in
-    rw (rest_there os handle given, rest_read os handle n given) (front.0, λ none some_room. front.1 none)
-
 -- ---- a handle more
 
-last_rest : (os : List Opening) (o : Opening) → slice_get (rests_of (os ++ o ∷ [])) (length os) ≡ Some o.rest
-last_rest [] o = refl
-last_rest (x ∷ os) o = last_rest os o
-
-front_rest : (os : List Opening) (o : Opening) (k : ℕ) → k < length os → slice_get (rests_of (os ++ o ∷ [])) k ≡ slice_get (rests_of os) k
-front_rest [] o k given = absurd (omega arith)
-front_rest (x ∷ os) o zero given = refl
-front_rest (x ∷ os) o (suc k) given = front_rest os o k (omega arith)
-
-pub opened_adds : (whole : Bool) (os : List Opening) (name rest : List ℕ) (handle : ℕ) → handle ≡ length os
-    → Adds (length os) (length (opened name rest os)) (told_rest whole os) (told_rest whole (opened name rest os)) (while_whole whole (Some rest)) handle
-opened_adds whole os name rest handle is = record {
+pub opened_adds : (os : List Opening) (name rest : List ℕ) (handle : ℕ) → handle ≡ length os → Adds (length os) (length (opened name rest os)) handle
+opened_adds os name rest handle is = record {
   number = is;
   count = length-append os (record { name = name; rest = rest; calls = [] } ∷ []);
-  bytes = ap (λ (k : ℕ). told_rest whole (opened name rest os) k) is ∙ ap (while_whole whole) (last_rest os (record { name = name; rest = rest; calls = [] }));
-  others = λ k given. ap (λ (o : Option (List ℕ)). while_whole whole o) (front_rest os (record { name = name; rest = rest; calls = [] }) k given);
 }
 
 names_opened : (os : List Opening) (o : Opening) → names_of (os ++ o ∷ []) ≡ names_of os ++ o.name ∷ []
@@ -138,9 +107,9 @@ noted_set (x ∷ os) zero call o given is = ap (λ (y : Opening). noted_opening 
 noted_set (x ∷ os) (suc handle) call o given is = ap (λ l. x ∷ l) (noted_set os handle call o (omega arith) is)
 
 -- a shelf that goes on as before, or stops telling
-pub stays_whole : (whole kept : Bool) (os : List Opening) (owner : Option (List ℕ)) (count : ℕ) → (whole ≡ false → kept ≡ false)
-    → LeavesOtherNames (slice_get (names_of os)) (told_rest whole os) (told_rest kept os) count owner
-stays_whole false false os owner count lost k given other = inl refl
-stays_whole false true os owner count lost k given other = absurd (apart (lost refl))
-stays_whole true true os owner count lost k given other = inl refl
-stays_whole true false os owner count lost k given other = inr refl
+pub stays_whole : (whole kept : Bool) (os : List Opening) (count handle : ℕ) → (whole ≡ false → kept ≡ false)
+    → OthersStay (slice_get (names_of os)) (told_rest whole os) (told_rest kept os) count handle
+stays_whole false false os count handle lost k given other = inl refl
+stays_whole false true os count handle lost k given other = absurd (apart (lost refl))
+stays_whole true true os count handle lost k given other = inl refl
+stays_whole true false os count handle lost k given other = inr refl

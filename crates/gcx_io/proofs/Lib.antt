@@ -8,4 +8,5 @@ mod Handles
 mod Shelves
 mod Seen
 mod Filed
+mod Opens
 mod RealFiles

@@ -1,15 +1,15 @@
 -- What is seen of shelves in memory behind their calls.
-use Rattle.std.proofs.Common.{◌≡◌, ◌≢◌, inl, inr, ℕ, zero, suc, ◌<◌, min, Bool, true, false, List, [], ◌∷◌, ◌++◌, length, map, take, drop, get_or, slice_get, slice_set, Result, Ok, Err, OnOk, Option, Some, None, refl, sym, ap, subst, ◌∙◌, arith, length-take-le}
+use Rattle.std.proofs.Common.{◌≡◌, ℕ, zero, suc, ◌<◌, min, Bool, true, false, List, [], ◌∷◌, ◌++◌, length, map, take, drop, get_or, slice_get, slice_set, Result, Ok, Err, OnOk, Option, Some, None, refl, sym, ap, subst, ◌∙◌, arith, length-take-le}
 use Rattle.std.proofs.lemmas.List.{map_push, map-set, take_at}
 use Rattle.std.proofs.lemmas.Option.{slice_get-map, slice_get-get_or}
 use Rattle.std.specs.Prelude.{option_map}
 use Rattle.std.specs.Io.KnownBytes.{Keeps}
 use Rattle.gcx_io.specs.Causes.{HasCause}
-use Rattle.gcx_io.specs.Held.{Opening, held_or_none, rest_at, name_at, read_opening, read_at, noted_opening, noted_at}
+use Rattle.gcx_io.specs.Held.{Opening, held_or_none, rest_at, read_opening, read_at, noted_opening, noted_at}
 use Rattle.gcx_io.specs.Files.{OpenFiles, while_whole, all_names, rests, rests_of, told_rest, owners, names_of, handle_count, opened, after_miss, view_of, views, views_count, files_seen}
-use Rattle.gcx_io.specs.Shelf.{Names, content_of, LeavesOthers, LeavesOtherNames}
-use Rattle.gcx_io.specs.Views.{Call, Gave, Failed, HandleCalls, Miss, missed, HandleView, ShelfView, calls_of}
-use Rattle.gcx_io.specs.Calls.{read_call, write_call, fresh, GivesHandle, MissesName, ReadsOnce, WritesHandle}
+use Rattle.gcx_io.specs.Shelf.{Names, content_of, LeavesOthers, OthersStay}
+use Rattle.gcx_io.specs.Views.{Call, Gave, Failed, HandleCalls, missed, calls_of}
+use Rattle.gcx_io.specs.Calls.{write_call, fresh, GivesHandle, MissesName, ReadsOnce, WritesHandle}
 use Rattle.gcx_io.proofs.Moved.{front_of}
 use Rattle.gcx_io.proofs.Handles.{Consumed, count_noted, names_noted, rests_noted, stays_whole}
 
@@ -183,8 +183,8 @@ shelf_writes na nb f f' w w' old new h r piece ff cause calm os refused given =
     }
 
 -- the handles of other names have left what they had, or that isn't told any more
-pub write_others : (old new : OpenFiles) (h : ℕ) (call : Call) (count : ℕ) (owner : Option (List ℕ)) → (old.whole ≡ false → new.whole ≡ false) → new.openings ≡ noted_at old.openings h call
-    → LeavesOtherNames (owners old) (rests old) (rests new) count owner
-write_others old new h call count owner lost os =
+pub write_others : (old new : OpenFiles) (h : ℕ) (call : Call) (count handle : ℕ) → (old.whole ≡ false → new.whole ≡ false) → new.openings ≡ noted_at old.openings h call
+    → OthersStay (owners old) (rests old) (rests new) count handle
+write_others old new h call count handle lost os =
     let same : rests new ≡ told_rest new.whole old.openings = ap (λ (l : List (List ℕ)). λ (k : ℕ). while_whole new.whole (slice_get l k)) (ap rests_of os ∙ rests_noted old.openings h call) in
-    subst (λ (g : ℕ → Option (List ℕ)). LeavesOtherNames (owners old) (rests old) g count owner) (sym same) (stays_whole old.whole new.whole old.openings owner count lost)
+    subst (λ (g : ℕ → Option (List ℕ)). OthersStay (owners old) (rests old) g count handle) (sym same) (stays_whole old.whole new.whole old.openings count handle lost)

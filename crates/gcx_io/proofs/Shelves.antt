@@ -1,21 +1,18 @@
 -- What shelves in memory tell behind their calls.
-use Rattle.std.proofs.Common.{◌≡◌, ℕ, ◌<◌, min, Bool, true, false, List, [], ◌++◌, length, take, drop, slice_get, Some, None, sym, ◌∙◌, ap, subst, refl}
+use Rattle.std.proofs.Common.{◌≡◌, ℕ, ◌<◌, Bool, true, false, List, [], length, slice_get, Some, None, sym, ◌∙◌, ap, subst, refl}
 use Rattle.std.specs.Prelude.{unwrap_or}
 use Rattle.std.specs.declared.option.Option.{Option}
-use Rattle.gcx_io.specs.Held.{Opening, held, held_or_none, rest_at, name_at, read_at}
-use Rattle.gcx_io.specs.Files.{OpenFiles, while_whole, told_rest, rests, owners, handle_count, names_of, opened, Sets, Keeps}
+use Rattle.gcx_io.specs.Held.{Opening, held, held_or_none, name_at, read_at}
+use Rattle.gcx_io.specs.Files.{OpenFiles, while_whole, rests, owners, handle_count, names_of, opened, Sets, Keeps}
 use Rattle.gcx_io.specs.Shelf.{Names, content_of, Adds, AddsName, Appends, LeavesOthers, Maps}
-use Rattle.gcx_io.proofs.Handles.{name_there, count_read, names_read, others_stay, Consumed, rest_moves, opened_adds, opened_names}
+use Rattle.gcx_io.proofs.Handles.{name_there, count_read, names_read, others_stay, opened_adds, opened_names}
 use Rattle.gcx_io.proofs.Mapped.{Told, sets_maps, keeps_append}
 
 -- ---- attach
 
-pub attach_adds : (old new : OpenFiles) (name rest : List ℕ) (handle : ℕ) (content : Option (List ℕ)) → new ≡ record old { openings = opened name rest old.openings } → handle ≡ length old.openings
-    → content ≡ while_whole old.whole (Some rest) → Adds (handle_count old) (handle_count new) (rests old) (rests new) content handle
-attach_adds old new name rest handle content is number told =
-    subst (λ (f : OpenFiles). Adds (handle_count old) (handle_count f) (rests old) (rests f) content handle) (sym is)
-    (subst (λ (o : Option (List ℕ)). Adds (length old.openings) (length (opened name rest old.openings)) (told_rest old.whole old.openings) (told_rest old.whole (opened name rest old.openings)) o handle) (sym told)
-    (opened_adds old.whole old.openings name rest handle number))
+pub opens_adds : (old new : OpenFiles) (name rest : List ℕ) (handle : ℕ) → new.openings ≡ opened name rest old.openings → handle ≡ length old.openings → Adds (handle_count old) (handle_count new) handle
+opens_adds old new name rest handle openings number =
+    subst (λ (os : List Opening). Adds (length old.openings) (length os) handle) (sym openings) (opened_adds old.openings name rest handle number)
 
 pub attach_names : (names : Names) (old new : OpenFiles) (name rest : List ℕ) (handle : ℕ) → new ≡ record old { openings = opened name rest old.openings } → handle ≡ length old.openings
     → AddsName names (owners old) (owners new) name handle
@@ -44,14 +41,6 @@ pub set_content : (all : Bool) (old new : OpenFiles) (name : List ℕ) (least : 
 set_content all old new name least sets whole =
     ap (λ (w : Bool). content_of (while_whole w (Some (Told all new.files))) name) whole ∙ content_set all old.whole old new name least sets
 
-pub create_adds : (all : Bool) (old new : OpenFiles) (name : List ℕ) (least handle : ℕ) → Sets old.files new.files name [] least → new.openings ≡ opened name [] old.openings → new.whole ≡ old.whole
-    → handle ≡ length old.openings → Adds (handle_count old) (handle_count new) (rests old) (rests new) (content_of (while_whole new.whole (Some (Told all new.files))) name) handle
-create_adds all old new name least handle sets openings whole number =
-    subst (λ (o : Option (List ℕ)). Adds (length old.openings) (length new.openings) (told_rest old.whole old.openings) (told_rest new.whole new.openings) o handle) (sym (set_content all old new name least sets whole))
-    (subst (λ (w : Bool). Adds (length old.openings) (length new.openings) (told_rest old.whole old.openings) (told_rest w new.openings) (while_whole old.whole (Some [])) handle) (sym whole)
-    (subst (λ (os : List Opening). Adds (length old.openings) (length os) (told_rest old.whole old.openings) (told_rest old.whole os) (while_whole old.whole (Some [])) handle) (sym openings)
-    (opened_adds old.whole old.openings name [] handle number)))
-
 pub create_names : (names : Names) (old new : OpenFiles) (name : List ℕ) (handle : ℕ) → new.openings ≡ opened name [] old.openings → handle ≡ length old.openings → AddsName names (owners old) (owners new) name handle
 create_names names old new name handle openings number =
     subst (λ (os : List Opening). AddsName names (slice_get (names_of old.openings)) (slice_get (names_of os)) name handle) (sym openings) (opened_names names old.openings name [] handle number)
@@ -70,11 +59,6 @@ write_appends all old new os handle piece given keeps lost =
     keeps_append all old.whole new.whole old.files new.files (name_at old.openings handle) piece keeps (λ e. ap (λ (f : OpenFiles). f.whole) (lost e) ∙ e) (owners old handle) (name_there old.openings handle given)
 
 -- ---- read
-
-pub read_moves : (old new : OpenFiles) (handle n most : ℕ) (buf now : List ℕ) → new ≡ record old { openings = read_at old.openings handle n } → handle < length old.openings → 0 < most → 0 < length buf
-    → n ≡ min (min (length (rest_at old.openings handle)) (length buf)) most → now ≡ take n (rest_at old.openings handle) ++ drop n buf → Consumed (rests old handle) (rests new handle) n now
-read_moves old new handle n most buf now is given some room count moved =
-    subst (λ (f : OpenFiles). Consumed (rests old handle) (rests f handle) n now) (sym is) (rest_moves old.whole old.openings handle n most buf now given some room count moved)
 
 pub read_others : (old new : OpenFiles) (handle n : ℕ) → new ≡ record old { openings = read_at old.openings handle n } → LeavesOthers (rests old) (rests new) handle
 read_others old new handle n is = subst (λ (f : OpenFiles). LeavesOthers (rests old) (rests f) handle) (sym is) (others_stay old.whole old.openings handle n)

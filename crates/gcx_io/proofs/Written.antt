@@ -1,10 +1,10 @@
 -- How the writing of a text goes on over several calls.
-use Rattle.std.proofs.Common.{◌≡◌, ◌≢◌, ℕ, zero, suc, ◌+◌, ◌-◌, ◌<◌, ◌≤◌, List, [], ◌∷◌, ◌++◌, take, drop, length, map, Result, Ok, Err, OnErr, Option, None, Some, refl, sym, ap, subst, ◌∙◌, append_assoc, append-nil, arith, length-drop, take-append-drop}
+use Rattle.std.proofs.Common.{◌≡◌, ◌≢◌, ℕ, ◌+◌, ◌-◌, ◌<◌, ◌≤◌, List, [], ◌∷◌, ◌++◌, take, drop, length, map, Result, Ok, Err, OnErr, Option, None, Some, refl, sym, ap, subst, ◌∙◌, append_assoc, append-nil, arith, length-drop, take-append-drop}
 use Rattle.std.proofs.lemmas.List.{map_push, length-take-le, take_rest}
 use Rattle.std.proofs.Math.Seq.{take-add}
 use Rattle.std.proofs.lemmas.List.Elements.{All-push}
 use Rattle.gcx_io.specs.Bytes.{Grows}
-use Rattle.gcx_io.specs.Causes.{Rose, HasCause}
+use Rattle.gcx_io.specs.Causes.{Rose}
 use Rattle.gcx_io.specs.Views.{Call, Took, Failed, SinkView}
 use Rattle.gcx_io.specs.Calls.{WritesOnce}
 use Rattle.gcx_io.specs.Writing.{IsSomeBytes, joined, Takes, Owes}

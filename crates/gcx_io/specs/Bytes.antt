@@ -18,8 +18,3 @@ WriteGrows before after result piece = MatchResult result (λ n. Grows before af
 -- at least one byte moved, and no more than there are
 abbrev pub Moves : {E : Type 0} → Result ℕ E → List ℕ → Type 0
 Moves result piece = IfOk result (λ n. (1 ≤ n) × (n ≤ length piece))
-
--- the bytes that were taken are a prefix of these
-pub record GrowsWithin (before after : Option (List ℕ)) (bytes : List ℕ) : Type 0 where
-  pub count : ℕ
-  pub taken : Grows before after (take count bytes)

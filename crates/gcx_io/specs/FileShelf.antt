@@ -1,7 +1,7 @@
 -- How the shelf of the file system is seen: it tells no contents (this project's).
-use Rattle.std.specs.Prelude.{◌≡◌, ℕ, zero, suc, List, [], ◌∷◌, Some, None, length, map, slice_get, refl}
+use Rattle.std.specs.Prelude.{◌≡◌, ℕ, zero, suc, List, [], ◌∷◌, ◌++◌, Some, None, length, map, slice_get, refl}
 use Rattle.std.proofs.Common.{ap}
-use Rattle.gcx_io.specs.Views.{Call, HandleCalls, Miss, HandleView, ShelfView}
+use Rattle.gcx_io.specs.Views.{Call, HandleCalls, Miss, missed, HandleView, ShelfView}
 use Rattle.gcx_io.specs.declared.stream.Stream.{Stream}
 use Rattle.gcx_io.specs.declared.stream.Stream.TheVariants.{Reading, Writing}
 
@@ -12,6 +12,14 @@ pub record FileShelfState : Type 0 where
   pub refused : List Miss
   pub faults : ℕ
   pub write_faults : ℕ
+
+-- a handle more of this name, with no calls
+abbrev pub with_handle : List ℕ → FileShelfState → FileShelfState
+with_handle name s = record s { given = s.given ++ record { name = name; calls = [] } ∷ [] }
+
+-- the name is listed as missed
+abbrev pub with_miss : List ℕ → FileShelfState → FileShelfState
+with_miss name s = record s { refused = s.refused ++ missed name (length s.given) ∷ [] }
 
 -- what a stream answered
 abbrev pub stream_calls : Stream → List Call

@@ -3,9 +3,9 @@ use Rattle.std.specs.Prelude.{◌≡◌, ◌<◌, ◌≤◌, ℕ, zero, suc, ◌
 use Rattle.std.proofs.Common.{arith, refl, ap}
 use Rattle.std.specs.declared.option.Option.{Option}
 use Rattle.std.specs.declared.option.Option.TheVariants.{Some, None}
-use Rattle.gcx_io.specs.Held.{File, held, held_or_none, room_of, with_file, Opening}
+use Rattle.gcx_io.specs.Held.{File, held, held_or_none, room_of, with_file, mapped, Opening, name_at, read_at, noted_at}
 use Rattle.gcx_io.specs.Shelf.{Names, IsTelling}
-use Rattle.gcx_io.specs.Views.{Miss, missed, HandleView, ShelfView}
+use Rattle.gcx_io.specs.Views.{Call, Took, Miss, missed, HandleView, ShelfView}
 
 -- the files, the handles, whether all the bytes that were taken are kept, and the names at which `attach` or `create`
 -- failed
@@ -14,6 +14,10 @@ pub record OpenFiles : Type 0 where
   pub openings : List Opening
   pub whole : Bool
   pub refused : List Miss
+
+-- no file, and no handle
+abbrev pub no_files : OpenFiles
+no_files = record { files = []; openings = []; whole = true; refused = [] }
 
 -- told while all that was taken is kept
 abbrev pub while_whole : {A : Type 0} → Bool → Option A → Option A
@@ -68,6 +72,11 @@ Keeps true before after name piece = (room : ℕ) × (room_of before name ≤ ro
 Keeps false before after name piece =
     ((n : List ℕ) → held after n ≡ held before n) × (room_of before name < length piece)
 
+-- the same for the name of a handle, while all that was taken is kept
+abbrev pub KeepsPiece : (before after : OpenFiles) → (handle : ℕ) → (piece : List ℕ) → Type 0
+KeepsPiece before after handle piece = before.whole ≡ true
+    → Keeps after.whole before.files after.files (name_at before.openings handle) piece
+
 -- the place of the first file of a name
 pub record IsPlaceOf (name : List ℕ) (files : List File) (i : ℕ) : Type 0 where
   pub file : File
@@ -99,6 +108,33 @@ rest_told (o ∷ os) (suc k) given = rest_told os k (omega arith)
 -- the name is listed as missed
 abbrev pub after_miss : List ℕ → OpenFiles → OpenFiles
 after_miss name s = record s { refused = s.refused ++ missed name (length s.openings) ∷ [] }
+
+-- the name holds these bytes, whatever it held
+abbrev pub after_put : (name bytes : List ℕ) → (room : ℕ) → OpenFiles → OpenFiles
+after_put name bytes room s = record s { files = mapped name bytes room s.files }
+
+-- a handle more of this name, which has left what the name holds, no bytes where it isn't mapped
+abbrev pub after_attach : List ℕ → OpenFiles → OpenFiles
+after_attach name s = record s { openings = opened name (held_or_none s.files name) s.openings }
+
+-- n bytes more were read of this handle
+abbrev pub after_read : (handle n : ℕ) → OpenFiles → OpenFiles
+after_read handle n s = record s { openings = read_at s.openings handle n }
+
+-- one call more of this handle, which read nothing
+abbrev pub after_call : (handle : ℕ) → Call → OpenFiles → OpenFiles
+after_call handle call s = record s { openings = noted_at s.openings handle call }
+
+-- what a `create` leaves, with room for so many bytes
+abbrev pub Makes : List ℕ → (least : ℕ) → OpenFiles → OpenFiles → Type 0
+Makes name least before after = Sets before.files after.files name [] least
+    × (after.openings ≡ opened name [] before.openings) × (after.whole ≡ before.whole)
+
+-- what a write into this handle leaves: where something was lost before, nothing more is kept
+abbrev pub TakesPiece : (handle : ℕ) → (piece : List ℕ) → OpenFiles → OpenFiles → Type 0
+TakesPiece handle piece before after = KeepsPiece before after handle piece
+    × (before.whole ≡ false → after ≡ after_call handle (Took piece) before)
+    × (after.openings ≡ noted_at before.openings handle (Took piece))
 
 -- how handles are seen
 abbrev pub view_of : Bool → Opening → HandleView

@@ -1,5 +1,6 @@
 -- Files in memory: names and what they hold, and what each handle has left (this project's).
-use Rattle.std.specs.Prelude.{ℕ, zero, suc, List, [], ◌∷◌, ◌++◌, take, drop, unwrap_or, if◌then◌else◌}
+use Rattle.std.specs.Prelude.{◌≡◌, ◌≤◌, ℕ, zero, suc, ◌+◌, List, [], ◌∷◌, ◌++◌, length, take, drop, unwrap_or}
+use Rattle.std.specs.Prelude.{if◌then◌else◌}
 use Rattle.std.specs.Str.{bytes_eq}
 use Rattle.std.specs.declared.option.Option.{Option}
 use Rattle.std.specs.declared.option.Option.TheVariants.{Some, None}
@@ -10,6 +11,15 @@ pub record File : Type 0 where
   pub name : List ℕ
   pub bytes : List ℕ
   pub room : ℕ
+
+-- the file holds the piece too, behind what it held
+abbrev pub Grows : (before after : File) → (piece : List ℕ) → Type 0
+Grows before after piece = (after.bytes ≡ before.bytes ++ piece) × (before.room ≤ after.room + length piece)
+
+-- a file more, of this name and these bytes, behind the others
+abbrev pub HasOneMore : (before after : List File) → (name bytes : List ℕ) → Type 0
+HasOneMore before after name bytes =
+    (room : ℕ) × (after ≡ before ++ record { name = name; bytes = bytes; room = room } ∷ [])
 
 -- what a name holds: the bytes of the first file of that name, None where there is none
 abbrev pub held : List File → List ℕ → Option (List ℕ)

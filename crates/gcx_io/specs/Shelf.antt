@@ -1,5 +1,6 @@
 -- How a shelf is seen: what each name holds, and the name of each handle and what it has left (this project's).
-use Rattle.std.specs.Prelude.{◌≡◌, ◌≢◌, ◌⊎◌, ℕ, ◌+◌, ◌<◌, List, [], ◌∷◌, ◌++◌, take, unwrap_or, ⊤}
+use Rattle.std.specs.Prelude.{◌≡◌, ◌≢◌, ◌⊎◌, ℕ, ◌+◌, ◌<◌, List, [], ◌∷◌, ◌++◌, take, unwrap_or, ⊤, MatchResult}
+use Rattle.std.specs.declared.result.Result.{Result}
 use Rattle.std.specs.declared.option.Option.{Option}
 use Rattle.std.specs.declared.option.Option.TheVariants.{Some, None}
 
@@ -22,13 +23,10 @@ abbrev pub IsTelling : Names → Type 0
 IsTelling None = ⊥
 IsTelling (Some holds) = ⊤
 
--- a handle is added, behind those that were given, with all of these bytes left
-pub record Adds (before after : ℕ) (left_before left_after : ℕ → Option (List ℕ)) (content : Option (List ℕ))
-    (handle : ℕ) : Type 0 where
+-- a handle is added behind those that were given
+pub record Adds (before after handle : ℕ) : Type 0 where
   pub number : handle ≡ before
   pub count : after ≡ before + 1
-  pub bytes : left_after handle ≡ content
-  pub others : (k : ℕ) → k < before → left_after k ≡ left_before k
 
 -- the handle behind those that were given has this name, and they have theirs
 pub record AddsName (names : Names) (before after : ℕ → Option (List ℕ)) (name : List ℕ) (handle : ℕ) : Type 0 where
@@ -60,10 +58,16 @@ Appends (Some before) (Some after) owner bytes = (name : List ℕ) → owner ≡
 abbrev pub Stays : (before after : Option (List ℕ)) → Type 0
 Stays before after = (after ≡ before) ⊎ (after ≡ None)
 
--- the handles of other names have left what they had
-abbrev pub LeavesOtherNames : (owners before after : ℕ → Option (List ℕ)) → (count : ℕ) → (owner : Option (List ℕ))
-    → Type 0
-LeavesOtherNames owners before after count owner = (k : ℕ) → k < count → owners k ≢ owner → Stays (before k) (after k)
+-- the handles of other names than this one's have left what they had
+abbrev pub OthersStay : (owners before after : ℕ → Option (List ℕ)) → (count handle : ℕ) → Type 0
+OthersStay owners before after count handle =
+    (k : ℕ) → k < count → owners k ≢ owners handle → Stays (before k) (after k)
+
+-- at Ok the first bytes of the piece stand behind what the name of a handle held, else the names are as before
+abbrev pub WriteExtends : {E : Type 0} → (before after : Names) → (owner : Option (List ℕ)) → Result ℕ E
+    → (piece : List ℕ) → Type 0
+WriteExtends before after owner result piece =
+    MatchResult result (λ n. Appends before after owner (take n piece)) (λ _. after ≡ before)
 
 -- The same, where nothing changed if there are no bytes.
 abbrev pub AppendsAll : (before after : Names) → (owner : Option (List ℕ)) → (bytes : List ℕ) → Type 0
@@ -74,3 +78,9 @@ AppendsAll before after owner (x ∷ xs) = Appends before after owner (x ∷ xs)
 pub record AppendsWithin (before after : Names) (owner : Option (List ℕ)) (bytes : List ℕ) : Type 0 where
   pub count : ℕ
   pub taken : AppendsAll before after owner (take count bytes)
+
+-- at Ok all of the bytes stand there, else a front of them
+abbrev pub Extends : {T E : Type 0} → (before after : Names) → (owner : Option (List ℕ)) → Result T E → (bytes : List ℕ)
+    → Type 0
+Extends before after owner result bytes =
+    MatchResult result (λ _. AppendsAll before after owner bytes) (λ _. AppendsWithin before after owner bytes)

@@ -1,5 +1,6 @@
 -- The calls of an object in memory, some of which are to fail (this project's).
-use Rattle.std.specs.Prelude.{ℕ, ◌+◌, ◌-◌, ◌^◌, min, List, Contains}
+use Rattle.std.specs.Prelude.{◌≡◌, ℕ, ◌+◌, ◌-◌, ◌^◌, min, List, Contains, Bool, MatchBool, MatchResult}
+use Rattle.std.specs.declared.result.Result.{Result}
 
 -- the numbers of the calls that are to fail, how many calls were made, and how many of them failed
 pub record Tally : Type 0 where
@@ -30,3 +31,15 @@ passed t = record { fails = t.fails; made = next_call t; faults = t.faults }
 -- one call was made, and failed
 abbrev pub failed : Tally → Tally
 failed t = record { fails = t.fails; made = next_call t; faults = one_more t.faults }
+
+-- one call was made, and failed where it answered so
+abbrev pub CountsCall : {T E : Type 0} → Tally → Tally → Result T E → Type 0
+CountsCall before after result = MatchResult result (λ _. after ≡ passed before) (λ _. after ≡ failed before)
+
+-- a count that is one more where this is so
+abbrev pub CountsIf : Bool → ℕ → ℕ → Type 0
+CountsIf fails before after = MatchBool fails (after ≡ one_more before) (after ≡ before)
+
+-- the count of faults is one more where the call failed
+abbrev pub CountsFault : {T E : Type 0} → ℕ → ℕ → Result T E → Type 0
+CountsFault before after result = MatchResult result (λ _. after ≡ before) (λ _. after ≡ one_more before)

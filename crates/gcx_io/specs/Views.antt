@@ -1,5 +1,5 @@
 -- What is seen of a source, a sink and a shelf: what each tells, and the calls that it answered (this project's).
-use Rattle.std.specs.Prelude.{◌≡◌, ℕ, List, slice_get, MatchOption, ⊤, []}
+use Rattle.std.specs.Prelude.{ℕ, List, slice_get, []}
 use Rattle.std.specs.declared.option.Option.{Option}
 use Rattle.std.specs.declared.option.Option.TheVariants.{Some, None}
 pub use Rattle.call_history.specs.Calls.{Call, Gave, Took, Failed, HandleCalls, Miss, missed}

@@ -1,6 +1,5 @@
 ghost use Rattle.std.specs.Prelude.{◌≡◌, ◌∷◌, ◌++◌, [], length, IfOk, IsErrOf, OnOk, OnErr};
-ghost use Rattle.call_history.specs.Calls.{missed};
-ghost use Rattle.gcx_io.specs.FileShelf.{stream_calls};
+ghost use Rattle.gcx_io.specs.FileShelf.{stream_calls, with_handle, with_miss};
 
 use crate::file_handle::FileHandle;
 use crate::stream::Stream;
@@ -58,8 +57,7 @@ impl FileShelf {
     fn keep(&mut self, name: &Text, stream: Stream) -> Result<Handle, AttachFault>
         requires { stream_calls stream ≡ [] }
         ensures number { IfOk result (λ handle. handle.0 ≡ length self.old.given) }
-        ensures ok { OnOk result
-            (self.new ≡ record self.old { given = self.old.given ++ record { name = name.now; calls = [] } ∷ [] }) }
+        ensures ok { OnOk result (self.new ≡ with_handle name.now self.old) }
         ensures err { OnErr result (self.new ≡ self.old) }
         ensures memory { IsErrOf result AttachFault.Failed → ⊥ }
     {
@@ -72,10 +70,7 @@ impl FileShelf {
 
     /// Lists a name that no handle was given for.
     fn miss(&mut self, name: &Text)
-        ensures { self.new ≡ record self.old {
-          refused = self.old.refused ++ missed name.now (length self.old.given)
-              ∷ [];
-        } }
+        ensures { self.new ≡ with_miss name.now self.old }
     {
         self.misses.note(name.as_bytes(), self.handles.len());
     }
@@ -84,13 +79,11 @@ impl FileShelf {
 impl Shelf for FileShelf {
     ghost use Rattle.std.specs.Prelude.{◌≡◌, ◌≤◌, ◌<◌, ◌+◌, ◌⊎◌, None, refl, length, map, IfOk, OnOk, OnErr, IsErrOf, MatchResult};
     ghost use Rattle.std.specs.Io.{ReadsAtMost};
-    ghost use Rattle.std.specs.Io.KnownBytes.{ReadConsumes};
-    ghost use Rattle.gcx_io.specs.Causes.{Rose, HasCause};
-    ghost use Rattle.gcx_io.specs.Tallies.{one_more};
+    ghost use Rattle.gcx_io.specs.Tallies.{one_more, CountsFault};
     ghost use Rattle.gcx_io.specs.Bytes.{Moves};
     ghost use Rattle.gcx_io.specs.Calls.{Attaches, Creates, ReadsOnce, WritesHandle};
     ghost use Rattle.gcx_io.specs.FileShelf.{untold, file_shelf_seen, untold_count, untold_left};
-    ghost use Rattle.gcx_io.specs.Shelf.{Adds, AddsName, LeavesOthers};
+    ghost use Rattle.gcx_io.specs.Shelf.{Adds};
 
     ghost names = { λ _. None };
 
@@ -123,15 +116,11 @@ impl Shelf for FileShelf {
     ghost owners = { λ s k v there telling. absurd telling };
 
     fn attach(&mut self, name: &Text) -> Result<Handle, AttachFault>
-        ensures given { IfOk result
-            (λ handle. Adds (length self.old.given) (length self.new.given) (λ _. None) (λ _. None) None handle.0) }
+        ensures given { IfOk result (λ handle. Adds (length self.old.given) (length self.new.given) handle.0) }
         ensures refused { OnErr result (length self.new.given ≡ length self.old.given) }
         ensures later { self.old.faults ≤ self.new.faults }
-        ensures cause { IsErrOf result AttachFault.Failed → Rose self.old.faults self.new.faults ⊎ ⊥ }
-        ensures fault { IsErrOf result AttachFault.Failed → self.new.faults ≡ one_more self.old.faults }
-        ensures memory { IsErrOf result AttachFault.Memory → self.new.faults ≡ self.old.faults }
-        ensures ok { OnOk result (self.new.faults ≡ self.old.faults) }
         ensures writes { self.new.write_faults ≡ self.old.write_faults }
+        ensures fault { IsErrOf result AttachFault.Failed → self.new.faults ≡ one_more self.old.faults }
         ensures attaches { Attaches name.now (file_shelf_seen self.old) (file_shelf_seen self.new) result }
     {
         match self.open(name) {
@@ -148,12 +137,8 @@ impl Shelf for FileShelf {
         requires given { handle.0 < length self.old.given }
         requires room { 0 < length buf.old }
         ensures bound { ReadsAtMost result buf.new }
-        ensures bytes { ReadConsumes None None result buf.new }
         ensures handles { length self.new.given ≡ length self.old.given }
-        ensures cause { HasCause self.old.faults self.new.faults result }
-        ensures faults { MatchResult result (λ _. self.new.faults ≡ self.old.faults)
-            (λ _. self.new.faults ≡ one_more self.old.faults) }
-        ensures writes { self.new.write_faults ≡ self.old.write_faults }
+        ensures faults { CountsFault self.old.faults self.new.faults result }
         ensures reads { ReadsOnce handle.0 (file_shelf_seen self.old) (file_shelf_seen self.new) result buf.new }
     {
         match self.handles[handle.0].read(buf) {
@@ -166,15 +151,11 @@ impl Shelf for FileShelf {
     }
 
     fn create(&mut self, name: &Text) -> Result<Handle, AttachFault>
-        ensures given { IfOk result
-            (λ handle. Adds (length self.old.given) (length self.new.given) (λ _. None) (λ _. None) None handle.0) }
+        ensures given { IfOk result (λ handle. Adds (length self.old.given) (length self.new.given) handle.0) }
         ensures refused { OnErr result (length self.new.given ≡ length self.old.given) }
         ensures later { self.old.write_faults ≤ self.new.write_faults }
-        ensures cause { IsErrOf result AttachFault.Failed → Rose self.old.write_faults self.new.write_faults }
-        ensures fault { IsErrOf result AttachFault.Failed → self.new.write_faults ≡ one_more self.old.write_faults }
-        ensures memory { IsErrOf result AttachFault.Memory → self.new.write_faults ≡ self.old.write_faults }
-        ensures ok { OnOk result (self.new.write_faults ≡ self.old.write_faults) }
         ensures reads { self.new.faults ≡ self.old.faults }
+        ensures fault { IsErrOf result AttachFault.Failed → self.new.write_faults ≡ one_more self.old.write_faults }
         ensures creates { Creates name.now (file_shelf_seen self.old) (file_shelf_seen self.new) result }
     {
         if name.as_bytes() != b"-".as_slice() {
@@ -192,10 +173,7 @@ impl Shelf for FileShelf {
         requires some { 0 < length piece.now }
         ensures bound { Moves result piece.now }
         ensures handles { length self.new.given ≡ length self.old.given }
-        ensures cause { HasCause self.old.write_faults self.new.write_faults result }
-        ensures faults { MatchResult result (λ _. self.new.write_faults ≡ self.old.write_faults)
-            (λ _. self.new.write_faults ≡ one_more self.old.write_faults) }
-        ensures reads { self.new.faults ≡ self.old.faults }
+        ensures faults { CountsFault self.old.write_faults self.new.write_faults result }
         ensures takes { WritesHandle handle.0 (file_shelf_seen self.old) (file_shelf_seen self.new) result piece.now }
     {
         match self.handles[handle.0].write(piece) {

@@ -1,6 +1,7 @@
-ghost use Rattle.std.specs.Prelude.{◌≡◌, ◌<◌, ◌≤◌, ◌+◌, ◌++◌, ◌∷◌, ℕ, [], true, false, length, take, drop, min, vec_len, vec_capacity, ◌-◌, IfOk, OnOk, OnErr, MatchOption, option_copied};
-ghost use Rattle.gcx_io.specs.Held.{held, held_or_none, mapped, with_file, rest_at, name_at, read_at, noted_at};
-ghost use Rattle.gcx_io.specs.Files.{opened, after_miss, Sets, Keeps, IsPlaceOf, IsNewTo};
+ghost use Rattle.std.specs.Prelude.{◌≡◌, ◌<◌, ◌++◌, [], true, false, length, take, drop, min, vec_len, vec_capacity, ◌-◌, IfOk, OnOk, OnErr, MatchOption, option_copied};
+ghost use Rattle.gcx_io.specs.Held.{held, with_file, rest_at, noted_at, Grows, HasOneMore};
+ghost use Rattle.gcx_io.specs.Files.{opened, Sets, Keeps, KeepsPiece, IsPlaceOf, IsNewTo};
+ghost use Rattle.gcx_io.specs.Files.{after_miss, after_put, after_attach, after_read, after_call};
 ghost use Rattle.gcx_io.specs.Views.{Took, Failed};
 
 use crate::Handle;
@@ -31,8 +32,7 @@ impl Entry {
     /// Adds the piece, where memory is found for it.
     fn append(&mut self, piece: &[u8]) -> bool
         ensures name { self.new.name ≡ self.old.name }
-        ensures kept { result ≡ true → (self.new.bytes ≡ self.old.bytes ++ piece.now)
-            × (self.old.room ≤ self.new.room + length piece.now) }
+        ensures kept { result ≡ true → Grows self.old self.new piece.now }
         ensures lost { result ≡ false → (self.new.bytes ≡ self.old.bytes) × (self.old.room < length piece.now) }
     {
         self.bytes.extend_from_slice(piece).is_ok()
@@ -70,9 +70,7 @@ fn place(entries: &mut Vec<Entry>, entry: Entry) -> Result<(), Memory>
 
 /// Puts an entry of this name and piece behind the others.
 fn add(alloc: Global, entries: &mut Vec<Entry>, name: &Text, piece: &[u8]) -> Result<(), Memory>
-    ensures ok { OnOk result
-        ((room : ℕ) × (entries.new.items ≡ entries.old.items
-        ++ record { name = name.now; bytes = piece.now; room = room } ∷ [])) }
+    ensures ok { OnOk result (HasOneMore entries.old.items entries.new.items name.now piece.now) }
     ensures err { OnErr result (entries.new.items ≡ entries.old.items) }
 {
     let mut bytes = Vec::new(alloc);
@@ -129,8 +127,7 @@ impl Files {
     /// Maps the name to these bytes, whatever it held.
     pub fn put(&mut self, name: Text, bytes: Vec<u8>) -> Result<(), Memory>
         ensures ok { OnOk result
-            (self.new ≡ record self.old
-            { files = mapped name bytes.items (vec_capacity bytes - vec_len bytes) self.old.files }) }
+            (self.new ≡ after_put name bytes.items (vec_capacity bytes - vec_len bytes) self.old) }
         ensures err { OnErr result (self.new ≡ self.old) }
     {
         self.entries.insert(0, Entry { name, bytes })?;
@@ -167,9 +164,7 @@ impl Files {
     /// Adds a handle that has left what the name holds, no bytes where it isn't mapped.
     pub fn attach(&mut self, name: &Text) -> Result<Handle, Memory>
         ensures number { IfOk result (λ handle. handle.0 ≡ length self.old.openings) }
-        ensures ok { OnOk result
-            (self.new ≡ record self.old
-            { openings = opened name.now (held_or_none self.old.files name.now) self.old.openings }) }
+        ensures ok { OnOk result (self.new ≡ after_attach name.now self.old) }
         ensures err { OnErr result (self.new ≡ self.old) }
     {
         let mut bytes = Vec::new(self.alloc);
@@ -209,7 +204,7 @@ impl Files {
         requires given { handle.0 < length self.old.openings }
         ensures count { result ≡ min (min (length (rest_at self.old.openings handle.0)) (length buf.old)) most }
         ensures moved { buf.new ≡ take result (rest_at self.old.openings handle.0) ++ drop result buf.old }
-        ensures rest { self.new ≡ record self.old { openings = read_at self.old.openings handle.0 result } }
+        ensures rest { self.new ≡ after_read handle.0 result self.old }
     {
         self.openings[handle.0].read(buf, most)
     }
@@ -218,8 +213,7 @@ impl Files {
     fn keep(&mut self, handle: Handle, piece: &[u8])
         requires given { handle.0 < length self.old.openings }
         requires some { 0 < length piece.now }
-        ensures keeps { self.old.whole ≡ true
-            → Keeps self.new.whole self.old.files self.new.files (name_at self.old.openings handle.0) piece.now }
+        ensures keeps { KeepsPiece self.old self.new handle.0 piece.now }
         ensures lost { self.old.whole ≡ false → self.new ≡ self.old }
         ensures openings { self.new.openings ≡ self.old.openings }
         ensures refused { self.new.refused ≡ self.old.refused }
@@ -234,10 +228,8 @@ impl Files {
     pub fn write(&mut self, handle: Handle, piece: &[u8])
         requires given { handle.0 < length self.old.openings }
         requires some { 0 < length piece.now }
-        ensures keeps { self.old.whole ≡ true
-            → Keeps self.new.whole self.old.files self.new.files (name_at self.old.openings handle.0) piece.now }
-        ensures lost { self.old.whole ≡ false → self.new
-            ≡ record self.old { openings = noted_at self.old.openings handle.0 (Took piece.now) } }
+        ensures keeps { KeepsPiece self.old self.new handle.0 piece.now }
+        ensures lost { self.old.whole ≡ false → self.new ≡ after_call handle.0 (Took piece.now) self.old }
         ensures openings { self.new.openings ≡ noted_at self.old.openings handle.0 (Took piece.now) }
         ensures refused { self.new.refused ≡ self.old.refused }
     {
@@ -248,7 +240,7 @@ impl Files {
     /// Notes that a write of a handle took these bytes.
     fn take(&mut self, handle: Handle, piece: &[u8])
         requires { handle.0 < length self.old.openings }
-        ensures { self.new ≡ record self.old { openings = noted_at self.old.openings handle.0 (Took piece.now) } }
+        ensures { self.new ≡ after_call handle.0 (Took piece.now) self.old }
     {
         self.openings[handle.0].took(piece);
     }
@@ -256,7 +248,7 @@ impl Files {
     /// A call of a handle that failed.
     pub fn fail(&mut self, handle: Handle, buf: &[u8])
         requires { handle.0 < length self.old.openings }
-        ensures { self.new ≡ record self.old { openings = noted_at self.old.openings handle.0 Failed } }
+        ensures { self.new ≡ after_call handle.0 Failed self.old }
     {
         self.openings[handle.0].fail(buf);
     }

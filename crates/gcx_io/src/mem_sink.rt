@@ -66,10 +66,9 @@ impl MemSink {
 }
 
 impl Sink for MemSink {
-    ghost use Rattle.std.specs.Prelude.{◌≡◌, ◌↔◌, ◌≤◌, ◌<◌, ◌+◌, IsErr, IsSome, IfOk, OnErr, MatchResult, length, min, refl};
-    ghost use Rattle.gcx_io.specs.Causes.{HasCause};
-    ghost use Rattle.gcx_io.specs.Bytes.{WriteGrows, Moves};
-    ghost use Rattle.gcx_io.specs.Tallies.{IsToFail, passed, failed};
+    ghost use Rattle.std.specs.Prelude.{◌≡◌, ◌↔◌, ◌≤◌, ◌<◌, ◌+◌, IsErr, IsSome, IfOk, OnErr, length, min, refl};
+    ghost use Rattle.gcx_io.specs.Bytes.{Moves};
+    ghost use Rattle.gcx_io.specs.Tallies.{IsToFail, CountsCall};
     ghost use Rattle.gcx_io.specs.MemSink.{sink_taken, sink_faults, sink_seen};
     ghost use Rattle.gcx_io.specs.Calls.{WritesOnce};
 
@@ -86,15 +85,12 @@ impl Sink for MemSink {
     fn write(&mut self, piece: &[u8]) -> Result<usize, Failed>
         requires { 0 < length piece.now }
         ensures bound { Moves result piece.now }
-        ensures bytes { WriteGrows (sink_taken self.old) (sink_taken self.new) result piece.now }
-        ensures cause { HasCause (sink_faults self.old) (sink_faults self.new) result }
         ensures count { IfOk result (λ n. n ≡ min (length piece.now) self.old.most) }
         ensures whole { IfOk result (λ n. n ≤ self.old.room → IsSome self.old.taken → IsSome self.new.taken) }
         ensures room { IfOk result (λ n. self.old.room ≤ self.new.room + n) }
         ensures same_room { OnErr result (self.new.room ≡ self.old.room) }
         ensures failed { IsErr result ↔ IsToFail self.old.calls }
-        ensures calls { MatchResult result (λ _. self.new.calls ≡ passed self.old.calls)
-            (λ _. self.new.calls ≡ failed self.old.calls) }
+        ensures calls { CountsCall self.old.calls self.new.calls result }
         ensures most { self.new.most ≡ self.old.most }
         ensures writes { WritesOnce (sink_seen self.old) (sink_seen self.new) result piece.now }
     {

@@ -47,11 +47,9 @@ impl MemSource {
 }
 
 impl Source for MemSource {
-    ghost use Rattle.std.specs.Prelude.{◌≡◌, ◌↔◌, ◌<◌, ◌++◌, Some, IsErr, IfOk, OnErr, MatchResult, length, take, drop, min, refl};
+    ghost use Rattle.std.specs.Prelude.{◌≡◌, ◌↔◌, ◌<◌, ◌++◌, Some, IsErr, IfOk, OnErr, length, take, drop, min, refl};
     ghost use Rattle.std.specs.Io.{ReadsAtMost};
-    ghost use Rattle.std.specs.Io.KnownBytes.{ReadConsumes};
-    ghost use Rattle.gcx_io.specs.Causes.{HasCause};
-    ghost use Rattle.gcx_io.specs.Tallies.{IsToFail, passed, failed};
+    ghost use Rattle.gcx_io.specs.Tallies.{IsToFail, CountsCall};
     ghost use Rattle.gcx_io.specs.MemSource.{told_left, source_faults, source_seen};
     ghost use Rattle.gcx_io.specs.Calls.{ReadsSource};
 
@@ -74,14 +72,11 @@ impl Source for MemSource {
     fn read(&mut self, buf: &mut [u8]) -> Result<usize, Failed>
         requires { 0 < length buf.old }
         ensures bound { ReadsAtMost result buf.new }
-        ensures bytes { ReadConsumes (told_left self.old) (told_left self.new) result buf.new }
-        ensures cause { HasCause (source_faults self.old) (source_faults self.new) result }
         ensures count { IfOk result (λ n. n ≡ min (min (length self.old.left) (length buf.old)) self.old.most) }
         ensures moved { IfOk result (λ n. buf.new ≡ take n self.old.left ++ drop n buf.old) }
         ensures unmoved { OnErr result (buf.new ≡ buf.old) }
         ensures failed { IsErr result ↔ IsToFail self.old.calls }
-        ensures calls { MatchResult result (λ _. self.new.calls ≡ passed self.old.calls)
-            (λ _. self.new.calls ≡ failed self.old.calls) }
+        ensures calls { CountsCall self.old.calls self.new.calls result }
         ensures most { self.new.most ≡ self.old.most }
         ensures reads { ReadsSource (source_seen self.old) (source_seen self.new) result buf.new }
     {

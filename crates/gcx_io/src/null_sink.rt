@@ -32,8 +32,7 @@ impl NullSink {
 
 impl Sink for NullSink {
     ghost use Rattle.std.specs.Prelude.{◌≡◌, ◌<◌, None, Ok, length, refl};
-    ghost use Rattle.gcx_io.specs.Causes.{HasCause};
-    ghost use Rattle.gcx_io.specs.Bytes.{WriteGrows, Moves};
+    ghost use Rattle.gcx_io.specs.Bytes.{Moves};
     ghost use Rattle.gcx_io.specs.Calls.{WritesOnce};
     ghost use Rattle.gcx_io.specs.StdSink.{null_seen};
 
@@ -50,8 +49,6 @@ impl Sink for NullSink {
     fn write(&mut self, piece: &[u8]) -> Result<usize, Failed>
         requires { 0 < length piece.now }
         ensures bound { Moves result piece.now }
-        ensures bytes { WriteGrows None None result piece.now }
-        ensures cause { HasCause 0 0 result }
         ensures ok { result ≡ Ok (length piece.now) }
         ensures writes { WritesOnce (null_seen self.old) (null_seen self.new) result piece.now }
     {

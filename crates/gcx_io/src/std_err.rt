@@ -33,12 +33,11 @@ impl StdErr {
 }
 
 impl Sink for StdErr {
-    ghost use Rattle.std.specs.Prelude.{◌≡◌, ◌<◌, None, length, MatchResult, refl};
-    ghost use Rattle.gcx_io.specs.Causes.{HasCause};
-    ghost use Rattle.gcx_io.specs.Bytes.{WriteGrows, Moves};
+    ghost use Rattle.std.specs.Prelude.{◌≡◌, ◌<◌, None, length, refl};
+    ghost use Rattle.gcx_io.specs.Bytes.{Moves};
     ghost use Rattle.gcx_io.specs.Calls.{WritesOnce};
     ghost use Rattle.gcx_io.specs.StdSink.{stream_seen};
-    ghost use Rattle.gcx_io.specs.Tallies.{one_more};
+    ghost use Rattle.gcx_io.specs.Tallies.{CountsFault};
 
     ghost taken = { λ _. None };
 
@@ -53,10 +52,7 @@ impl Sink for StdErr {
     fn write(&mut self, piece: &[u8]) -> Result<usize, Failed>
         requires { 0 < length piece.now }
         ensures bound { Moves result piece.now }
-        ensures bytes { WriteGrows None None result piece.now }
-        ensures cause { HasCause self.old.faults self.new.faults result }
-        ensures faults { MatchResult result (λ _. self.new.faults ≡ self.old.faults)
-            (λ _. self.new.faults ≡ one_more self.old.faults) }
+        ensures faults { CountsFault self.old.faults self.new.faults result }
         ensures writes { WritesOnce (stream_seen self.old) (stream_seen self.new) result piece.now }
     {
         match self.stream.write(piece) {

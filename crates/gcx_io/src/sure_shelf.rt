@@ -1,5 +1,7 @@
-ghost use Rattle.std.specs.Prelude.{◌≡◌, ◌-◌, true, IsTrue, OnOk, OnErr, [], option_copied, vec_len, vec_capacity};
-ghost use Rattle.gcx_io.specs.Held.{held, mapped};
+ghost use Rattle.std.specs.Prelude.{◌≡◌, ◌-◌, IsTrue, OnOk, OnErr, [], option_copied, vec_len, vec_capacity};
+ghost use Rattle.gcx_io.specs.Held.{held};
+ghost use Rattle.gcx_io.specs.Files.{no_files};
+ghost use Rattle.gcx_io.specs.SureShelf.{with_put};
 
 use crate::files::Files;
 use crate::{AttachFault, Failed, Handle, Shelf};
@@ -25,8 +27,7 @@ impl Model for SureShelf {
 impl SureShelf {
     /// No name is mapped. `room` is the room for the bytes of a file that is made.
     pub fn new(alloc: Global, room: usize) -> SureShelf
-        ensures { result ≡ record
-            { kept = record { files = []; openings = []; whole = true; refused = [] }; room = room } }
+        ensures { result ≡ record { kept = no_files; room = room } }
     {
         SureShelf {
             files: Files::new(alloc),
@@ -38,10 +39,7 @@ impl SureShelf {
     pub fn put(&mut self, name: Text, bytes: Vec<u8>) -> Result<(), Memory>
         requires { self.old.kept.openings ≡ [] }
         ensures ok { OnOk result
-            (self.new ≡ record self.old {
-              kept = record self.old.kept
-                  { files = mapped name bytes.items (vec_capacity bytes - vec_len bytes) self.old.kept.files };
-            }) }
+            (self.new ≡ with_put name bytes.items (vec_capacity bytes - vec_len bytes) self.old) }
         ensures err { OnErr result (self.new ≡ self.old) }
     {
         self.files.put(name, bytes)
@@ -64,16 +62,14 @@ impl SureShelf {
 }
 
 impl Shelf for SureShelf {
-    ghost use Rattle.std.specs.Prelude.{◌≡◌, ◌≢◌, ◌⊎◌, ◌≤◌, ◌<◌, ◌+◌, ◌++◌, ◌∷◌, true, false, [], Ok, Some, refl, IfOk, OnOk, OnErr, IsErrOf, length, take, drop, min};
+    ghost use Rattle.std.specs.Prelude.{◌≡◌, ◌<◌, ◌++◌, [], Ok, Some, refl, IfOk, OnOk, OnErr, IsErrOf, length, take, drop, min};
     ghost use Rattle.std.specs.Io.{ReadsAtMost};
-    ghost use Rattle.std.specs.Io.KnownBytes.{ReadConsumes};
     ghost use Rattle.gcx_io.specs.Bytes.{Moves};
-    ghost use Rattle.gcx_io.specs.Causes.{Rose, HasCause};
-    ghost use Rattle.gcx_io.specs.Shelf.{content_of, Adds, AddsName, Appends, LeavesOthers, LeavesOtherNames, Maps};
+    ghost use Rattle.gcx_io.specs.Shelf.{Adds, LeavesOthers, Maps};
     ghost use Rattle.gcx_io.specs.Calls.{Attaches, Creates, ReadsOnce, WritesHandle};
-    ghost use Rattle.gcx_io.specs.Views.{Took};
-    ghost use Rattle.gcx_io.specs.Held.{held_or_none, rest_at, name_at, read_at, noted_at};
-    ghost use Rattle.gcx_io.specs.Files.{opened, views, Sets, Keeps};
+    ghost use Rattle.gcx_io.specs.Held.{held_or_none, rest_at};
+    ghost use Rattle.gcx_io.specs.Files.{views, after_attach, after_read, Makes, TakesPiece};
+    ghost use Rattle.gcx_io.specs.SureShelf.{NamesHandle, NamesExtend, OtherHandlesStay};
     ghost use Rattle.gcx_io.specs.SureShelf.{sure_names, sure_left, sure_named, sure_handles, sure_shelf_seen};
     ghost use Rattle.gcx_io.specs.Files.{owner_told, rests_told, views_count, views_left, views_name};
 
@@ -109,20 +105,10 @@ impl Shelf for SureShelf {
     ghost owners = { λ s k v there telling. views_name s.kept.whole s.kept.openings k v there };
 
     fn attach(&mut self, name: &Text) -> Result<Handle, AttachFault>
-        ensures given { IfOk result (λ handle.
-            Adds (sure_handles self.old) (sure_handles self.new) (sure_left self.old) (sure_left self.new)
-            (content_of (sure_names self.old) name.now) handle.0) }
-        ensures named { IfOk result
-            (λ handle. AddsName (sure_names self.old) (sure_named self.old) (sure_named self.new) name.now handle.0) }
-        ensures names { sure_names self.new ≡ sure_names self.old }
-        ensures refused { OnErr result ((sure_handles self.new ≡ sure_handles self.old)
-            × (sure_left self.new ≡ sure_left self.old)) }
+        ensures given { IfOk result (λ handle. Adds (sure_handles self.old) (sure_handles self.new) handle.0) }
+        ensures named { IfOk result (λ handle. NamesHandle self.old self.new name.now handle.0) }
         ensures never { IsErrOf result AttachFault.Failed → ⊥ }
-        ensures ok { OnOk result
-            (self.new ≡ record self.old {
-              kept = record self.old.kept
-                  { openings = opened name.now (held_or_none self.old.kept.files name.now) self.old.kept.openings };
-            }) }
+        ensures ok { OnOk result (self.new ≡ record self.old { kept = after_attach name.now self.old.kept }) }
         ensures err { OnErr result (self.new ≡ self.old) }
         ensures attaches { Attaches name.now (sure_shelf_seen self.old) (sure_shelf_seen self.new) result }
     {
@@ -133,37 +119,25 @@ impl Shelf for SureShelf {
         requires given { handle.0 < sure_handles self.old }
         requires room { 0 < length buf.old }
         ensures bound { ReadsAtMost result buf.new }
-        ensures bytes { ReadConsumes (sure_left self.old handle.0) (sure_left self.new handle.0) result buf.new }
         ensures others { LeavesOthers (sure_left self.old) (sure_left self.new) handle.0 }
-        ensures names { sure_names self.new ≡ sure_names self.old }
         ensures named { sure_named self.new ≡ sure_named self.old }
         ensures handles { sure_handles self.new ≡ sure_handles self.old }
-        ensures cause { HasCause 0 0 result }
         ensures count { result ≡ Ok (min (length (rest_at self.old.kept.openings handle.0)) (length buf.old)) }
         ensures moved { IfOk result (λ n. buf.new ≡ take n (rest_at self.old.kept.openings handle.0)
             ++ drop n buf.old) }
         ensures ok { IfOk result
-            (λ n. self.new ≡ record self.old
-            { kept = record self.old.kept { openings = read_at self.old.kept.openings handle.0 n } }) }
+            (λ n. self.new ≡ record self.old { kept = after_read handle.0 n self.old.kept }) }
         ensures reads { ReadsOnce handle.0 (sure_shelf_seen self.old) (sure_shelf_seen self.new) result buf.new }
     {
         Ok(self.files.read(handle, buf, usize::MAX))
     }
 
     fn create(&mut self, name: &Text) -> Result<Handle, AttachFault>
-        ensures given { IfOk result (λ handle.
-            Adds (sure_handles self.old) (sure_handles self.new) (sure_left self.old) (sure_left self.new)
-            (content_of (sure_names self.new) name.now) handle.0) }
-        ensures named { IfOk result
-            (λ handle. AddsName (sure_names self.old) (sure_named self.old) (sure_named self.new) name.now handle.0) }
+        ensures given { IfOk result (λ handle. Adds (sure_handles self.old) (sure_handles self.new) handle.0) }
+        ensures named { IfOk result (λ handle. NamesHandle self.old self.new name.now handle.0) }
         ensures maps { OnOk result (Maps (sure_names self.old) (sure_names self.new) name.now []) }
-        ensures refused { OnErr result ((sure_names self.new ≡ sure_names self.old)
-            × (sure_handles self.new ≡ sure_handles self.old) × (sure_left self.new ≡ sure_left self.old)
-            × (sure_named self.new ≡ sure_named self.old)) }
         ensures never { IsErrOf result AttachFault.Failed → ⊥ }
-        ensures files { OnOk result (Sets self.old.kept.files self.new.kept.files name.now [] self.old.room) }
-        ensures openings { OnOk result (self.new.kept.openings ≡ opened name.now [] self.old.kept.openings) }
-        ensures whole { self.new.kept.whole ≡ self.old.kept.whole }
+        ensures makes { OnOk result (Makes name.now self.old.room self.old.kept self.new.kept) }
         ensures room { self.new.room ≡ self.old.room }
         ensures err { OnErr result (self.new ≡ self.old) }
         ensures creates { Creates name.now (sure_shelf_seen self.old) (sure_shelf_seen self.new) result }
@@ -175,24 +149,12 @@ impl Shelf for SureShelf {
         requires given { handle.0 < sure_handles self.old }
         requires some { 0 < length piece.now }
         ensures bound { Moves result piece.now }
-        ensures bytes { IfOk result
-            (λ n. Appends (sure_names self.old) (sure_names self.new) (sure_named self.old handle.0)
-            (take n piece.now)) }
-        ensures others { OnOk result
-            (LeavesOtherNames (sure_named self.old) (sure_left self.old) (sure_left self.new) (sure_handles self.old)
-            (sure_named self.old handle.0)) }
+        ensures bytes { NamesExtend handle.0 self.old self.new result piece.now }
+        ensures others { OtherHandlesStay handle.0 self.old self.new }
         ensures handles { sure_handles self.new ≡ sure_handles self.old }
         ensures named { sure_named self.new ≡ sure_named self.old }
-        ensures cause { HasCause 0 0 result }
         ensures ok { result ≡ Ok (length piece.now) }
-        ensures keeps { self.old.kept.whole ≡ true → Keeps self.new.kept.whole self.old.kept.files self.new.kept.files
-            (name_at self.old.kept.openings handle.0) piece.now }
-        ensures lost { self.old.kept.whole ≡ false → self.new
-            ≡ record self.old {
-              kept = record self.old.kept
-                  { openings = noted_at self.old.kept.openings handle.0 (Took piece.now) };
-            } }
-        ensures openings { self.new.kept.openings ≡ noted_at self.old.kept.openings handle.0 (Took piece.now) }
+        ensures leaves { TakesPiece handle.0 piece.now self.old.kept self.new.kept }
         ensures room { self.new.room ≡ self.old.room }
         ensures takes { WritesHandle handle.0 (sure_shelf_seen self.old) (sure_shelf_seen self.new) result piece.now }
     {

@@ -53,8 +53,7 @@ impl SureSink {
 
 impl Sink for SureSink {
     ghost use Rattle.std.specs.Prelude.{◌≡◌, ◌≤◌, ◌<◌, ◌+◌, Ok, IsSome, length, refl};
-    ghost use Rattle.gcx_io.specs.Causes.{HasCause};
-    ghost use Rattle.gcx_io.specs.Bytes.{WriteGrows, Moves};
+    ghost use Rattle.gcx_io.specs.Bytes.{Moves};
     ghost use Rattle.gcx_io.specs.Calls.{WritesOnce};
     ghost use Rattle.gcx_io.specs.SureSink.{told_taken, sure_sink_seen};
 
@@ -71,8 +70,6 @@ impl Sink for SureSink {
     fn write(&mut self, piece: &[u8]) -> Result<usize, Failed>
         requires { 0 < length piece.now }
         ensures bound { Moves result piece.now }
-        ensures bytes { WriteGrows (told_taken self.old) (told_taken self.new) result piece.now }
-        ensures cause { HasCause 0 0 result }
         ensures ok { result ≡ Ok (length piece.now) }
         ensures whole { length piece.now ≤ self.old.room → IsSome self.old.taken → IsSome self.new.taken }
         ensures room { self.old.room ≤ self.new.room + length piece.now }

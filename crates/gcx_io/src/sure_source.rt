@@ -40,8 +40,6 @@ impl SureSource {
 impl Source for SureSource {
     ghost use Rattle.std.specs.Prelude.{◌≡◌, ◌<◌, ◌++◌, Ok, Some, IfOk, length, take, drop, min, refl};
     ghost use Rattle.std.specs.Io.{ReadsAtMost};
-    ghost use Rattle.std.specs.Io.KnownBytes.{ReadConsumes};
-    ghost use Rattle.gcx_io.specs.Causes.{HasCause};
     ghost use Rattle.gcx_io.specs.Calls.{ReadsSource};
     ghost use Rattle.gcx_io.specs.SureSource.{sure_source_seen};
 
@@ -64,8 +62,6 @@ impl Source for SureSource {
     fn read(&mut self, buf: &mut [u8]) -> Result<usize, Failed>
         requires { 0 < length buf.old }
         ensures bound { ReadsAtMost result buf.new }
-        ensures bytes { ReadConsumes (Some self.old.left) (Some self.new.left) result buf.new }
-        ensures cause { HasCause 0 0 result }
         ensures ok { result ≡ Ok (min (length self.old.left) (length buf.old)) }
         ensures moved { IfOk result (λ n. buf.new ≡ take n self.old.left ++ drop n buf.old) }
         ensures reads { ReadsSource (sure_source_seen self.old) (sure_source_seen self.new) result buf.new }

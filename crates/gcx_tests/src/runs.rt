@@ -1,4 +1,5 @@
 //! Runs of the top call over files in memory.
+mod calls;
 mod commands;
 mod failing;
 mod limits;

@@ -1,26 +1,22 @@
 -- A document's tree from the tokens of its reader.
-use Rattle.std.proofs.Common.{◌≡◌, ◌⊎◌, ℕ, ◌+◌, ◌≤◌, ◌<◌, Bool, true, false, List, [], ◌∷◌, ◌++◌, length, map, Option, Some, None, refl, sym, ◌∙◌, ap, subst, arith, length-append, append-nil, append_assoc}
-use Rattle.std.specs.Prelude.{Result}
-use Rattle.std.specs.declared.result.Result.TheVariants.{Ok, Err}
+use Rattle.std.proofs.Common.{◌≡◌, ℕ, Bool, true, false, List, [], ◌∷◌, ◌++◌, map, None, refl, sym, ◌∙◌, ap, subst, arith, append-nil, append_assoc}
+use Rattle.std.specs.declared.result.Result.TheVariants.{Err}
 use Rattle.std.proofs.lemmas.List.{map-append}
-use Rattle.std.specs.Io.KnownBytes.{Consumes}
-use Rattle.std.proofs.KnownBytes.{Consumes-trans}
 use lib.Utf8.{encode}
 use Rattle.gcx_base.specs.declared.limits.Limits.{Limits}
 use Rattle.gcx_base.specs.Limits.{full_limits}
 use Rattle.gcx_base.specs.Utf8.{IsCharFront}
 use Rattle.gcx_model.specs.Document.{Nodes, tokens, tree_of}
 use Rattle.gcx_model.specs.Tree.{Tree, Token as Said, Start, Chars, End, opening, grow, grow_all}
-use Rattle.gcx_model.specs.Faults.{FaultIs, none_yet, within_limit, before_limit, past_limit}
+use Rattle.gcx_model.specs.Faults.{FaultIs, none_yet, within_limit}
 use Rattle.gcx_model.specs.declared.fault.DocFault.{DocFault}
 use Rattle.gcx_model.specs.declared.fault.DocFault.TheVariants as fault
-use Rattle.doc_reader.specs.Standing.{ReaderView, Stands, Keeps, Accepted, Answers, Takes, taken, waiting, reader_tokens, given_token}
+use Rattle.doc_reader.specs.Standing.{ReaderView, Stands, Keeps, Accepted, Answers, waiting, reader_tokens, given_token}
 use Rattle.doc_reader.specs.declared.token.Token.{Token}
 use Rattle.doc_reader.specs.declared.token.Token.TheVariants.{EndOfDocument}
 use Rattle.tree_eval.specs.Tokens.{token_of}
-use Rattle.tree_read.specs.declared.reading.DocumentEnd.{DocumentEnd}
 use Rattle.tree_read.specs.declared.reading.DocumentEnd.TheVariants as end
-use Rattle.tree_read.specs.Document.{BytesSpell, IsWhole, HasGrown, HasRead, EndsBy, SaysWhy, end_of}
+use Rattle.tree_read.specs.Document.{IsWhole, HasGrown, EndsBy, SaysWhy, end_of}
 
 -- ---- tokens taken one after another
 
@@ -102,18 +98,6 @@ ends_by T U (fault.TextLong k) b ended P h = h
 ends_by T U (fault.TooLong k) b ended P h = h
 ends_by T U fault.Memory b ended P h = tt
 
--- bytes without a fault are no more than may be
-pub none_within : (lim : Limits) (b : List ℕ) (ended : Bool) → FaultIs lim b ended None → length b ≤ lim.bytes
-none_within lim b ended (within_limit h w) = h
-none_within lim b ended (before_limit f h w e) = absurd (no_some f e)
-  where
-    no_some : (f : DocFault) → None ≡ Some f → ⊥
-    no_some f e = cc
-none_within lim b ended (past_limit h w e) = absurd (no_some (fault.TooLong lim.bytes) e)
-  where
-    no_some : (f : DocFault) → None ≡ Some f → ⊥
-    no_some f e = cc
-
 -- ---- a piece, and the end
 
 -- no bytes have no fault
@@ -162,25 +146,3 @@ whole_grown r0 r1 s t b h a clean tree = record {
   tree_is = grown_on h.given (waiting r1) opening s t h.tree_is tree ∙ ap (λ (l : List Token). grow_all (map token_of l) opening) a.tokens_are ∙ document_tree a.document;
   no_fault = clean;
 }
-
--- ---- a source
-
-pub read_none : (r : ReaderView) (t : Tree) (a : Option (List ℕ)) → Consumes a a [] → HasGrown r t [] → HasRead r t a a 0
-read_none r t a same h = record { bytes = []; moved = same; grown = h; counted = omega arith }
-
-pub read_on : (r0 r1 : ReaderView) (s t : Tree) (a b c : Option (List ℕ)) (count more n : ℕ) (piece : List ℕ) → (h : HasRead r0 s a b count) → Consumes b c piece
-    → HasGrown r1 t (h.bytes ++ piece) → n ≤ length piece → more ≤ count + n → HasRead r1 t a c more
-read_on r0 r1 s t a b c count more n piece h moved grown some counted = record {
-  bytes = h.bytes ++ piece;
-  moved = Consumes-trans a b c h.bytes piece h.moved moved;
-  grown = grown;
-  counted = let e = length-append h.bytes piece in let g = h.counted in omega arith;
-}
-
-pub consumes_none : (a : Option (List ℕ)) → Consumes a a []
-consumes_none None = tt
-consumes_none (Some xs) = refl
-
--- not so many bytes are read
-pub never_past : (r : ReaderView) (t : Tree) (a b : Option (List ℕ)) (count : ℕ) → HasRead r t a b count → full_limits.bytes < count → ⊥
-never_past r t a b count h past = let c = h.counted in let w = none_within full_limits h.bytes false h.grown.no_fault in omega arith

@@ -1,16 +1,18 @@
 -- A document's bytes and its tree, and what is read of it.
-use Rattle.std.specs.Prelude.{◌≡◌, ◌≤◌, ℕ, Bool, true, false, List, [], ◌++◌, length, map, Option, Some, None, Result, ⊤}
+use Rattle.std.specs.Prelude.{◌≡◌, ℕ, Bool, true, false, List, [], map, Some, None, Result, ⊤}
 use Rattle.std.specs.declared.result.Result.TheVariants.{Ok, Err}
-use Rattle.std.specs.Io.KnownBytes.{Consumes}
 use lib.Utf8.{scalars, encodes}
-use Rattle.gcx_base.specs.declared.limits.Limits.{Limits}
 use Rattle.gcx_base.specs.Limits.{full_limits}
+use Rattle.gcx_io.specs.Views.{SourceView}
+use Rattle.gcx_io.specs.Writing.{joined}
 use Rattle.gcx_model.specs.Document.{Nodes, tree_of}
 use Rattle.gcx_model.specs.Tree.{Tree, opening, grow_all}
 use Rattle.gcx_model.specs.Grammar.{SpellsDocument}
 use Rattle.gcx_model.specs.Faults.{FaultIs}
 use Rattle.gcx_model.specs.declared.fault.DocFault.{DocFault}
 use Rattle.gcx_model.specs.declared.fault.DocFault.TheVariants as fault
+use Rattle.run_words.specs.Reading.{SourceGave, ReadsOn}
+use Rattle.run_words.specs.Stops.{Stop, End, Fault, IsCalm, is_end}
 use Rattle.doc_reader.specs.Standing.{ReaderView, Stands, waiting}
 use Rattle.doc_reader.specs.declared.token.Token.{Token}
 use Rattle.tree_eval.specs.Tokens.{token_of}
@@ -40,13 +42,6 @@ pub record HasGrown (reader : ReaderView) (tree : Tree) (bytes : List ℕ) : Typ
   pub tree_is : tree ≡ grow_all (map token_of given) opening
   pub no_fault : FaultIs full_limits bytes false None
 
--- some bytes were read, and grew the tree
-pub record HasRead (reader : ReaderView) (tree : Tree) (before after : Option (List ℕ)) (count : ℕ) : Type 0 where
-  pub bytes : List ℕ
-  pub moved : Consumes before after bytes
-  pub grown : HasGrown reader tree bytes
-  pub counted : count ≤ length bytes
-
 -- how a call ends: at Ok this holds, and a refusal is the fault of the bytes
 abbrev pub EndsBy : {T : Type 0} → (ended : Bool) → List ℕ → Result T DocumentEnd → Type 0 → Type 0
 EndsBy ended bytes (Ok x) P = P
@@ -54,12 +49,20 @@ EndsBy ended bytes (Err (end.Refused f)) P = FaultIs full_limits bytes ended (So
 EndsBy ended bytes (Err end.Fault) P = ⊤
 EndsBy ended bytes (Err end.Memory) P = ⊤
 
--- what is found in the bytes that a document's source gave
-abbrev pub Finds : Result Tree DocumentEnd → List ℕ → Bool → Type 0
-Finds (Ok tree) bytes ended = (ended ≡ true) × IsWhole bytes tree
-Finds (Err (end.Refused f)) bytes ended = FaultIs full_limits bytes ended (Some f)
-Finds (Err end.Fault) bytes ended = (ended ≡ false) × FaultIs full_limits bytes false None
-Finds (Err end.Memory) bytes ended = ⊤
+-- what is found in the pieces that a document's source gave, by how the reading stopped
+abbrev pub Finds : Result Tree DocumentEnd → List (List ℕ) → Stop → Type 0
+Finds (Ok tree) pieces stop = (stop ≡ End) × IsWhole (joined pieces) tree
+Finds (Err (end.Refused f)) pieces stop = IsCalm stop × FaultIs full_limits (joined pieces) (is_end stop) (Some f)
+Finds (Err end.Fault) pieces stop = (stop ≡ Fault) × FaultIs full_limits (joined pieces) false None
+Finds (Err end.Memory) pieces stop = IsCalm stop
+
+-- The source gave these pieces, and this is found in them.
+pub record ReadsDocument (a b : SourceView) (result : Result Tree DocumentEnd) : Type 0 where
+  pub pieces : List (List ℕ)
+  pub stop : Stop
+  pub gave : SourceGave a b pieces stop
+  pub reads_on : ReadsOn full_limits pieces stop
+  pub finds : Finds result pieces stop
 
 -- want of memory is an end of its own, not a refusal
 abbrev pub IsRefusal : DocFault → Type 0

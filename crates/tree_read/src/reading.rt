@@ -1,32 +1,34 @@
 //! A document's tree from its bytes.
 ghost use Rattle.std.specs.Prelude.{◌≡◌, ◌≤◌, ◌++◌, [], ℕ, List, Some, Bool, true, false, map, OnOk, IfErr, IsErrOf};
 ghost use Rattle.gcx_base.specs.declared.limits.Limits.{Limits};
-ghost use Rattle.gcx_io.specs.Causes.{Rose};
 ghost use Rattle.gcx_model.specs.Tree.{grow_all};
 ghost use Rattle.doc_reader.specs.Standing.{IsOpen, Stands, Keeps, waiting};
 ghost use Rattle.doc_reader.specs.declared.token.Token.{Token as Given};
 ghost use Rattle.tree_eval.specs.Tokens.{token_of};
-ghost use Rattle.tree_read.specs.Document.{HasGrown, IsWhole, EndsBy, Finds, SaysWhy};
-ghost use Rattle.tree_read.specs.Reading.{DocumentGave};
+ghost use Rattle.tree_read.specs.Document.{HasGrown, IsWhole, EndsBy, ReadsDocument, SaysWhy};
 
 use doc_reader::Reader;
 use gcx_base::{Limits, Memory};
 use gcx_io::{Failed, Source};
 use gcx_model::DocFault;
 use std::alloc::Global;
+use thiserror::Error;
 use tree_eval::Tree;
 
 /// The most bytes of one read.
 const PIECE: usize = 65_536;
 
 /// Why there is no tree.
-#[derive(Clone, Copy, Debug, PartialEq, Eq)]
+#[derive(Clone, Copy, Debug, PartialEq, Eq, Error)]
 pub enum DocumentEnd {
     /// The document isn't accepted.
+    #[error("{0}")]
     Refused(DocFault),
     /// A read failed.
+    #[error("input or output failed")]
     Fault,
     /// Want of memory.
+    #[error("out of memory")]
     Memory,
 }
 
@@ -70,7 +72,8 @@ impl From<DocFault> for DocumentEnd {
 fn take_waiting(reader: &mut Reader, tree: &mut Tree) -> Result<(), Memory>
     ensures tree { OnOk result (tree.new ≡ grow_all (map token_of (waiting reader.old)) tree.old) }
     ensures waiting { OnOk result (waiting reader.new ≡ []) }
-    ensures stands { OnOk result ((lim : Limits) (b : List ℕ) (ended : Bool) (given : List Given) → Stands reader.old lim b ended given
+    ensures stands { OnOk result
+        ((lim : Limits) (b : List ℕ) (ended : Bool) (given : List Given) → Stands reader.old lim b ended given
         → Stands reader.new lim b ended (given ++ waiting reader.old)) }
     ensures keeps { Keeps reader.old reader.new }
 {
@@ -105,13 +108,13 @@ fn take_end(reader: &mut Reader, tree: &mut Tree) -> Result<(), DocumentEnd>
     Ok(())
 }
 
-/// The tree of the document that the source gives to its end.
+/// The tree of the document that the source gives to its end. No read comes behind the end, behind a fault of the bytes or behind
+/// one that failed.
 pub fn read_tree<S: Source>(alloc: Global, source: &mut S) -> Result<Tree, DocumentEnd>
-    ensures gave { DocumentGave (S.left source.old) (S.left source.new) (Finds result) }
+    ensures reads { ReadsDocument (S.seen source.old) (S.seen source.new) result }
     ensures why { IfErr result SaysWhy }
     ensures kept { S.keeps source.old source.new }
     ensures later { S.faults source.old ≤ S.faults source.new }
-    ensures cause { IsErrOf result DocumentEnd.Fault → Rose (S.faults source.old) (S.faults source.new) }
 {
     let limits = Limits::full();
     let mut reader = Reader::new(alloc, limits);

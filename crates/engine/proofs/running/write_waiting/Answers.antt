@@ -1,11 +1,15 @@
-use Rattle.std.proofs.Common.{ℕ, List, subst}
-use Rattle.gcx_io.specs.Bytes.{Grows}
-use Rattle.engine.proofs.CallsOfTurns.{on_err_any, within_whole}
+use Rattle.std.proofs.Common.{rules, ◌≡◌, ℕ, List, [], length, sym, ap, ◌∙◌, subst, arith}
+use Rattle.std.proofs.lemmas.Grind.{common_steps}
+use Rattle.std.proofs.lemmas.List.{nil_from_length}
+use Rattle.gcx_io.specs.Writing.{Takes}
+use Rattle.engine.proofs.RunOn.{wrote_out}
 use Rattle.engine.proofs.running.write_waiting.Goals as goal
 
-pub returns-in_err-write_all-2-clause-part : goal.returns-in_err-write_all-2-clause-part
-returns-in_err-write_all-2-clause-part g c =
-    let before = g.O.Sink.taken c.args.out.now in
-    let after = g.O.Sink.taken c.write_all.new.sink in
-    let all : Grows before after c.args.engine.now.out.items = subst (λ (z : List ℕ). Grows before after z) c.output.ensures c.in_ok-write_all.ensures.all in
-    on_err_any c.from_residual-in_err-write_all-2.result (within_whole before after c.args.engine.now.out.items all)
+pub returns-else-not-is_empty-clause-wrote : goal.returns-else-not-is_empty-clause-wrote
+returns-else-not-is_empty-clause-wrote g c =
+    let took : Takes (g.O.Sink.seen c.args.out.now) (g.O.Sink.seen c.write_all.new.sink) c.args.engine.now.out.items =
+    subst (λ (t : List ℕ). Takes (g.O.Sink.seen c.args.out.now) (g.O.Sink.seen c.write_all.new.sink) t) c.output.ensures c.in_ok-write_all.ensures.takes in
+    let same : c.trace.result.now ≡ c.args.engine.now.trace.items = search rules in
+    let zero : length c.trace.result.now ≡ 0 = grind (arith, common_steps) in
+    let none : c.args.engine.now.trace.items ≡ [] = nil_from_length c.args.engine.now.trace.items (ap length (sym same) ∙ zero) in
+    wrote_out _ _ _ _ _ took none

@@ -1,46 +1,13 @@
-use Rattle.std.proofs.Common.{◌≡◌, Some, sym, subst}
 use Rattle.gcx_words.specs.Words.{command_of}
-use Rattle.gcx_words.specs.declared.command.Command.{Command}
-use Rattle.gcx_cmd.specs.Commands.{query_of}
-use Rattle.gcx_cmd.proofs.Obeyed.{command_is}
+use Rattle.gcx_cmd.proofs.Obeyed.{found_does, lacks_words, nothing_done}
 use Rattle.gcx_cmd.proofs.command.perform.Goals as goal
 
-pub returns-in-Ok-Some-clause-ran : goal.returns-in-Ok-Some-clause-ran
-returns-in-Ok-Some-clause-ran g c = λ trace ahead q d bytes x asked told accepted two.
-    let is = command_is c.in-Ok-Some.field-0 (command_of c.args.words.now) c.in-Ok-Some.command _ c.in-Ok-Some.ensures.command c.in-Ok-Some.field-0-is asked in
-    c.obey.ensures.ran trace ahead q d bytes x is told accepted two
+pub returns-in-Ok-Some-clause-does : goal.returns-in-Ok-Some-clause-does
+returns-in-Ok-Some-clause-does g c =
+    found_does c.in-Ok-Some.field-0 (command_of c.args.words.now) c.in-Ok-Some.command _ _ _ c.in-Ok-Some.ensures.command c.in-Ok-Some.field-0-is c.obey.ensures.does
 
-pub returns-in-Ok-Some-clause-written : goal.returns-in-Ok-Some-clause-written
-returns-in-Ok-Some-clause-written g c = λ trace ahead query document query_bytes document_bytes q d asked.
-    let is = command_is c.in-Ok-Some.field-0 (command_of c.args.words.now) c.in-Ok-Some.command _ c.in-Ok-Some.ensures.command c.in-Ok-Some.field-0-is asked in
-    c.obey.ensures.written trace ahead query document query_bytes document_bytes q d is
+pub returns-in-Ok-None-clause-does : goal.returns-in-Ok-None-clause-does
+returns-in-Ok-None-clause-does g c = nothing_done c.in-Ok-None.field-0 (command_of c.args.words.now) _ c.in-Ok-None.ensures.command c.in-Ok-None.field-0-is
 
-pub returns-in-Ok-Some-clause-whole : goal.returns-in-Ok-Some-clause-whole
-returns-in-Ok-Some-clause-whole g c = λ query document query_bytes document_bytes q d asked.
-    let is = command_is c.in-Ok-Some.field-0 (command_of c.args.words.now) c.in-Ok-Some.command _ c.in-Ok-Some.ensures.command c.in-Ok-Some.field-0-is asked in
-    c.obey.ensures.whole query document query_bytes document_bytes q d is
-
-pub returns-in-Ok-Some-clause-measured : goal.returns-in-Ok-Some-clause-measured
-returns-in-Ok-Some-clause-measured g c = λ q d bytes x asked told accepted two.
-    let is = command_is c.in-Ok-Some.field-0 (command_of c.args.words.now) c.in-Ok-Some.command _ c.in-Ok-Some.ensures.command c.in-Ok-Some.field-0-is asked in
-    c.obey.ensures.measured q d bytes x is told accepted two
-
-pub returns-in-Ok-Some-clause-explained : goal.returns-in-Ok-Some-clause-explained
-returns-in-Ok-Some-clause-explained g c = λ query bytes q asked.
-    let is = command_is c.in-Ok-Some.field-0 (command_of c.args.words.now) c.in-Ok-Some.command _ c.in-Ok-Some.ensures.command c.in-Ok-Some.field-0-is asked in
-    c.obey.ensures.explained query bytes q is
-
-pub returns-in-Ok-Some-clause-peak : goal.returns-in-Ok-Some-clause-peak
-returns-in-Ok-Some-clause-peak g c = λ q d bytes x asked told accepted two.
-    let is = command_is c.in-Ok-Some.field-0 (command_of c.args.words.now) c.in-Ok-Some.command _ c.in-Ok-Some.ensures.command c.in-Ok-Some.field-0-is asked in
-    c.obey.ensures.peak q d bytes x is told accepted two
-
-pub returns-in-Ok-Some-clause-traced : goal.returns-in-Ok-Some-clause-traced
-returns-in-Ok-Some-clause-traced g c = λ q d bytes x asked told accepted two.
-    let is = command_is c.in-Ok-Some.field-0 (command_of c.args.words.now) c.in-Ok-Some.command _ c.in-Ok-Some.ensures.command c.in-Ok-Some.field-0-is asked in
-    c.obey.ensures.traced q d bytes x is told accepted two
-
-pub returns-in-Ok-Some-clause-refused : goal.returns-in-Ok-Some-clause-refused
-returns-in-Ok-Some-clause-refused g c = λ k q bytes f asked is_q.
-    let is = command_is c.in-Ok-Some.field-0 (command_of c.args.words.now) c.in-Ok-Some.command k c.in-Ok-Some.ensures.command c.in-Ok-Some.field-0-is asked in
-    c.obey.ensures.refused q bytes f (subst (λ (j : Command). query_of j ≡ Some q) (sym is) is_q)
+pub returns-in-Err-clause-does : goal.returns-in-Err-clause-does
+returns-in-Err-clause-does g c = lacks_words (command_of c.args.words.now) _

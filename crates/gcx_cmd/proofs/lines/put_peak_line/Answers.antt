@@ -1,5 +1,5 @@
 use Rattle.std.proofs.Common.{rules, ◌≡◌, ◌++◌, [], ◌∷◌, codes, decimal}
-use Rattle.gcx_cmd.proofs.Growing.{behind}
+use Rattle.gcx_cmd.proofs.Lists.{behind}
 use Rattle.gcx_cmd.proofs.lines.put_peak_line.Goals as goal
 
 pub returns : goal.returns

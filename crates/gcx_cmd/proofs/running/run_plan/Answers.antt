@@ -1,105 +1,78 @@
-use Rattle.std.proofs.Common.{rules, ◌≡◌, inl, inr, sym, ◌∙◌, ap, subst}
+use Rattle.std.proofs.Common.{rules, ◌≡◌, ◌≤◌, ℕ, ◌∙◌, sym, ap, subst, arith}
 use Rattle.std.specs.FinMap as map
 use Rattle.gcx_base.specs.Limits.{full_limits}
 use Rattle.gcx_base.specs.declared.limits.Limits.{Limits}
+use Rattle.gcx_io.specs.Causes.{Rose}
+use Rattle.gcx_io.specs.Views.{SinkView, SourceView}
 use Rattle.gcx_model.specs.PlanView.{plan_tree}
 use Rattle.gcx_model.specs.Tree.{opening}
 use Rattle.pull_eval.specs.Marks.{AreMarks}
-use Rattle.engine.specs.Engine.{IsTold, Starts}
+use Rattle.engine.specs.Engine.{MostIs, Starts}
+use Rattle.engine.specs.Runs.{TellsBy}
 use Rattle.gcx_cmd.specs.Running.{IsPlanOf, IsPlaced}
-use Rattle.gcx_cmd.specs.Stopping.{SaysOfGiven}
-use Rattle.tree_read.specs.Reading.{DocumentGave}
-use Rattle.gcx_cmd.specs.declared.status.Status.{Status}
-use Rattle.gcx_cmd.specs.Status.{ended_status}
-use Rattle.gcx_cmd.proofs.Runs.{ran_lost}
-use Rattle.gcx_cmd.proofs.Measured.{measured_on}
-use Rattle.gcx_cmd.proofs.Traces.{traced_on, traced_lost}
-use Rattle.gcx_cmd.proofs.Left.{ran_on, gave_told, emptied_by, lacks_no_memory, traced_or, same_name}
-use Rattle.gcx_cmd.proofs.Stopping.{gave_nothing}
+use Rattle.gcx_cmd.proofs.Runs.{emptied_by, no_memory_by, rose_by, runs_nothing, same_name, source_runs}
+use Rattle.gcx_cmd.proofs.Tells.{tells_by}
 use Rattle.gcx_cmd.proofs.running.run_plan.Goals as goal
 
 pub new-requires-clause-conds : goal.new-requires-clause-conds
 new-requires-clause-conds g c = c.new-conds.ensures opening
 
-pub returns-in_default-clause-ran : goal.returns-in_default-clause-ran
-returns-in_default-clause-ran g c = λ q is. ran_lost q c.args.ahead c.nothing_run.result.ended (g.S.Source.left c.args.source.now) (g.O.Sink.taken c.args.out.now) _ _ c.nothing_run.ensures
+pub returns-in_default-clause-runs : goal.returns-in_default-clause-runs
+returns-in_default-clause-runs g c = λ q is. runs_nothing c.args.tracing c.args.ahead q c.nothing_run.result _ _ _ _ _ c.nothing_run.ensures
 
-pub returns-in_default-clause-stopped : goal.returns-in_default-clause-stopped
-returns-in_default-clause-stopped g c =
-    subst (λ (s : Status). DocumentGave (g.S.Source.left c.args.source.now) (g.S.Source.left c.args.source.now) (SaysOfGiven s)) (sym (ap ended_status c.nothing_run.ensures))
-    (gave_nothing (g.S.Source.left c.args.source.now))
-
-pub returns-clause-ran : goal.returns-clause-ran
-returns-clause-ran g c = λ q is.
+pub returns-clause-runs : goal.returns-clause-runs
+returns-clause-runs g c = λ q is.
     let e = c.run_query-report.new.engine in
-    let x = c.run_query-report.result.ended in
     let same = c.run_query-report.ensures.plan ∙ c.in-Ok.ensures.plan in
     let starts : Starts AreMarks full_limits c.in-Ok.engine = subst (λ (l : Limits). Starts AreMarks l c.in-Ok.engine) c.full-limits.ensures c.in-Ok.ensures.starts in
-    let ran = c.run_query-report.ensures.ran full_limits starts in
+    let tells : TellsBy c.args.tracing c.in-Ok.engine = tells_by c.args.tracing c.in-Ok.engine c.in-Ok.ensures.tracing (λ told. c.in-Ok.ensures.ahead ∙ c.requires.ahead.2 told) c.in-Ok.ensures.silent in
+    let ran = c.run_query-report.ensures.ran full_limits c.args.tracing starts tells in
+    let fresh : MostIs 0 c.in-Ok.engine = subst (λ (n : ℕ). MostIs n c.in-Ok.engine) c.requires.new.1 c.in-Ok.ensures.most in
     let of_plan : IsPlanOf q (plan_tree e.plan.now) = subst (λ p. IsPlanOf q (plan_tree p.now)) (sym same) is in
-    let all = ran_on AreMarks e x (g.S.Source.left c.args.source.now) (g.S.Source.left c.run_query-report.new.doc) (g.O.Sink.taken c.args.out.now) (g.O.Sink.taken c.run_query-report.new.out) q c.args.ahead (g.N.NodeStore.rows c.finish_nodes.result.now) (g.N.NodeStore.most_held c.finish_nodes.result.now)
-    of_plan (c.run_query-report.ensures.ahead ∙ c.in-Ok.ensures.ahead) c.finish_nodes.ensures.shape c.finish_nodes.ensures.most ran in
+    let all = source_runs AreMarks c.args.tracing e c.run_query-report.result _ _ _ _ _ _ ran q c.args.ahead (g.N.NodeStore.rows c.finish_nodes.result.now) (g.N.NodeStore.most_held c.finish_nodes.result.now)
+    of_plan (c.run_query-report.ensures.ahead ∙ c.in-Ok.ensures.ahead) c.finish_nodes.ensures.shape c.finish_nodes.ensures.most (c.run_query-report.ensures.most 0 fresh)
+    (c.run_query-report.ensures.numbers full_limits) in
     let name = same_name (c.finish_nodes.ensures.loans ∙ (c.run_query-report.ensures.loans ∙ c.in-Ok.ensures.loans)) in
     let back : c.nodes-2-1.given.0 ≡ c.finish_nodes.result.now = search (rules, name) in
     rw back all
 
-pub returns-clause-stopped : goal.returns-clause-stopped
-returns-clause-stopped g c =
-    let e = c.run_query-report.new.engine in
-    let x = c.run_query-report.result.ended in
-    let starts : Starts AreMarks full_limits c.in-Ok.engine = subst (λ (l : Limits). Starts AreMarks l c.in-Ok.engine) c.full-limits.ensures c.in-Ok.ensures.starts in
-    let ran = c.run_query-report.ensures.ran full_limits starts in
-    (gave_told AreMarks e x (g.S.Source.left c.args.source.now) (g.S.Source.left c.run_query-report.new.doc) (g.O.Sink.taken c.args.out.now) (g.O.Sink.taken c.run_query-report.new.out) ran)
-
 pub returns-clause-emptied : goal.returns-clause-emptied
-returns-clause-emptied g c = λ is.
+returns-clause-emptied g c = λ ok.
     let e = c.run_query-report.new.engine in
-    let x = c.run_query-report.result.ended in
     let same = c.run_query-report.ensures.plan ∙ c.in-Ok.ensures.plan in
     let starts : Starts AreMarks full_limits c.in-Ok.engine = subst (λ (l : Limits). Starts AreMarks l c.in-Ok.engine) c.full-limits.ensures c.in-Ok.ensures.starts in
-    let ran = c.run_query-report.ensures.ran full_limits starts in
+    let tells : TellsBy c.args.tracing c.in-Ok.engine = tells_by c.args.tracing c.in-Ok.engine c.in-Ok.ensures.tracing (λ told. c.in-Ok.ensures.ahead ∙ c.requires.ahead.2 told) c.in-Ok.ensures.silent in
+    let ran = c.run_query-report.ensures.ran full_limits c.args.tracing starts tells in
     let placed : IsPlaced (plan_tree e.plan.now) = subst (λ p. IsPlaced (plan_tree p.now)) (sym same) c.requires.placed in
-    let none : g.N.NodeStore.rows c.finish_nodes.result.now ≡ map.empty = emptied_by AreMarks e x (g.S.Source.left c.args.source.now) (g.S.Source.left c.run_query-report.new.doc) (g.O.Sink.taken c.args.out.now) (g.O.Sink.taken c.run_query-report.new.out) (g.N.NodeStore.rows c.finish_nodes.result.now)
-    placed c.finish_nodes.ensures.shape ran (ap ended_status is) in
+    let none : g.N.NodeStore.rows c.finish_nodes.result.now ≡ map.empty =
+    emptied_by AreMarks c.args.tracing e c.run_query-report.result _ _ _ _ _ _ ran (g.N.NodeStore.rows c.finish_nodes.result.now) placed c.finish_nodes.ensures.shape ok in
     let name = same_name (c.finish_nodes.ensures.loans ∙ (c.run_query-report.ensures.loans ∙ c.in-Ok.ensures.loans)) in
     search (rules, name, none)
 
 pub returns-clause-memory : goal.returns-clause-memory
 returns-clause-memory g c =
     let e = c.run_query-report.new.engine in
-    let x = c.run_query-report.result.ended in
     let starts : Starts AreMarks full_limits c.in-Ok.engine = subst (λ (l : Limits). Starts AreMarks l c.in-Ok.engine) c.full-limits.ensures c.in-Ok.ensures.starts in
-    let ran = c.run_query-report.ensures.ran full_limits starts in
-    (lacks_no_memory AreMarks e x (g.S.Source.left c.args.source.now) (g.S.Source.left c.run_query-report.new.doc) (g.O.Sink.taken c.args.out.now) (g.O.Sink.taken c.run_query-report.new.out) ran)
+    let tells : TellsBy c.args.tracing c.in-Ok.engine = tells_by c.args.tracing c.in-Ok.engine c.in-Ok.ensures.tracing (λ told. c.in-Ok.ensures.ahead ∙ c.requires.ahead.2 told) c.in-Ok.ensures.silent in
+    no_memory_by AreMarks c.args.tracing e c.run_query-report.result _ _ _ _ _ _ (c.run_query-report.ensures.ran full_limits c.args.tracing starts tells)
 
-pub returns-clause-write : goal.returns-clause-write
-returns-clause-write g c = λ is. elim (c.run_query-report.ensures.write is) [
-  | inl rose ↦ inl rose
-  | inr trace ↦ inr (traced_or c.args.tracing (λ untold. trace.0 (c.in-Ok.ensures.silent untold)), trace.1)
-]
-
-pub returns-clause-silent : goal.returns-clause-silent
-returns-clause-silent g c = λ untold. c.run_query-report.ensures.silent (c.in-Ok.ensures.silent untold)
-
-pub returns-in_default-clause-traced : goal.returns-in_default-clause-traced
-returns-in_default-clause-traced g c = λ q is tracing. traced_lost q c.nothing_run.result.ended (g.S.Source.left c.args.source.now) (g.E.Sink.taken c.args.err.now) c.nothing_run.ensures
-
-pub returns-clause-numbers : goal.returns-clause-numbers
-returns-clause-numbers g c = λ q is one ended.
+pub returns-clause-cause : goal.returns-clause-cause
+returns-clause-cause g c = λ is.
     let e = c.run_query-report.new.engine in
-    let x = c.run_query-report.result.ended in
-    let same = c.run_query-report.ensures.plan ∙ c.in-Ok.ensures.plan in
     let starts : Starts AreMarks full_limits c.in-Ok.engine = subst (λ (l : Limits). Starts AreMarks l c.in-Ok.engine) c.full-limits.ensures c.in-Ok.ensures.starts in
-    let of_plan : IsPlanOf q (plan_tree e.plan.now) = subst (λ p. IsPlanOf q (plan_tree p.now)) (sym same) is in
-    measured_on AreMarks e c.run_query-report.result q of_plan (c.run_query-report.ensures.ahead ∙ c.in-Ok.ensures.ahead ∙ one) (c.run_query-report.ensures.numbers full_limits) x
-    (g.S.Source.left c.args.source.now) (g.S.Source.left c.run_query-report.new.doc) (g.O.Sink.taken c.args.out.now) (g.O.Sink.taken c.run_query-report.new.out) ended (c.run_query-report.ensures.ran full_limits starts)
+    let tells : TellsBy c.args.tracing c.in-Ok.engine = tells_by c.args.tracing c.in-Ok.engine c.in-Ok.ensures.tracing (λ told. c.in-Ok.ensures.ahead ∙ c.requires.ahead.2 told) c.in-Ok.ensures.silent in
+    let rose = rose_by AreMarks c.args.tracing e c.run_query-report.result _ _ _ _ _ _ (c.run_query-report.ensures.ran full_limits c.args.tracing starts tells) is in
+    let before = ap (λ (v : SourceView). v.faults) (g.met.S.Source.sees c.args.source.now) in
+    let after = ap (λ (v : SourceView). v.faults) (g.met.S.Source.sees c.run_query-report.new.doc) in
+    let goes : Rose (g.S.Source.faults c.args.source.now) (g.S.Source.faults c.run_query-report.new.doc) = omega (arith, rose, before, after) in
+    goes
 
-pub returns-clause-traced : goal.returns-clause-traced
-returns-clause-traced g c = λ q is tracing.
-    let e = c.in-Ok.engine in
-    let x = c.run_query-report.result.ended in
-    let starts : Starts AreMarks full_limits e = subst (λ (l : Limits). Starts AreMarks l e) c.full-limits.ensures c.in-Ok.ensures.starts in
-    let of_plan : IsPlanOf q (plan_tree e.plan.now) = subst (λ p. IsPlanOf q (plan_tree p.now)) (sym c.in-Ok.ensures.plan) is in
-    let told : IsTold e = record { tracing = c.in-Ok.ensures.tracing ∙ tracing; alone = c.in-Ok.ensures.ahead ∙ c.requires.traced tracing } in
-    traced_on q (plan_tree e.plan.now) of_plan x (g.S.Source.left c.args.source.now) (g.S.Source.left c.run_query-report.new.doc) (g.E.Sink.taken c.args.err.now) (g.E.Sink.taken c.run_query-report.new.err)
-    (c.run_query-report.ensures.traced full_limits starts told)
+pub returns-clause-counts : goal.returns-clause-counts
+returns-clause-counts g c =
+    let o = ap (λ (v : SinkView). v.faults) (g.met.O.Sink.sees c.args.out.now) in
+    let p = ap (λ (v : SinkView). v.faults) (g.met.O.Sink.sees c.run_query-report.new.out) in
+    let d = ap (λ (v : SinkView). v.faults) (g.met.E.Sink.sees c.args.err.now) in
+    let f = ap (λ (v : SinkView). v.faults) (g.met.E.Sink.sees c.run_query-report.new.err) in
+    let out : (g.O.Sink.seen c.args.out.now).faults ≤ (g.O.Sink.seen c.run_query-report.new.out).faults = omega (arith, o, p, c.run_query-report.ensures.write_count) in
+    let err : (g.E.Sink.seen c.args.err.now).faults ≤ (g.E.Sink.seen c.run_query-report.new.err).faults = omega (arith, d, f, c.run_query-report.ensures.trace_count) in
+    (c.run_query-report.ensures.read_count, out, err)

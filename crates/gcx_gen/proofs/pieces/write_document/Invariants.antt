@@ -5,7 +5,7 @@ use Rattle.gcx_gen.proofs.pieces.write_document.Given as goal
 abbrev pub invariant-pieces : goal.invariant-pieces
 invariant-pieces g l = record {
   within : l.from ≤ l.count;
-  written : Written (g.O.Sink.taken l.fn.out) (g.O.Sink.taken l.out) l.seed l.from;
+  written : Written (g.O.Sink.seen l.fn.out) (g.O.Sink.seen l.out) l.seed l.from;
   later : g.O.Sink.faults l.fn.out ≤ g.O.Sink.faults l.out;
 }
 

@@ -1,5 +1,4 @@
 use Rattle.std.proofs.Common.{rules}
-use Rattle.gcx_io.proofs.Grown.{grows_along}
 use Rattle.gcx_io.proofs.Written.{takes_next, owes_rest, on_err}
 use Rattle.gcx_io.proofs.sink.write_all.Goals as goal
 
@@ -9,7 +8,6 @@ returns-in_err-at-clause-owes g c = on_err _ _ (owes_rest _ _ _ _ _ _ c.loop-at.
 pub loop-at-preserved : goal.loop-at-preserved
 loop-at-preserved g c = record {
   within = search rules;
-  taken = grows_along _ _ _ _ _ _ c.loop-at.invariant.taken c.in_ok-at.ensures.bytes;
   takes = takes_next _ _ _ _ _ _ c.loop-at.invariant.takes c.in_ok-at.ensures.writes (search rules) (search rules);
   later = search rules;
 }

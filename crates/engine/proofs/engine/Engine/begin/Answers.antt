@@ -1,4 +1,4 @@
-use Rattle.std.proofs.Common.{◌≡◌, ◌∙◌, ◌<◌, ◌^◌, ◌∷◌, [], List, max, ℕ, length, ap, subst, sym, refl, rules}
+use Rattle.std.proofs.Common.{◌≡◌, ◌∙◌, ◌≤◌, ◌<◌, ◌^◌, ◌∷◌, [], List, max, ℕ, length, ap, subst, sym, refl, rules, arith}
 use Rattle.gcx_model.specs.Tree.{Root, opening}
 use Rattle.gcx_model.specs.PlanView.{plan_tree}
 use Rattle.gcx_model.specs.Past.{opening_past}
@@ -25,6 +25,7 @@ returns-clause-begins g c =
     let beside = c.in_ok-machine.ensures.stands v stands in
     let on : g.C.Conds.stands m.conds opening = subst (λ (z : g.row.C.Denot). g.C.Conds.stands z opening) (sym c.in_ok-machine.ensures.conds) c.requires.conds in
     let few : length given < 2 ^ 64 = search rules in
+    let some : 1 ≤ v.most = let m : v.most ≡ max (g.N.NodeStore.most_held c.args.nodes) 1 = c.in_ok-buffer.ensures.most in omega arith in
     record {
       limits = record { depth = c.requires.depth; bytes = c.requires.bytes };
       reader = c.new-reader.ensures.stands;
@@ -35,6 +36,7 @@ returns-clause-begins g c =
       bytes = refl;
       peak = refl;
       given = ap length c.items.ensures.same ∙ given_begin plan given few roles;
-      most = c.in_ok-buffer.ensures.most ∙ ap (λ (z : ℕ). max z 1) c.requires.unused;
+      most = some;
+      unended = refl;
       fresh = refl;
     }

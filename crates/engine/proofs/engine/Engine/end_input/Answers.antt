@@ -21,8 +21,9 @@ returns-clause-ended g c = λ lim b was s.
     let r = c.finish-ended.new.self in
     let o = c.finish-ended.ensures in
     let d = c.go_on.new.self in
-    let e : Engine g.row.N.Denot g.row.C.Denot = record old { reader = r } in
-    fed_to g.C.Conds.stands lim b was b true old e d s refl refl c.go_on.ensures.keeps (fault_of_answer r.refused c.finish-ended.result lim b true o.answer (o.exact lim b was s.given s.parts.reader)) (c.go_on.ensures.bytes ∙ s.bytes)
+    let e : Engine g.row.N.Denot g.row.C.Denot = record old { reader = r; ended = true } in
+    fed_to g.C.Conds.stands lim b was b true old e d s refl refl (λ lent h. h) c.go_on.ensures.keeps (fault_of_answer r.refused c.finish-ended.result lim b true o.answer (o.exact lim b was s.given s.parts.reader))
+    c.go_on.ensures.same.3 (c.go_on.ensures.bytes ∙ s.bytes)
     (c.go_on.ensures.goes lim b true s.given (parts_ended g.C.Conds.stands lim old b was b true s r (o.stands lim b was s.given s.parts.reader)))
 
 pub returns-clause-empty : goal.returns-clause-empty
@@ -33,7 +34,7 @@ returns-clause-empty g c = λ fresh.
     let r = c.finish-ended.new.self in
     let o = c.finish-ended.ensures in
     let d = c.go_on.new.self in
-    let e : Engine g.row.N.Denot g.row.C.Denot = record old { reader = r } in
+    let e : Engine g.row.N.Denot g.row.C.Denot = record old { reader = r; ended = true } in
     let h : OnRefusal d.refused (Lost s.limits old d s.read was s.read true) (Kept g.C.Conds.stands s.limits old d s.read was s.read true) = returns-clause-ended g c s.limits s.read was s.of in
     let k = asked_none d.refused (Lost s.limits old d s.read was s.read true) (Kept g.C.Conds.stands s.limits old d s.read was s.read true) fresh h in
     let reads = o.stands s.limits s.read was s.of.given s.of.parts.reader in
@@ -50,7 +51,7 @@ returns-clause-balance g c = λ fresh.
     let r = c.finish-ended.new.self in
     let o = c.finish-ended.ensures in
     let d = c.go_on.new.self in
-    let e : Engine g.row.N.Denot g.row.C.Denot = record old { reader = r } in
+    let e : Engine g.row.N.Denot g.row.C.Denot = record old { reader = r; ended = true } in
     let h : OnRefusal d.refused (Lost s.limits old d s.read was s.read true) (Kept g.C.Conds.stands s.limits old d s.read was s.read true) = returns-clause-ended g c s.limits s.read was s.of in
     let k = asked_none d.refused (Lost s.limits old d s.read was s.read true) (Kept g.C.Conds.stands s.limits old d s.read was s.read true) fresh h in
     let reads = o.stands s.limits s.read was s.of.given s.of.parts.reader in
@@ -68,7 +69,7 @@ returns-clause-traced g c = λ lim b was s told.
     let r = c.finish-ended.new.self in
     let o = c.finish-ended.ensures in
     let d = c.go_on.new.self in
-    let e : Engine g.row.N.Denot g.row.C.Denot = record old { reader = r } in
+    let e : Engine g.row.N.Denot g.row.C.Denot = record old { reader = r; ended = true } in
     let told' : IsTold e = record { tracing = told.tracing; alone = told.alone } in
     let reads = o.stands lim b was s.given s.parts.reader in
     let parts = parts_ended g.C.Conds.stands lim old b was b true s r reads in

@@ -1,4 +1,4 @@
-use Rattle.std.proofs.Common.{◌≡◌, ◌+◌, ◌++◌, false, length, refl, arith}
+use Rattle.std.proofs.Common.{◌≡◌, ◌∙◌, ◌+◌, ◌++◌, false, length, refl, arith}
 use Rattle.std.proofs.lemmas.List.{length-append}
 use Rattle.engine.specs.declared.engine.Engine.{Engine}
 use Rattle.engine.proofs.Courses.{bytes_small, fault_of_answer, fed_to, parts_read}
@@ -31,7 +31,8 @@ returns-clause-fed g c = λ lim b s.
     let y = s.bytes in
     let x = c.go_on.ensures.bytes in
     let bytes : d.counts.bytes ≡ length w = omega arith in
-    fed_to g.C.Conds.stands lim b false w false old e d s refl refl c.go_on.ensures.keeps (fault_of_answer r.refused c.feed-read.result lim w false o.answer (o.exact lim b s.given s.parts.reader)) bytes
+    fed_to g.C.Conds.stands lim b false w false old e d s refl refl (λ lent h. h) c.go_on.ensures.keeps (fault_of_answer r.refused c.feed-read.result lim w false o.answer (o.exact lim b s.given s.parts.reader))
+    (c.go_on.ensures.same.3 ∙ s.closing) bytes
     (c.go_on.ensures.goes lim w false s.given (parts_read g.C.Conds.stands lim old b false w false s r n (o.stands lim b s.given s.parts.reader)))
 
 pub returns-clause-silent : goal.returns-clause-silent

@@ -39,7 +39,7 @@ returns-clause-goes g c = λ lim b ended given p.
 pub returns-clause-same : goal.returns-clause-same
 returns-clause-same g c =
     let w = c.feed_waiting-fed.ensures.rest in
-    (ap (λ (z : Engine g.row.N.Denot g.row.C.Denot). z.plan) w, ap (λ (z : Engine g.row.N.Denot g.row.C.Denot). z.ahead) w, ap (λ (z : Engine g.row.N.Denot g.row.C.Denot). z.tracing) w)
+    (ap (λ (z : Engine g.row.N.Denot g.row.C.Denot). z.plan) w, ap (λ (z : Engine g.row.N.Denot g.row.C.Denot). z.ahead) w, ap (λ (z : Engine g.row.N.Denot g.row.C.Denot). z.tracing) w, ap (λ (z : Engine g.row.N.Denot g.row.C.Denot). z.ended) w)
 
 pub returns-clause-silent : goal.returns-clause-silent
 returns-clause-silent g c = λ s. let t = c.feed_waiting-fed.ensures.silent (record { untold = s.untold; empty = s.empty }) in record { untold = t.untold; empty = t.empty }

@@ -1,4 +1,4 @@
-use Rattle.std.proofs.Common.{◌≡◌, ◌∙◌, ◌≤◌, true, ap, arith, sym}
+use Rattle.std.proofs.Common.{◌≡◌, ◌∙◌, ◌≤◌, ℕ, true, max, ap, arith, sym}
 use Rattle.gcx_model.specs.Tree.{opening}
 use Rattle.engine.specs.declared.engine.Engine.{Engine}
 use Rattle.engine.proofs.Making.{some_begin, starts}
@@ -18,10 +18,15 @@ returns-clause-starts g c =
     let n = c.requires.ahead.0 in
     let one : 1 ≤ e.ahead = omega arith in
     starts g.C.Conds.stands c.args.limits e d h one (ap (λ (z : Engine g.row.N.Denot g.row.C.Denot). z.plan) r) (ap (λ (z : Engine g.row.N.Denot g.row.C.Denot). z.reader) r) (ap (λ (z : Engine g.row.N.Denot g.row.C.Denot). z.ahead) r)
-    (ap (λ (z : Engine g.row.N.Denot g.row.C.Denot). z.counts) r) (ap (λ (z : Engine g.row.N.Denot g.row.C.Denot). z.refused) r) c.act_all.ensures.most (c.in_ok-act_all.ensures.acts opening 0 h.actors)
+    (ap (λ (z : Engine g.row.N.Denot g.row.C.Denot). z.counts) r) (ap (λ (z : Engine g.row.N.Denot g.row.C.Denot). z.refused) r) (ap (λ (z : Engine g.row.N.Denot g.row.C.Denot). z.ended) r) c.act_all.ensures.most (c.in_ok-act_all.ensures.acts opening 0 h.actors)
     (λ tr.
     let tr' : e.tracing ≡ true = sym (ap (λ (z : Engine g.row.N.Denot g.row.C.Denot). z.tracing) r) ∙ tr in
     traced_begin c.args.limits e.plan.now d.plan.now (ap (λ (z : Engine g.row.N.Denot g.row.C.Denot). z.plan.now) r) e.trace.items d.trace.items (h.trace tr') (c.in_ok-act_all.ensures.told tr' opening 0 h.actors))
+
+pub returns-clause-most : goal.returns-clause-most
+returns-clause-most g c =
+    let peak : 1 ≡ c.act_all.new.self.counts.peak = sym (ap (λ (z : Engine g.row.N.Denot g.row.C.Denot). z.counts.peak) c.act_all.ensures.rest ∙ c.in_ok-engine.ensures.begins.peak) in
+    c.act_all.ensures.most ∙ (c.in_ok-engine.ensures.most ∙ ap (λ (z : ℕ). max (g.N.NodeStore.most_held c.args.nodes) z) peak)
 
 pub returns-clause-silent : goal.returns-clause-silent
 returns-clause-silent g c = λ h. c.act_all.ensures.silent (record { untold = c.in_ok-engine.ensures.tracing ∙ h; empty = c.in_ok-engine.ensures.silent h })

@@ -1,18 +1,18 @@
 use Rattle.std.proofs.Common.{◌≡◌, false, [], ◌∙◌, ap, subst}
-use Rattle.gcx_io.specs.Files.{OpenFiles, held_names, handle_count, owners, rests}
+use Rattle.gcx_io.specs.Files.{OpenFiles, held_names, handle_count, owners}
 use Rattle.gcx_io.specs.MemShelf.{ShelfState}
 use Rattle.gcx_io.specs.Shelf.{content_of, Adds, AddsName, Maps}
 use Rattle.gcx_io.specs.Files.{files_seen}
 use Rattle.gcx_io.specs.Calls.{GivesHandle}
 use Rattle.gcx_io.proofs.Seen.{shelf_gives}
-use Rattle.gcx_io.proofs.Shelves.{create_adds, create_names, create_maps, set_content}
+use Rattle.gcx_io.proofs.Shelves.{opens_adds, create_names, create_maps, set_content}
 use Rattle.gcx_io.proofs.mem_shelf.MemShelfShelf.create.Goals as goal
 
 pub returns-clause-given : goal.returns-clause-given
 returns-clause-given c =
     let same : c.self.inside.files ≡ c.args.self.now.kept = ap (λ (s : ShelfState). s.kept) (c.self.view_is ∙ c.is_failing_write.ensures.calls) in
-    subst (λ (f : OpenFiles). Adds (handle_count f) (handle_count c.create.new.self) (rests f) (rests c.create.new.self) (content_of (held_names c.create.new.self) c.args.name.now) c.in_ok-create.field-0.0) same
-    (create_adds false c.self.inside.files c.create.new.self c.args.name.now c.self.inside.room c.in_ok-create.field-0.0 c.in_ok-create.ensures.files c.in_ok-create.ensures.openings c.create.ensures.whole c.in_ok-create.ensures.number)
+    subst (λ (f : OpenFiles). Adds (handle_count f) (handle_count c.create.new.self) c.in_ok-create.field-0.0) same
+    (opens_adds c.self.inside.files c.create.new.self c.args.name.now [] c.in_ok-create.field-0.0 c.in_ok-create.ensures.openings c.in_ok-create.ensures.number)
 
 pub returns-clause-named : goal.returns-clause-named
 returns-clause-named c =

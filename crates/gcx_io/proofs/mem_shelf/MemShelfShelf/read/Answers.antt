@@ -3,16 +3,9 @@ use Rattle.gcx_io.specs.Files.{OpenFiles, held_names}
 use Rattle.gcx_io.specs.Tallies.{Tally}
 use Rattle.gcx_io.specs.Views.{Failed}
 use Rattle.gcx_io.proofs.Caused.{failed_cause}
-use Rattle.gcx_io.proofs.Seen.{shelf_reads, shelf_fails, noted_keeps, noted_others, noted_names, noted_count}
-use Rattle.gcx_io.proofs.Shelves.{read_moves, read_others, read_names, read_count}
+use Rattle.gcx_io.proofs.Seen.{shelf_reads, shelf_fails, noted_others, noted_names, noted_count}
+use Rattle.gcx_io.proofs.Shelves.{read_others, read_names, read_count}
 use Rattle.gcx_io.proofs.mem_shelf.MemShelfShelf.read.Goals as goal
-
-pub returns-then-is_failing-clause-cause : goal.returns-then-is_failing-clause-cause
-returns-then-is_failing-clause-cause c = rw (← c.self.view_is) (failed_cause _ _ _ c.if-is_failing.ensures.calls c.is_failing.ensures.later)
-
-pub returns-clause-bytes : goal.returns-clause-bytes
-returns-clause-bytes c = rw (← c.self.view_is) (read_moves c.self.inside.files c.read.new.self c.args.handle.0 _ c.self.inside.most c.args.buf.now _ c.read.ensures.rest (rw (← c.self.view_is) at c.requires.given) c.self.invariant c.requires.room
-    c.read.ensures.count c.read.ensures.moved)
 
 pub returns-clause-others : goal.returns-clause-others
 returns-clause-others c = rw (← c.self.view_is) (read_others c.self.inside.files c.read.new.self c.args.handle.0 _ c.read.ensures.rest)
@@ -32,9 +25,6 @@ pub returns-then-is_failing-clause-reads : goal.returns-then-is_failing-clause-r
 returns-then-is_failing-clause-reads c = rw (← c.self.view_is) (shelf_fails _ _ _ _ _ _ _ c.self.inside.files c.fail.new.self c.args.handle.0 _
     (ap (λ (s : OpenFiles). held_names s) c.fail.ensures) (failed_cause _ _ _ c.if-is_failing.ensures.calls c.is_failing.ensures.later) refl
     c.fail.ensures (rw (← c.self.view_is) at c.requires.given))
-
-pub returns-then-is_failing-clause-bytes : goal.returns-then-is_failing-clause-bytes
-returns-then-is_failing-clause-bytes c = rw (← c.self.view_is) (noted_keeps c.self.inside.files c.fail.new.self c.args.handle.0 Failed c.fail.ensures)
 
 pub returns-then-is_failing-clause-others : goal.returns-then-is_failing-clause-others
 returns-then-is_failing-clause-others c = rw (← c.self.view_is) (noted_others c.self.inside.files c.fail.new.self c.args.handle.0 Failed c.fail.ensures)

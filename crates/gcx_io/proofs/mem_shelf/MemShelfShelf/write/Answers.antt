@@ -1,10 +1,9 @@
-use Rattle.std.proofs.Common.{◌≡◌, ◌<◌, ℕ, false, take, Ok, Err, sym, ◌∙◌, ap, subst, rules, arith}
-use Rattle.gcx_io.specs.Held.{noted_at}
+use Rattle.std.proofs.Common.{◌≡◌, ◌<◌, false, take, Ok, Err, sym, ◌∙◌, ap, subst, rules, arith}
 use Rattle.gcx_io.specs.Views.{Took, Failed}
 use Rattle.gcx_io.specs.Calls.{WritesHandle}
 use Rattle.gcx_io.specs.Files.{OpenFiles, held_names, handle_count, owners, rests, files_seen}
 use Rattle.gcx_io.specs.MemShelf.{ShelfState}
-use Rattle.gcx_io.specs.Shelf.{Appends, LeavesOtherNames}
+use Rattle.gcx_io.specs.Shelf.{Appends, OthersStay}
 use Rattle.gcx_io.proofs.Seen.{shelf_writes, write_others, noted_left, noted_names, noted_count}
 use Rattle.gcx_io.proofs.Shelves.{write_appends}
 use Rattle.gcx_io.proofs.mem_shelf.MemShelfShelf.write.Goals as goal
@@ -19,7 +18,7 @@ returns-clause-bytes c =
 pub returns-clause-others : goal.returns-clause-others
 returns-clause-others c =
     let same : c.self.inside.files ≡ c.args.self.now.kept = ap (λ (s : ShelfState). s.kept) (c.self.view_is ∙ c.is_failing_write.ensures.calls) in
-    subst (λ (f : OpenFiles). LeavesOtherNames (owners f) (rests f) (rests c.write.new.self) (handle_count f) (owners f c.args.handle.0)) same
+    subst (λ (f : OpenFiles). OthersStay (owners f) (rests f) (rests c.write.new.self) (handle_count f) c.args.handle.0) same
     (write_others c.self.inside.files c.write.new.self c.args.handle.0 (Took (take c.min-count.result c.args.piece.now)) _ _
     (λ e. ap (λ (s : OpenFiles). s.whole) (c.write.ensures.lost e) ∙ e) c.write.ensures.openings)
 
@@ -46,10 +45,14 @@ returns-clause-takes c =
 
 pub returns-then-is_failing_write-clause-unmoved : goal.returns-then-is_failing_write-clause-unmoved
 returns-then-is_failing_write-clause-unmoved c =
-    let same : c.self.inside.files ≡ c.args.self.now.kept = ap (λ (s : ShelfState). s.kept) (c.self.view_is ∙ c.is_failing_write.ensures.calls) in (
-      ap (λ (f : OpenFiles). held_names f) c.fail.ensures ∙ ap (λ (f : OpenFiles). held_names f) same,
-      noted_left c.self.inside.files c.fail.new.self c.args.handle.0 Failed c.fail.ensures ∙ ap (λ (f : OpenFiles). rests f) same,
-    )
+    let same : c.self.inside.files ≡ c.args.self.now.kept = ap (λ (s : ShelfState). s.kept) (c.self.view_is ∙ c.is_failing_write.ensures.calls) in
+    noted_left c.self.inside.files c.fail.new.self c.args.handle.0 Failed c.fail.ensures ∙ ap (λ (f : OpenFiles). rests f) same
+
+pub returns-then-is_failing_write-clause-others : goal.returns-then-is_failing_write-clause-others
+returns-then-is_failing_write-clause-others c =
+    let same : c.self.inside.files ≡ c.args.self.now.kept = ap (λ (s : ShelfState). s.kept) (c.self.view_is ∙ c.is_failing_write.ensures.calls) in
+    subst (λ (f : OpenFiles). OthersStay (owners f) (rests f) (rests c.fail.new.self) (handle_count f) c.args.handle.0) same
+    (write_others c.self.inside.files c.fail.new.self c.args.handle.0 Failed _ _ (λ e. ap (λ (s : OpenFiles). s.whole) c.fail.ensures ∙ e) (ap (λ (s : OpenFiles). s.openings) c.fail.ensures))
 
 pub returns-then-is_failing_write-clause-handles : goal.returns-then-is_failing_write-clause-handles
 returns-then-is_failing_write-clause-handles c =

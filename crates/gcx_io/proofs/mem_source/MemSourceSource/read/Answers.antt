@@ -1,14 +1,6 @@
 use Rattle.std.proofs.Common.{rules}
-use Rattle.gcx_io.proofs.Caused.{failed_cause}
 use Rattle.gcx_io.proofs.Moved.{front_moved}
 use Rattle.gcx_io.proofs.mem_source.MemSourceSource.read.Goals as goal
-
-pub returns-then-is_failing-clause-cause : goal.returns-then-is_failing-clause-cause
-returns-then-is_failing-clause-cause c = rw (← c.self.view_is) (failed_cause _ _ _ c.if-is_failing.ensures.calls c.is_failing.ensures.later)
-
-pub returns-clause-bytes : goal.returns-clause-bytes
-returns-clause-bytes c = rw (← c.self.view_is) (front_moved c.self.inside.bytes.items c.args.buf.now _ c.self.inside.at _ c.self.inside.most c.self.invariant.1 c.requires
-    (rw c.deref.ensures.value at c.move_front-count.ensures.count) (rw c.deref.ensures.value at c.move_front-count.ensures.moved))
 
 pub returns-clause-reads : goal.returns-clause-reads
 returns-clause-reads c = rw (← c.self.view_is) (record {

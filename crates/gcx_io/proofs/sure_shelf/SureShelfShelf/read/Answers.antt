@@ -1,12 +1,8 @@
 use Rattle.std.proofs.Common.{arith, refl, ap}
 use Rattle.gcx_io.specs.Files.{OpenFiles, all_names}
 use Rattle.gcx_io.proofs.Seen.{shelf_reads}
-use Rattle.gcx_io.proofs.Shelves.{read_moves, read_others, read_names, read_count}
+use Rattle.gcx_io.proofs.Shelves.{read_others, read_names, read_count}
 use Rattle.gcx_io.proofs.sure_shelf.SureShelfShelf.read.Goals as goal
-
-pub returns-clause-bytes : goal.returns-clause-bytes
-returns-clause-bytes c = rw (← c.self.view_is) (read_moves c.self.inside.files c.read.new.self c.args.handle.0 _ 18446744073709551615 c.args.buf.now _ c.read.ensures.rest (rw (← c.self.view_is) at c.requires.given) (omega arith) c.requires.room
-    c.read.ensures.count c.read.ensures.moved)
 
 pub returns-clause-others : goal.returns-clause-others
 returns-clause-others c = rw (← c.self.view_is) (read_others c.self.inside.files c.read.new.self c.args.handle.0 _ c.read.ensures.rest)

@@ -1,7 +1,7 @@
-use Rattle.std.proofs.Common.{◌≡◌, ℕ, List, length, take, true, false, sym, ◌∙◌, ap, subst, arith, refl, Ok}
+use Rattle.std.proofs.Common.{◌≡◌, ℕ, List, length, take, true, sym, ◌∙◌, ap, subst, arith, refl, Ok}
 use Rattle.std.proofs.lemmas.List.{take_all}
 use Rattle.gcx_io.specs.Files.{OpenFiles, all_names, owners}
-use Rattle.gcx_io.specs.Held.{Opening, noted_at}
+use Rattle.gcx_io.specs.Held.{noted_at}
 use Rattle.gcx_io.specs.Views.{Took}
 use Rattle.gcx_io.proofs.Seen.{shelf_writes, write_others, noted_names, noted_count}
 use Rattle.gcx_io.specs.Shelf.{Appends}

@@ -2,10 +2,6 @@ use Rattle.std.proofs.Common.{arith, rules}
 use Rattle.gcx_io.proofs.Moved.{front_moved}
 use Rattle.gcx_io.proofs.sure_source.SureSourceSource.read.Goals as goal
 
-pub returns-clause-bytes : goal.returns-clause-bytes
-returns-clause-bytes c = rw (← c.self.view_is) (front_moved c.self.inside.bytes.items c.args.buf.now _ c.self.inside.at _ 18446744073709551615 (omega arith) c.requires
-    (rw c.deref.ensures.value at c.move_front-count.ensures.count) (rw c.deref.ensures.value at c.move_front-count.ensures.moved))
-
 pub returns-clause-reads : goal.returns-clause-reads
 returns-clause-reads c = rw (← c.self.view_is) (record {
   calls = search rules;

@@ -1,0 +1,233 @@
+-- Which status must come, where the shelf tells its names and no count rose.
+use Rattle.std.proofs.Common.{◌≡◌, ◌⊎◌, inl, inr, ℕ, ◌+◌, Bool, true, List, [], ◌∷◌, ◌++◌, length, Option, Some, None, refl, sym, ap, subst, ◌∙◌, arith, length-append}
+use Rattle.std.proofs.lemmas.List.{same_from_push}
+use Rattle.gcx_base.specs.Limits.{full_limits}
+use Rattle.gcx_io.specs.Causes.{Rose}
+use Rattle.gcx_io.specs.Shelf.{content_of}
+use Rattle.gcx_io.specs.Views.{Miss, ShelfView, SinkView, missed}
+use Rattle.gcx_model.specs.Faults.{FaultIs}
+use Rattle.gcx_model.specs.Query.{ExprTree}
+use Rattle.gcx_model.specs.declared.fault.DocFault.{DocFault}
+use Rattle.gcx_model.specs.declared.fault.QueryFault.{QueryFault}
+use Rattle.gcx_words.specs.declared.command.Command.{Command}
+use Rattle.gcx_words.specs.declared.command.Command.TheVariants.{Run, Whole, Explain, Peak, Gen, Selfrun}
+use Rattle.gcx_cmd.proofs.Complete.{complete_from, document_refused_from, refused_from, refused_not, there}
+use Rattle.gcx_cmd.proofs.Says.{DocSays, QuerySays, explain_query_says, one_query, peak_doc_says, peak_query_says, run_doc_says, run_query_says, says_of_document, says_of_query, whole_doc_says, whole_query_says}
+use Rattle.gcx_cmd.specs.Commands.{LacksFile, document_of, query_of}
+use Rattle.gcx_cmd.specs.Completes.{Completes, CompletesFor, Ends, HoldsSuch, ReadsWell, WritesWell}
+use Rattle.gcx_cmd.specs.Does.{Diagnoses, Does, DoesIf, Obeys, Tells}
+use Rattle.gcx_cmd.specs.ExplainDoes.{ExplainDoes}
+use Rattle.gcx_cmd.specs.GenDoes.{GenDoes}
+use Rattle.gcx_cmd.specs.Keeps.{HasCauses, Keeps}
+use Rattle.gcx_cmd.specs.Main.{IsDocument, IsQuery, QueryFaultOf}
+use Rattle.gcx_cmd.specs.Outside.{Outside}
+use Rattle.gcx_cmd.specs.PeakDoes.{PeakDoes}
+use Rattle.gcx_cmd.specs.QueryDoes.{AcceptsQuery, FailsInText}
+use Rattle.gcx_cmd.specs.RunDoes.{RunDoes}
+use Rattle.gcx_cmd.specs.SelfrunDoes.{SelfrunDoes}
+use Rattle.gcx_cmd.specs.WholeDoes.{WholeDoes}
+use Rattle.gcx_cmd.specs.declared.status.Status.{Status}
+use Rattle.gcx_cmd.specs.declared.status.Status.TheVariants as status
+
+some_same : (x y : List ℕ) → Some x ≡ Some y → x ≡ y
+some_same x y e = cc
+
+none_some : (y : List ℕ) → None ≡ Some y → ⊥
+none_some y e = cc
+
+rose_twice : (a b c : ℕ) → Rose a b → Rose b c → Rose a c
+rose_twice a b c first second = omega (arith, first, second)
+
+-- ---- QUERY at a read fault: it failed, or it is accepted
+
+abbrev pub QueryStage : List ℕ → ShelfView → ShelfView → Type 0
+QueryStage q a b = FailsInText q a b ⊎ ((x : List ExprTree) × AcceptsQuery q a b x)
+
+run_stage : (tracing : Bool) (ahead : ℕ) (q d : List ℕ) (a b : Outside) → RunDoes tracing ahead q d status.ReadFault a b → QueryStage q a.shelf b.shelf
+run_stage tracing ahead q d a b (inl (same, inl fails)) = inl fails
+run_stage tracing ahead q d a b (inl (same, inr (n, e, gone, x, accepted))) = inr (x, accepted)
+run_stage tracing ahead q d a b (inr r) = inr (r.x, r.over.query)
+
+whole_stage : (q d : List ℕ) (a b : Outside) → WholeDoes q d status.ReadFault a b → QueryStage q a.shelf b.shelf
+whole_stage q d a b (inl (same, inl fails)) = inl fails
+whole_stage q d a b (inl (same, inr (n, e, gone, x, accepted))) = inr (x, accepted)
+whole_stage q d a b (inr r) = inr (r.x, r.over.query)
+
+peak_stage : (q d : List ℕ) (a b : Outside) → PeakDoes q d status.ReadFault a b → QueryStage q a.shelf b.shelf
+peak_stage q d a b (inl (same, inl fails)) = inl fails
+peak_stage q d a b (inl (same, inr (n, e, gone, x, accepted))) = inr (x, accepted)
+peak_stage q d a b (inr r) = inr (r.x, r.over.query)
+
+explain_stage : (q : List ℕ) (a b : Outside) → ExplainDoes q status.ReadFault a b → QueryStage q a.shelf b.shelf
+explain_stage q a b (same, inl fails) = inl fails
+explain_stage q a b (same, inr (n, e, gone, x, accepted)) = inr (x, accepted)
+
+-- a refused query doesn't fail where it is there
+stage_not : (c : Command) (q bytes : List ℕ) (f : QueryFault) (a b : ShelfView) → content_of a.names q ≡ Some bytes → QueryFaultOf bytes f → QueryStage q a b → LacksFile c a b → ⊥
+stage_not c q bytes f a b told fault (inl (inl gone)) lacks =
+    let same : missed lacks.name lacks.behind ≡ missed q (length a.given + 0) = (same_from_push a.refused a.refused _ _ (sym lacks.listed ∙ gone.refused)).1 in
+    let name : lacks.name ≡ q = ap (λ (m : Miss). m.name) same in
+    there a.names lacks.name bytes (ap (content_of a.names) name ∙ told) lacks.missing
+stage_not c q bytes f a b told fault (inl (inr (one, ps, reads, within))) lacks =
+    let longer : a.refused ≡ a.refused ++ missed lacks.name lacks.behind ∷ [] = sym one.refused ∙ lacks.listed in
+    absurd (omega (arith, ap length longer, length-append a.refused (missed lacks.name lacks.behind ∷ [])))
+stage_not c q bytes f a b told fault (inr (x, accepted)) lacks =
+    let one = one_query q bytes a b told x accepted in
+    refused_not bytes f fault (one.0, one.1)
+
+-- ---- what no count that stays lets come
+
+module _ (c : Command) (s : Status) (a m b : Outside) (keeps : Keeps c s a m) (diag : Diagnoses s m b) where
+  rose_shelf : Rose a.shelf.faults m.shelf.faults → Rose a.shelf.faults b.shelf.faults
+  rose_shelf rose = subst (λ (v : ShelfView). Rose a.shelf.faults v.faults) (sym diag.shelf) rose
+
+  rose_out : Rose a.out.faults m.out.faults → Rose a.out.faults b.out.faults
+  rose_out rose = subst (λ (v : SinkView). Rose a.out.faults v.faults) (sym diag.out) rose
+
+  rose_err : s ≡ status.WriteFault → Rose a.err.faults m.err.faults → Rose a.err.faults b.err.faults
+  rose_err is rose = elim (subst (λ (t : Status). Tells t m.err b.err) is diag.line) [
+    | inl took ↦ subst (λ (k : ℕ). Rose a.err.faults k) (sym took.faults) rose
+    | inr owes ↦ rose_twice a.err.faults m.err.faults b.err.faults rose owes.faults
+  ]
+
+  no_write : WritesWell c a b → s ≡ status.WriteFault → ⊥
+  no_write well is = elim (subst (λ (t : Status). HasCauses c t a m) is keeps.causes) [
+    | inl rose ↦ well.out (rose_out rose)
+    | inr traced ↦ well.err traced.0 (rose_err is traced.1)
+  ]
+
+  no_read : ReadsWell a b → (s ≡ status.ReadFault → LacksFile c a.shelf m.shelf → ⊥) → s ≡ status.ReadFault → ⊥
+  no_read well there_is is = elim (subst (λ (t : Status). HasCauses c t a m) is keeps.causes) [
+    | inl rose ↦ well (rose_shelf rose)
+    | inr lacks ↦ there_is is lacks
+  ]
+
+  -- each file of the command is there
+  lacks_none : (q : List ℕ) (P : List ℕ → Type 0) → query_of c ≡ Some q → HoldsSuch a.shelf.names q P
+      → ((d : List ℕ) → document_of c ≡ Some d → (bytes : List ℕ) × (content_of a.shelf.names d ≡ Some bytes)) → LacksFile c a.shelf m.shelf → ⊥
+  lacks_none q P file holds docs lacks = elim lacks.is_file [
+    | inl is ↦ there a.shelf.names lacks.name holds.0 (ap (content_of a.shelf.names) (sym (some_same q lacks.name (sym file ∙ is))) ∙ holds.1) lacks.missing
+    | inr is ↦ (let doc = docs lacks.name is in there a.shelf.names lacks.name doc.0 doc.1 lacks.missing)
+  ]
+
+  -- of a command with QUERY
+  refused_if : (q : List ℕ) (f : QueryFault) → QuerySays q s a.shelf m.shelf → (s ≡ status.ReadFault → QueryStage q a.shelf m.shelf)
+      → (s ≡ status.Usage → ⊥) → HoldsSuch a.shelf.names q (λ bytes. QueryFaultOf bytes f) → ReadsWell a b → Ends (status.QueryRefused f) s
+  refused_if q f says stage not_usage holds well =
+      refused_from s holds.0 f (says_of_query q holds.0 a.shelf m.shelf holds.1 s says) holds.2 not_usage
+      (no_read well (λ is lacks. stage_not c q holds.0 f a.shelf m.shelf holds.1 holds.2 (stage is) lacks))
+
+  -- of a command with QUERY and DOC
+  module _ (q d : List ℕ) (query : query_of c ≡ Some q) (doc : document_of c ≡ Some d) (says : QuerySays q s a.shelf m.shelf) (says_doc : DocSays d s a.shelf m.shelf) where
+    docs : (P : List ℕ → Type 0) → HoldsSuch a.shelf.names d P → (n : List ℕ) → document_of c ≡ Some n → (bytes : List ℕ) × (content_of a.shelf.names n ≡ Some bytes)
+    docs P holds n is = (holds.0, ap (content_of a.shelf.names) (sym (some_same d n (sym doc ∙ is))) ∙ holds.1)
+
+    well_if : HoldsSuch a.shelf.names q IsQuery → HoldsSuch a.shelf.names d IsDocument → ReadsWell a b → WritesWell c a b → Ends status.Ok s
+    well_if hq hd reads writes =
+        complete_from s hq.0 hd.0 (says_of_query q hq.0 a.shelf m.shelf hq.1 s says) (says_of_document d hd.0 a.shelf m.shelf hd.1 s says_doc) hq.2 hd.2
+        (no_read reads (λ is. lacks_none q IsQuery query hq (docs IsDocument hd))) (no_write writes)
+
+    refused_document_if : (f : DocFault) → HoldsSuch a.shelf.names q IsQuery → HoldsSuch a.shelf.names d (λ bytes. FaultIs full_limits bytes true (Some f))
+        → ReadsWell a b → WritesWell c a b → Ends (status.DocumentRefused f) s
+    refused_document_if f hq hd reads writes =
+        document_refused_from s hq.0 hd.0 f (says_of_query q hq.0 a.shelf m.shelf hq.1 s says) (says_of_document d hd.0 a.shelf m.shelf hd.1 s says_doc) hq.2 hd.2
+        (no_read reads (λ is. lacks_none q IsQuery query hq (docs (λ bytes. FaultIs full_limits bytes true (Some f)) hd))) (no_write writes)
+
+-- ---- commands without DOC
+
+explain_well : (q bytes : List ℕ) (s : Status) (a m : Outside) → ExplainDoes q s a m → content_of a.shelf.names q ≡ Some bytes → IsQuery bytes
+    → (s ≡ status.ReadFault → ⊥) → (s ≡ status.WriteFault → ⊥) → Ends status.Ok s
+explain_well q bytes status.Ok a m r told good not_read not_write = inl refl
+explain_well q bytes status.Usage a m r told good not_read not_write = absurd r
+explain_well q bytes (status.QueryRefused f) a m r told good not_read not_write =
+    absurd (refused_not bytes f (says_of_query q bytes a.shelf m.shelf told (status.QueryRefused f) r.1) good)
+explain_well q bytes (status.DocumentRefused f) a m r told good not_read not_write = absurd r
+explain_well q bytes status.ReadFault a m r told good not_read not_write = absurd (not_read refl)
+explain_well q bytes status.WriteFault a m r told good not_read not_write = absurd (not_write refl)
+explain_well q bytes status.Memory a m r told good not_read not_write = inr refl
+
+gen_well : (seed count : ℕ) (s : Status) (a m : Outside) → GenDoes seed count s a m → (s ≡ status.WriteFault → ⊥) → Ends status.Ok s
+gen_well seed count status.Ok a m r not_write = inl refl
+gen_well seed count status.Usage a m r not_write = absurd r
+gen_well seed count (status.QueryRefused f) a m r not_write = absurd r
+gen_well seed count (status.DocumentRefused f) a m r not_write = absurd r
+gen_well seed count status.ReadFault a m r not_write = absurd r
+gen_well seed count status.WriteFault a m r not_write = absurd (not_write refl)
+gen_well seed count status.Memory a m r not_write = inr refl
+
+self_well : (seed count : ℕ) (s : Status) (a m : Outside) → SelfrunDoes seed count s a m → (s ≡ status.WriteFault → ⊥) → Ends status.Ok s
+self_well seed count status.Ok a m r not_write = inl refl
+self_well seed count status.Usage a m r not_write = absurd r
+self_well seed count (status.QueryRefused f) a m r not_write = absurd r
+self_well seed count (status.DocumentRefused f) a m r not_write = absurd r
+self_well seed count status.ReadFault a m r not_write = absurd r
+self_well seed count status.WriteFault a m r not_write = absurd (not_write refl)
+self_well seed count status.Memory a m r not_write = inr refl
+
+-- ---- each command
+
+never_usage : (c : Command) (s : Status) (a m : Outside) → Obeys c s a m → s ≡ status.Usage → ⊥
+never_usage (Run trace ahead q d) s a m o is = subst (λ (t : Status). RunDoes trace ahead q d t a m) is o
+never_usage (Whole q d) s a m o is = subst (λ (t : Status). WholeDoes q d t a m) is o
+never_usage (Explain q) s a m o is = subst (λ (t : Status). ExplainDoes q t a m) is o
+never_usage (Peak q d) s a m o is = subst (λ (t : Status). PeakDoes q d t a m) is o
+never_usage (Gen seed count) s a m o is = subst (λ (t : Status). GenDoes seed count t a m) is o
+never_usage (Selfrun seed count) s a m o is = subst (λ (t : Status). SelfrunDoes seed count t a m) is o
+
+completes_for : (c : Command) (s : Status) (a m b : Outside) → Keeps c s a m → Obeys c s a m → Diagnoses s m b → CompletesFor c s a b
+completes_for (Run trace ahead q d) s a m b keeps o diag =
+    let says = run_query_says trace ahead q d s a m o in
+    let says_doc = run_doc_says trace ahead q d s a m o in
+    record {
+      well = well_if (Run trace ahead q d) s a m b keeps diag q d refl refl says says_doc;
+      refused = λ n f is. subst (λ (k : List ℕ). HoldsSuch a.shelf.names k (λ bytes. QueryFaultOf bytes f) → ReadsWell a b → Ends (status.QueryRefused f) s) (some_same q n is)
+          (refused_if (Run trace ahead q d) s a m b keeps diag q f says (λ e. run_stage trace ahead q d a m (subst (λ (t : Status). RunDoes trace ahead q d t a m) e o))
+          (never_usage (Run trace ahead q d) s a m o));
+      refused_document = λ n k f query doc. refused_document_if (Run trace ahead q d) s a m b keeps diag n k query doc
+          (subst (λ (l : List ℕ). QuerySays l s a.shelf m.shelf) (some_same q n query) says) (subst (λ (l : List ℕ). DocSays l s a.shelf m.shelf) (some_same d k doc) says_doc) f;
+    }
+completes_for (Whole q d) s a m b keeps o diag =
+    let says = whole_query_says q d s a m o in
+    let says_doc = whole_doc_says q d s a m o in
+    record {
+      well = well_if (Whole q d) s a m b keeps diag q d refl refl says says_doc;
+      refused = λ n f is. subst (λ (k : List ℕ). HoldsSuch a.shelf.names k (λ bytes. QueryFaultOf bytes f) → ReadsWell a b → Ends (status.QueryRefused f) s) (some_same q n is)
+          (refused_if (Whole q d) s a m b keeps diag q f says (λ e. whole_stage q d a m (subst (λ (t : Status). WholeDoes q d t a m) e o)) (never_usage (Whole q d) s a m o));
+      refused_document = λ n k f query doc. refused_document_if (Whole q d) s a m b keeps diag n k query doc
+          (subst (λ (l : List ℕ). QuerySays l s a.shelf m.shelf) (some_same q n query) says) (subst (λ (l : List ℕ). DocSays l s a.shelf m.shelf) (some_same d k doc) says_doc) f;
+    }
+completes_for (Peak q d) s a m b keeps o diag =
+    let says = peak_query_says q d s a m o in
+    let says_doc = peak_doc_says q d s a m o in
+    record {
+      well = well_if (Peak q d) s a m b keeps diag q d refl refl says says_doc;
+      refused = λ n f is. subst (λ (k : List ℕ). HoldsSuch a.shelf.names k (λ bytes. QueryFaultOf bytes f) → ReadsWell a b → Ends (status.QueryRefused f) s) (some_same q n is)
+          (refused_if (Peak q d) s a m b keeps diag q f says (λ e. peak_stage q d a m (subst (λ (t : Status). PeakDoes q d t a m) e o)) (never_usage (Peak q d) s a m o));
+      refused_document = λ n k f query doc. refused_document_if (Peak q d) s a m b keeps diag n k query doc
+          (subst (λ (l : List ℕ). QuerySays l s a.shelf m.shelf) (some_same q n query) says) (subst (λ (l : List ℕ). DocSays l s a.shelf m.shelf) (some_same d k doc) says_doc) f;
+    }
+completes_for (Explain q) s a m b keeps o diag = record {
+  well = λ holds reads writes. explain_well q holds.0 s a m o holds.1 holds.2
+      (no_read (Explain q) s a m b keeps diag reads (λ is. lacks_none (Explain q) s a m b keeps diag q IsQuery refl holds (λ d none. absurd (none_some d none))))
+      (no_write (Explain q) s a m b keeps diag writes);
+  refused = λ n f is. subst (λ (k : List ℕ). HoldsSuch a.shelf.names k (λ bytes. QueryFaultOf bytes f) → ReadsWell a b → Ends (status.QueryRefused f) s) (some_same q n is)
+      (refused_if (Explain q) s a m b keeps diag q f (explain_query_says q s a m o) (λ e. explain_stage q a m (subst (λ (t : Status). ExplainDoes q t a m) e o))
+      (never_usage (Explain q) s a m o));
+  refused_document = λ n k f query doc. absurd (none_some k doc);
+}
+completes_for (Gen seed count) s a m b keeps o diag = record {
+  well = λ writes. gen_well seed count s a m o (no_write (Gen seed count) s a m b keeps diag writes);
+  refused = λ n f is. absurd (none_some n is);
+  refused_document = λ n k f query doc. absurd (none_some n query);
+}
+completes_for (Selfrun seed count) s a m b keeps o diag = record {
+  well = λ writes. self_well seed count s a m o (no_write (Selfrun seed count) s a m b keeps diag writes);
+  refused = λ n f is. absurd (none_some n is);
+  refused_document = λ n k f query doc. absurd (none_some n query);
+}
+
+-- what a command line does says which status must come
+pub completes : (words : List (List ℕ)) (s : Status) (a b : Outside) → Does words s a b → Completes words s a b
+completes words s a b does = λ c asked.
+    let done : DoesIf (Some c) s a does.between = subst (λ (o : Option Command). DoesIf o s a does.between) asked does.done in
+    completes_for c s a does.between b done.0 done.1 does.diagnosed

@@ -1,0 +1,88 @@
+-- How a command ends where QUERY isn't accepted.
+use Rattle.std.proofs.Common.{◌≡◌, ◌⊎◌, inl, inr, ℕ, ◌≤◌, List, Bool, Some, refl, arith}
+use Rattle.gcx_io.specs.Causes.{Rose}
+use Rattle.gcx_io.specs.Views.{ShelfView, SinkView}
+use Rattle.gcx_words.specs.declared.command.Command.{Command}
+use Rattle.gcx_cmd.specs.Commands.{query_of, document_of, LacksFile}
+use Rattle.gcx_cmd.specs.ExplainDoes.{ExplainDoes}
+use Rattle.gcx_cmd.specs.Keeps.{HasCauses, Keeps}
+use Rattle.gcx_cmd.specs.Main.{HasNoMemory}
+use Rattle.gcx_cmd.specs.Outside.{Outside, StoreView, Untouched, beside}
+use Rattle.gcx_cmd.specs.PeakDoes.{PeakDoes}
+use Rattle.gcx_cmd.specs.QueryDoes.{StopsInQuery}
+use Rattle.gcx_cmd.specs.Reads.{CausesFault, KeepsShelf}
+use Rattle.gcx_cmd.specs.RunDoes.{RunDoes}
+use Rattle.gcx_cmd.specs.WholeDoes.{WholeDoes}
+use Rattle.gcx_cmd.specs.declared.status.Status.{Status}
+use Rattle.gcx_cmd.specs.declared.status.Status.TheVariants as status
+
+pub untouched : (a m : ShelfView) (o e : SinkView) (st : StoreView) → Untouched (beside a o e st) (beside m o e st)
+untouched a m o e st = record { out = refl; err = refl; store = refl }
+
+pub keeps_of : (c : Command) (s : Status) (a b : Outside) → KeepsShelf a.shelf b.shelf → a.out.faults ≤ b.out.faults → a.err.faults ≤ b.err.faults
+    → HasCauses c s a b → HasNoMemory s → Keeps c s a b
+keeps_of c s a b k out err causes memory = record {
+  names = k.names;
+  unwritten = k.write_faults;
+  given = k.given;
+  counts = record { shelf = k.faults; out = out; err = err };
+  causes = causes;
+  memory = memory;
+}
+
+module _ (a m : ShelfView) (o e : SinkView) (st : StoreView) where
+  pub run_stops : (tracing : Bool) (ahead : ℕ) (q d : List ℕ) (s : Status) → StopsInQuery q s a m → RunDoes tracing ahead q d s (beside a o e st) (beside m o e st)
+  run_stops tracing ahead q d status.Ok h = absurd h
+  run_stops tracing ahead q d status.Usage h = absurd h
+  run_stops tracing ahead q d (status.QueryRefused f) h = (untouched a m o e st, h)
+  run_stops tracing ahead q d (status.DocumentRefused f) h = absurd h
+  run_stops tracing ahead q d status.ReadFault h = inl (untouched a m o e st, inl h)
+  run_stops tracing ahead q d status.WriteFault h = absurd h
+  run_stops tracing ahead q d status.Memory h = inl (untouched a m o e st, h)
+
+  pub whole_stops : (q d : List ℕ) (s : Status) → StopsInQuery q s a m → WholeDoes q d s (beside a o e st) (beside m o e st)
+  whole_stops q d status.Ok h = absurd h
+  whole_stops q d status.Usage h = absurd h
+  whole_stops q d (status.QueryRefused f) h = (untouched a m o e st, h)
+  whole_stops q d (status.DocumentRefused f) h = absurd h
+  whole_stops q d status.ReadFault h = inl (untouched a m o e st, inl h)
+  whole_stops q d status.WriteFault h = absurd h
+  whole_stops q d status.Memory h = inl (untouched a m o e st, h)
+
+  pub peak_stops : (q d : List ℕ) (s : Status) → StopsInQuery q s a m → PeakDoes q d s (beside a o e st) (beside m o e st)
+  peak_stops q d status.Ok h = absurd h
+  peak_stops q d status.Usage h = absurd h
+  peak_stops q d (status.QueryRefused f) h = (untouched a m o e st, h)
+  peak_stops q d (status.DocumentRefused f) h = absurd h
+  peak_stops q d status.ReadFault h = inl (untouched a m o e st, inl h)
+  peak_stops q d status.WriteFault h = absurd h
+  peak_stops q d status.Memory h = inl (untouched a m o e st, h)
+
+  pub explain_stops : (q : List ℕ) (s : Status) → StopsInQuery q s a m → ExplainDoes q s (beside a o e st) (beside m o e st)
+  explain_stops q status.Ok h = absurd h
+  explain_stops q status.Usage h = absurd h
+  explain_stops q (status.QueryRefused f) h = (untouched a m o e st, h)
+  explain_stops q (status.DocumentRefused f) h = absurd h
+  explain_stops q status.ReadFault h = (untouched a m o e st, inl h)
+  explain_stops q status.WriteFault h = absurd h
+  explain_stops q status.Memory h = (untouched a m o e st, h)
+
+  pub lacks : (c : Command) (n : List ℕ) → (query_of c ≡ Some n) ⊎ (document_of c ≡ Some n) → CausesFault n a m
+      → Rose a.faults m.faults ⊎ LacksFile c a m
+  lacks c n file (inl rose) = inl rose
+  lacks c n file (inr (missing, behind, listed)) = inr (record { name = n; is_file = file; missing = missing; behind = behind; listed = listed })
+
+  query_causes : (c : Command) (q : List ℕ) (s : Status) → query_of c ≡ Some q → StopsInQuery q s a m
+      → (s ≡ status.ReadFault → CausesFault q a m) → HasCauses c s (beside a o e st) (beside m o e st)
+  query_causes c q status.Ok file h cause = tt
+  query_causes c q status.Usage file h cause = tt
+  query_causes c q (status.QueryRefused f) file h cause = tt
+  query_causes c q (status.DocumentRefused f) file h cause = tt
+  query_causes c q status.ReadFault file h cause = lacks c q (inl file) (cause refl)
+  query_causes c q status.WriteFault file h cause = absurd h
+  query_causes c q status.Memory file h cause = tt
+
+  pub keeps_stopped : (c : Command) (q : List ℕ) (s : Status) → query_of c ≡ Some q → StopsInQuery q s a m → KeepsShelf a m
+      → (s ≡ status.ReadFault → CausesFault q a m) → HasNoMemory s → Keeps c s (beside a o e st) (beside m o e st)
+  keeps_stopped c q s file h k cause memory =
+      keeps_of c s (beside a o e st) (beside m o e st) k (omega arith) (omega arith) (query_causes c q s file h cause) memory

@@ -1,0 +1,58 @@
+-- Which status must come, where the shelf tells what its names hold and no count rose (this project's).
+use Rattle.std.specs.Prelude.{◌≡◌, ◌⊎◌, ℕ, List, true, Some}
+use Rattle.gcx_base.specs.Limits.{full_limits}
+use Rattle.gcx_io.specs.Causes.{Rose}
+use Rattle.gcx_io.specs.Shelf.{Names, content_of}
+use Rattle.gcx_model.specs.Faults.{FaultIs}
+use Rattle.gcx_model.specs.declared.fault.DocFault.{DocFault}
+use Rattle.gcx_model.specs.declared.fault.QueryFault.{QueryFault}
+use Rattle.gcx_words.specs.Words.{command_of}
+use Rattle.gcx_words.specs.declared.command.Command.{Command}
+use Rattle.gcx_words.specs.declared.command.Command.TheVariants.{Run, Whole, Explain, Peak, Gen, Selfrun}
+use Rattle.gcx_cmd.specs.Commands.{IsTraced, query_of, document_of}
+use Rattle.gcx_cmd.specs.Main.{IsQuery, IsDocument, QueryFaultOf}
+use Rattle.gcx_cmd.specs.Outside.{Outside}
+use Rattle.gcx_cmd.specs.declared.status.Status.{Status}
+use Rattle.gcx_cmd.specs.declared.status.Status.TheVariants as status
+
+-- no read failed
+abbrev pub ReadsWell : Outside → Outside → Type 0
+ReadsWell a b = Rose a.shelf.faults b.shelf.faults → ⊥
+
+-- no write of the output failed, and with a trace none of the trace
+pub record WritesWell (c : Command) (a b : Outside) : Type 0 where
+  pub out : Rose a.out.faults b.out.faults → ⊥
+  pub err : IsTraced c → Rose a.err.faults b.err.faults → ⊥
+
+-- this status, or want of memory
+abbrev pub Ends : Status → Status → Type 0
+Ends wanted s = (s ≡ wanted) ⊎ (s ≡ status.Memory)
+
+-- the file of this name holds such bytes
+abbrev pub HoldsSuch : Names → List ℕ → (List ℕ → Type 0) → Type 0
+HoldsSuch names name P = (bytes : List ℕ) × (content_of names name ≡ Some bytes) × P bytes
+
+-- Where QUERY is accepted and DOC has no fault, it ends well.
+abbrev pub CompletesWith : Command → (query document : List ℕ) → Status → Outside → Outside → Type 0
+CompletesWith c query document s a b =
+    HoldsSuch a.shelf.names query IsQuery → HoldsSuch a.shelf.names document IsDocument → ReadsWell a b → WritesWell c a b → Ends status.Ok s
+
+abbrev pub CompletesWell : Command → Status → Outside → Outside → Type 0
+CompletesWell (Run trace ahead query document) s a b = CompletesWith (Run trace ahead query document) query document s a b
+CompletesWell (Whole query document) s a b = CompletesWith (Whole query document) query document s a b
+CompletesWell (Peak query document) s a b = CompletesWith (Peak query document) query document s a b
+CompletesWell (Explain query) s a b = HoldsSuch a.shelf.names query IsQuery → ReadsWell a b → WritesWell (Explain query) a b → Ends status.Ok s
+CompletesWell (Gen seed count) s a b = WritesWell (Gen seed count) a b → Ends status.Ok s
+CompletesWell (Selfrun seed count) s a b = WritesWell (Selfrun seed count) a b → Ends status.Ok s
+
+-- Of a command: it ends well where nothing is wrong, and so where QUERY is refused, or QUERY is accepted and DOC is refused.
+pub record CompletesFor (c : Command) (s : Status) (a b : Outside) : Type 0 where
+  pub well : CompletesWell c s a b
+  pub refused : (q : List ℕ) (f : QueryFault) → query_of c ≡ Some q → HoldsSuch a.shelf.names q (λ bytes. QueryFaultOf bytes f) → ReadsWell a b
+      → Ends (status.QueryRefused f) s
+  pub refused_document : (q d : List ℕ) (f : DocFault) → query_of c ≡ Some q → document_of c ≡ Some d → HoldsSuch a.shelf.names q IsQuery
+      → HoldsSuch a.shelf.names d (λ bytes. FaultIs full_limits bytes true (Some f)) → ReadsWell a b → WritesWell c a b
+      → Ends (status.DocumentRefused f) s
+
+abbrev pub Completes : List (List ℕ) → Status → Outside → Outside → Type 0
+Completes words s a b = (c : Command) → command_of words ≡ Some c → CompletesFor c s a b

@@ -1,0 +1,45 @@
+-- What is seen outside: the files, the two sinks and the lent store (this project's).
+use Rattle.std.specs.Prelude.{◌≡◌, ℕ}
+use Rattle.std.specs.FinMap as map
+use Rattle.gcx_io.specs.Views.{ShelfView, SinkView}
+use Rattle.node_store.specs.Rows.{Rows}
+use Rattle.buf_tree.specs.declared.row.Row.{Row}
+use Rattle.run_words.specs.Writing.{Sinks}
+
+-- the lent store: its rows, and the most that it ever had
+pub record StoreView : Type 0 where
+  pub rows : Rows Row
+  pub most : ℕ
+
+pub record Outside : Type 0 where
+  pub shelf : ShelfView
+  pub out : SinkView
+  pub err : SinkView
+  pub store : StoreView
+
+abbrev pub outside : ShelfView → (out err : SinkView) → Rows Row → (most : ℕ) → Outside
+outside s o e rows most = record { shelf = s; out = o; err = e; store = record { rows = rows; most = most } }
+
+-- the same with a store that isn't looked at
+abbrev pub beside : ShelfView → (out err : SinkView) → StoreView → Outside
+beside s o e store = record { shelf = s; out = o; err = e; store = store }
+
+abbrev pub sinks_of : Outside → Sinks
+sinks_of a = record { out = a.out; err = a.err }
+
+-- nothing was written, and the store is as it was
+pub record Untouched (a b : Outside) : Type 0 where
+  pub out : b.out ≡ a.out
+  pub err : b.err ≡ a.err
+  pub store : b.store ≡ a.store
+
+-- nothing happened to the files, the diagnoses and the store
+pub record WritesAlone (a b : Outside) : Type 0 where
+  pub shelf : b.shelf ≡ a.shelf
+  pub err : b.err ≡ a.err
+  pub store : b.store ≡ a.store
+
+-- a new store has no row, and never had one
+pub record IsNew (store : StoreView) : Type 0 where
+  pub rows : store.rows ≡ map.empty
+  pub most : store.most ≡ 0

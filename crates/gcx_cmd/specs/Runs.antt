@@ -1,0 +1,90 @@
+-- What is said of the private functions that run a plan over DOC.
+use Rattle.std.specs.Prelude.{◌≡◌, ℕ, Bool, true, List, length}
+use Rattle.std.specs.declared.result.Result.{Result}
+use Rattle.std.specs.declared.result.Result.TheVariants as result
+use Rattle.gcx_base.specs.Limits.{full_limits}
+use Rattle.gcx_io.specs.Views.{ShelfView, SinkView, SourceView}
+use Rattle.gcx_io.specs.Writing.{joined}
+use Rattle.gcx_model.specs.Answer.{answer}
+use Rattle.gcx_model.specs.Demand.{peak_of}
+use Rattle.gcx_model.specs.Held.{sum_given, sum_taken}
+use Rattle.gcx_model.specs.Normal.{normal}
+use Rattle.gcx_model.specs.Placed.{plan_of}
+use Rattle.gcx_model.specs.Points.{actions}
+use Rattle.gcx_model.specs.Query.{ExprTree}
+use Rattle.gcx_model.specs.Seen.{SeenIs, seen_tree}
+use Rattle.gcx_model.specs.Tree.{Token}
+use Rattle.node_store.specs.Rows.{Rows}
+use Rattle.buf_tree.specs.declared.row.Row.{Row}
+use Rattle.run_words.specs.Reading.{SourceGave, ReadsOn}
+use Rattle.run_words.specs.Stops.{Stop, IsCalm}
+use Rattle.engine.specs.Runs.{sinks}
+use Rattle.engine.specs.declared.report.Ended.TheVariants as end
+use Rattle.engine.specs.declared.report.Report.{Report}
+use Rattle.gcx_cmd.specs.DocumentDoes.{DocDoes, HasFault, IsClean, IsCut, OverDoc}
+use Rattle.gcx_cmd.specs.Outside.{Outside, StoreView, Untouched, sinks_of}
+use Rattle.gcx_cmd.specs.RunDoes.{EndsBy, HoldsSeen}
+use Rattle.gcx_cmd.specs.Running.{UnlessMemory}
+use Rattle.gcx_cmd.specs.SelfInput.{SelfInput}
+use Rattle.gcx_cmd.specs.Status.{ended_status}
+use Rattle.gcx_cmd.specs.declared.status.Status.{Status}
+use Rattle.gcx_cmd.specs.declared.status.Status.TheVariants as status
+
+-- The report has the numbers of these tokens, with every action taken.
+pub record NumbersOf (q : List ExprTree) (ts : List Token) (report : Report) : Type 0 where
+  pub peak : report.peak ≡ peak_of (plan_of (normal q)) ts
+  pub nodes : report.nodes ≡ length (seen_tree ts).nodes
+  pub given : report.given ≡ sum_given (plan_of (normal q)) (seen_tree ts)
+  pub taken : report.taken ≡ sum_taken (plan_of (normal q)) (seen_tree ts) (actions (plan_of (normal q)) (seen_tree ts))
+
+-- It has those of the whole document in these pieces.
+pub record NumbersIn (q : List ExprTree) (pieces : List (List ℕ)) (report : Report) : Type 0 where
+  pub tokens : List Token
+  pub seen : SeenIs full_limits (joined pieces) true tokens
+  pub numbers : NumbersOf q tokens report
+
+-- a store with these rows
+abbrev pub stored : Rows Row → ℕ → StoreView
+stored rows most = record { rows = rows; most = most }
+
+-- A run of the query over what a source gave.
+pub record SourceRuns (tracing : Bool) (ahead : ℕ) (q : List ExprTree) (report : Report) (left now : SourceView) (out_before out_after err_before err_after : SinkView) (store : StoreView) : Type 0 where
+  pub pieces : List (List ℕ)
+  pub stop : Stop
+  pub gave : SourceGave left now pieces stop
+  pub reads_on : ReadsOn full_limits pieces stop
+  pub ends : EndsBy q tracing (ended_status report.ended) pieces stop (sinks out_before err_before) (sinks out_after err_after)
+  pub holds : UnlessMemory (ended_status report.ended) (HoldsSeen q ahead pieces stop store)
+  pub numbers : ahead ≡ 1 → report.ended ≡ end.Ok → NumbersIn q pieces report
+
+-- a run over DOC, which is opened next
+abbrev pub DocumentRuns : Bool → (ahead : ℕ) → List ExprTree → (d : List ℕ) → Status → Outside → Outside → Type 0
+DocumentRuns tracing ahead q d s a b =
+    DocDoes d (λ s pieces stop. EndsBy q tracing s pieces stop (sinks_of a) (sinks_of b) × UnlessMemory s (HoldsSeen q ahead pieces stop b.store))
+    (Untouched a b) s a.shelf b.shelf
+
+-- what a status says of DOC where there is no report
+abbrev pub StopsMeasure : List ExprTree → Status → List (List ℕ) → Stop → StoreView → Type 0
+StopsMeasure q status.Ok pieces stop store = ⊥
+StopsMeasure q status.Usage pieces stop store = ⊥
+StopsMeasure q (status.QueryRefused f) pieces stop store = ⊥
+StopsMeasure q (status.DocumentRefused f) pieces stop store = HasFault f pieces stop × HoldsSeen q 1 pieces stop store
+StopsMeasure q status.ReadFault pieces stop store = IsCut pieces stop × HoldsSeen q 1 pieces stop store
+StopsMeasure q status.WriteFault pieces stop store = ⊥
+StopsMeasure q status.Memory pieces stop store = IsCalm stop
+
+-- A run over DOC whose answer isn't written: its report, or the status to end with.
+abbrev pub DocumentMeasures : List ExprTree → (d : List ℕ) → Result Report Status → (a b : ShelfView) → (before after : StoreView) → Type 0
+DocumentMeasures q d (result.Ok report) a b before after =
+    OverDoc d (λ pieces stop. IsClean pieces stop × NumbersIn q pieces report × HoldsSeen q 1 pieces stop after) a b
+DocumentMeasures q d (result.Err s) a b before after = DocDoes d (λ t pieces stop. StopsMeasure q t pieces stop after) (after ≡ before) s a b
+
+-- the status of a run that answers its report at Ok
+abbrev pub status_in : {T : Type 0} → Result T Status → Status
+status_in (result.Ok x) = status.Ok
+status_in (result.Err s) = s
+
+-- these are the number of the answer's bytes and the numbers of the run of `selfrun`
+abbrev pub SelfRuns : (seed count answer_bytes : ℕ) → Report → Type 0
+SelfRuns seed count answer_bytes report =
+    (i : SelfInput seed count) × (answer_bytes ≡ length (answer i.query i.nodes)) × NumbersOf i.query i.tokens report

@@ -1,0 +1,20 @@
+-- The query of `selfrun` and the document that it runs over (this project's).
+use Rattle.std.specs.Prelude.{ℕ, true, List}
+use Rattle.gcx_base.specs.Limits.{full_limits}
+use Rattle.gcx_gen.specs.Generated.{document}
+use Rattle.gcx_model.specs.Document.{Nodes}
+use Rattle.gcx_model.specs.Query.{ExprTree}
+use Rattle.gcx_model.specs.Seen.{SeenIs}
+use Rattle.gcx_model.specs.Tree.{Token}
+use Rattle.tree_read.specs.Document.{BytesSpell}
+use Rattle.gcx_cmd.specs.Main.{Accepts}
+use Rattle.gcx_cmd.specs.Texts.{self_query}
+
+-- The query of `selfrun` and the document that is made from the numbers, with its tokens.
+pub record SelfInput (seed count : ℕ) : Type 0 where
+  pub query : List ExprTree
+  pub accepted : Accepts self_query query
+  pub nodes : Nodes
+  pub spelled : BytesSpell (document seed count) nodes
+  pub tokens : List Token
+  pub seen : SeenIs full_limits (document seed count) true tokens

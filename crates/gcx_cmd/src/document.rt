@@ -1,0 +1,50 @@
+//! DOC as a tree.
+ghost use Rattle.std.specs.Prelude.{IfErr, IsErrOf};
+ghost use Rattle.gcx_cmd.specs.DocumentDoes.{TreeDoes};
+ghost use Rattle.gcx_cmd.specs.Main.{HasNoMemory};
+ghost use Rattle.gcx_cmd.specs.Reads.{CausesFault, KeepsShelf};
+
+use crate::Status;
+use gcx_base::Text;
+use gcx_io::{AttachFault, Opened, Shelf};
+use std::alloc::Global;
+use tree_eval::Tree;
+use tree_read::{DocumentEnd, read_tree};
+
+impl From<DocumentEnd> for Status {
+    ghost use Rattle.std.specs.Prelude.{◌≡◌};
+    ghost use Rattle.gcx_cmd.specs.ReadEnd.{document_status};
+
+    ghost from_gives = { λ end e. e ≡ document_status end };
+
+    fn from(end: DocumentEnd) -> Status {
+        match end {
+            DocumentEnd::Refused(fault) => Status::DocumentRefused(fault),
+            DocumentEnd::Fault => Status::ReadFault,
+            DocumentEnd::Memory => Status::Memory,
+        }
+    }
+}
+
+/// Reads a document, or the status to end with.
+pub(crate) fn read_document<F: Shelf>(
+    alloc: Global,
+    files: &mut F,
+    name: &Text,
+) -> Result<Tree, Status>
+    ensures reads { TreeDoes name.now result (F.seen files.old) (F.seen files.new) }
+    ensures keeps { KeepsShelf (F.seen files.old) (F.seen files.new) }
+    ensures cause { IsErrOf result Status.ReadFault → CausesFault name.now (F.seen files.old) (F.seen files.new) }
+    ensures memory { IfErr result HasNoMemory }
+{
+    let handle = match files.attach(name) {
+        Ok(handle) => handle,
+        Err(AttachFault::Failed) => return Err(Status::ReadFault),
+        Err(AttachFault::Memory) => return Err(Status::Memory),
+    };
+    let mut source = Opened::new(files, handle);
+    match read_tree(alloc, &mut source) {
+        Ok(tree) => Ok(tree),
+        Err(end) => Err(Status::from(end)),
+    }
+}

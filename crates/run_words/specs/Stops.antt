@@ -1,0 +1,27 @@
+-- How the reading of a file stands (this project's).
+use Rattle.std.specs.Prelude.{ℕ, Bool, true, false, List, [], ◌∷◌, ⊤}
+use Rattle.gcx_io.specs.Views.{Call, Gave, Failed}
+
+-- Each read gave bytes so far, or the last one answered the end, or it failed.
+pub data Stop : Type 0 where
+  More : Stop
+  End : Stop
+  Fault : Stop
+
+-- the call that it stopped at
+abbrev pub last_call : Stop → List Call
+last_call More = []
+last_call End = Gave [] ∷ []
+last_call Fault = Failed ∷ []
+
+-- the end was answered
+abbrev pub is_end : Stop → Bool
+is_end More = false
+is_end End = true
+is_end Fault = false
+
+-- no call failed
+abbrev pub IsCalm : Stop → Type 0
+IsCalm More = ⊤
+IsCalm End = ⊤
+IsCalm Fault = ⊥
