@@ -15,6 +15,7 @@ use Rattle.gcx_model.specs.Held.{held}
 use Rattle.gcx_model.specs.Demand.{peak_of}
 use Rattle.gcx_model.specs.Seen.{SeenIs, seen_tree}
 use Rattle.node_store.specs.Rows.{Entry, Rows}
+use Rattle.buf_tree.specs.Stands.{Seen, seen}
 use Rattle.buf_tree.specs.declared.row.Row.{Row}
 use Rattle.gcx_cmd.specs.declared.status.Status.{Status}
 use Rattle.gcx_cmd.specs.declared.status.Status.TheVariants.{Memory}
@@ -27,9 +28,13 @@ abbrev pub listed : Option ℕ → List ℕ
 listed None = []
 listed (Some s) = s ∷ []
 
+-- what the row tells of its node, wherever it stands
+abbrev pub seen_in : Entry Row → Seen
+seen_in e = seen (record { place = 0; row = e.payload })
+
 -- the serial of the row at the place
 abbrev pub serial_in : Rows Row → ℕ → Option ℕ
-serial_in rows p = option_map (λ e. e.payload.serial) (store.get rows p)
+serial_in rows p = option_map (λ e. (seen_in e).serial) (store.get rows p)
 
 -- the serials of the rows at these places
 abbrev pub serials_in : Rows Row → List ℕ → List ℕ
@@ -42,9 +47,9 @@ AreRising (s ∷ (t ∷ ts)) = (s < t) × AreRising (t ∷ ts)
 
 -- The row shows the node of the tree.
 pub record Shows (rows : Rows Row) (P : Tree) (e : Entry Row) (n : Node) : Type 0 where
-  pub serial : e.payload.serial ≡ serial_of n
-  pub kind : e.payload.kind ≡ kind_of n
-  pub is_open : e.payload.is_open ≡ is_open_at P.at (serial_of n)
+  pub serial : (seen_in e).serial ≡ serial_of n
+  pub kind : (seen_in e).kind ≡ kind_of n
+  pub is_open : (seen_in e).is_open ≡ is_open_at P.at (serial_of n)
   pub parent : option_and_then (serial_in rows) e.parent ≡ parent_serial n
 
 -- The rows are these nodes of the tree, each once, children by rising serials.
