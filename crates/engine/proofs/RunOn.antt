@@ -24,7 +24,7 @@ use Rattle.engine.specs.declared.engine.Engine.{Engine}
 use Rattle.engine.specs.declared.report.Ended.{Ended}
 use Rattle.engine.specs.declared.report.Ended.TheVariants as ends
 use Rattle.engine.specs.Engine.{IsSilent, IsTold, IsTrace, Kept, Lost, OnAnswer, Settles, StandsOf, Starts, TraceGrewBy, TraceGrewWithin}
-use Rattle.engine.specs.Runs.{Between, EndsWaiting, Ran, StopsInWaiting, TellsBy, TraceBetween, UnlessMemory, WroteWaiting, ended_by, run_end, sinks}
+use Rattle.engine.specs.Runs.{Between, EndsWaiting, Ran, StopsInWaiting, TellsBy, TraceBetween, Traced, Silent, ByToken, SomeText, TracedBy, UnlessMemory, WroteWaiting, ended_by, is_traced, run_end, sinks}
 use Rattle.engine.proofs.Answering.{By, ByOk, ByFault, by, kept_of, lost_of}
 use Rattle.engine.proofs.Courses.{settled_one}
 use Rattle.engine.proofs.Streaming.{bytes_few, stands_written}
@@ -57,24 +57,33 @@ trace_owes true a b c told rest waits t is owes none = (refl, subst (λ (l : Lis
 trace_owes false a b c told rest waits t is owes none = absurd (none_owed b c (subst (λ (l : List ℕ). Owes b c [] l) (none refl) owes))
 
 -- it goes on over a call that fed more bytes, or none
-trace_kept : (tracing : Bool) (plan : PlanTree) (lim : Limits) (b more : List ℕ) (ended : Bool) (total waits : List ℕ) → IsTrace plan lim b false total
-    → (tracing ≡ true → TraceGrewBy plan lim b false (b ++ more) ended [] waits)
-    → (rest : List ℕ) × IsTrace plan lim (b ++ more) ended (total ++ rest) × (tracing ≡ true → rest ≡ waits)
-trace_kept true plan lim b more ended total waits is grew =
+trace_kept : (t : Traced) (plan : PlanTree) (lim : Limits) (b more : List ℕ) (ended : Bool) (total waits : List ℕ) → TracedBy t plan lim b false total
+    → (t ≡ ByToken → TraceGrewBy plan lim b false (b ++ more) ended [] waits)
+    → (rest : List ℕ) × TracedBy t plan lim (b ++ more) ended (total ++ rest) × (is_traced t ≡ true → rest ≡ waits)
+trace_kept ByToken plan lim b more ended total waits is grew =
     let k = grew refl in
     let o = trace_one plan lim b false k.old total k.traced is in
     (k.more, subst (λ (v : List ℕ). IsTrace plan lim (b ++ more) ended (v ++ k.more)) o k.traces, λ e. sym k.grew)
-trace_kept false plan lim b more ended total waits is grew =
+trace_kept Silent plan lim b more ended total waits is grew =
     let m = traces_more plan lim b more ended total is in (m.0, m.1, λ e. absurd (false≢true e))
+trace_kept SomeText plan lim b more ended total waits is grew = (waits, tt, λ e. refl)
+
+-- there is a trace of more bytes
+trace_later : (t : Traced) (plan : PlanTree) (lim : Limits) (b more : List ℕ) (ended : Bool) (total : List ℕ) → TracedBy t plan lim b false total
+    → (rest : List ℕ) × TracedBy t plan lim (b ++ more) ended (total ++ rest)
+trace_later ByToken plan lim b more ended total is = traces_more plan lim b more ended total is
+trace_later Silent plan lim b more ended total is = traces_more plan lim b more ended total is
+trace_later SomeText plan lim b more ended total is = ([], tt)
 
 -- between a turn's writing and the next one's
-tells_none : {N C : Type 0} (tracing : Bool) (e : Engine N C) → TellsBy tracing e → tracing ≡ false → e.trace.items ≡ []
-tells_none true e t isnt = absurd (false≢true (sym isnt))
-tells_none false e t isnt = t.empty
+tells_none : {N C : Type 0} (t : Traced) (e : Engine N C) → TellsBy t e → is_traced t ≡ false → e.trace.items ≡ []
+tells_none Silent e h isnt = h.empty
+tells_none ByToken e h isnt = absurd (false≢true (sym isnt))
+tells_none SomeText e h isnt = absurd (false≢true (sym isnt))
 
-module _ {N C : Type 0} (stands : C → Tree → Type 0) (lim : Limits) (tracing : Bool) where
+module _ {N C : Type 0} (stands : C → Tree → Type 0) (lim : Limits) (telling : Traced) where
   -- before the first read
-  pub between_none : (e : Engine N C) (s : SourceView) (k : Sinks) → Starts stands lim e → TellsBy tracing e → Between stands lim tracing e s s k k
+  pub between_none : (e : Engine N C) (s : SourceView) (k : Sinks) → Starts stands lim e → TellsBy telling e → Between stands lim telling e s s k k
   between_none e s k h t =
       let few = bytes_few stands lim e [] false h.of h.fresh in
       record {
@@ -88,16 +97,17 @@ module _ {N C : Type 0} (stands : C → Tree → Type 0) (lim : Limits) (tracing
         took = takes_none k.out;
         settled = h.settled;
         before = Unread refl refl refl;
-        trace = trace_starts tracing t;
+        trace = trace_starts telling t;
       }
     where
-      trace_starts : (tracing : Bool) → TellsBy tracing e → TraceBetween (plan_tree e.plan.now) lim tracing [] e.trace.items k.err k.err
-      trace_starts true t = record { told = []; rest = e.trace.items; took = takes_none k.err; traced = h.traced t.tracing; before = Unread refl refl refl; waits_is = λ e. refl }
-      trace_starts false t =
+      trace_starts : (t : Traced) → TellsBy t e → TraceBetween (plan_tree e.plan.now) lim t [] e.trace.items k.err k.err
+      trace_starts ByToken t = record { told = []; rest = e.trace.items; took = takes_none k.err; traced = h.traced t.tracing; before = Unread refl refl refl; waits_is = λ e. refl }
+      trace_starts Silent t =
           let w = h.settled in
           record { told = []; rest = trace_text (plan_tree e.plan.now) w.tokens; took = refl; traced = (w.tokens, w.seen, refl); before = Unread refl refl refl; waits_is = λ isnt. absurd (false≢true isnt) }
+      trace_starts SomeText t = record { told = []; rest = e.trace.items; took = takes_none k.err; traced = tt; before = Unread refl refl refl; waits_is = λ e. refl }
 
-  module _ (e d : Engine N C) (s0 s : SourceView) (k0 k k1 : Sinks) (h : Between stands lim tracing e s0 s k0 k) (same : d ≡ record e { out = d.out; trace = d.trace }) where
+  module _ (e d : Engine N C) (s0 s : SourceView) (k0 k k1 : Sinks) (h : Between stands lim telling e s0 s k0 k) (same : d ≡ record e { out = d.out; trace = d.trace }) where
     abbrev plan : PlanTree
     plan = plan_tree e.plan.now
 
@@ -120,14 +130,14 @@ module _ {N C : Type 0} (stands : C → Tree → Type 0) (lim : Limits) (tracing
     stand_now = stands_written stands lim e d b false same h.of
 
     -- a write failed
-    pub write_fails : StopsInWaiting e.out.items e.trace.items k k1 → Ran stands lim tracing d ends.WriteFault s0 s k0 k1
+    pub write_fails : StopsInWaiting e.out.items e.trace.items k k1 → Ran stands lim telling d ends.WriteFault s0 s k0 k1
     write_fails stops = record {
       pieces = h.pieces;
       stop = More;
       gave = h.gave;
       reads_on = on_clean lim h.pieces More h.clean;
       bytes = stand_now.bytes;
-      ends = subst (λ (z : PlanTree). EndsRun (Settles z lim) (IsTrace z lim) lim tracing WriteFailed h.pieces More k0 k1) plan_is (
+      ends = subst (λ (z : PlanTree). EndsRun (Settles z lim) (TracedBy telling z lim) lim (is_traced telling) WriteFailed h.pieces More k0 k1) plan_is (
         tt,
         record {
           wrote = h.written;
@@ -141,28 +151,28 @@ module _ {N C : Type 0} (stands : C → Tree → Type 0) (lim : Limits) (tracing
       stand = stand_now;
     }
       where
-        stops_at : StopsInWaiting e.out.items e.trace.items k k1 → StopsAtWrite tracing h.written total h.trace.told trace_total k0 k1
-        stops_at (inl (owes, still)) = inl (owes_then k0.out k.out k1.out h.written e.out.items h.took owes, traces_same tracing k0.err k.err k1.err h.trace.told h.trace.took still)
+        stops_at : StopsInWaiting e.out.items e.trace.items k k1 → StopsAtWrite (is_traced telling) h.written total h.trace.told trace_total k0 k1
+        stops_at (inl (owes, still)) = inl (owes_then k0.out k.out k1.out h.written e.out.items h.took owes, traces_same (is_traced telling) k0.err k.err k1.err h.trace.told h.trace.took still)
         stops_at (inr (took, owes)) =
-            let t = trace_owes tracing k0.err k.err k1.err h.trace.told h.trace.rest e.trace.items h.trace.took h.trace.waits_is owes (tells_none tracing e h.tells) in
+            let t = trace_owes (is_traced telling) k0.err k.err k1.err h.trace.told h.trace.rest e.trace.items h.trace.took h.trace.waits_is owes (tells_none telling e h.tells) in
             inr (t.0, takes_then k0.out k.out k1.out h.written e.out.items h.took took, t.1)
 
-    module _ (wrote : WroteWaiting e.out.items e.trace.items k k1) (still : tracing ≡ false → k1.err ≡ k.err) where
+    module _ (wrote : WroteWaiting e.out.items e.trace.items k k1) (still : is_traced telling ≡ false → k1.err ≡ k.err) where
       took_all : Takes k0.out k1.out total
       took_all = takes_then k0.out k.out k1.out h.written e.out.items h.took wrote.took
 
-      told_all : Traces tracing k0.err k1.err trace_total
-      told_all = traces_on tracing k0.err k.err k1.err h.trace.told h.trace.rest e.trace.items h.trace.took h.trace.waits_is wrote.told still
+      told_all : Traces (is_traced telling) k0.err k1.err trace_total
+      told_all = traces_on (is_traced telling) k0.err k.err k1.err h.trace.told h.trace.rest e.trace.items h.trace.took h.trace.waits_is wrote.told still
 
       -- the read failed
-      pub read_fails : (s1 : SourceView) → SourceGave s0 s1 h.pieces Fault → Ran stands lim tracing d ends.ReadFault s0 s1 k0 k1
+      pub read_fails : (s1 : SourceView) → SourceGave s0 s1 h.pieces Fault → Ran stands lim telling d ends.ReadFault s0 s1 k0 k1
       read_fails s1 gave = record {
         pieces = h.pieces;
         stop = Fault;
         gave = gave;
         reads_on = on_clean lim h.pieces Fault h.clean;
         bytes = stand_now.bytes;
-        ends = subst (λ (z : PlanTree). EndsRun (Settles z lim) (IsTrace z lim) lim tracing ReadFailed h.pieces Fault k0 k1) plan_is
+        ends = subst (λ (z : PlanTree). EndsRun (Settles z lim) (TracedBy telling z lim) lim (is_traced telling) ReadFailed h.pieces Fault k0 k1) plan_is
             (refl, no_fault, record { settled = total; is = h.settled; wrote = took_all; trace = trace_total; traced = h.trace.traced; told = told_all });
         stand = stand_now;
       }
@@ -171,8 +181,8 @@ module _ {N C : Type 0} (stands : C → Tree → Type 0) (lim : Limits) (tracing
         total_now : Settles (plan_tree d.plan.now) lim b false total
         total_now = subst (λ (z : PlanTree). Settles z lim b false total) plan_is h.settled
 
-        trace_now : IsTrace (plan_tree d.plan.now) lim b false trace_total
-        trace_now = subst (λ (z : PlanTree). IsTrace z lim b false trace_total) plan_is h.trace.traced
+        trace_now : TracedBy telling (plan_tree d.plan.now) lim b false trace_total
+        trace_now = subst (λ (z : PlanTree). TracedBy telling z lim b false trace_total) plan_is h.trace.traced
 
         -- what a call that fed these bytes settles beyond the total
         settled_more : (f : Engine N C) (c : List ℕ) (ended : Bool) → Kept stands lim d f b false c ended
@@ -194,11 +204,11 @@ module _ {N C : Type 0} (stands : C → Tree → Type 0) (lim : Limits) (tracing
             (calm : IsCalm stop) (gave : SourceGave s0 s1 ps stop) (reads_on : ReadsOn lim ps stop) (bytes_are : joined ps ≡ b ++ piece)
             (behind : (S : List ℕ → Bool → List ℕ → Type 0) (text : List ℕ) → S b false text → SettlesBefore S ps stop text)
             (call : OnAnswer r (Lost lim d f b false (b ++ piece) (is_end stop)) (Kept stands lim d f b false (b ++ piece) (is_end stop)))
-            (traced : tracing ≡ true → OnAnswer r (TraceGrewWithin (plan_tree d.plan.now) lim b false (b ++ piece) (is_end stop) [] f.trace.items)
+            (traced : telling ≡ ByToken → OnAnswer r (TraceGrewWithin (plan_tree d.plan.now) lim b false (b ++ piece) (is_end stop) [] f.trace.items)
             (TraceGrewBy (plan_tree d.plan.now) lim b false (b ++ piece) (is_end stop) [] f.trace.items))
             (exact : Answers r lim (b ++ piece) (is_end stop)) (whole : r ≡ Ok tt → stop ≡ End) (written : u ≡ record f { out = u.out; trace = u.trace })
-            (same_plan : f.plan ≡ d.plan) (counted : f.counts.bytes ≡ length (b ++ piece)) (quiet : tracing ≡ false → f.trace.items ≡ [])
-            (so : EndsWaiting r end f.out.items f.trace.items k1 k2) (unsaid : tracing ≡ false → k2.err ≡ k1.err) where
+            (same_plan : f.plan ≡ d.plan) (counted : f.counts.bytes ≡ length (b ++ piece)) (quiet : is_traced telling ≡ false → f.trace.items ≡ [])
+            (so : EndsWaiting r end f.out.items f.trace.items k1 k2) (unsaid : is_traced telling ≡ false → k2.err ≡ k1.err) where
           abbrev pd : PlanTree
           pd = plan_tree d.plan.now
 
@@ -208,25 +218,25 @@ module _ {N C : Type 0} (stands : C → Tree → Type 0) (lim : Limits) (tracing
           last_plan : pd ≡ plan_tree u.plan.now
           last_plan = sym (ap (λ (z : Engine N C). plan_tree z.plan.now) written ∙ ap (λ z. plan_tree z.now) same_plan)
 
-          ran : UnlessMemory end (StandsOf stands lim u c (is_end stop)) → EndsRun (Settles pd lim) (IsTrace pd lim) lim tracing (run_end end) ps stop k0 k2
-              → Ran stands lim tracing u end s0 s1 k0 k2
+          ran : UnlessMemory end (StandsOf stands lim u c (is_end stop)) → EndsRun (Settles pd lim) (TracedBy telling pd lim) lim (is_traced telling) (run_end end) ps stop k0 k2
+              → Ran stands lim telling u end s0 s1 k0 k2
           ran stand said = record {
             pieces = ps;
             stop = stop;
             gave = gave;
             reads_on = reads_on;
             bytes = ap (λ (z : Engine N C). z.counts.bytes) written ∙ counted ∙ ap length (sym bytes_are);
-            ends = subst (λ (z : PlanTree). EndsRun (Settles z lim) (IsTrace z lim) lim tracing (run_end end) ps stop k0 k2) last_plan said;
+            ends = subst (λ (z : PlanTree). EndsRun (Settles z lim) (TracedBy telling z lim) lim (is_traced telling) (run_end end) ps stop k0 k2) last_plan said;
             stand = subst (λ (l : List ℕ). UnlessMemory end (StandsOf stands lim u l (is_end stop))) (sym bytes_are) stand;
           }
 
           -- memory ran out
-          lost : Lost lim d f b false c (is_end stop) → k2 ≡ k1 → EndsRun (Settles pd lim) (IsTrace pd lim) lim tracing NoMemory ps stop k0 k2
+          lost : Lost lim d f b false c (is_end stop) → k2 ≡ k1 → EndsRun (Settles pd lim) (TracedBy telling pd lim) lim (is_traced telling) NoMemory ps stop k0 k2
           lost l still =
               let w = settled_lost f c (is_end stop) l in
-              let t = traces_more pd lim b piece (is_end stop) trace_total trace_now in
+              let t = trace_later telling pd lim b piece (is_end stop) trace_total trace_now in
               let out : TakesFront k0.out k1.out total (total ++ w.0) = front_all k0.out k1.out total w.0 took_all in
-              let told : TracesFront tracing k0.err k1.err trace_total (trace_total ++ t.0) = trace_front_all tracing k0.err k1.err trace_total t.0 told_all in (
+              let told : TracesFront (is_traced telling) k0.err k1.err trace_total (trace_total ++ t.0) = trace_front_all (is_traced telling) k0.err k1.err trace_total t.0 told_all in (
                 calm,
                 record {
                   wrote = total;
@@ -235,7 +245,7 @@ module _ {N C : Type 0} (stands : C → Tree → Type 0) (lim : Limits) (tracing
                   t = trace_total ++ t.0;
                   reached = reached_by (total ++ w.0) (trace_total ++ t.0) w.1 t.1;
                   front = subst (λ (z : Sinks). TakesFront k0.out z.out total (total ++ w.0)) (sym still) out;
-                  trace_front = subst (λ (z : Sinks). TracesFront tracing k0.err z.err trace_total (trace_total ++ t.0)) (sym still) told;
+                  trace_front = subst (λ (z : Sinks). TracesFront (is_traced telling) k0.err z.err trace_total (trace_total ++ t.0)) (sym still) told;
                 },
               )
             where
@@ -246,12 +256,12 @@ module _ {N C : Type 0} (stands : C → Tree → Type 0) (lim : Limits) (tracing
               trace_front_all true x y v rest took = front_all x y v rest took
               trace_front_all false x y v rest took = took
 
-              reached_by : (w t : List ℕ) → Settles pd lim c (is_end stop) w → IsTrace pd lim c (is_end stop) t → Reached (Settles pd lim) (IsTrace pd lim) ps stop total w trace_total t
+              reached_by : (w t : List ℕ) → Settles pd lim c (is_end stop) w → TracedBy telling pd lim c (is_end stop) t → Reached (Settles pd lim) (TracedBy telling pd lim) ps stop total w trace_total t
               reached_by w t settled is = record {
                 settled = subst (λ (l : List ℕ). Settles pd lim l (is_end stop) w) (sym bytes_are) settled;
                 before = behind (Settles pd lim) total total_now;
-                traced = subst (λ (l : List ℕ). IsTrace pd lim l (is_end stop) t) (sym bytes_are) is;
-                traced_before = behind (IsTrace pd lim) trace_total trace_now;
+                traced = subst (λ (l : List ℕ). TracedBy telling pd lim l (is_end stop) t) (sym bytes_are) is;
+                traced_before = behind (TracedBy telling pd lim) trace_total trace_now;
               }
 
           module _ (other : ended_by r ≡ ends.Memory → ⊥) where
@@ -264,31 +274,31 @@ module _ {N C : Type 0} (stands : C → Tree → Type 0) (lim : Limits) (tracing
             settled_then : Settles pd lim (joined ps) (is_end stop) (total ++ f.out.items)
             settled_then = subst (λ (l : List ℕ). Settles pd lim l (is_end stop) (total ++ f.out.items)) (sym bytes_are) (settled_more f c (is_end stop) kept)
 
-            trace_then : (rest : List ℕ) × IsTrace pd lim c (is_end stop) (trace_total ++ rest) × (tracing ≡ true → rest ≡ f.trace.items)
-            trace_then = trace_kept tracing pd lim b piece (is_end stop) trace_total f.trace.items trace_now (λ e. kept_of r (TraceGrewWithin pd lim b false c (is_end stop) [] f.trace.items) (TraceGrewBy pd lim b false c (is_end stop) [] f.trace.items) other (traced e))
+            trace_then : (rest : List ℕ) × TracedBy telling pd lim c (is_end stop) (trace_total ++ rest) × (is_traced telling ≡ true → rest ≡ f.trace.items)
+            trace_then = trace_kept telling pd lim b piece (is_end stop) trace_total f.trace.items trace_now (λ e. kept_of r (TraceGrewWithin pd lim b false c (is_end stop) [] f.trace.items) (TraceGrewBy pd lim b false c (is_end stop) [] f.trace.items) other (traced e))
 
-            traced_then : IsTrace pd lim (joined ps) (is_end stop) (trace_total ++ trace_then.0)
-            traced_then = subst (λ (l : List ℕ). IsTrace pd lim l (is_end stop) (trace_total ++ trace_then.0)) (sym bytes_are) trace_then.1
+            traced_then : TracedBy telling pd lim (joined ps) (is_end stop) (trace_total ++ trace_then.0)
+            traced_then = subst (λ (l : List ℕ). TracedBy telling pd lim l (is_end stop) (trace_total ++ trace_then.0)) (sym bytes_are) trace_then.1
 
             -- all that waits was written
-            writes_all : WroteWaiting f.out.items f.trace.items k1 k2 → WritesAll (Settles pd lim) (IsTrace pd lim) tracing (joined ps) (is_end stop) k0 k2
+            writes_all : WroteWaiting f.out.items f.trace.items k1 k2 → WritesAll (Settles pd lim) (TracedBy telling pd lim) (is_traced telling) (joined ps) (is_end stop) k0 k2
             writes_all w = record {
               settled = total ++ f.out.items;
               is = settled_then;
               wrote = takes_then k0.out k1.out k2.out total f.out.items took_all w.took;
               trace = trace_total ++ trace_then.0;
               traced = traced_then;
-              told = traces_on tracing k0.err k1.err k2.err trace_total trace_then.0 f.trace.items told_all trace_then.2 w.told unsaid;
+              told = traces_on (is_traced telling) k0.err k1.err k2.err trace_total trace_then.0 f.trace.items told_all trace_then.2 w.told unsaid;
             }
 
             -- or a write failed
-            stops_then : StopsInWaiting f.out.items f.trace.items k1 k2 → StopsAtWrite tracing total (total ++ f.out.items) trace_total (trace_total ++ trace_then.0) k0 k2
-            stops_then (inl (owes, still)) = inl (owes_then k0.out k1.out k2.out total f.out.items took_all owes, traces_same tracing k0.err k1.err k2.err trace_total told_all still)
+            stops_then : StopsInWaiting f.out.items f.trace.items k1 k2 → StopsAtWrite (is_traced telling) total (total ++ f.out.items) trace_total (trace_total ++ trace_then.0) k0 k2
+            stops_then (inl (owes, still)) = inl (owes_then k0.out k1.out k2.out total f.out.items took_all owes, traces_same (is_traced telling) k0.err k1.err k2.err trace_total told_all still)
             stops_then (inr (took, owes)) =
-                let t = trace_owes tracing k0.err k1.err k2.err trace_total trace_then.0 f.trace.items told_all trace_then.2 owes quiet in
+                let t = trace_owes (is_traced telling) k0.err k1.err k2.err trace_total trace_then.0 f.trace.items told_all trace_then.2 owes quiet in
                 inr (t.0, takes_then k0.out k1.out k2.out total f.out.items took_all took, t.1)
 
-            stops_writing : StopsInWaiting f.out.items f.trace.items k1 k2 → EndsRun (Settles pd lim) (IsTrace pd lim) lim tracing WriteFailed ps stop k0 k2
+            stops_writing : StopsInWaiting f.out.items f.trace.items k1 k2 → EndsRun (Settles pd lim) (TracedBy telling pd lim) lim (is_traced telling) WriteFailed ps stop k0 k2
             stops_writing stops = (
               calm,
               record {
@@ -300,52 +310,52 @@ module _ {N C : Type 0} (stands : C → Tree → Type 0) (lim : Limits) (tracing
                   settled = settled_then;
                   before = behind (Settles pd lim) total total_now;
                   traced = traced_then;
-                  traced_before = behind (IsTrace pd lim) trace_total trace_now;
+                  traced_before = behind (TracedBy telling pd lim) trace_total trace_now;
                 };
                 stops = stops_then stops;
               },
             )
 
             ends_by : (e : Ended) → WroteWaiting f.out.items f.trace.items k1 k2 → By lim c (is_end stop) r → e ≡ ended_by r
-                → UnlessMemory e (StandsOf stands lim u c (is_end stop)) × EndsRun (Settles pd lim) (IsTrace pd lim) lim tracing (run_end e) ps stop k0 k2
+                → UnlessMemory e (StandsOf stands lim u c (is_end stop)) × EndsRun (Settles pd lim) (TracedBy telling pd lim) lim (is_traced telling) (run_end e) ps stop k0 k2
             ends_by e w (ByOk ok is clean) by =
                 let at_end : stop ≡ End = whole ok in
                 let all = writes_all w in
-                subst (λ (z : Ended). UnlessMemory z (StandsOf stands lim u c (is_end stop)) × EndsRun (Settles pd lim) (IsTrace pd lim) lim tracing (run_end z) ps stop k0 k2) (sym (by ∙ is))
+                subst (λ (z : Ended). UnlessMemory z (StandsOf stands lim u c (is_end stop)) × EndsRun (Settles pd lim) (TracedBy telling pd lim) lim (is_traced telling) (run_end z) ps stop k0 k2) (sym (by ∙ is))
                 (stand_then, (at_end, clean_at at_end clean, all_at at_end all))
               where
                 clean_at : stop ≡ End → FaultIs lim c (is_end stop) None → FaultIs lim (joined ps) true None
                 clean_at at_end clean = subst (λ (l : List ℕ). FaultIs lim l true None) (sym bytes_are) (subst (λ (z : Stop). FaultIs lim c (is_end z) None) at_end clean)
 
-                all_at : stop ≡ End → WritesAll (Settles pd lim) (IsTrace pd lim) tracing (joined ps) (is_end stop) k0 k2
-                    → WritesAll (Settles pd lim) (IsTrace pd lim) tracing (joined ps) true k0 k2
-                all_at at_end all = subst (λ (z : Stop). WritesAll (Settles pd lim) (IsTrace pd lim) tracing (joined ps) (is_end z) k0 k2) at_end all
+                all_at : stop ≡ End → WritesAll (Settles pd lim) (TracedBy telling pd lim) (is_traced telling) (joined ps) (is_end stop) k0 k2
+                    → WritesAll (Settles pd lim) (TracedBy telling pd lim) (is_traced telling) (joined ps) true k0 k2
+                all_at at_end all = subst (λ (z : Stop). WritesAll (Settles pd lim) (TracedBy telling pd lim) (is_traced telling) (joined ps) (is_end z) k0 k2) at_end all
             ends_by e w (ByFault fault is has) by =
-                subst (λ (z : Ended). UnlessMemory z (StandsOf stands lim u c (is_end stop)) × EndsRun (Settles pd lim) (IsTrace pd lim) lim tracing (run_end z) ps stop k0 k2) (sym (by ∙ is))
+                subst (λ (z : Ended). UnlessMemory z (StandsOf stands lim u c (is_end stop)) × EndsRun (Settles pd lim) (TracedBy telling pd lim) lim (is_traced telling) (run_end z) ps stop k0 k2) (sym (by ∙ is))
                 (stand_then, (calm, subst (λ (l : List ℕ). FaultIs lim l (is_end stop) (Some fault)) (sym bytes_are) has, writes_all w))
 
-          ends_so : EndsWaiting r end f.out.items f.trace.items k1 k2 → Ran stands lim tracing u end s0 s1 k0 k2
+          ends_so : EndsWaiting r end f.out.items f.trace.items k1 k2 → Ran stands lim telling u end s0 s1 k0 k2
           ends_so (inl (memory, is, still)) =
               ran (subst (λ (z : Ended). UnlessMemory z (StandsOf stands lim u c (is_end stop))) (sym is) tt)
-              (subst (λ (z : Ended). EndsRun (Settles pd lim) (IsTrace pd lim) lim tracing (run_end z) ps stop k0 k2) (sym is) (lost (lost_of r (Lost lim d f b false c (is_end stop)) (Kept stands lim d f b false c (is_end stop)) memory call) still))
+              (subst (λ (z : Ended). EndsRun (Settles pd lim) (TracedBy telling pd lim) lim (is_traced telling) (run_end z) ps stop k0 k2) (sym is) (lost (lost_of r (Lost lim d f b false c (is_end stop)) (Kept stands lim d f b false c (is_end stop)) memory call) still))
           ends_so (inr (inl (other, is, wrote))) =
               let q = ends_by other end wrote (by lim c (is_end stop) r other exact) is in ran q.0 q.1
           ends_so (inr (inr (other, is, stops))) =
               ran (subst (λ (z : Ended). UnlessMemory z (StandsOf stands lim u c (is_end stop))) (sym is) (stand_then other))
-              (subst (λ (z : Ended). EndsRun (Settles pd lim) (IsTrace pd lim) lim tracing (run_end z) ps stop k0 k2) (sym is) (stops_writing other stops))
+              (subst (λ (z : Ended). EndsRun (Settles pd lim) (TracedBy telling pd lim) lim (is_traced telling) (run_end z) ps stop k0 k2) (sym is) (stops_writing other stops))
 
-          pub call_ends : Ran stands lim tracing u end s0 s1 k0 k2
+          pub call_ends : Ran stands lim telling u end s0 s1 k0 k2
           call_ends = ends_so so
 
         -- or it goes on
         pub call_goes : (s1 : SourceView) (f : Engine N C) (piece : List ℕ) → SourceGave s0 s1 (h.pieces ++ piece ∷ []) More → length piece ≤ 65536
-            → f.plan ≡ d.plan → f.refused ≡ None → TellsBy tracing f → Kept stands lim d f b false (b ++ piece) false
-            → (tracing ≡ true → TraceGrewBy (plan_tree d.plan.now) lim b false (b ++ piece) false [] f.trace.items)
-            → Between stands lim tracing f s0 s1 k0 k1
+            → f.plan ≡ d.plan → f.refused ≡ None → TellsBy telling f → Kept stands lim d f b false (b ++ piece) false
+            → (telling ≡ ByToken → TraceGrewBy (plan_tree d.plan.now) lim b false (b ++ piece) false [] f.trace.items)
+            → Between stands lim telling f s0 s1 k0 k1
         call_goes s1 f piece gave short plan fresh tells kept traced =
             let p : plan_tree d.plan.now ≡ plan_tree f.plan.now = ap (λ z. plan_tree z.now) (sym plan) in
             let c_is : b ++ piece ≡ joined (h.pieces ++ piece ∷ []) = sym (joined_push h.pieces piece) in
-            let t = trace_kept tracing (plan_tree d.plan.now) lim b piece false trace_total f.trace.items trace_now traced in
+            let t = trace_kept telling (plan_tree d.plan.now) lim b piece false trace_total f.trace.items trace_now traced in
             let clean = (bytes_few stands lim f (b ++ piece) false kept.of fresh).0 in
             record {
               pieces = h.pieces ++ piece ∷ [];
@@ -363,32 +373,35 @@ module _ {N C : Type 0} (stands : C → Tree → Type 0) (lim : Limits) (tracing
                 told = trace_total;
                 rest = t.0;
                 took = told_all;
-                traced = subst (λ (z : PlanTree). IsTrace z lim (joined (h.pieces ++ piece ∷ [])) false (trace_total ++ t.0)) p
-                    (subst (λ (l : List ℕ). IsTrace (plan_tree d.plan.now) lim l false (trace_total ++ t.0)) c_is t.1);
-                before = LastPiece h.pieces piece refl refl (subst (λ (z : PlanTree). IsTrace z lim b false trace_total) p trace_now);
+                traced = subst (λ (z : PlanTree). TracedBy telling z lim (joined (h.pieces ++ piece ∷ [])) false (trace_total ++ t.0)) p
+                    (subst (λ (l : List ℕ). TracedBy telling (plan_tree d.plan.now) lim l false (trace_total ++ t.0)) c_is t.1);
+                before = LastPiece h.pieces piece refl refl (subst (λ (z : PlanTree). TracedBy telling z lim b false trace_total) p trace_now);
                 waits_is = t.2;
               };
             }
 
 -- ---- whether a trace is told
 
-pub tells_told : {N C : Type 0} (tracing : Bool) (e : Engine N C) → TellsBy tracing e → tracing ≡ true → IsTold e
-tells_told true e t is = t
-tells_told false e t is = absurd (false≢true is)
+pub tells_told : {N C : Type 0} (t : Traced) (e : Engine N C) → TellsBy t e → t ≡ ByToken → IsTold e
+tells_told ByToken e h is = h
+tells_told Silent e h is = absurd (cc)
+tells_told SomeText e h is = absurd (cc)
 
-pub tells_silent : {N C : Type 0} (tracing : Bool) (e : Engine N C) → TellsBy tracing e → tracing ≡ false → IsSilent e
-tells_silent true e t isnt = absurd (false≢true (sym isnt))
-tells_silent false e t isnt = t
+pub tells_silent : {N C : Type 0} (t : Traced) (e : Engine N C) → TellsBy t e → is_traced t ≡ false → IsSilent e
+tells_silent Silent e h isnt = h
+tells_silent ByToken e h isnt = absurd (false≢true (sym isnt))
+tells_silent SomeText e h isnt = absurd (false≢true (sym isnt))
 
-pub tells_on : {N C : Type 0} (tracing : Bool) (e d : Engine N C) → TellsBy tracing e → d.tracing ≡ e.tracing → d.ahead ≡ e.ahead → (IsSilent e → IsSilent d)
-    → TellsBy tracing d
-tells_on true e d t same ahead silent = record { tracing = same ∙ t.tracing; alone = ahead ∙ t.alone }
-tells_on false e d t same ahead silent = silent t
+pub tells_on : {N C : Type 0} (t : Traced) (e d : Engine N C) → TellsBy t e → d.tracing ≡ e.tracing → d.ahead ≡ e.ahead → (IsSilent e → IsSilent d)
+    → TellsBy t d
+tells_on Silent e d h same ahead silent = silent h
+tells_on ByToken e d h same ahead silent = record { tracing = same ∙ h.tracing; alone = ahead ∙ h.alone }
+tells_on SomeText e d h same ahead silent = tt
 
 -- the same engine but for what waits of it
-pub tells_written : {N C : Type 0} (tracing : Bool) (e d : Engine N C) → TellsBy tracing e → d ≡ record e { out = d.out; trace = d.trace } → (IsSilent e → IsSilent d)
-    → TellsBy tracing d
-tells_written tracing e d t same silent = tells_on tracing e d t (ap (λ z. z.tracing) same) (ap (λ z. z.ahead) same) silent
+pub tells_written : {N C : Type 0} (t : Traced) (e d : Engine N C) → TellsBy t e → d ≡ record e { out = d.out; trace = d.trace } → (IsSilent e → IsSilent d)
+    → TellsBy t d
+tells_written t e d h same silent = tells_on t e d h (ap (λ z. z.tracing) same) (ap (λ z. z.ahead) same) silent
 
 -- no trace waits
 pub wrote_out : (out trace : List ℕ) (o p e : SinkView) → Takes o p out → trace ≡ [] → WroteWaiting out trace (sinks o e) (sinks p e)

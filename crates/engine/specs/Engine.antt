@@ -35,10 +35,6 @@ pub record ActorsStand (plan : PlanTree) (stands : Tree → Type 0) (p : Project
   pub beside : Beside w v (past_at plan P k fed) k
   pub stand : stands P
 
--- They do so with every action taken.
-abbrev pub AllTaken : PlanTree → (Tree → Type 0) → Projector → Position → View → Tree → Type 0
-AllTaken plan stands p w v P = ActorsStand plan stands p w v P (length (actions plan P))
-
 -- A greatest number of rows: with one token at a time it is the peak, else at least the peak, and above it by less than `ahead`.
 pub record Peaks (peak ahead most : ℕ) : Type 0 where
   pub least : peak ≤ most

@@ -62,20 +62,40 @@ UnlessMemory ends.ReadFault X = X
 UnlessMemory ends.WriteFault X = X
 UnlessMemory ends.Memory X = Unit {0}
 
--- a trace is wanted and its lines are told, or none is wanted and none waits
-abbrev pub TellsBy : {N C : Type 0} → Bool → Engine N C → Type 0
-TellsBy true e = IsTold e
-TellsBy false e = IsSilent e
+-- What is told of a trace: that nothing goes there, where none is wanted; its lines, where one token is taken at a time; and of
+-- every engine, that some text may go there.
+pub data Traced : Type 0 where
+  Silent : Traced
+  ByToken : Traced
+  SomeText : Traced
+
+-- the engines of which so much is told
+abbrev pub TellsBy : {N C : Type 0} → Traced → Engine N C → Type 0
+TellsBy Silent e = IsSilent e
+TellsBy ByToken e = IsTold e
+TellsBy SomeText e = Unit {0}
+
+-- a trace may be written
+abbrev pub is_traced : Traced → Bool
+is_traced Silent = false
+is_traced ByToken = true
+is_traced SomeText = true
+
+-- what the text of the trace of these bytes is
+abbrev pub TracedBy : Traced → PlanTree → Limits → (List ℕ → Bool → List ℕ → Type 0)
+TracedBy Silent plan lim = IsTrace plan lim
+TracedBy ByToken plan lim = IsTrace plan lim
+TracedBy SomeText plan lim = λ b ended t. Unit {0}
 
 -- A run: what the source gave, what was written of it and of its trace, and what the engine stands for behind it. No read came
 -- behind a fault of the bytes.
-pub record Ran {N C : Type 0} (stands : C → Tree → Type 0) (lim : Limits) (tracing : Bool) (e : Engine N C) (ended_by : Ended) (left now : SourceView) (before after : Sinks) : Type 0 where
+pub record Ran {N C : Type 0} (stands : C → Tree → Type 0) (lim : Limits) (t : Traced) (e : Engine N C) (ended_by : Ended) (left now : SourceView) (before after : Sinks) : Type 0 where
   pub pieces : List (List ℕ)
   pub stop : Stop
   pub gave : SourceGave left now pieces stop
   pub reads_on : ReadsOn lim pieces stop
   pub bytes : e.counts.bytes ≡ length (joined pieces)
-  pub ends : EndsRun (Settles (plan_tree e.plan.now) lim) (IsTrace (plan_tree e.plan.now) lim) lim tracing (run_end ended_by) pieces stop before after
+  pub ends : EndsRun (Settles (plan_tree e.plan.now) lim) (TracedBy t (plan_tree e.plan.now) lim) lim (is_traced t) (run_end ended_by) pieces stop before after
   pub stand : UnlessMemory ended_by (StandsOf stands lim e (joined pieces) (is_end stop))
 
 -- The rest is said of private functions.
@@ -108,27 +128,27 @@ pub record GoesOnFrom {N C : Type 0} (stands : C → Tree → Type 0) (lim : Lim
   pub fresh : e.refused ≡ None
 
 -- What is told of the trace between two reads, and what it has beyond. Where no trace is wanted nothing is told.
-pub record TraceBetween (plan : PlanTree) (lim : Limits) (tracing : Bool) (pieces : List (List ℕ)) (waits : List ℕ) (a b : SinkView) : Type 0 where
+pub record TraceBetween (plan : PlanTree) (lim : Limits) (t : Traced) (pieces : List (List ℕ)) (waits : List ℕ) (a b : SinkView) : Type 0 where
   pub told : List ℕ
   pub rest : List ℕ
-  pub took : Traces tracing a b told
-  pub traced : IsTrace plan lim (joined pieces) false (told ++ rest)
-  pub before : SettlesBefore (IsTrace plan lim) pieces More told
-  pub waits_is : tracing ≡ true → rest ≡ waits
+  pub took : Traces (is_traced t) a b told
+  pub traced : TracedBy t plan lim (joined pieces) false (told ++ rest)
+  pub before : SettlesBefore (TracedBy t plan lim) pieces More told
+  pub waits_is : is_traced t ≡ true → rest ≡ waits
 
 -- Between two reads: what is settled by the bytes read is written or waits, and what those before the last read settle is written.
-pub record Between {N C : Type 0} (stands : C → Tree → Type 0) (lim : Limits) (tracing : Bool) (e : Engine N C) (left now : SourceView) (a b : Sinks) : Type 0 where
+pub record Between {N C : Type 0} (stands : C → Tree → Type 0) (lim : Limits) (t : Traced) (e : Engine N C) (left now : SourceView) (a b : Sinks) : Type 0 where
   pub pieces : List (List ℕ)
   pub of : StandsOf stands lim e (joined pieces) false
   pub fresh : e.refused ≡ None
-  pub tells : TellsBy tracing e
+  pub tells : TellsBy t e
   pub gave : SourceGave left now pieces More
   pub clean : AreClean lim pieces
   pub written : List ℕ
   pub took : Takes a.out b.out written
   pub settled : Settles (plan_tree e.plan.now) lim (joined pieces) false (written ++ e.out.items)
   pub before : SettlesBefore (Settles (plan_tree e.plan.now) lim) pieces More written
-  pub trace : TraceBetween (plan_tree e.plan.now) lim tracing pieces e.trace.items a.err b.err
+  pub trace : TraceBetween (plan_tree e.plan.now) lim t pieces e.trace.items a.err b.err
 
 -- but for want of memory, which ends a run
 abbrev pub UnlessLost : Option Ended → Type 0 → Type 0
@@ -136,6 +156,6 @@ UnlessLost None X = X
 UnlessLost (Some ended_by) X = UnlessMemory ended_by X
 
 -- what a turn makes: it ends the run, or goes on
-abbrev pub TurnsTo : {N C : Type 0} → (C → Tree → Type 0) → Limits → Bool → Engine N C → Option Ended → (left now : SourceView) → (a b : Sinks) → Type 0
-TurnsTo stands lim tracing e None left now a b = Between stands lim tracing e left now a b
-TurnsTo stands lim tracing e (Some ended_by) left now a b = Ran stands lim tracing e ended_by left now a b
+abbrev pub TurnsTo : {N C : Type 0} → (C → Tree → Type 0) → Limits → Traced → Engine N C → Option Ended → (left now : SourceView) → (a b : Sinks) → Type 0
+TurnsTo stands lim t e None left now a b = Between stands lim t e left now a b
+TurnsTo stands lim t e (Some ended_by) left now a b = Ran stands lim t e ended_by left now a b

@@ -51,6 +51,7 @@ use Rattle.engine.proofs.Nothing.{none_at_start}
 use Rattle.engine.proofs.Whole.{all_closed}
 use Rattle.gcx_cmd.proofs.Documents.{no_memory, seen_document}
 use Rattle.gcx_cmd.proofs.Rows.{rows_are, no_rows}
+use Rattle.gcx_cmd.proofs.Tells.{ends_told, telling}
 
 -- ---- what was written
 
@@ -140,9 +141,13 @@ numbers_of q plan bytes t n is =
     }
 
 module _ {N C : Type 0} (stands : C → Tree → Type 0) (tracing : Bool) (e : Engine N C) (t : Report) (s0 s1 : SourceView) (o p d f : SinkView)
-    (r : Ran stands full_limits tracing e t.ended s0 s1 (sinks o d) (sinks p f)) where
+    (r : Ran stands full_limits (telling tracing) e t.ended s0 s1 (sinks o d) (sinks p f)) where
   abbrev plan : PlanTree
   plan = plan_tree e.plan.now
+
+  -- how it ended, of the lines of its trace
+  ends_said : EndsRun (PlanSettles plan full_limits) (PlanTrace plan full_limits) full_limits tracing (run_end t.ended) r.pieces r.stop (sinks o d) (sinks p f)
+  ends_said = ends_told tracing (PlanSettles plan full_limits) plan full_limits (run_end t.ended) r.pieces r.stop (sinks o d) (sinks p f) r.ends
 
   stands_hold : (q : List ExprTree) (ahead : ℕ) (m : Store) (most : ℕ) → IsPlanOf q plan → e.ahead ≡ ahead → Shape m e.buffer.rows → most ≡ e.buffer.most
       → StandsOf stands full_limits e (joined r.pieces) (is_end r.stop) → MostIs 0 e → HoldsSeen q ahead r.pieces r.stop (stored m most)
@@ -158,7 +163,7 @@ module _ {N C : Type 0} (stands : C → Tree → Type 0) (tracing : Bool) (e : E
   -- where the input came to its end
   at_end : t.ended ≡ end.Ok → (r.stop ≡ End) × FaultIs full_limits (joined r.pieces) true None × StandsOf stands full_limits e (joined r.pieces) true
   at_end ok =
-      let ends = subst (λ (x : Ended). EndsRun (PlanSettles plan full_limits) (PlanTrace plan full_limits) full_limits tracing (run_end x) r.pieces r.stop (sinks o d) (sinks p f)) ok r.ends in
+      let ends = subst (λ (x : Ended). EndsRun (PlanSettles plan full_limits) (PlanTrace plan full_limits) full_limits tracing (run_end x) r.pieces r.stop (sinks o d) (sinks p f)) ok ends_said in
       let st = subst (λ (x : Ended). UnlessLost x (StandsOf stands full_limits e (joined r.pieces) (is_end r.stop))) ok r.stand in
       (ends.0, ends.1, subst (λ (x : Stop). StandsOf stands full_limits e (joined r.pieces) (is_end x)) ends.0 st)
 
@@ -170,7 +175,7 @@ module _ {N C : Type 0} (stands : C → Tree → Type 0) (tracing : Bool) (e : E
     stop = r.stop;
     gave = r.gave;
     reads_on = r.reads_on;
-    ends = ends_on q plan is tracing t.ended r.pieces r.stop (sinks o d) (sinks p f) r.ends;
+    ends = ends_on q plan is tracing t.ended r.pieces r.stop (sinks o d) (sinks p f) ends_said;
     holds = unless t.ended (StandsOf stands full_limits e (joined r.pieces) (is_end r.stop) × MostIs 0 e) (HoldsSeen q ahead r.pieces r.stop (stored m most))
         (λ both. stands_hold q ahead m most is same s h both.0 both.1) (unless_both t.ended _ _ r.stand fresh);
     numbers = λ one ok.
@@ -179,12 +184,12 @@ module _ {N C : Type 0} (stands : C → Tree → Type 0) (tracing : Bool) (e : E
   }
 
   pub no_memory_by : HasNoMemory (ended_status t.ended)
-  no_memory_by = no_memory_told (PlanSettles plan full_limits) (PlanTrace plan full_limits) tracing t.ended r.pieces r.stop (sinks o d) (sinks p f) r.ends
+  no_memory_by = no_memory_told (PlanSettles plan full_limits) (PlanTrace plan full_limits) tracing t.ended r.pieces r.stop (sinks o d) (sinks p f) ends_said
 
   -- a read fault is one of the source
   pub rose_by : t.ended ≡ end.ReadFault → Rose s0.faults s1.faults
   rose_by is =
-      let ends = subst (λ (x : Ended). EndsRun (PlanSettles plan full_limits) (PlanTrace plan full_limits) full_limits tracing (run_end x) r.pieces r.stop (sinks o d) (sinks p f)) is r.ends in
+      let ends = subst (λ (x : Ended). EndsRun (PlanSettles plan full_limits) (PlanTrace plan full_limits) full_limits tracing (run_end x) r.pieces r.stop (sinks o d) (sinks p f)) is ends_said in
       subst (λ (x : Stop). CountsFault x s0.faults s1.faults) ends.0 r.gave.faults
 
   -- at Ok the store is empty

@@ -45,4 +45,3 @@ mod MarkTold
 mod MarkAsks
 mod MarkBack
 mod MarkList
-mod SameLists

@@ -255,9 +255,20 @@ fn is_literal(kept: &Operand, literal: &Operand) -> bool
     }
 }
 
+// Step by step, which takes fewer instructions than the comparison of the two slices.
 #[inline(always)]
 fn are_same(kept: &[Step], steps: &[Step]) -> bool
     ensures { result ≡ true → kept.now ≡ steps.now }
 {
-    *kept == *steps
+    if kept.len() != steps.len() {
+        return false;
+    }
+    let mut i = 0;
+    'steps: while i < steps.len() {
+        if kept[i] != steps[i] {
+            return false;
+        }
+        i += 1;
+    }
+    true
 }

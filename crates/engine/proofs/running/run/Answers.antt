@@ -6,8 +6,8 @@ use Rattle.engine.proofs.running.run.Goals as goal
 
 pub reading-init : goal.reading-init
 reading-init g c = record {
-  between = λ lim tracing h t. between_none g.C.Conds.stands lim tracing c.args.engine.now (g.D.Source.seen c.args.doc.now)
-      (sinks (g.O.Sink.seen c.args.out.now) (g.E.Sink.seen c.args.err.now)) h t;
+  between = λ lim t h tells. between_none g.C.Conds.stands lim t c.args.engine.now (g.D.Source.seen c.args.doc.now)
+      (sinks (g.O.Sink.seen c.args.out.now) (g.E.Sink.seen c.args.err.now)) h tells;
   stands = λ lim h. record { read = []; of = h.of; fresh = h.fresh };
   most = λ lent h. h;
   size = search rules;
@@ -24,7 +24,7 @@ pub turn-requires-clause-stands : goal.turn-requires-clause-stands
 turn-requires-clause-stands g c = let s = c.requires.starts in (s.0, c.reading.invariant.stands s.0 s.1)
 
 pub returns-in-Some-clause-ran : goal.returns-in-Some-clause-ran
-returns-in-Some-clause-ran g c = λ lim tracing h t. c.in-Some.ensures.goes lim tracing _ _ (c.reading.invariant.between lim tracing h t)
+returns-in-Some-clause-ran g c = λ lim t h tells. c.in-Some.ensures.goes lim t _ _ (c.reading.invariant.between lim t h tells)
 
 pub returns-in-Some-clause-most : goal.returns-in-Some-clause-most
 returns-in-Some-clause-most g c = λ lent h. c.in-Some.ensures.most lent (c.reading.invariant.most lent h)
@@ -39,7 +39,7 @@ reading-smaller g c =
 
 pub reading-preserved : goal.reading-preserved
 reading-preserved g c = record {
-  between = λ lim tracing h t. c.in_default.ensures.goes lim tracing _ _ (c.reading.invariant.between lim tracing h t);
+  between = λ lim t h tells. c.in_default.ensures.goes lim t _ _ (c.reading.invariant.between lim t h tells);
   stands = λ lim h. c.in_default.ensures.stands refl lim (c.reading.invariant.stands lim h);
   most = λ lent h. c.in_default.ensures.most lent (c.reading.invariant.most lent h);
   size = c.turn.ensures.size;

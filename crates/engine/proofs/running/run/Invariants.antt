@@ -1,13 +1,13 @@
-use Rattle.std.proofs.Common.{◌≡◌, ◌-◌, ◌≤◌, ℕ, Bool, length}
+use Rattle.std.proofs.Common.{◌≡◌, ◌-◌, ◌≤◌, ℕ, length}
 use Rattle.gcx_base.specs.declared.limits.Limits.{Limits}
 use Rattle.engine.specs.Engine.{MostIs, Starts}
-use Rattle.engine.specs.Runs.{Between, GoesOnFrom, TellsBy, sinks}
+use Rattle.engine.specs.Runs.{Between, GoesOnFrom, TellsBy, Traced, sinks}
 use Rattle.engine.proofs.running.run.Given as goal
 
 abbrev pub invariant-reading : goal.invariant-reading
 invariant-reading g l = record {
-  between : (lim : Limits) (tracing : Bool) → Starts g.C.Conds.stands lim l.fn.engine → TellsBy tracing l.fn.engine
-      → Between g.C.Conds.stands lim tracing l.engine (g.D.Source.seen l.fn.doc) (g.D.Source.seen l.doc)
+  between : (lim : Limits) (t : Traced) → Starts g.C.Conds.stands lim l.fn.engine → TellsBy t l.fn.engine
+      → Between g.C.Conds.stands lim t l.engine (g.D.Source.seen l.fn.doc) (g.D.Source.seen l.doc)
       (sinks (g.O.Sink.seen l.fn.out) (g.E.Sink.seen l.fn.err)) (sinks (g.O.Sink.seen l.out) (g.E.Sink.seen l.err));
   stands : (lim : Limits) → Starts g.C.Conds.stands lim l.fn.engine → GoesOnFrom g.C.Conds.stands lim l.engine;
   most : (lent : ℕ) → MostIs lent l.fn.engine → MostIs lent l.engine;

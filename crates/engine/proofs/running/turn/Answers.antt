@@ -11,7 +11,7 @@ use Rattle.run_words.specs.Stops.{More, End}
 use Rattle.doc_reader.specs.Standing.{Answers}
 use Rattle.engine.specs.declared.report.Ended.TheVariants as ended
 use Rattle.engine.specs.Engine.{IsSilent, Kept, Lost, OnAnswer, StandsOf, TraceGrewBy, TraceGrewWithin}
-use Rattle.engine.specs.Runs.{TellsBy, sinks}
+use Rattle.engine.specs.Runs.{TellsBy, is_traced, sinks}
 use Rattle.engine.proofs.Answering.{ok_by}
 use Rattle.engine.proofs.CallsOfTurns.{balance_written, err_not_ok, err_of, may_go, ok_none, ok_of}
 use Rattle.engine.proofs.Most.{most_ends, most_written}
@@ -21,9 +21,9 @@ use Rattle.engine.proofs.RunOn.{call_ends, call_goes, read_fails, stand_now, tel
 use Rattle.engine.proofs.running.turn.Goals as goal
 
 pub returns-then-is_err-clause-goes : goal.returns-then-is_err-clause-goes
-returns-then-is_err-clause-goes g c = λ lim tracing left before h.
+returns-then-is_err-clause-goes g c = λ lim t left before h.
     let failed : is_err c.write_waiting.result ≡ true = cc in
-    write_fails g.C.Conds.stands lim tracing c.args.engine.now c.write_waiting.new.engine left (g.D.Source.seen c.args.doc.now) before _ _ h
+    write_fails g.C.Conds.stands lim t c.args.engine.now c.write_waiting.new.engine left (g.D.Source.seen c.args.doc.now) before _ _ h
     c.write_waiting.ensures.rest (err_of c.write_waiting.result failed c.write_waiting.ensures.stops)
 
 pub returns-then-is_err-clause-balance : goal.returns-then-is_err-clause-balance
@@ -33,11 +33,11 @@ returns-then-is_err-clause-balance g c =
     stands_balance g.C.Conds.stands q.0 c.write_waiting.new.engine w.read false w.of
 
 pub returns-in_default-clause-goes : goal.returns-in_default-clause-goes
-returns-in_default-clause-goes g c = λ lim tracing left before h.
+returns-in_default-clause-goes g c = λ lim t left before h.
     let failed : is_err c.write_waiting.result ≡ false = cc in
-    read_fails g.C.Conds.stands lim tracing c.args.engine.now c.write_waiting.new.engine left (g.D.Source.seen c.args.doc.now) before _ _ h
+    read_fails g.C.Conds.stands lim t c.args.engine.now c.write_waiting.new.engine left (g.D.Source.seen c.args.doc.now) before _ _ h
     c.write_waiting.ensures.rest (ok_of c.write_waiting.result failed c.write_waiting.ensures.wrote)
-    (λ isnt. ap g.E.Sink.seen (c.write_waiting.ensures.silent (tells_silent tracing _ h.tells isnt)).1)
+    (λ isnt. ap g.E.Sink.seen (c.write_waiting.ensures.silent (tells_silent t _ h.tells isnt)).1)
     (g.D.Source.seen c.read.new.self) (source_fault _ _ _ h.pieces _ _ h.gave c.in_default.ensures.reads)
 
 pub returns-in_default-clause-balance : goal.returns-in_default-clause-balance
@@ -53,7 +53,7 @@ finish-answer-requires g c =
     (false, may_go g.C.Conds.stands q.0 c.write_waiting.new.engine w.read false w.of w.fresh)
 
 pub returns-then-n-eq0-clause-goes : goal.returns-then-n-eq0-clause-goes
-returns-then-n-eq0-clause-goes g c = λ lim tracing left before h.
+returns-then-n-eq0-clause-goes g c = λ lim t left before h.
     let failed : is_err c.write_waiting.result ≡ false = cc in
     let e = c.args.engine.now in
     let d = c.write_waiting.new.engine in
@@ -63,21 +63,21 @@ returns-then-n-eq0-clause-goes g c = λ lim tracing left before h.
     let rest = c.write_waiting.ensures.rest in
     let wrote = ok_of c.write_waiting.result failed c.write_waiting.ensures.wrote in
     let empty : (d.out.items ≡ []) × (d.trace.items ≡ []) = ok_of c.write_waiting.result failed c.write_waiting.ensures.empty in
-    let s : StandsOf g.C.Conds.stands lim d b false = stand_now g.C.Conds.stands lim tracing e d left _ before _ (sinks (g.O.Sink.seen c.write_waiting.new.out) (g.E.Sink.seen c.write_waiting.new.err)) h rest in
+    let s : StandsOf g.C.Conds.stands lim d b false = stand_now g.C.Conds.stands lim t e d left _ before _ (sinks (g.O.Sink.seen c.write_waiting.new.out) (g.E.Sink.seen c.write_waiting.new.err)) h rest in
     let fresh : d.refused ≡ None = ap (λ z. z.refused) rest ∙ h.fresh in
-    let tells : TellsBy tracing d = tells_written tracing e d h.tells rest (λ silent. (c.write_waiting.ensures.silent silent).0) in
+    let tells : TellsBy t d = tells_written t e d h.tells rest (λ silent. (c.write_waiting.ensures.silent silent).0) in
     let n : b ≡ b ++ [] = sym (append-nil b) in
     let room : 0 < length c.read.new.buf = search rules in
-    let silent : tracing ≡ false → IsSilent f = λ isnt. c.finish-answer.ensures.silent (tells_silent tracing d tells isnt) in
-    call_ends g.C.Conds.stands lim tracing e d left _ before _ _ h rest wrote
-    (λ isnt. ap g.E.Sink.seen (c.write_waiting.ensures.silent (tells_silent tracing e h.tells isnt)).1) empty
+    let silent : is_traced t ≡ false → IsSilent f = λ isnt. c.finish-answer.ensures.silent (tells_silent t d tells isnt) in
+    call_ends g.C.Conds.stands lim t e d left _ before _ _ h rest wrote
+    (λ isnt. ap g.E.Sink.seen (c.write_waiting.ensures.silent (tells_silent t e h.tells isnt)).1) empty
     (g.D.Source.seen c.read.new.self) _ f c.end_with.new.engine [] h.pieces End r c.end_with.result tt
     (source_end _ _ _ h.pieces _ _ h.gave c.in-Ok.ensures.reads c.if-n-eq0.true room) (on_clean lim h.pieces End h.clean) n
     (λ S text is. AtEnd refl is)
     (subst (λ (z : List ℕ). OnAnswer r (Lost lim d f b false z true) (Kept g.C.Conds.stands lim d f b false z true)) n (c.finish-answer.ensures.ended lim b false s fresh))
     (λ is. subst (λ (z : List ℕ). OnAnswer r (TraceGrewWithin (plan_tree d.plan.now) lim b false (b ++ []) true z f.trace.items) (TraceGrewBy (plan_tree d.plan.now) lim b false (b ++ []) true z f.trace.items)) empty.1
     (subst (λ (z : List ℕ). OnAnswer r (TraceGrewWithin (plan_tree d.plan.now) lim b false z true d.trace.items f.trace.items) (TraceGrewBy (plan_tree d.plan.now) lim b false z true d.trace.items f.trace.items)) n
-    (c.finish-answer.ensures.traced lim b false s fresh (tells_told tracing d tells is))))
+    (c.finish-answer.ensures.traced lim b false s fresh (tells_told t d tells is))))
     (subst (λ (z : List ℕ). Answers r lim z true) n (c.finish-answer.ensures.exact lim b false s fresh)) (λ ok. refl) c.end_with.ensures.rest
     c.finish-answer.ensures.same.0 (c.finish-answer.ensures.bytes ∙ s.bytes ∙ ap length n) (λ isnt. (silent isnt).empty) c.end_with.ensures.ends
     (λ isnt. ap g.E.Sink.seen (c.end_with.ensures.silent (silent isnt)).1)
@@ -106,7 +106,7 @@ feed-requires g c =
     may_go g.C.Conds.stands q.0 c.write_waiting.new.engine w.read false w.of w.fresh
 
 pub returns-in-Ok-feed-clause-goes : goal.returns-in-Ok-feed-clause-goes
-returns-in-Ok-feed-clause-goes g c = λ lim tracing left before h.
+returns-in-Ok-feed-clause-goes g c = λ lim t left before h.
     let failed : is_err c.write_waiting.result ≡ false = cc in
     let e = c.args.engine.now in
     let d = c.write_waiting.new.engine in
@@ -119,16 +119,16 @@ returns-in-Ok-feed-clause-goes g c = λ lim tracing left before h.
     let rest = c.write_waiting.ensures.rest in
     let wrote = ok_of c.write_waiting.result failed c.write_waiting.ensures.wrote in
     let empty : (d.out.items ≡ []) × (d.trace.items ≡ []) = ok_of c.write_waiting.result failed c.write_waiting.ensures.empty in
-    let s : StandsOf g.C.Conds.stands lim d b false = stand_now g.C.Conds.stands lim tracing e d left _ before _ (sinks (g.O.Sink.seen c.write_waiting.new.out) (g.E.Sink.seen c.write_waiting.new.err)) h rest in
+    let s : StandsOf g.C.Conds.stands lim d b false = stand_now g.C.Conds.stands lim t e d left _ before _ (sinks (g.O.Sink.seen c.write_waiting.new.out) (g.E.Sink.seen c.write_waiting.new.err)) h rest in
     let fresh : d.refused ≡ None = ap (λ z. z.refused) rest ∙ h.fresh in
-    let tells : TellsBy tracing d = tells_written tracing e d h.tells rest (λ silent. (c.write_waiting.ensures.silent silent).0) in
+    let tells : TellsBy t d = tells_written t e d h.tells rest (λ silent. (c.write_waiting.ensures.silent silent).0) in
     let none : f.refused ≡ None = ok_none f.refused c.in-Ok-feed.ensures.answer in
-    call_goes g.C.Conds.stands lim tracing e d left _ before _ _ h rest wrote
-    (λ isnt. ap g.E.Sink.seen (c.write_waiting.ensures.silent (tells_silent tracing e h.tells isnt)).1) empty
+    call_goes g.C.Conds.stands lim t e d left _ before _ _ h rest wrote
+    (λ isnt. ap g.E.Sink.seen (c.write_waiting.ensures.silent (tells_silent t e h.tells isnt)).1) empty
     (g.D.Source.seen c.read.new.self) f piece (source_more _ _ _ h.pieces _ _ h.gave c.in-Ok.ensures.reads some fits) short c.feed.ensures.same.0 none
-    (tells_on tracing d f tells c.feed.ensures.same.2 c.feed.ensures.same.1 c.feed.ensures.silent) (c.in-Ok-feed.ensures.fed lim b s fresh)
+    (tells_on t d f tells c.feed.ensures.same.2 c.feed.ensures.same.1 c.feed.ensures.silent) (c.in-Ok-feed.ensures.fed lim b s fresh)
     (λ is. subst (λ (z : List ℕ). TraceGrewBy (plan_tree d.plan.now) lim b false (b ++ piece) false z f.trace.items) empty.1
-    (c.in-Ok-feed.ensures.traced lim b s fresh (tells_told tracing d tells is)))
+    (c.in-Ok-feed.ensures.traced lim b s fresh (tells_told t d tells is)))
 
 pub returns-in-Ok-feed-clause-balance : goal.returns-in-Ok-feed-clause-balance
 returns-in-Ok-feed-clause-balance g c =
@@ -141,7 +141,7 @@ returns-in-Ok-feed-clause-balance g c =
     stands_balance g.C.Conds.stands q.0 f (b ++ piece) false (c.in-Ok-feed.ensures.fed q.0 b w.of w.fresh).of
 
 pub returns-in-Err-clause-goes : goal.returns-in-Err-clause-goes
-returns-in-Err-clause-goes g c = λ lim tracing left before h.
+returns-in-Err-clause-goes g c = λ lim t left before h.
     let failed : is_err c.write_waiting.result ≡ false = cc in
     let e = c.args.engine.now in
     let d = c.write_waiting.new.engine in
@@ -154,20 +154,20 @@ returns-in-Err-clause-goes g c = λ lim tracing left before h.
     let rest = c.write_waiting.ensures.rest in
     let wrote = ok_of c.write_waiting.result failed c.write_waiting.ensures.wrote in
     let empty : (d.out.items ≡ []) × (d.trace.items ≡ []) = ok_of c.write_waiting.result failed c.write_waiting.ensures.empty in
-    let s : StandsOf g.C.Conds.stands lim d b false = stand_now g.C.Conds.stands lim tracing e d left _ before _ (sinks (g.O.Sink.seen c.write_waiting.new.out) (g.E.Sink.seen c.write_waiting.new.err)) h rest in
+    let s : StandsOf g.C.Conds.stands lim d b false = stand_now g.C.Conds.stands lim t e d left _ before _ (sinks (g.O.Sink.seen c.write_waiting.new.out) (g.E.Sink.seen c.write_waiting.new.err)) h rest in
     let fresh : d.refused ≡ None = ap (λ z. z.refused) rest ∙ h.fresh in
-    let tells : TellsBy tracing d = tells_written tracing e d h.tells rest (λ silent. (c.write_waiting.ensures.silent silent).0) in
-    let silent : tracing ≡ false → IsSilent f = λ isnt. c.feed.ensures.silent (tells_silent tracing d tells isnt) in
+    let tells : TellsBy t d = tells_written t e d h.tells rest (λ silent. (c.write_waiting.ensures.silent silent).0) in
+    let silent : is_traced t ≡ false → IsSilent f = λ isnt. c.feed.ensures.silent (tells_silent t d tells isnt) in
     let bytes : f.counts.bytes ≡ length (b ++ piece) = let k = c.feed.ensures.bytes fresh in let y = s.bytes in let l = length-append b piece in omega arith in
     let r = Err c.in-Err.fault in
-    call_ends g.C.Conds.stands lim tracing e d left _ before _ _ h rest wrote
-    (λ isnt. ap g.E.Sink.seen (c.write_waiting.ensures.silent (tells_silent tracing e h.tells isnt)).1) empty
+    call_ends g.C.Conds.stands lim t e d left _ before _ _ h rest wrote
+    (λ isnt. ap g.E.Sink.seen (c.write_waiting.ensures.silent (tells_silent t e h.tells isnt)).1) empty
     (g.D.Source.seen c.read.new.self) _ f c.end_with-in-Err.new.engine piece (h.pieces ++ piece ∷ []) More r c.end_with-in-Err.result tt
     (source_more _ _ _ h.pieces _ _ h.gave c.in-Ok.ensures.reads some fits) (on_piece lim h.pieces piece h.clean short) (joined_push h.pieces piece)
     (λ S text is. LastPiece h.pieces piece refl refl is)
     (c.in-Err.ensures.fed lim b s fresh)
     (λ is. subst (λ (z : List ℕ). OnAnswer r (TraceGrewWithin (plan_tree d.plan.now) lim b false (b ++ piece) false z f.trace.items) (TraceGrewBy (plan_tree d.plan.now) lim b false (b ++ piece) false z f.trace.items)) empty.1
-    (c.in-Err.ensures.traced lim b s fresh (tells_told tracing d tells is)))
+    (c.in-Err.ensures.traced lim b s fresh (tells_told t d tells is)))
     (c.in-Err.ensures.exact lim b s fresh) (λ ok. absurd (err_not_ok c.in-Err.fault r refl ok)) c.end_with-in-Err.ensures.rest
     c.feed.ensures.same.0 bytes (λ isnt. (silent isnt).empty) c.end_with-in-Err.ensures.ends
     (λ isnt. ap g.E.Sink.seen (c.end_with-in-Err.ensures.silent (silent isnt)).1)

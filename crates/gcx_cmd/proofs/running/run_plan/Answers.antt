@@ -11,7 +11,7 @@ use Rattle.engine.specs.Engine.{MostIs, Starts}
 use Rattle.engine.specs.Runs.{TellsBy}
 use Rattle.gcx_cmd.specs.Running.{IsPlanOf, IsPlaced}
 use Rattle.gcx_cmd.proofs.Runs.{emptied_by, no_memory_by, rose_by, runs_nothing, same_name, source_runs}
-use Rattle.gcx_cmd.proofs.Tells.{tells_by}
+use Rattle.gcx_cmd.proofs.Tells.{telling, tells_by}
 use Rattle.gcx_cmd.proofs.running.run_plan.Goals as goal
 
 pub new-requires-clause-conds : goal.new-requires-clause-conds
@@ -25,8 +25,8 @@ returns-clause-runs g c = λ q is.
     let e = c.run_query-report.new.engine in
     let same = c.run_query-report.ensures.plan ∙ c.in-Ok.ensures.plan in
     let starts : Starts AreMarks full_limits c.in-Ok.engine = subst (λ (l : Limits). Starts AreMarks l c.in-Ok.engine) c.full-limits.ensures c.in-Ok.ensures.starts in
-    let tells : TellsBy c.args.tracing c.in-Ok.engine = tells_by c.args.tracing c.in-Ok.engine c.in-Ok.ensures.tracing (λ told. c.in-Ok.ensures.ahead ∙ c.requires.ahead.2 told) c.in-Ok.ensures.silent in
-    let ran = c.run_query-report.ensures.ran full_limits c.args.tracing starts tells in
+    let tells : TellsBy (telling c.args.tracing) c.in-Ok.engine = tells_by c.args.tracing c.in-Ok.engine c.in-Ok.ensures.tracing (λ told. c.in-Ok.ensures.ahead ∙ c.requires.ahead.2 told) c.in-Ok.ensures.silent in
+    let ran = c.run_query-report.ensures.ran full_limits (telling c.args.tracing) starts tells in
     let fresh : MostIs 0 c.in-Ok.engine = subst (λ (n : ℕ). MostIs n c.in-Ok.engine) c.requires.new.1 c.in-Ok.ensures.most in
     let of_plan : IsPlanOf q (plan_tree e.plan.now) = subst (λ p. IsPlanOf q (plan_tree p.now)) (sym same) is in
     let all = source_runs AreMarks c.args.tracing e c.run_query-report.result _ _ _ _ _ _ ran q c.args.ahead (g.N.NodeStore.rows c.finish_nodes.result.now) (g.N.NodeStore.most_held c.finish_nodes.result.now)
@@ -41,8 +41,8 @@ returns-clause-emptied g c = λ ok.
     let e = c.run_query-report.new.engine in
     let same = c.run_query-report.ensures.plan ∙ c.in-Ok.ensures.plan in
     let starts : Starts AreMarks full_limits c.in-Ok.engine = subst (λ (l : Limits). Starts AreMarks l c.in-Ok.engine) c.full-limits.ensures c.in-Ok.ensures.starts in
-    let tells : TellsBy c.args.tracing c.in-Ok.engine = tells_by c.args.tracing c.in-Ok.engine c.in-Ok.ensures.tracing (λ told. c.in-Ok.ensures.ahead ∙ c.requires.ahead.2 told) c.in-Ok.ensures.silent in
-    let ran = c.run_query-report.ensures.ran full_limits c.args.tracing starts tells in
+    let tells : TellsBy (telling c.args.tracing) c.in-Ok.engine = tells_by c.args.tracing c.in-Ok.engine c.in-Ok.ensures.tracing (λ told. c.in-Ok.ensures.ahead ∙ c.requires.ahead.2 told) c.in-Ok.ensures.silent in
+    let ran = c.run_query-report.ensures.ran full_limits (telling c.args.tracing) starts tells in
     let placed : IsPlaced (plan_tree e.plan.now) = subst (λ p. IsPlaced (plan_tree p.now)) (sym same) c.requires.placed in
     let none : g.N.NodeStore.rows c.finish_nodes.result.now ≡ map.empty =
     emptied_by AreMarks c.args.tracing e c.run_query-report.result _ _ _ _ _ _ ran (g.N.NodeStore.rows c.finish_nodes.result.now) placed c.finish_nodes.ensures.shape ok in
@@ -53,15 +53,15 @@ pub returns-clause-memory : goal.returns-clause-memory
 returns-clause-memory g c =
     let e = c.run_query-report.new.engine in
     let starts : Starts AreMarks full_limits c.in-Ok.engine = subst (λ (l : Limits). Starts AreMarks l c.in-Ok.engine) c.full-limits.ensures c.in-Ok.ensures.starts in
-    let tells : TellsBy c.args.tracing c.in-Ok.engine = tells_by c.args.tracing c.in-Ok.engine c.in-Ok.ensures.tracing (λ told. c.in-Ok.ensures.ahead ∙ c.requires.ahead.2 told) c.in-Ok.ensures.silent in
-    no_memory_by AreMarks c.args.tracing e c.run_query-report.result _ _ _ _ _ _ (c.run_query-report.ensures.ran full_limits c.args.tracing starts tells)
+    let tells : TellsBy (telling c.args.tracing) c.in-Ok.engine = tells_by c.args.tracing c.in-Ok.engine c.in-Ok.ensures.tracing (λ told. c.in-Ok.ensures.ahead ∙ c.requires.ahead.2 told) c.in-Ok.ensures.silent in
+    no_memory_by AreMarks c.args.tracing e c.run_query-report.result _ _ _ _ _ _ (c.run_query-report.ensures.ran full_limits (telling c.args.tracing) starts tells)
 
 pub returns-clause-cause : goal.returns-clause-cause
 returns-clause-cause g c = λ is.
     let e = c.run_query-report.new.engine in
     let starts : Starts AreMarks full_limits c.in-Ok.engine = subst (λ (l : Limits). Starts AreMarks l c.in-Ok.engine) c.full-limits.ensures c.in-Ok.ensures.starts in
-    let tells : TellsBy c.args.tracing c.in-Ok.engine = tells_by c.args.tracing c.in-Ok.engine c.in-Ok.ensures.tracing (λ told. c.in-Ok.ensures.ahead ∙ c.requires.ahead.2 told) c.in-Ok.ensures.silent in
-    let rose = rose_by AreMarks c.args.tracing e c.run_query-report.result _ _ _ _ _ _ (c.run_query-report.ensures.ran full_limits c.args.tracing starts tells) is in
+    let tells : TellsBy (telling c.args.tracing) c.in-Ok.engine = tells_by c.args.tracing c.in-Ok.engine c.in-Ok.ensures.tracing (λ told. c.in-Ok.ensures.ahead ∙ c.requires.ahead.2 told) c.in-Ok.ensures.silent in
+    let rose = rose_by AreMarks c.args.tracing e c.run_query-report.result _ _ _ _ _ _ (c.run_query-report.ensures.ran full_limits (telling c.args.tracing) starts tells) is in
     let before = ap (λ (v : SourceView). v.faults) (g.met.S.Source.sees c.args.source.now) in
     let after = ap (λ (v : SourceView). v.faults) (g.met.S.Source.sees c.run_query-report.new.doc) in
     let goes : Rose (g.S.Source.faults c.args.source.now) (g.S.Source.faults c.run_query-report.new.doc) = omega (arith, rose, before, after) in
