@@ -1,5 +1,6 @@
 -- The tokens that a reader gave may come one by one, within limits.
-use Rattle.std.proofs.Common.{◌≡◌, ℕ, ◌+◌, ◌≤◌, ◌^◌, Bool, true, List, ◌++◌, length, map, ap, ◌∙◌, arith, append_assoc}
+use Rattle.std.proofs.Common.{◌≡◌, ℕ, ◌+◌, ◌≤◌, ◌^◌, Bool, true, List, ◌++◌, length, map, take, drop, ap, sym, ◌∙◌, arith, append_assoc, take-append-drop}
+use Rattle.std.proofs.lemmas.List.{map-append}
 use Rattle.gcx_base.specs.Limits.{full_limits}
 use Rattle.gcx_model.specs.Growth.{may_all}
 use Rattle.gcx_model.specs.Tree.{Token as Said, opening}
@@ -21,3 +22,9 @@ given_within r b ended given s = λ before after e.
     let w = seen_within full_limits b ended (map said_of given ++ x.rest) before (after ++ x.rest) x.seen (ap (λ (l : List Said). l ++ x.rest) e ∙ append_assoc before after x.rest) in
     let a = w.at_most in
     (omega arith, λ p at. let h = w.open_elements p at in omega arith)
+
+-- the first of tokens that may come one by one may too
+pub first_come : (n : ℕ) (ts us : List Token) → us ≡ take n ts → may_all (map said_of ts) opening ≡ true → may_all (map said_of us) opening ≡ true
+first_come n ts us first h =
+    let e : map said_of us ++ map said_of (drop n ts) ≡ map said_of ts = sym (map-append said_of us (drop n ts)) ∙ ap (λ (l : List Token). map said_of (l ++ drop n ts)) first ∙ ap (map said_of) (take-append-drop n ts) in
+    (may_parts (map said_of us) (map said_of (drop n ts)) opening (ap (λ (l : List Said). may_all l opening) e ∙ h)).0

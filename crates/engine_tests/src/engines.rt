@@ -1,5 +1,6 @@
 //! Runs of the engine over objects in memory: the worked rows, in pieces of any size, over both stores and both ways to
 //! find the truth of conditions.
+mod checks;
 mod rows;
 mod turns;
 

@@ -15,9 +15,10 @@ Usage:
   gcx peak QUERY DOC                        write how many nodes a run holds
   gcx gen SEED N                            write a document of N items
   gcx selfrun SEED N                        run a query over that document
+  gcx check QUERY DOC TRACE                 judge a trace that run --trace wrote
 
-QUERY and DOC are names of files; - is standard input. After -- all arguments
-are names or numbers. SEED is 0 to 4294967295, N is 1 to 100000.
+QUERY, DOC and TRACE are names of files; - is standard input. After -- all
+arguments are names or numbers. SEED is 0 to 4294967295, N is 1 to 100000.
 A query on the command line, in bash:  gcx run <(echo '/bib/book/title') bib.xml
 
 Options of run:
@@ -32,13 +33,13 @@ Exit status:
   0  all was written          2  the words are not a command line
   3  QUERY is not accepted    4  DOC is not accepted
   5  read fault               6  write fault
-  7  out of memory
+  7  out of memory            8  TRACE is another trace
 Where it isn't 0, one line on standard error says why. The language, and what
 each line means: man gcx.
 ";
 
 /// The names of the commands.
-const COMMANDS: [&str; 6] = ["run", "whole", "explain", "peak", "gen", "selfrun"];
+const COMMANDS: [&str; 7] = ["run", "whole", "explain", "peak", "gen", "selfrun", "check"];
 
 fn is_command(word: &Text) -> bool {
     let mut found = false;

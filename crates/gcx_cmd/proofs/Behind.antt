@@ -1,4 +1,4 @@
--- QUERY stays as it was read, and DOC comes behind it.
+-- A file stays as it was read, and the next one comes behind it.
 use Rattle.std.proofs.Common.{inl, inr, ℕ, ◌+◌, ◌<◌, List, [], ◌∷◌, ◌++◌, length, ap, subst, ◌∙◌, arith}
 use Rattle.std.specs.Io.KnownBytes.{Consumes}
 use Rattle.gcx_io.specs.Shelf.{Names, IsMissing, content_of}
@@ -11,7 +11,7 @@ use Rattle.gcx_cmd.specs.QueryDoes.{AcceptsQuery}
 use Rattle.gcx_cmd.specs.Reads.{CausesFault, KeepsShelf, Misses, Opens, Reads}
 
 -- the handles that were given before stand as they did
-reads_kept : (name : List ℕ) (h : ℕ) (a m b : ShelfView) (ps : List (List ℕ)) (stop : Stop) → Reads name h a m ps stop → h < length m.given → KeepsShelf m b
+pub reads_kept : (name : List ℕ) (h : ℕ) (a m b : ShelfView) (ps : List (List ℕ)) (stop : Stop) → Reads name h a m ps stop → h < length m.given → KeepsShelf m b
     → Reads name h a b ps stop
 reads_kept name h a m b ps stop r within k = record {
   handle = r.handle;
@@ -24,7 +24,7 @@ reads_kept name h a m b ps stop r within k = record {
 }
 
 -- a file that was opened later in this call
-reads_later : (name : List ℕ) (h : ℕ) (a m b : ShelfView) (ps : List (List ℕ)) (stop : Stop) → KeepsShelf a m → Reads name h m b ps stop → Reads name h a b ps stop
+pub reads_later : (name : List ℕ) (h : ℕ) (a m b : ShelfView) (ps : List (List ℕ)) (stop : Stop) → KeepsShelf a m → Reads name h m b ps stop → Reads name h a b ps stop
 reads_later name h a m b ps stop k r = record {
   handle = r.handle;
   at = r.at;
@@ -66,8 +66,8 @@ module _ (q : List ℕ) (a m b : ShelfView) (x : List ExprTree) (one : Opens 1 a
   pub doc_later : (d : List ℕ) (ps : List (List ℕ)) (stop : Stop) → Reads d (length m.given) m b ps stop → Reads d (length a.given + 1) a b ps stop
   doc_later d ps stop r = subst (λ (h : ℕ). Reads d h a b ps stop) one.count (reads_later d (length m.given) a m b ps stop k r)
 
--- the causes of a fault of DOC, behind QUERY
-pub cause_later : (d : List ℕ) (a m b : ShelfView) → Opens 1 a m → KeepsShelf a m → CausesFault d m b → CausesFault d a b
-cause_later d a m b one k (inl rose) = inl (rose_since a.faults m.faults b.faults k.faults rose)
-cause_later d a m b one k (inr (missing, behind, listed)) =
-    inr (subst (λ (n : Names). IsMissing n d) k.names missing, behind, listed ∙ ap (λ (r : List Miss). r ++ missed d behind ∷ []) one.refused)
+-- the causes of a fault of a file, behind others
+pub cause_later : {n : ℕ} (d : List ℕ) (a m b : ShelfView) → Opens n a m → KeepsShelf a m → CausesFault d m b → CausesFault d a b
+cause_later d a m b opens k (inl rose) = inl (rose_since a.faults m.faults b.faults k.faults rose)
+cause_later d a m b opens k (inr (missing, behind, listed)) =
+    inr (subst (λ (n : Names). IsMissing n d) k.names missing, behind, listed ∙ ap (λ (r : List Miss). r ++ missed d behind ∷ []) opens.refused)

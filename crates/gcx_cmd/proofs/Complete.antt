@@ -12,7 +12,7 @@ use Rattle.doc_laws.proofs.Unique.{fault_one}
 use Rattle.gcx_io.specs.Shelf.{Names, content_of, IsMissing}
 use Rattle.gcx_cmd.specs.Main.{IsQuery, IsDocument, SaysOfQuery, SaysOfDocument, QueryFaultOf}
 use Rattle.gcx_cmd.specs.declared.status.Status.{Status}
-use Rattle.gcx_cmd.specs.declared.status.Status.TheVariants.{Ok, Usage, QueryRefused, DocumentRefused, ReadFault, WriteFault, Memory}
+use Rattle.gcx_cmd.specs.declared.status.Status.TheVariants.{Ok, Usage, QueryRefused, DocumentRefused, ReadFault, WriteFault, Memory, TraceRefused}
 
 pub there : (names : Names) (name bytes : List ℕ) → content_of names name ≡ o.Some bytes → IsMissing names name → ⊥
 there o.None name bytes told missing = missing
@@ -48,16 +48,18 @@ refused_from (DocumentRefused g) query f says refused not_usage not_read = absur
 refused_from ReadFault query f says refused not_usage not_read = absurd (not_read refl)
 refused_from WriteFault query f says refused not_usage not_read = absurd (refused_not query f refused (says.0, says.1))
 refused_from Memory query f says refused not_usage not_read = inr refl
+refused_from (TraceRefused n) query f says refused not_usage not_read = absurd (refused_not query f refused (says.0, says.1))
 
 pub complete_from : (status : Status) (query document : List ℕ) → SaysOfQuery status query → SaysOfDocument status document → IsQuery query → IsDocument document
-    → (status ≡ ReadFault → ⊥) → (status ≡ WriteFault → ⊥) → (status ≡ Ok) ⊎ (status ≡ Memory)
-complete_from Ok q d says_q says_d good_q good_d not_read not_write = inl refl
+    → (status ≡ ReadFault → ⊥) → (status ≡ WriteFault → ⊥) → ((n : ℕ) × (status ≡ TraceRefused n)) ⊎ ((status ≡ Ok) ⊎ (status ≡ Memory))
+complete_from Ok q d says_q says_d good_q good_d not_read not_write = inr (inl refl)
 complete_from Usage q d says_q says_d good_q good_d not_read not_write = absurd says_q
 complete_from (QueryRefused f) q d says_q says_d good_q good_d not_read not_write = absurd (refused_not q f says_q good_q)
 complete_from (DocumentRefused f) q d says_q says_d good_q good_d not_read not_write = absurd (no_some f (fault_one full_limits d true o.None (o.Some f) good_d says_d))
 complete_from ReadFault q d says_q says_d good_q good_d not_read not_write = absurd (not_read refl)
 complete_from WriteFault q d says_q says_d good_q good_d not_read not_write = absurd (not_write refl)
-complete_from Memory q d says_q says_d good_q good_d not_read not_write = inr refl
+complete_from Memory q d says_q says_d good_q good_d not_read not_write = inr (inr refl)
+complete_from (TraceRefused n) q d says_q says_d good_q good_d not_read not_write = inl (n, refl)
 
 -- the document is refused, and the query isn't
 pub document_refused_from : (status : Status) (query document : List ℕ) (f : DocFault) → SaysOfQuery status query → SaysOfDocument status document → IsQuery query → FaultIs full_limits document true (o.Some f)
@@ -72,3 +74,4 @@ document_refused_from (DocumentRefused g) q d f says_q says_d good_q bad_d not_r
 document_refused_from ReadFault q d f says_q says_d good_q bad_d not_read not_write = absurd (not_read refl)
 document_refused_from WriteFault q d f says_q says_d good_q bad_d not_read not_write = absurd (not_write refl)
 document_refused_from Memory q d f says_q says_d good_q bad_d not_read not_write = inr refl
+document_refused_from (TraceRefused n) q d f says_q says_d good_q bad_d not_read not_write = absurd (no_some f (fault_one full_limits d true o.None (o.Some f) says_d bad_d))

@@ -10,10 +10,12 @@ use Rattle.gcx_model.specs.Query.{ExprTree}
 use Rattle.gcx_model.specs.declared.fault.DocFault.{DocFault}
 use Rattle.gcx_model.specs.declared.fault.QueryFault.{QueryFault}
 use Rattle.gcx_words.specs.declared.command.Command.{Command}
-use Rattle.gcx_words.specs.declared.command.Command.TheVariants.{Run, Whole, Explain, Peak, Gen, Selfrun}
+use Rattle.gcx_words.specs.declared.command.Command.TheVariants.{Run, Whole, Explain, Peak, Gen, Selfrun, Check}
+use Rattle.doc_laws.proofs.Unique.{fault_one}
 use Rattle.gcx_cmd.proofs.Complete.{complete_from, document_refused_from, refused_from, refused_not, there}
-use Rattle.gcx_cmd.proofs.Says.{DocSays, QuerySays, explain_query_says, one_query, peak_doc_says, peak_query_says, run_doc_says, run_query_says, says_of_document, says_of_query, whole_doc_says, whole_query_says}
-use Rattle.gcx_cmd.specs.Commands.{LacksFile, document_of, query_of}
+use Rattle.gcx_cmd.proofs.Says.{DocIsClean, DocSays, QuerySays, check_doc_says, check_query_says, clean_document, explain_query_says, one_query, peak_doc_says, peak_query_says, run_doc_says, run_query_says, says_of_document, says_of_query, whole_doc_says, whole_query_says}
+use Rattle.gcx_cmd.specs.CheckDoes.{CheckDoes}
+use Rattle.gcx_cmd.specs.Commands.{LacksFile, document_of, query_of, trace_of}
 use Rattle.gcx_cmd.specs.Completes.{Completes, CompletesFor, Ends, HoldsSuch, ReadsWell, WritesWell}
 use Rattle.gcx_cmd.specs.Does.{Diagnoses, Does, DoesIf, Obeys, Tells}
 use Rattle.gcx_cmd.specs.ExplainDoes.{ExplainDoes}
@@ -23,6 +25,7 @@ use Rattle.gcx_cmd.specs.Main.{IsDocument, IsQuery, QueryFaultOf}
 use Rattle.gcx_cmd.specs.Outside.{Outside}
 use Rattle.gcx_cmd.specs.PeakDoes.{PeakDoes}
 use Rattle.gcx_cmd.specs.QueryDoes.{AcceptsQuery, FailsInText}
+use Rattle.gcx_cmd.specs.Reads.{Misses, Opens}
 use Rattle.gcx_cmd.specs.RunDoes.{RunDoes}
 use Rattle.gcx_cmd.specs.SelfrunDoes.{SelfrunDoes}
 use Rattle.gcx_cmd.specs.WholeDoes.{WholeDoes}
@@ -62,18 +65,55 @@ explain_stage : (q : List ℕ) (a b : Outside) → ExplainDoes q status.ReadFaul
 explain_stage q a b (same, inl fails) = inl fails
 explain_stage q a b (same, inr (n, e, gone, x, accepted)) = inr (x, accepted)
 
+check_stage : (q d t : List ℕ) (a b : Outside) → CheckDoes q d t status.ReadFault a b → QueryStage q a.shelf b.shelf
+check_stage q d t a b (inl (same, inl fails)) = inl fails
+check_stage q d t a b (inl (same, inr (n, e, gone, x, accepted))) = inr (x, accepted)
+check_stage q d t a b (inr (inl r)) = inr (r.x, r.over.query)
+check_stage q d t a b (inr (inr (inl r))) = inr (r.x, r.query)
+check_stage q d t a b (inr (inr (inr r))) = inr (r.x, r.over.query)
+
+-- ---- a file that is there isn't lacked
+
+-- the one whose attach failed is this one
+missed_there : (c : Command) (name bytes : List ℕ) (n : ℕ) (a b : ShelfView) → content_of a.names name ≡ Some bytes → Misses n name a b → LacksFile c a b → ⊥
+missed_there c name bytes n a b told gone lacks =
+    let same : missed lacks.name lacks.behind ≡ missed name (length a.given + n) = (same_from_push a.refused a.refused _ _ (sym lacks.listed ∙ gone.refused)).1 in
+    let is : lacks.name ≡ name = ap (λ (m : Miss). m.name) same in
+    there a.names lacks.name bytes (ap (content_of a.names) is ∙ told) lacks.missing
+
+-- no attach failed
+opened_all : (c : Command) (n : ℕ) (a b : ShelfView) → Opens n a b → LacksFile c a b → ⊥
+opened_all c n a b opens lacks =
+    let longer : a.refused ≡ a.refused ++ missed lacks.name lacks.behind ∷ [] = sym opens.refused ∙ lacks.listed in
+    absurd (omega (arith, ap length longer, length-append a.refused (missed lacks.name lacks.behind ∷ [])))
+
 -- a refused query doesn't fail where it is there
 stage_not : (c : Command) (q bytes : List ℕ) (f : QueryFault) (a b : ShelfView) → content_of a.names q ≡ Some bytes → QueryFaultOf bytes f → QueryStage q a b → LacksFile c a b → ⊥
-stage_not c q bytes f a b told fault (inl (inl gone)) lacks =
-    let same : missed lacks.name lacks.behind ≡ missed q (length a.given + 0) = (same_from_push a.refused a.refused _ _ (sym lacks.listed ∙ gone.refused)).1 in
-    let name : lacks.name ≡ q = ap (λ (m : Miss). m.name) same in
-    there a.names lacks.name bytes (ap (content_of a.names) name ∙ told) lacks.missing
-stage_not c q bytes f a b told fault (inl (inr (one, ps, reads, within))) lacks =
-    let longer : a.refused ≡ a.refused ++ missed lacks.name lacks.behind ∷ [] = sym one.refused ∙ lacks.listed in
-    absurd (omega (arith, ap length longer, length-append a.refused (missed lacks.name lacks.behind ∷ [])))
+stage_not c q bytes f a b told fault (inl (inl gone)) lacks = missed_there c q bytes 0 a b told gone lacks
+stage_not c q bytes f a b told fault (inl (inr (one, ps, reads, within))) lacks = opened_all c 1 a b one lacks
 stage_not c q bytes f a b told fault (inr (x, accepted)) lacks =
     let one = one_query q bytes a b told x accepted in
     refused_not bytes f fault (one.0, one.1)
+
+-- a document with a fault isn't whole
+whole_not : (d bytes : List ℕ) (f : DocFault) (a b : ShelfView) → content_of a.names d ≡ Some bytes → FaultIs full_limits bytes true (Some f) → DocIsClean d a b → ⊥
+whole_not d bytes f a b told fault clean = none_fault f (fault_one full_limits bytes true None (Some f) (clean_document d bytes a b told clean) fault)
+  where
+    none_fault : (g : DocFault) → None ≡ Some g → ⊥
+    none_fault g e = cc
+
+-- `check` with QUERY and a refused DOC that are there lacks no file: TRACE isn't opened
+document_not : (c : Command) (q d t query bytes : List ℕ) (f : DocFault) (a b : Outside) → content_of a.shelf.names q ≡ Some query → content_of a.shelf.names d ≡ Some bytes
+    → FaultIs full_limits bytes true (Some f) → CheckDoes q d t status.ReadFault a b → LacksFile c a.shelf b.shelf → ⊥
+document_not c q d t query bytes f a b told_q told_d fault (inl (same, inl (inl gone))) lacks = missed_there c q query 0 a.shelf b.shelf told_q gone lacks
+document_not c q d t query bytes f a b told_q told_d fault (inl (same, inl (inr (one, ps, reads, within)))) lacks = opened_all c 1 a.shelf b.shelf one lacks
+document_not c q d t query bytes f a b told_q told_d fault (inl (same, inr (n, e, gone, x, accepted))) lacks =
+    missed_there c n bytes 1 a.shelf b.shelf (ap (content_of a.shelf.names) (sym (some_same d n e)) ∙ told_d) gone lacks
+document_not c q d t query bytes f a b told_q told_d fault (inr (inl r)) lacks = opened_all c 2 a.shelf b.shelf r.over.two lacks
+document_not c q d t query bytes f a b told_q told_d fault (inr (inr (inl r))) lacks =
+    whole_not d bytes f a.shelf b.shelf told_d fault (r.pieces, r.doc, r.clean.clean)
+document_not c q d t query bytes f a b told_q told_d fault (inr (inr (inr r))) lacks =
+    whole_not d bytes f a.shelf b.shelf told_d fault (r.over.doc_pieces, r.over.doc, r.over.tokens.clean.clean)
 
 -- ---- what no count that stays lets come
 
@@ -104,10 +144,14 @@ module _ (c : Command) (s : Status) (a m b : Outside) (keeps : Keeps c s a m) (d
 
   -- each file of the command is there
   lacks_none : (q : List ℕ) (P : List ℕ → Type 0) → query_of c ≡ Some q → HoldsSuch a.shelf.names q P
-      → ((d : List ℕ) → document_of c ≡ Some d → (bytes : List ℕ) × (content_of a.shelf.names d ≡ Some bytes)) → LacksFile c a.shelf m.shelf → ⊥
-  lacks_none q P file holds docs lacks = elim lacks.is_file [
+      → ((d : List ℕ) → document_of c ≡ Some d → (bytes : List ℕ) × (content_of a.shelf.names d ≡ Some bytes))
+      → ((t : List ℕ) → trace_of c ≡ Some t → (bytes : List ℕ) × (content_of a.shelf.names t ≡ Some bytes)) → LacksFile c a.shelf m.shelf → ⊥
+  lacks_none q P file holds docs traces lacks = elim lacks.is_file [
     | inl is ↦ there a.shelf.names lacks.name holds.0 (ap (content_of a.shelf.names) (sym (some_same q lacks.name (sym file ∙ is))) ∙ holds.1) lacks.missing
-    | inr is ↦ (let doc = docs lacks.name is in there a.shelf.names lacks.name doc.0 doc.1 lacks.missing)
+    | inr others ↦ elim others [
+      | inl is ↦ (let doc = docs lacks.name is in there a.shelf.names lacks.name doc.0 doc.1 lacks.missing)
+      | inr is ↦ (let trace = traces lacks.name is in there a.shelf.names lacks.name trace.0 trace.1 lacks.missing)
+    ]
   ]
 
   -- of a command with QUERY
@@ -122,16 +166,34 @@ module _ (c : Command) (s : Status) (a m b : Outside) (keeps : Keeps c s a m) (d
     docs : (P : List ℕ → Type 0) → HoldsSuch a.shelf.names d P → (n : List ℕ) → document_of c ≡ Some n → (bytes : List ℕ) × (content_of a.shelf.names n ≡ Some bytes)
     docs P holds n is = (holds.0, ap (content_of a.shelf.names) (sym (some_same d n (sym doc ∙ is))) ∙ holds.1)
 
-    well_if : HoldsSuch a.shelf.names q IsQuery → HoldsSuch a.shelf.names d IsDocument → ReadsWell a b → WritesWell c a b → Ends status.Ok s
-    well_if hq hd reads writes =
+    ends_if : HoldsSuch a.shelf.names q IsQuery → HoldsSuch a.shelf.names d IsDocument
+        → ((t : List ℕ) → trace_of c ≡ Some t → (bytes : List ℕ) × (content_of a.shelf.names t ≡ Some bytes))
+        → ReadsWell a b → WritesWell c a b → ((n : ℕ) × (s ≡ status.TraceRefused n)) ⊎ Ends status.Ok s
+    ends_if hq hd traces reads writes =
         complete_from s hq.0 hd.0 (says_of_query q hq.0 a.shelf m.shelf hq.1 s says) (says_of_document d hd.0 a.shelf m.shelf hd.1 s says_doc) hq.2 hd.2
-        (no_read reads (λ is. lacks_none q IsQuery query hq (docs IsDocument hd))) (no_write writes)
+        (no_read reads (λ is. lacks_none q IsQuery query hq (docs IsDocument hd) traces)) (no_write writes)
 
-    refused_document_if : (f : DocFault) → HoldsSuch a.shelf.names q IsQuery → HoldsSuch a.shelf.names d (λ bytes. FaultIs full_limits bytes true (Some f))
-        → ReadsWell a b → WritesWell c a b → Ends (status.DocumentRefused f) s
-    refused_document_if f hq hd reads writes =
+    refused_document_by : (f : DocFault) → (hq : HoldsSuch a.shelf.names q IsQuery) → (hd : HoldsSuch a.shelf.names d (λ bytes. FaultIs full_limits bytes true (Some f)))
+        → (s ≡ status.ReadFault → LacksFile c a.shelf m.shelf → ⊥) → ReadsWell a b → WritesWell c a b → Ends (status.DocumentRefused f) s
+    refused_document_by f hq hd none reads writes =
         document_refused_from s hq.0 hd.0 f (says_of_query q hq.0 a.shelf m.shelf hq.1 s says) (says_of_document d hd.0 a.shelf m.shelf hd.1 s says_doc) hq.2 hd.2
-        (no_read reads (λ is. lacks_none q IsQuery query hq (docs (λ bytes. FaultIs full_limits bytes true (Some f)) hd))) (no_write writes)
+        (no_read reads none) (no_write writes)
+
+    -- and no other file
+    module _ (alone : trace_of c ≡ None) (not_judged : (n : ℕ) → s ≡ status.TraceRefused n → ⊥) where
+      traces : (t : List ℕ) → trace_of c ≡ Some t → (bytes : List ℕ) × (content_of a.shelf.names t ≡ Some bytes)
+      traces t is = absurd (none_some t (sym alone ∙ is))
+
+      well_if : HoldsSuch a.shelf.names q IsQuery → HoldsSuch a.shelf.names d IsDocument → ReadsWell a b → WritesWell c a b → Ends status.Ok s
+      well_if hq hd reads writes = elim (ends_if hq hd traces reads writes) [
+        | inl judged ↦ absurd (not_judged judged.0 judged.1)
+        | inr ends ↦ ends
+      ]
+
+      refused_document_if : (f : DocFault) → HoldsSuch a.shelf.names q IsQuery → HoldsSuch a.shelf.names d (λ bytes. FaultIs full_limits bytes true (Some f))
+          → ReadsWell a b → WritesWell c a b → Ends (status.DocumentRefused f) s
+      refused_document_if f hq hd reads writes =
+          refused_document_by f hq hd (λ is. lacks_none q IsQuery query hq (docs (λ bytes. FaultIs full_limits bytes true (Some f)) hd) traces) reads writes
 
 -- ---- commands without DOC
 
@@ -145,6 +207,7 @@ explain_well q bytes (status.DocumentRefused f) a m r told good not_read not_wri
 explain_well q bytes status.ReadFault a m r told good not_read not_write = absurd (not_read refl)
 explain_well q bytes status.WriteFault a m r told good not_read not_write = absurd (not_write refl)
 explain_well q bytes status.Memory a m r told good not_read not_write = inr refl
+explain_well q bytes (status.TraceRefused n) a m r told good not_read not_write = absurd r
 
 gen_well : (seed count : ℕ) (s : Status) (a m : Outside) → GenDoes seed count s a m → (s ≡ status.WriteFault → ⊥) → Ends status.Ok s
 gen_well seed count status.Ok a m r not_write = inl refl
@@ -154,6 +217,7 @@ gen_well seed count (status.DocumentRefused f) a m r not_write = absurd r
 gen_well seed count status.ReadFault a m r not_write = absurd r
 gen_well seed count status.WriteFault a m r not_write = absurd (not_write refl)
 gen_well seed count status.Memory a m r not_write = inr refl
+gen_well seed count (status.TraceRefused n) a m r not_write = absurd r
 
 self_well : (seed count : ℕ) (s : Status) (a m : Outside) → SelfrunDoes seed count s a m → (s ≡ status.WriteFault → ⊥) → Ends status.Ok s
 self_well seed count status.Ok a m r not_write = inl refl
@@ -163,6 +227,7 @@ self_well seed count (status.DocumentRefused f) a m r not_write = absurd r
 self_well seed count status.ReadFault a m r not_write = absurd r
 self_well seed count status.WriteFault a m r not_write = absurd (not_write refl)
 self_well seed count status.Memory a m r not_write = inr refl
+self_well seed count (status.TraceRefused n) a m r not_write = absurd r
 
 -- ---- each command
 
@@ -173,42 +238,46 @@ never_usage (Explain q) s a m o is = subst (λ (t : Status). ExplainDoes q t a m
 never_usage (Peak q d) s a m o is = subst (λ (t : Status). PeakDoes q d t a m) is o
 never_usage (Gen seed count) s a m o is = subst (λ (t : Status). GenDoes seed count t a m) is o
 never_usage (Selfrun seed count) s a m o is = subst (λ (t : Status). SelfrunDoes seed count t a m) is o
+never_usage (Check q d t) s a m o is = subst (λ (z : Status). CheckDoes q d t z a m) is o
 
 completes_for : (c : Command) (s : Status) (a m b : Outside) → Keeps c s a m → Obeys c s a m → Diagnoses s m b → CompletesFor c s a b
 completes_for (Run trace ahead q d) s a m b keeps o diag =
+    let not_judged : (n : ℕ) → s ≡ status.TraceRefused n → ⊥ = λ n is. subst (λ (t : Status). RunDoes trace ahead q d t a m) is o in
     let says = run_query_says trace ahead q d s a m o in
     let says_doc = run_doc_says trace ahead q d s a m o in
     record {
-      well = well_if (Run trace ahead q d) s a m b keeps diag q d refl refl says says_doc;
+      well = well_if (Run trace ahead q d) s a m b keeps diag q d refl refl says says_doc refl not_judged;
       refused = λ n f is. subst (λ (k : List ℕ). HoldsSuch a.shelf.names k (λ bytes. QueryFaultOf bytes f) → ReadsWell a b → Ends (status.QueryRefused f) s) (some_same q n is)
           (refused_if (Run trace ahead q d) s a m b keeps diag q f says (λ e. run_stage trace ahead q d a m (subst (λ (t : Status). RunDoes trace ahead q d t a m) e o))
           (never_usage (Run trace ahead q d) s a m o));
       refused_document = λ n k f query doc. refused_document_if (Run trace ahead q d) s a m b keeps diag n k query doc
-          (subst (λ (l : List ℕ). QuerySays l s a.shelf m.shelf) (some_same q n query) says) (subst (λ (l : List ℕ). DocSays l s a.shelf m.shelf) (some_same d k doc) says_doc) f;
+          (subst (λ (l : List ℕ). QuerySays l s a.shelf m.shelf) (some_same q n query) says) (subst (λ (l : List ℕ). DocSays l s a.shelf m.shelf) (some_same d k doc) says_doc) refl not_judged f;
     }
 completes_for (Whole q d) s a m b keeps o diag =
+    let not_judged : (n : ℕ) → s ≡ status.TraceRefused n → ⊥ = λ n is. subst (λ (t : Status). WholeDoes q d t a m) is o in
     let says = whole_query_says q d s a m o in
     let says_doc = whole_doc_says q d s a m o in
     record {
-      well = well_if (Whole q d) s a m b keeps diag q d refl refl says says_doc;
+      well = well_if (Whole q d) s a m b keeps diag q d refl refl says says_doc refl not_judged;
       refused = λ n f is. subst (λ (k : List ℕ). HoldsSuch a.shelf.names k (λ bytes. QueryFaultOf bytes f) → ReadsWell a b → Ends (status.QueryRefused f) s) (some_same q n is)
           (refused_if (Whole q d) s a m b keeps diag q f says (λ e. whole_stage q d a m (subst (λ (t : Status). WholeDoes q d t a m) e o)) (never_usage (Whole q d) s a m o));
       refused_document = λ n k f query doc. refused_document_if (Whole q d) s a m b keeps diag n k query doc
-          (subst (λ (l : List ℕ). QuerySays l s a.shelf m.shelf) (some_same q n query) says) (subst (λ (l : List ℕ). DocSays l s a.shelf m.shelf) (some_same d k doc) says_doc) f;
+          (subst (λ (l : List ℕ). QuerySays l s a.shelf m.shelf) (some_same q n query) says) (subst (λ (l : List ℕ). DocSays l s a.shelf m.shelf) (some_same d k doc) says_doc) refl not_judged f;
     }
 completes_for (Peak q d) s a m b keeps o diag =
+    let not_judged : (n : ℕ) → s ≡ status.TraceRefused n → ⊥ = λ n is. subst (λ (t : Status). PeakDoes q d t a m) is o in
     let says = peak_query_says q d s a m o in
     let says_doc = peak_doc_says q d s a m o in
     record {
-      well = well_if (Peak q d) s a m b keeps diag q d refl refl says says_doc;
+      well = well_if (Peak q d) s a m b keeps diag q d refl refl says says_doc refl not_judged;
       refused = λ n f is. subst (λ (k : List ℕ). HoldsSuch a.shelf.names k (λ bytes. QueryFaultOf bytes f) → ReadsWell a b → Ends (status.QueryRefused f) s) (some_same q n is)
           (refused_if (Peak q d) s a m b keeps diag q f says (λ e. peak_stage q d a m (subst (λ (t : Status). PeakDoes q d t a m) e o)) (never_usage (Peak q d) s a m o));
       refused_document = λ n k f query doc. refused_document_if (Peak q d) s a m b keeps diag n k query doc
-          (subst (λ (l : List ℕ). QuerySays l s a.shelf m.shelf) (some_same q n query) says) (subst (λ (l : List ℕ). DocSays l s a.shelf m.shelf) (some_same d k doc) says_doc) f;
+          (subst (λ (l : List ℕ). QuerySays l s a.shelf m.shelf) (some_same q n query) says) (subst (λ (l : List ℕ). DocSays l s a.shelf m.shelf) (some_same d k doc) says_doc) refl not_judged f;
     }
 completes_for (Explain q) s a m b keeps o diag = record {
   well = λ holds reads writes. explain_well q holds.0 s a m o holds.1 holds.2
-      (no_read (Explain q) s a m b keeps diag reads (λ is. lacks_none (Explain q) s a m b keeps diag q IsQuery refl holds (λ d none. absurd (none_some d none))))
+      (no_read (Explain q) s a m b keeps diag reads (λ is. lacks_none (Explain q) s a m b keeps diag q IsQuery refl holds (λ d none. absurd (none_some d none)) (λ t none. absurd (none_some t none))))
       (no_write (Explain q) s a m b keeps diag writes);
   refused = λ n f is. subst (λ (k : List ℕ). HoldsSuch a.shelf.names k (λ bytes. QueryFaultOf bytes f) → ReadsWell a b → Ends (status.QueryRefused f) s) (some_same q n is)
       (refused_if (Explain q) s a m b keeps diag q f (explain_query_says q s a m o) (λ e. explain_stage q a m (subst (λ (t : Status). ExplainDoes q t a m) e o))
@@ -225,6 +294,20 @@ completes_for (Selfrun seed count) s a m b keeps o diag = record {
   refused = λ n f is. absurd (none_some n is);
   refused_document = λ n k f query doc. absurd (none_some n query);
 }
+completes_for (Check q d t) s a m b keeps o diag =
+    let says = check_query_says q d t s a m o in
+    let says_doc = check_doc_says q d t s a m o in
+    record {
+      well = λ hq hd ht. ends_if (Check q d t) s a m b keeps diag q d refl refl says says_doc hq hd
+          (λ n is. (ht.0, ap (content_of a.shelf.names) (sym (some_same t n is)) ∙ ht.1));
+      refused = λ n f is. subst (λ (k : List ℕ). HoldsSuch a.shelf.names k (λ bytes. QueryFaultOf bytes f) → ReadsWell a b → Ends (status.QueryRefused f) s) (some_same q n is)
+          (refused_if (Check q d t) s a m b keeps diag q f says (λ e. check_stage q d t a m (subst (λ (z : Status). CheckDoes q d t z a m) e o))
+          (never_usage (Check q d t) s a m o));
+      refused_document = λ n k f query doc hq hd. refused_document_by (Check q d t) s a m b keeps diag n k query doc
+          (subst (λ (l : List ℕ). QuerySays l s a.shelf m.shelf) (some_same q n query) says) (subst (λ (l : List ℕ). DocSays l s a.shelf m.shelf) (some_same d k doc) says_doc) f hq hd
+          (λ is. document_not (Check q d t) q d t hq.0 hd.0 f a m (ap (content_of a.shelf.names) (some_same q n query) ∙ hq.1)
+          (ap (content_of a.shelf.names) (some_same d k doc) ∙ hd.1) hd.2 (subst (λ (z : Status). CheckDoes q d t z a m) is o));
+    }
 
 -- what a command line does says which status must come
 pub completes : (words : List (List ℕ)) (s : Status) (a b : Outside) → Does words s a b → Completes words s a b

@@ -33,6 +33,7 @@ text_causes c (status.DocumentRefused f) a b o p e st text w = tt
 text_causes c status.ReadFault a b o p e st text w = absurd w
 text_causes c status.WriteFault a b o p e st text w = inl w.faults
 text_causes c status.Memory a b o p e st text w = tt
+text_causes c (status.TraceRefused n) a b o p e st text w = tt
 
 pub text_memory : (s : Status) (o p : SinkView) (text : List ℕ) → WritesText s o p text → HasNoMemory s
 text_memory status.Ok o p text w = tt
@@ -42,6 +43,7 @@ text_memory (status.DocumentRefused f) o p text w = absurd w
 text_memory status.ReadFault o p text w = absurd w
 text_memory status.WriteFault o p text w = tt
 text_memory status.Memory o p text w = tt
+text_memory (status.TraceRefused n) o p text w = tt
 
 -- ---- explain
 
@@ -54,6 +56,7 @@ module _ (q : List ℕ) (a b : ShelfView) (o p e : SinkView) (st : StoreView) (x
   explained status.ReadFault w = absurd w
   explained status.WriteFault w = record { one = one; x = x; query = accepted; wrote = w; err = refl; store = refl }
   explained status.Memory w = absurd w
+  explained (status.TraceRefused n) w = absurd w
 
   pub explained_if : (s : Status) → o.faults ≤ p.faults → WritesText s o p (explain_text x) → DoesIf (Some (Explain q)) s (beside a o e st) (beside b p e st)
   explained_if s later w = (

@@ -16,6 +16,8 @@ mod Trees
 mod DocRuns
 mod Wholes
 mod Peaks
+mod Judged
+mod Checks
 mod Says
 mod Complete
 mod Completing

@@ -12,11 +12,11 @@ use Rattle.gcx_cmd.proofs.Along.{keeps_same}
 use Rattle.gcx_cmd.proofs.Behind.{accepted_kept, both_keep, cause_later, doc_later, misses_later, opens_still, opens_two}
 use Rattle.gcx_cmd.proofs.Stops.{keeps_of, lacks}
 use Rattle.gcx_cmd.specs.Does.{DoesIf}
-use Rattle.gcx_cmd.specs.DocumentDoes.{Over, OverDoc, IsClean}
+use Rattle.gcx_cmd.specs.DocumentDoes.{Over, OverDoc, IsClean, ReadsTokens}
 use Rattle.gcx_cmd.specs.Keeps.{HasCauses}
 use Rattle.gcx_cmd.specs.Main.{HasNoMemory}
 use Rattle.gcx_cmd.specs.Outside.{StoreView, Untouched, WritesAlone, beside}
-use Rattle.gcx_cmd.specs.PeakDoes.{PeakDoes, ReadsTokens}
+use Rattle.gcx_cmd.specs.PeakDoes.{PeakDoes}
 use Rattle.gcx_cmd.specs.QueryDoes.{AcceptsQuery}
 use Rattle.gcx_cmd.specs.Reads.{CausesFault, KeepsShelf, Opens}
 use Rattle.gcx_cmd.specs.RunDoes.{HoldsSeen}
@@ -29,7 +29,7 @@ use Rattle.gcx_cmd.specs.declared.status.Status.TheVariants as status
 
 -- ---- what the printing of a line says of the status
 
-prints_causes : (c : Command) (s : Status) (a b : ShelfView) (o p e : SinkView) (st tu : StoreView) (text : List ℕ) → PrintsText s o p text
+pub prints_causes : (c : Command) (s : Status) (a b : ShelfView) (o p e : SinkView) (st tu : StoreView) (text : List ℕ) → PrintsText s o p text
     → HasCauses c s (beside a o e st) (beside b p e tu)
 prints_causes c status.Ok a b o p e st tu text w = tt
 prints_causes c status.Usage a b o p e st tu text w = tt
@@ -38,8 +38,9 @@ prints_causes c (status.DocumentRefused f) a b o p e st tu text w = tt
 prints_causes c status.ReadFault a b o p e st tu text w = absurd w
 prints_causes c status.WriteFault a b o p e st tu text w = inl w.faults
 prints_causes c status.Memory a b o p e st tu text w = tt
+prints_causes c (status.TraceRefused n) a b o p e st tu text w = tt
 
-prints_memory : (s : Status) (o p : SinkView) (text : List ℕ) → PrintsText s o p text → HasNoMemory s
+pub prints_memory : (s : Status) (o p : SinkView) (text : List ℕ) → PrintsText s o p text → HasNoMemory s
 prints_memory status.Ok o p text w = tt
 prints_memory status.Usage o p text w = absurd w
 prints_memory (status.QueryRefused f) o p text w = absurd w
@@ -47,6 +48,7 @@ prints_memory (status.DocumentRefused f) o p text w = absurd w
 prints_memory status.ReadFault o p text w = absurd w
 prints_memory status.WriteFault o p text w = tt
 prints_memory status.Memory o p text w = tt
+prints_memory (status.TraceRefused n) o p text w = tt
 
 -- ---- the lines
 
@@ -117,6 +119,7 @@ module _ (q d : List ℕ) (a m b : ShelfView) (x : List ExprTree) (one : Opens 1
       err = refl;
       holds = tt;
     })
+    unmeasured (status.TraceRefused n) w = absurd w
 
     unmeasured_causes : (s : Status) → DocumentMeasures x d (Err s) m b before after → (s ≡ status.ReadFault → CausesFault d m b)
         → HasCauses (Peak q d) s (beside a o e before) (beside b o e after)
@@ -125,9 +128,10 @@ module _ (q d : List ℕ) (a m b : ShelfView) (x : List ExprTree) (one : Opens 1
     unmeasured_causes (status.QueryRefused f) w cause = tt
     unmeasured_causes (status.DocumentRefused f) w cause = tt
     unmeasured_causes status.ReadFault w cause =
-        lacks a b o e before (Peak q d) d (inr refl) (cause_later d a m b one k (cause refl))
+        lacks a b o e before (Peak q d) d (inr (inl refl)) (cause_later d a m b one k (cause refl))
     unmeasured_causes status.WriteFault w cause = absurd w.says
     unmeasured_causes status.Memory w cause = tt
+    unmeasured_causes (status.TraceRefused n) w cause = absurd w
 
     pub unmeasured_if : (s : Status) → DocumentMeasures x d (Err s) m b before after → (s ≡ status.ReadFault → CausesFault d m b) → HasNoMemory s
         → DoesIf (Some (Peak q d)) s (beside a o e before) (beside b o e after)
@@ -162,6 +166,7 @@ module _ (q d : List ℕ) (a m b : ShelfView) (x : List ExprTree) (one : Opens 1
       err = refl;
       holds = tt;
     })
+    printed (status.TraceRefused n) t = absurd t
 
     pub printed_if : (s : Status) → o.faults ≤ p.faults → PrintsText s o p (peak_line report.peak report.nodes report.given report.taken)
         → DoesIf (Some (Peak q d)) s (beside a o e before) (beside b p e after)
@@ -195,6 +200,7 @@ module _ (seed count : ℕ) (a : ShelfView) (o p e : SinkView) (st : StoreView) 
   self_does n r i status.ReadFault t = absurd t
   self_does n r i status.WriteFault t = (alone, i.0, t)
   self_does n r i status.Memory t = ap (λ (v : SinkView). beside a v e st) t
+  self_does n r i (status.TraceRefused k) t = absurd t
 
   pub self_if : (n : ℕ) (r : Report) (i : SelfRuns seed count n r) (s : Status) → o.faults ≤ p.faults → PrintsText s o p (answer_line n r.peak r.nodes r.given r.taken)
       → DoesIf (Some (Selfrun seed count)) s (beside a o e st) (beside a p e st)
@@ -219,3 +225,4 @@ prints_of (status.DocumentRefused f) a b text w = absurd w
 prints_of status.ReadFault a b text w = absurd w
 prints_of status.WriteFault a b text w = w
 prints_of status.Memory a b text w = absurd w
+prints_of (status.TraceRefused n) a b text w = absurd w

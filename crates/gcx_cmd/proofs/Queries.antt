@@ -73,6 +73,7 @@ stops_text q text a b (status.DocumentRefused f) one r says ends = absurd ends
 stops_text q text a b status.ReadFault one r says ends = absurd ends
 stops_text q text a b status.WriteFault one r says ends = absurd ends
 stops_text q text a b status.Memory one r says ends = inr (one, r.pieces, End, r.reads, inl (tt, r.within))
+stops_text q text a b (status.TraceRefused n) one r says ends = absurd ends
 
 pub no_read_fault : (s : Status) → EndsQuery s → s ≡ status.ReadFault → ⊥
 no_read_fault status.Ok ends e = ends
@@ -82,6 +83,7 @@ no_read_fault (status.DocumentRefused f) ends e = ends
 no_read_fault status.ReadFault ends e = ends
 no_read_fault status.WriteFault ends e = ends
 no_read_fault status.Memory ends e = cc
+no_read_fault (status.TraceRefused n) ends e = ends
 
 pub ends_memory : (s : Status) → EndsQuery s → HasNoMemory s
 ends_memory status.Ok ends = absurd ends
@@ -91,6 +93,7 @@ ends_memory (status.DocumentRefused f) ends = absurd ends
 ends_memory status.ReadFault ends = absurd ends
 ends_memory status.WriteFault ends = absurd ends
 ends_memory status.Memory ends = tt
+ends_memory (status.TraceRefused n) ends = absurd ends
 
 pub placed_by : (x : Accepted) → IsPlanOf (query_trees x.query) (plan_tree x.plan) → IsPlaced (plan_tree x.plan)
 placed_by x is = (normal (query_trees x.query), normal_good (query_trees x.query), is.placed)

@@ -66,6 +66,7 @@ module _ (tracing : Bool) (ahead : ℕ) (q d : List ℕ) (a b : Outside) (m : Sh
         ),
       )
   run_does status.Memory empty (inr o) = inr (runs status.Memory o)
+  run_does (status.TraceRefused n) empty o = absurd o
 
   -- a write fault is one of the output, or of the trace that is asked for
   write_cause : OverDoc d (λ ps stop. EndsBy x tracing status.WriteFault ps stop (sinks_of begun) (sinks_of b) × UnlessMemory status.WriteFault (HoldsSeen x ahead ps stop b.store)) m b.shelf
@@ -82,9 +83,10 @@ module _ (tracing : Bool) (ahead : ℕ) (q d : List ℕ) (a b : Outside) (m : Sh
   run_causes (status.QueryRefused f) cause o = tt
   run_causes (status.DocumentRefused f) cause o = tt
   run_causes status.ReadFault cause o =
-      lacks a.shelf b.shelf a.out a.err a.store (Run tracing ahead q d) d (inr refl) (cause_later d a.shelf m b.shelf one k (cause refl))
+      lacks a.shelf b.shelf a.out a.err a.store (Run tracing ahead q d) d (inr (inl refl)) (cause_later d a.shelf m b.shelf one k (cause refl))
   run_causes status.WriteFault cause o = write_cause o
   run_causes status.Memory cause o = tt
+  run_causes (status.TraceRefused n) cause o = absurd o
 
   pub runs_if : (s : Status) → (s ≡ status.Ok → b.store.rows ≡ map.empty) → (s ≡ status.ReadFault → CausesFault d m b.shelf)
       → HasNoMemory s → a.out.faults ≤ b.out.faults → a.err.faults ≤ b.err.faults → DocumentRuns tracing ahead x d s begun b

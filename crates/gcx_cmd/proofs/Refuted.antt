@@ -80,6 +80,7 @@ run_shape tracing ahead q d status.ReadFault a b (inr r) =
 run_shape tracing ahead q d status.WriteFault a b r = both_shape tracing ahead q d status.WriteFault a b r (calm_told r.stop status.WriteFault (λ e. cc) r.ends.0)
 run_shape tracing ahead q d status.Memory a b (inl (same, out)) = out_shape q d a.shelf b.shelf out
 run_shape tracing ahead q d status.Memory a b (inr r) = both_shape tracing ahead q d status.Memory a b r (calm_told r.stop status.Memory (λ e. cc) r.ends.0)
+run_shape tracing ahead q d (status.TraceRefused n) a b r = absurd r
 
 -- whatever the status, the files saw one of these
 pub shape : (tracing : Bool) (ahead : ℕ) (words : List (List ℕ)) (q d : List ℕ) (s : Status) (a b : Outside) → command_of words ≡ Some (Run tracing ahead q d)

@@ -16,9 +16,10 @@ use Rattle.gcx_model.specs.declared.fault.What.TheVariants.{Text}
 use Rattle.doc_laws.proofs.Pieces.{fault_stays}
 use Rattle.run_words.specs.Stops.{Stop, More, End, Fault}
 use Rattle.xq_parse.specs.Faults.{TextFaultOf, HasOnlyQuery}
+use Rattle.gcx_cmd.specs.CheckDoes.{CheckDoes}
 use Rattle.gcx_cmd.specs.DocumentDoes.{HasFault}
 use Rattle.gcx_cmd.specs.ExplainDoes.{ExplainDoes}
-use Rattle.gcx_cmd.specs.Main.{Accepts, IsOneQuery, QueryFaultOf, SaysOfDocument, SaysOfQuery}
+use Rattle.gcx_cmd.specs.Main.{Accepts, IsDocument, IsOneQuery, QueryFaultOf, SaysOfDocument, SaysOfQuery}
 use Rattle.gcx_cmd.specs.Outside.{Outside}
 use Rattle.gcx_cmd.specs.PeakDoes.{PeakDoes}
 use Rattle.gcx_cmd.specs.QueryDoes.{AcceptsQuery, RefusesText}
@@ -78,6 +79,7 @@ QuerySays q (status.DocumentRefused f) a b = (x : List ExprTree) × AcceptsQuery
 QuerySays q status.ReadFault a b = ⊤
 QuerySays q status.WriteFault a b = (x : List ExprTree) × AcceptsQuery q a b x
 QuerySays q status.Memory a b = ⊤
+QuerySays q (status.TraceRefused n) a b = (x : List ExprTree) × AcceptsQuery q a b x
 
 pub run_query_says : (tracing : Bool) (ahead : ℕ) (q d : List ℕ) (s : Status) (a b : Outside) → RunDoes tracing ahead q d s a b → QuerySays q s a.shelf b.shelf
 run_query_says tracing ahead q d status.Ok a b r = (r.0.x, r.0.over.query)
@@ -87,6 +89,7 @@ run_query_says tracing ahead q d (status.DocumentRefused f) a b r = (r.x, r.over
 run_query_says tracing ahead q d status.ReadFault a b r = tt
 run_query_says tracing ahead q d status.WriteFault a b r = (r.x, r.over.query)
 run_query_says tracing ahead q d status.Memory a b r = tt
+run_query_says tracing ahead q d (status.TraceRefused n) a b r = absurd r
 
 pub whole_query_says : (q d : List ℕ) (s : Status) (a b : Outside) → WholeDoes q d s a b → QuerySays q s a.shelf b.shelf
 whole_query_says q d status.Ok a b r = (r.x, r.over.query)
@@ -96,6 +99,7 @@ whole_query_says q d (status.DocumentRefused f) a b r = (r.x, r.over.query)
 whole_query_says q d status.ReadFault a b r = tt
 whole_query_says q d status.WriteFault a b r = (r.x, r.over.query)
 whole_query_says q d status.Memory a b r = tt
+whole_query_says q d (status.TraceRefused n) a b r = absurd r
 
 pub peak_query_says : (q d : List ℕ) (s : Status) (a b : Outside) → PeakDoes q d s a b → QuerySays q s a.shelf b.shelf
 peak_query_says q d status.Ok a b r = (r.0.x, r.0.over.query)
@@ -105,6 +109,7 @@ peak_query_says q d (status.DocumentRefused f) a b r = (r.x, r.over.query)
 peak_query_says q d status.ReadFault a b r = tt
 peak_query_says q d status.WriteFault a b r = (r.x, r.over.query)
 peak_query_says q d status.Memory a b r = tt
+peak_query_says q d (status.TraceRefused n) a b r = absurd r
 
 pub explain_query_says : (q : List ℕ) (s : Status) (a b : Outside) → ExplainDoes q s a b → QuerySays q s a.shelf b.shelf
 explain_query_says q status.Ok a b r = (r.x, r.query)
@@ -114,6 +119,17 @@ explain_query_says q (status.DocumentRefused f) a b r = absurd r
 explain_query_says q status.ReadFault a b r = tt
 explain_query_says q status.WriteFault a b r = (r.x, r.query)
 explain_query_says q status.Memory a b r = tt
+explain_query_says q (status.TraceRefused n) a b r = absurd r
+
+pub check_query_says : (q d t : List ℕ) (s : Status) (a b : Outside) → CheckDoes q d t s a b → QuerySays q s a.shelf b.shelf
+check_query_says q d t status.Ok a b r = (r.x, r.over.query)
+check_query_says q d t status.Usage a b r = r
+check_query_says q d t (status.QueryRefused f) a b r = r.1
+check_query_says q d t (status.DocumentRefused f) a b r = (r.x, r.over.query)
+check_query_says q d t status.ReadFault a b r = tt
+check_query_says q d t status.WriteFault a b r = (r.x, r.over.query)
+check_query_says q d t status.Memory a b r = tt
+check_query_says q d t (status.TraceRefused n) a b r = (r.x, r.over.query)
 
 module _ (q bytes : List ℕ) (a b : ShelfView) (told : content_of a.names q ≡ Some bytes) where
   pub one_query : (x : List ExprTree) → AcceptsQuery q a b x → IsOneQuery bytes
@@ -137,11 +153,17 @@ module _ (q bytes : List ℕ) (a b : ShelfView) (told : content_of a.names q ≡
   says_of_query status.ReadFault w = tt
   says_of_query status.WriteFault w = one_query w.0 w.1
   says_of_query status.Memory w = tt
+  says_of_query (status.TraceRefused n) w = one_query w.0 w.1
 
 -- ---- DOC
 
+-- all of DOC was read, and it has no fault
+abbrev pub DocIsClean : List ℕ → ShelfView → ShelfView → Type 0
+DocIsClean d a b = (ps : List (List ℕ)) × Reads d (length a.given + 1) a b ps End × FaultIs full_limits (joined ps) true None
+
 abbrev pub DocSays : List ℕ → Status → ShelfView → ShelfView → Type 0
-DocSays d status.Ok a b = (ps : List (List ℕ)) × Reads d (length a.given + 1) a b ps End × FaultIs full_limits (joined ps) true None
+DocSays d status.Ok a b = DocIsClean d a b
+DocSays d (status.TraceRefused n) a b = DocIsClean d a b
 DocSays d (status.DocumentRefused f) a b = (ps : List (List ℕ)) × (stop : Stop) × Reads d (length a.given + 1) a b ps stop × HasFault f ps stop
 DocSays d s a b = ⊤
 
@@ -154,6 +176,7 @@ run_doc_says tracing ahead q d (status.DocumentRefused f) a b r = (r.pieces, r.s
 run_doc_says tracing ahead q d status.ReadFault a b r = tt
 run_doc_says tracing ahead q d status.WriteFault a b r = tt
 run_doc_says tracing ahead q d status.Memory a b r = tt
+run_doc_says tracing ahead q d (status.TraceRefused n) a b r = absurd r
 
 pub whole_doc_says : (q d : List ℕ) (s : Status) (a b : Outside) → WholeDoes q d s a b → DocSays d s a.shelf b.shelf
 whole_doc_says q d status.Ok a b r =
@@ -165,6 +188,7 @@ whole_doc_says q d (status.DocumentRefused f) a b r = (r.pieces, r.stop, r.over.
 whole_doc_says q d status.ReadFault a b r = tt
 whole_doc_says q d status.WriteFault a b r = tt
 whole_doc_says q d status.Memory a b r = tt
+whole_doc_says q d (status.TraceRefused n) a b r = absurd r
 
 pub peak_doc_says : (q d : List ℕ) (s : Status) (a b : Outside) → PeakDoes q d s a b → DocSays d s a.shelf b.shelf
 peak_doc_says q d status.Ok a b r =
@@ -176,6 +200,17 @@ peak_doc_says q d (status.DocumentRefused f) a b r = (r.pieces, r.stop, r.over.d
 peak_doc_says q d status.ReadFault a b r = tt
 peak_doc_says q d status.WriteFault a b r = tt
 peak_doc_says q d status.Memory a b r = tt
+peak_doc_says q d (status.TraceRefused n) a b r = absurd r
+
+pub check_doc_says : (q d t : List ℕ) (s : Status) (a b : Outside) → CheckDoes q d t s a b → DocSays d s a.shelf b.shelf
+check_doc_says q d t status.Ok a b r = (r.over.doc_pieces, r.over.doc, r.over.tokens.clean.clean)
+check_doc_says q d t status.Usage a b r = absurd r
+check_doc_says q d t (status.QueryRefused f) a b r = tt
+check_doc_says q d t (status.DocumentRefused f) a b r = (r.pieces, r.stop, r.over.doc, r.says)
+check_doc_says q d t status.ReadFault a b r = tt
+check_doc_says q d t status.WriteFault a b r = tt
+check_doc_says q d t status.Memory a b r = tt
+check_doc_says q d t (status.TraceRefused n) a b r = (r.over.doc_pieces, r.over.doc, r.over.tokens.clean.clean)
 
 module _ (d bytes : List ℕ) (a b : ShelfView) (told : content_of a.names d ≡ Some bytes) where
   faulted : (f : DocFault) (ps : List (List ℕ)) (stop : Stop) → Reads d (length a.given + 1) a b ps stop → HasFault f ps stop → FaultIs full_limits bytes true (Some f)
@@ -185,12 +220,15 @@ module _ (d bytes : List ℕ) (a b : ShelfView) (told : content_of a.names d ≡
       subst (λ (l : List ℕ). FaultIs full_limits l true (Some f)) (sym part.1) (fault_stays full_limits (joined ps) part.0 true f w.fault)
   faulted f ps Fault r w = absurd w.calm
 
+  pub clean_document : DocIsClean d a b → IsDocument bytes
+  clean_document w = subst (λ (l : List ℕ). FaultIs full_limits l true None) (sym (read_all d bytes (length a.given + 1) a b w.0 told w.1)) w.2
+
   pub says_of_document : (s : Status) → DocSays d s a b → SaysOfDocument s bytes
-  says_of_document status.Ok w =
-      subst (λ (l : List ℕ). FaultIs full_limits l true None) (sym (read_all d bytes (length a.given + 1) a b w.0 told w.1)) w.2
+  says_of_document status.Ok w = clean_document w
   says_of_document status.Usage w = tt
   says_of_document (status.QueryRefused f) w = tt
   says_of_document (status.DocumentRefused f) w = faulted f w.0 w.1 w.2 w.3
   says_of_document status.ReadFault w = tt
   says_of_document status.WriteFault w = tt
   says_of_document status.Memory w = tt
+  says_of_document (status.TraceRefused n) w = clean_document w

@@ -3,7 +3,8 @@ use Rattle.std.proofs.Common.{◌≡◌, ◌⊎◌, inl, inr, ℕ, ◌≤◌, Li
 use Rattle.gcx_io.specs.Causes.{Rose}
 use Rattle.gcx_io.specs.Views.{ShelfView, SinkView}
 use Rattle.gcx_words.specs.declared.command.Command.{Command}
-use Rattle.gcx_cmd.specs.Commands.{query_of, document_of, LacksFile}
+use Rattle.gcx_cmd.specs.CheckDoes.{CheckDoes}
+use Rattle.gcx_cmd.specs.Commands.{HasFile, LacksFile, query_of}
 use Rattle.gcx_cmd.specs.ExplainDoes.{ExplainDoes}
 use Rattle.gcx_cmd.specs.Keeps.{HasCauses, Keeps}
 use Rattle.gcx_cmd.specs.Main.{HasNoMemory}
@@ -30,6 +31,18 @@ keeps_of c s a b k out err causes memory = record {
   memory = memory;
 }
 
+-- no write failed, and a read fault has a cause
+pub causes_of : (c : Command) (s : Status) (a b : Outside) → (s ≡ status.WriteFault → ⊥)
+    → (s ≡ status.ReadFault → Rose a.shelf.faults b.shelf.faults ⊎ LacksFile c a.shelf b.shelf) → HasCauses c s a b
+causes_of c status.Ok a b write read = tt
+causes_of c status.Usage a b write read = tt
+causes_of c (status.QueryRefused f) a b write read = tt
+causes_of c (status.DocumentRefused f) a b write read = tt
+causes_of c status.ReadFault a b write read = read refl
+causes_of c status.WriteFault a b write read = absurd (write refl)
+causes_of c status.Memory a b write read = tt
+causes_of c (status.TraceRefused n) a b write read = tt
+
 module _ (a m : ShelfView) (o e : SinkView) (st : StoreView) where
   pub run_stops : (tracing : Bool) (ahead : ℕ) (q d : List ℕ) (s : Status) → StopsInQuery q s a m → RunDoes tracing ahead q d s (beside a o e st) (beside m o e st)
   run_stops tracing ahead q d status.Ok h = absurd h
@@ -39,6 +52,7 @@ module _ (a m : ShelfView) (o e : SinkView) (st : StoreView) where
   run_stops tracing ahead q d status.ReadFault h = inl (untouched a m o e st, inl h)
   run_stops tracing ahead q d status.WriteFault h = absurd h
   run_stops tracing ahead q d status.Memory h = inl (untouched a m o e st, h)
+  run_stops tracing ahead q d (status.TraceRefused n) h = absurd h
 
   pub whole_stops : (q d : List ℕ) (s : Status) → StopsInQuery q s a m → WholeDoes q d s (beside a o e st) (beside m o e st)
   whole_stops q d status.Ok h = absurd h
@@ -48,6 +62,7 @@ module _ (a m : ShelfView) (o e : SinkView) (st : StoreView) where
   whole_stops q d status.ReadFault h = inl (untouched a m o e st, inl h)
   whole_stops q d status.WriteFault h = absurd h
   whole_stops q d status.Memory h = inl (untouched a m o e st, h)
+  whole_stops q d (status.TraceRefused n) h = absurd h
 
   pub peak_stops : (q d : List ℕ) (s : Status) → StopsInQuery q s a m → PeakDoes q d s (beside a o e st) (beside m o e st)
   peak_stops q d status.Ok h = absurd h
@@ -57,6 +72,7 @@ module _ (a m : ShelfView) (o e : SinkView) (st : StoreView) where
   peak_stops q d status.ReadFault h = inl (untouched a m o e st, inl h)
   peak_stops q d status.WriteFault h = absurd h
   peak_stops q d status.Memory h = inl (untouched a m o e st, h)
+  peak_stops q d (status.TraceRefused n) h = absurd h
 
   pub explain_stops : (q : List ℕ) (s : Status) → StopsInQuery q s a m → ExplainDoes q s (beside a o e st) (beside m o e st)
   explain_stops q status.Ok h = absurd h
@@ -66,9 +82,19 @@ module _ (a m : ShelfView) (o e : SinkView) (st : StoreView) where
   explain_stops q status.ReadFault h = (untouched a m o e st, inl h)
   explain_stops q status.WriteFault h = absurd h
   explain_stops q status.Memory h = (untouched a m o e st, h)
+  explain_stops q (status.TraceRefused n) h = absurd h
 
-  pub lacks : (c : Command) (n : List ℕ) → (query_of c ≡ Some n) ⊎ (document_of c ≡ Some n) → CausesFault n a m
-      → Rose a.faults m.faults ⊎ LacksFile c a m
+  pub check_stops : (q d t : List ℕ) (s : Status) → StopsInQuery q s a m → CheckDoes q d t s (beside a o e st) (beside m o e st)
+  check_stops q d t status.Ok h = absurd h
+  check_stops q d t status.Usage h = absurd h
+  check_stops q d t (status.QueryRefused f) h = (untouched a m o e st, h)
+  check_stops q d t (status.DocumentRefused f) h = absurd h
+  check_stops q d t status.ReadFault h = inl (untouched a m o e st, inl h)
+  check_stops q d t status.WriteFault h = absurd h
+  check_stops q d t status.Memory h = inl (untouched a m o e st, h)
+  check_stops q d t (status.TraceRefused n) h = absurd h
+
+  pub lacks : (c : Command) (n : List ℕ) → HasFile c n → CausesFault n a m → Rose a.faults m.faults ⊎ LacksFile c a m
   lacks c n file (inl rose) = inl rose
   lacks c n file (inr (missing, behind, listed)) = inr (record { name = n; is_file = file; missing = missing; behind = behind; listed = listed })
 
@@ -81,6 +107,7 @@ module _ (a m : ShelfView) (o e : SinkView) (st : StoreView) where
   query_causes c q status.ReadFault file h cause = lacks c q (inl file) (cause refl)
   query_causes c q status.WriteFault file h cause = absurd h
   query_causes c q status.Memory file h cause = tt
+  query_causes c q (status.TraceRefused n) file h cause = tt
 
   pub keeps_stopped : (c : Command) (q : List ℕ) (s : Status) → query_of c ≡ Some q → StopsInQuery q s a m → KeepsShelf a m
       → (s ≡ status.ReadFault → CausesFault q a m) → HasNoMemory s → Keeps c s (beside a o e st) (beside m o e st)

@@ -22,7 +22,7 @@ use Rattle.gcx_cmd.specs.declared.status.Status.{Status}
 use Rattle.gcx_cmd.specs.declared.status.Status.TheVariants as status
 
 module _ (q d : List ℕ) (a m b : ShelfView) (x : List ExprTree) (one : Opens 1 a m) (accepted : AcceptsQuery q a m x) (k : KeepsShelf a m) (l : KeepsShelf m b) where
-  over : (o p e : SinkView) (st : StoreView) (Says : List (List ℕ) → Stop → Type 0) (w : OverDoc d Says m b) → Over q d (beside a o e st) (beside b p e st) x w.pieces w.stop
+  pub over : (o p e : SinkView) (st : StoreView) (Says : List (List ℕ) → Stop → Type 0) (w : OverDoc d Says m b) → Over q d (beside a o e st) (beside b p e st) x w.pieces w.stop
   over o p e st Says w = record {
     two = opens_two q a m b x one accepted k l w.one;
     query = accepted_kept q a m b x one accepted k l;
@@ -56,6 +56,7 @@ module _ (q d : List ℕ) (a m b : ShelfView) (x : List ExprTree) (one : Opens 1
         )
     unread status.Memory (inr w) =
         inr (record { x = x; pieces = w.pieces; stop = w.stop; over = over o o e st (λ ps stop. IsCalm stop) w; ends = (w.says, refl); err = refl; store = refl })
+    unread (status.TraceRefused n) w = absurd w
 
     unread_causes : (s : Status) → TreeDoes d (Err s) m b → (s ≡ status.ReadFault → CausesFault d m b)
         → HasCauses (Whole q d) s (beside a o e st) (beside b o e st)
@@ -64,9 +65,10 @@ module _ (q d : List ℕ) (a m b : ShelfView) (x : List ExprTree) (one : Opens 1
     unread_causes (status.QueryRefused f) w cause = tt
     unread_causes (status.DocumentRefused f) w cause = tt
     unread_causes status.ReadFault w cause =
-        lacks a b o e st (Whole q d) d (inr refl) (cause_later d a m b one k (cause refl))
+        lacks a b o e st (Whole q d) d (inr (inl refl)) (cause_later d a m b one k (cause refl))
     unread_causes status.WriteFault w cause = absurd w
     unread_causes status.Memory w cause = tt
+    unread_causes (status.TraceRefused n) w cause = absurd w
 
     pub unread_if : (s : Status) → TreeDoes d (Err s) m b → (s ≡ status.ReadFault → CausesFault d m b) → HasNoMemory s
         → DoesIf (Some (Whole q d)) s (beside a o e st) (beside b o e st)
@@ -122,6 +124,7 @@ module _ (q d : List ℕ) (a m b : ShelfView) (x : List ExprTree) (one : Opens 1
       store = refl;
     }
     answered status.Memory t = absurd t
+    answered (status.TraceRefused n) t = absurd t
 
     pub answered_if : (s : Status) → o.faults ≤ p.faults → WritesText s o p (answer x w.says.whole.document)
         → DoesIf (Some (Whole q d)) s (beside a o e st) (beside b p e st)

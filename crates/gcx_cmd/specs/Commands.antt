@@ -4,7 +4,7 @@ use Rattle.std.specs.declared.option.Option.TheVariants as option
 use Rattle.gcx_io.specs.Shelf.{IsMissing}
 use Rattle.gcx_io.specs.Views.{ShelfView, missed}
 use Rattle.gcx_words.specs.declared.command.Command.{Command}
-use Rattle.gcx_words.specs.declared.command.Command.TheVariants.{Run, Whole, Explain, Peak, Gen, Selfrun}
+use Rattle.gcx_words.specs.declared.command.Command.TheVariants.{Run, Whole, Explain, Peak, Gen, Selfrun, Check}
 
 -- QUERY of a command that has one
 abbrev pub query_of : Command → Option (List ℕ)
@@ -14,6 +14,7 @@ query_of (Explain query) = option.Some query
 query_of (Peak query document) = option.Some query
 query_of (Gen seed count) = option.None
 query_of (Selfrun seed count) = option.None
+query_of (Check query document trace) = option.Some query
 
 -- DOC of a command that has one
 abbrev pub document_of : Command → Option (List ℕ)
@@ -23,16 +24,26 @@ document_of (Explain query) = option.None
 document_of (Peak query document) = option.Some document
 document_of (Gen seed count) = option.None
 document_of (Selfrun seed count) = option.None
+document_of (Check query document trace) = option.Some document
+
+-- TRACE of a command that has one
+abbrev pub trace_of : Command → Option (List ℕ)
+trace_of (Check query document trace) = option.Some trace
+trace_of command = option.None
 
 -- it is `run --trace`
 abbrev pub IsTraced : Command → Type 0
 IsTraced (Run trace ahead query document) = trace ≡ true
 IsTraced command = ⊥
 
--- The command has a QUERY or a DOC whose attach failed, and the shelf tells its names and this one isn't there.
+-- the command reads the file of this name
+abbrev pub HasFile : Command → List ℕ → Type 0
+HasFile command name = (query_of command ≡ option.Some name) ⊎ ((document_of command ≡ option.Some name) ⊎ (trace_of command ≡ option.Some name))
+
+-- The command has a file whose attach failed, and the shelf tells its names and this one isn't there.
 pub record LacksFile (command : Command) (a b : ShelfView) : Type 0 where
   pub name : List ℕ
-  pub is_file : (query_of command ≡ option.Some name) ⊎ (document_of command ≡ option.Some name)
+  pub is_file : HasFile command name
   pub missing : IsMissing a.names name
   pub behind : ℕ
   pub listed : b.refused ≡ a.refused ++ missed name behind ∷ []

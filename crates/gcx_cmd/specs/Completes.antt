@@ -1,5 +1,5 @@
 -- Which status must come, where the shelf tells what its names hold and no count rose (this project's).
-use Rattle.std.specs.Prelude.{◌≡◌, ◌⊎◌, ℕ, List, true, Some}
+use Rattle.std.specs.Prelude.{◌≡◌, ◌⊎◌, ℕ, List, true, Some, ⊤}
 use Rattle.gcx_base.specs.Limits.{full_limits}
 use Rattle.gcx_io.specs.Causes.{Rose}
 use Rattle.gcx_io.specs.Shelf.{Names, content_of}
@@ -8,7 +8,7 @@ use Rattle.gcx_model.specs.declared.fault.DocFault.{DocFault}
 use Rattle.gcx_model.specs.declared.fault.QueryFault.{QueryFault}
 use Rattle.gcx_words.specs.Words.{command_of}
 use Rattle.gcx_words.specs.declared.command.Command.{Command}
-use Rattle.gcx_words.specs.declared.command.Command.TheVariants.{Run, Whole, Explain, Peak, Gen, Selfrun}
+use Rattle.gcx_words.specs.declared.command.Command.TheVariants.{Run, Whole, Explain, Peak, Gen, Selfrun, Check}
 use Rattle.gcx_cmd.specs.Commands.{IsTraced, query_of, document_of}
 use Rattle.gcx_cmd.specs.Main.{IsQuery, IsDocument, QueryFaultOf}
 use Rattle.gcx_cmd.specs.Outside.{Outside}
@@ -37,6 +37,12 @@ abbrev pub CompletesWith : Command → (query document : List ℕ) → Status �
 CompletesWith c query document s a b =
     HoldsSuch a.shelf.names query IsQuery → HoldsSuch a.shelf.names document IsDocument → ReadsWell a b → WritesWell c a b → Ends status.Ok s
 
+-- Where QUERY is accepted, DOC has no fault and TRACE is there, TRACE is judged.
+abbrev pub CompletesCheck : (query document trace : List ℕ) → Status → Outside → Outside → Type 0
+CompletesCheck query document trace s a b =
+    HoldsSuch a.shelf.names query IsQuery → HoldsSuch a.shelf.names document IsDocument → HoldsSuch a.shelf.names trace (λ bytes. ⊤)
+    → ReadsWell a b → WritesWell (Check query document trace) a b → ((n : ℕ) × (s ≡ status.TraceRefused n)) ⊎ Ends status.Ok s
+
 abbrev pub CompletesWell : Command → Status → Outside → Outside → Type 0
 CompletesWell (Run trace ahead query document) s a b = CompletesWith (Run trace ahead query document) query document s a b
 CompletesWell (Whole query document) s a b = CompletesWith (Whole query document) query document s a b
@@ -44,6 +50,7 @@ CompletesWell (Peak query document) s a b = CompletesWith (Peak query document) 
 CompletesWell (Explain query) s a b = HoldsSuch a.shelf.names query IsQuery → ReadsWell a b → WritesWell (Explain query) a b → Ends status.Ok s
 CompletesWell (Gen seed count) s a b = WritesWell (Gen seed count) a b → Ends status.Ok s
 CompletesWell (Selfrun seed count) s a b = WritesWell (Selfrun seed count) a b → Ends status.Ok s
+CompletesWell (Check query document trace) s a b = CompletesCheck query document trace s a b
 
 -- Of a command: it ends well where nothing is wrong, and so where QUERY is refused, or QUERY is accepted and DOC is refused.
 pub record CompletesFor (c : Command) (s : Status) (a b : Outside) : Type 0 where

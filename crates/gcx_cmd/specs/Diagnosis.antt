@@ -56,3 +56,4 @@ line_of (status.DocumentRefused f) = document_line f
 line_of status.ReadFault = codes "gcx: read fault" ++ newline
 line_of status.WriteFault = codes "gcx: write fault" ++ newline
 line_of status.Memory = codes "gcx: out of memory" ++ newline
+line_of (status.TraceRefused n) = numbered (codes "gcx: trace ") n

@@ -1,7 +1,9 @@
 -- QUERY is accepted, and DOC is read (this project's).
-use Rattle.std.specs.Prelude.{◌≡◌, ◌⊎◌, ◌+◌, ℕ, List, true, false, length, Some, None}
+use Rattle.std.specs.Prelude.{◌≡◌, ◌⊎◌, ◌+◌, ℕ, List, true, false, length, map, Some, None}
+use Rattle.std.specs.Global.{Global}
 use Rattle.std.specs.declared.result.Result.{Result}
 use Rattle.std.specs.declared.result.Result.TheVariants as result
+use Rattle.std.specs.declared.collections.VecDeque.{VecDeque}
 use Rattle.gcx_base.specs.Limits.{full_limits}
 use Rattle.gcx_io.specs.Writing.{joined}
 use Rattle.gcx_io.specs.Views.{ShelfView}
@@ -11,8 +13,11 @@ use Rattle.gcx_model.specs.Query.{ExprTree}
 use Rattle.gcx_model.specs.declared.fault.DocFault.{DocFault}
 use Rattle.run_words.specs.Reading.{ReadsOn}
 use Rattle.run_words.specs.Stops.{Stop, End, Fault, IsCalm, is_end}
-use Rattle.gcx_model.specs.Tree.{Tree}
-use Rattle.tree_read.specs.Document.{BytesSpell, IsWhole}
+use Rattle.gcx_model.specs.Seen.{SeenIs}
+use Rattle.gcx_model.specs.Tree.{Token, Tree}
+use Rattle.doc_reader.specs.Standing.{said_of}
+use Rattle.doc_reader.specs.declared.token.Token.{Token as Given}
+use Rattle.tree_read.specs.Document.{AreTokens, BytesSpell, IsWhole}
 use Rattle.gcx_cmd.specs.Outside.{Outside}
 use Rattle.gcx_cmd.specs.QueryDoes.{AcceptsQuery}
 use Rattle.gcx_cmd.specs.Reads.{Reads, Opens, Misses}
@@ -41,6 +46,11 @@ pub record IsCut (pieces : List (List ℕ)) (stop : Stop) : Type 0 where
   pub at_fault : stop ≡ Fault
   pub clean : FaultIs full_limits (joined pieces) false None
 
+-- The whole document was read, and these are its tokens.
+pub record ReadsTokens (pieces : List (List ℕ)) (stop : Stop) (tokens : List Token) : Type 0 where
+  pub clean : IsClean pieces stop
+  pub seen : SeenIs full_limits (joined pieces) true tokens
+
 -- The bytes spell this document and no other one.
 pub record SpellsOneDocument (bytes : List ℕ) (doc : Nodes) : Type 0 where
   pub spells : BytesSpell bytes doc
@@ -66,19 +76,34 @@ DocDoes d Says Before (status.DocumentRefused f) a b = OverDoc d (Says (status.D
 DocDoes d Says Before status.ReadFault a b = (Before × Misses 0 d a b) ⊎ OverDoc d (Says status.ReadFault) a b
 DocDoes d Says Before status.WriteFault a b = OverDoc d (Says status.WriteFault) a b
 DocDoes d Says Before status.Memory a b = (Before × Opens 0 a b) ⊎ OverDoc d (Says status.Memory) a b
+DocDoes d Says Before (status.TraceRefused n) a b = ⊥
 
 -- all of DOC was read, and this is its tree
 pub record ReadsTree (tree : Tree) (pieces : List (List ℕ)) (stop : Stop) : Type 0 where
   pub at_end : stop ≡ End
   pub whole : IsWhole (joined pieces) tree
 
--- how the reading of DOC's tree ends
+-- all of DOC was read, and these are its tokens
+pub record ReadsAll (tokens : List Token) (pieces : List (List ℕ)) (stop : Stop) : Type 0 where
+  pub at_end : stop ≡ End
+  pub are : AreTokens (joined pieces) tokens
+
+-- how the reading of DOC ends; at Ok this holds of what is made of it
+abbrev pub ReadsDoes : {T : Type 0} → (T → List (List ℕ) → Stop → Type 0) → (d : List ℕ) → Result T Status → (a b : ShelfView) → Type 0
+ReadsDoes Says d (result.Ok x) a b = OverDoc d (Says x) a b
+ReadsDoes Says d (result.Err status.Ok) a b = ⊥
+ReadsDoes Says d (result.Err status.Usage) a b = ⊥
+ReadsDoes Says d (result.Err (status.QueryRefused f)) a b = ⊥
+ReadsDoes Says d (result.Err (status.DocumentRefused f)) a b = OverDoc d (HasFault f) a b
+ReadsDoes Says d (result.Err status.ReadFault) a b = Misses 0 d a b ⊎ OverDoc d IsCut a b
+ReadsDoes Says d (result.Err status.WriteFault) a b = ⊥
+ReadsDoes Says d (result.Err status.Memory) a b = Opens 0 a b ⊎ OverDoc d (λ pieces stop. IsCalm stop) a b
+ReadsDoes Says d (result.Err (status.TraceRefused n)) a b = ⊥
+
+-- so DOC's tree is read,
 abbrev pub TreeDoes : (d : List ℕ) → Result Tree Status → (a b : ShelfView) → Type 0
-TreeDoes d (result.Ok tree) a b = OverDoc d (ReadsTree tree) a b
-TreeDoes d (result.Err status.Ok) a b = ⊥
-TreeDoes d (result.Err status.Usage) a b = ⊥
-TreeDoes d (result.Err (status.QueryRefused f)) a b = ⊥
-TreeDoes d (result.Err (status.DocumentRefused f)) a b = OverDoc d (HasFault f) a b
-TreeDoes d (result.Err status.ReadFault) a b = Misses 0 d a b ⊎ OverDoc d IsCut a b
-TreeDoes d (result.Err status.WriteFault) a b = ⊥
-TreeDoes d (result.Err status.Memory) a b = Opens 0 a b ⊎ OverDoc d (λ pieces stop. IsCalm stop) a b
+TreeDoes d r a b = ReadsDoes ReadsTree d r a b
+
+-- and so are its tokens
+abbrev pub TokensDoes : (d : List ℕ) → Result (VecDeque Given Global) Status → (a b : ShelfView) → Type 0
+TokensDoes d r a b = ReadsDoes (λ tokens. ReadsAll (map said_of tokens.items)) d r a b

@@ -6,7 +6,8 @@ use Rattle.gcx_io.specs.Views.{SinkView}
 use Rattle.gcx_io.specs.Writing.{Takes, Owes}
 use Rattle.gcx_words.specs.Words.{command_of}
 use Rattle.gcx_words.specs.declared.command.Command.{Command}
-use Rattle.gcx_words.specs.declared.command.Command.TheVariants.{Run, Whole, Explain, Peak, Gen, Selfrun}
+use Rattle.gcx_words.specs.declared.command.Command.TheVariants.{Run, Whole, Explain, Peak, Gen, Selfrun, Check}
+use Rattle.gcx_cmd.specs.CheckDoes.{CheckDoes}
 use Rattle.gcx_cmd.specs.Diagnosis.{line_of}
 use Rattle.gcx_cmd.specs.ExplainDoes.{ExplainDoes}
 use Rattle.gcx_cmd.specs.GenDoes.{GenDoes}
@@ -27,6 +28,7 @@ Obeys (Explain query) s a b = ExplainDoes query s a b
 Obeys (Peak query document) s a b = PeakDoes query document s a b
 Obeys (Gen seed count) s a b = GenDoes seed count s a b
 Obeys (Selfrun seed count) s a b = SelfrunDoes seed count s a b
+Obeys (Check query document trace) s a b = CheckDoes query document trace s a b
 
 -- the command was obeyed; where there is none, nothing happened
 abbrev pub DoesIf : Option Command → Status → Outside → Outside → Type 0
@@ -42,6 +44,7 @@ Tells (status.DocumentRefused f) a b = Takes a b (line_of (status.DocumentRefuse
 Tells status.ReadFault a b = Takes a b (line_of status.ReadFault) ⊎ Owes a b [] (line_of status.ReadFault)
 Tells status.WriteFault a b = Takes a b (line_of status.WriteFault) ⊎ Owes a b [] (line_of status.WriteFault)
 Tells status.Memory a b = Takes a b (line_of status.Memory) ⊎ Owes a b [] (line_of status.Memory)
+Tells (status.TraceRefused n) a b = Takes a b (line_of (status.TraceRefused n)) ⊎ Owes a b [] (line_of (status.TraceRefused n))
 
 -- The line of the status went to the diagnoses, and nothing else happened.
 pub record Diagnoses (s : Status) (a b : Outside) : Type 0 where

@@ -27,3 +27,4 @@ ExplainDoes q (status.DocumentRefused f) a b = ⊥
 ExplainDoes q status.ReadFault a b = NotBegun q None status.ReadFault a b
 ExplainDoes q status.WriteFault a b = Explains q (λ c d text. Owes c d [] text) a b
 ExplainDoes q status.Memory a b = NotBegun q None status.Memory a b
+ExplainDoes q (status.TraceRefused n) a b = ⊥

@@ -16,3 +16,4 @@ GenDoes seed count (status.DocumentRefused f) a b = ⊥
 GenDoes seed count status.ReadFault a b = ⊥
 GenDoes seed count status.WriteFault a b = WritesAlone a b × Owes a.out b.out [] (document seed count)
 GenDoes seed count status.Memory a b = WritesAlone a b × TakesFront a.out b.out [] (document seed count)
+GenDoes seed count (status.TraceRefused n) a b = ⊥

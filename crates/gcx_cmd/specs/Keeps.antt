@@ -18,6 +18,7 @@ HasCauses c (status.DocumentRefused f) a b = ⊤
 HasCauses c status.ReadFault a b = Rose a.shelf.faults b.shelf.faults ⊎ LacksFile c a.shelf b.shelf
 HasCauses c status.WriteFault a b = Rose a.out.faults b.out.faults ⊎ (IsTraced c × Rose a.err.faults b.err.faults)
 HasCauses c status.Memory a b = ⊤
+HasCauses c (status.TraceRefused n) a b = ⊤
 
 -- no count falls
 pub record Counts (a b : Outside) : Type 0 where

@@ -9,6 +9,7 @@ pub mod Running
 pub mod Tracing
 pub mod RunDoes
 pub mod WholeDoes
+pub mod CheckDoes
 pub mod Texts
 pub mod ExplainDoes
 pub mod PeakDoes
@@ -19,6 +20,7 @@ pub mod Keeps
 pub mod Diagnosis
 pub mod Does
 pub mod Completes
+pub mod Accepting
 pub mod Writes
 pub mod Status
 pub mod ReadEnd

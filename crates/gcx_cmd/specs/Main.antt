@@ -13,7 +13,7 @@ use Rattle.xq_parse.specs.Spelling.{QuerySpells}
 use Rattle.xq_parse.specs.Faults.{TextFaultOf, HasOnlyQuery, HasOnlyRefusal}
 use Rattle.signoff_place.specs.Refused.{refusal_of}
 use Rattle.gcx_cmd.specs.declared.status.Status.{Status}
-use Rattle.gcx_cmd.specs.declared.status.Status.TheVariants.{Ok, Usage, QueryRefused, DocumentRefused, ReadFault, WriteFault, Memory}
+use Rattle.gcx_cmd.specs.declared.status.Status.TheVariants.{Ok, Usage, QueryRefused, DocumentRefused, ReadFault, WriteFault, Memory, TraceRefused}
 
 -- The bytes spell the query, which is sound, and its core passes no limit.
 pub record Accepts (bytes : List ℕ) (q : List ExprTree) : Type 0 where
@@ -64,6 +64,7 @@ SaysOfQuery (DocumentRefused f) query = IsOneQuery query
 SaysOfQuery ReadFault query = ⊤
 SaysOfQuery WriteFault query = IsOneQuery query
 SaysOfQuery Memory query = ⊤
+SaysOfQuery (TraceRefused n) query = IsOneQuery query
 
 -- what each status says of the document's bytes
 abbrev pub SaysOfDocument : Status → List ℕ → Type 0
@@ -74,6 +75,7 @@ SaysOfDocument (DocumentRefused f) document = FaultIs full_limits document true 
 SaysOfDocument ReadFault document = ⊤
 SaysOfDocument WriteFault document = ⊤
 SaysOfDocument Memory document = ⊤
+SaysOfDocument (TraceRefused n) document = IsDocument document
 
 -- want of memory stands in no refusal
 abbrev pub HasNoMemory : Status → Type 0

@@ -1,14 +1,12 @@
 -- How `peak` ends, and what each end says (this project's).
-use Rattle.std.specs.Prelude.{◌≡◌, ◌⊎◌, ℕ, List, [], true, Some}
+use Rattle.std.specs.Prelude.{◌≡◌, ◌⊎◌, ℕ, List, [], Some}
 use Rattle.std.specs.FinMap as map
-use Rattle.gcx_base.specs.Limits.{full_limits}
 use Rattle.gcx_io.specs.Views.{SinkView}
-use Rattle.gcx_io.specs.Writing.{Takes, Owes, joined}
+use Rattle.gcx_io.specs.Writing.{Takes, Owes}
 use Rattle.gcx_model.specs.Query.{ExprTree}
-use Rattle.gcx_model.specs.Seen.{SeenIs}
 use Rattle.gcx_model.specs.Tree.{Token}
 use Rattle.run_words.specs.Stops.{Stop, IsCalm}
-use Rattle.gcx_cmd.specs.DocumentDoes.{Over, IsClean, HasFault, IsCut}
+use Rattle.gcx_cmd.specs.DocumentDoes.{Over, HasFault, IsCut, ReadsTokens}
 use Rattle.gcx_cmd.specs.Outside.{Outside}
 use Rattle.gcx_cmd.specs.QueryDoes.{RefusesQuery, NotBegun}
 use Rattle.gcx_cmd.specs.RunDoes.{HoldsSeen}
@@ -16,11 +14,6 @@ use Rattle.gcx_cmd.specs.Running.{UnlessMemory}
 use Rattle.gcx_cmd.specs.Texts.{peak_text}
 use Rattle.gcx_cmd.specs.declared.status.Status.{Status}
 use Rattle.gcx_cmd.specs.declared.status.Status.TheVariants as status
-
--- the whole document was read, and these are its tokens
-pub record ReadsTokens (pieces : List (List ℕ)) (stop : Stop) (tokens : List Token) : Type 0 where
-  pub clean : IsClean pieces stop
-  pub seen : SeenIs full_limits (joined pieces) true tokens
 
 -- what a status says of DOC, of which these pieces were read, and of the line of the numbers
 abbrev pub EndsPeak : List ExprTree → Status → List (List ℕ) → Stop → (a b : SinkView) → Type 0
@@ -31,6 +24,7 @@ EndsPeak x (status.DocumentRefused f) ps stop a b = HasFault f ps stop × (b ≡
 EndsPeak x status.ReadFault ps stop a b = IsCut ps stop × (b ≡ a)
 EndsPeak x status.WriteFault ps stop a b = (ts : List Token) × ReadsTokens ps stop ts × Owes a b [] (peak_text x ts)
 EndsPeak x status.Memory ps stop a b = IsCalm stop × (b ≡ a)
+EndsPeak x (status.TraceRefused n) ps stop a b = ⊥
 
 -- The numbers of a run of QUERY's one query x over what DOC gave, a token at a time. No answer is written, and no trace.
 pub record Measured (q d : List ℕ) (s : Status) (a b : Outside) : Type 0 where
@@ -50,3 +44,4 @@ PeakDoes q d (status.DocumentRefused f) a b = Measured q d (status.DocumentRefus
 PeakDoes q d status.ReadFault a b = NotBegun q (Some d) status.ReadFault a b ⊎ Measured q d status.ReadFault a b
 PeakDoes q d status.WriteFault a b = Measured q d status.WriteFault a b
 PeakDoes q d status.Memory a b = NotBegun q (Some d) status.Memory a b ⊎ Measured q d status.Memory a b
+PeakDoes q d (status.TraceRefused n) a b = ⊥

@@ -57,6 +57,7 @@ StopsInQuery q (status.DocumentRefused f) a b = ⊥
 StopsInQuery q status.ReadFault a b = FailsInText q a b
 StopsInQuery q status.WriteFault a b = ⊥
 StopsInQuery q status.Memory a b = RunsOutInText q a b
+StopsInQuery q (status.TraceRefused n) a b = ⊥
 
 -- QUERY is accepted, and then DOC, where the command has one, isn't there
 abbrev pub MissesDocument : List ℕ → Option (List ℕ) → ShelfView → ShelfView → Type 0
@@ -71,3 +72,4 @@ NotBegun q d (status.DocumentRefused f) a b = ⊥
 NotBegun q d status.ReadFault a b = Untouched a b × (FailsInText q a.shelf b.shelf ⊎ MissesDocument q d a.shelf b.shelf)
 NotBegun q d status.WriteFault a b = ⊥
 NotBegun q d status.Memory a b = Untouched a b × RunsOutInText q a.shelf b.shelf
+NotBegun q d (status.TraceRefused n) a b = ⊥

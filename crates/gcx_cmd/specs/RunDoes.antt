@@ -26,6 +26,7 @@ EndsBy x tracing (status.DocumentRefused f) ps stop a b = EndsRun (Settles x) (I
 EndsBy x tracing status.ReadFault ps stop a b = EndsRun (Settles x) (IsTrace x) full_limits tracing ReadFailed ps stop a b
 EndsBy x tracing status.WriteFault ps stop a b = EndsRun (Settles x) (IsTrace x) full_limits tracing WriteFailed ps stop a b
 EndsBy x tracing status.Memory ps stop a b = EndsRun (Settles x) (IsTrace x) full_limits tracing NoMemory ps stop a b
+EndsBy x tracing (status.TraceRefused n) ps stop a b = ⊥
 
 -- The lent store has the rows of exactly the nodes that are held behind the tags read.
 pub record HoldsSeen (x : List ExprTree) (ahead : ℕ) (pieces : List (List ℕ)) (stop : Stop) (store : StoreView) : Type 0 where
@@ -50,3 +51,4 @@ RunDoes tracing ahead q d (status.DocumentRefused f) a b = Runs tracing ahead q 
 RunDoes tracing ahead q d status.ReadFault a b = NotBegun q (Some d) status.ReadFault a b ⊎ Runs tracing ahead q d status.ReadFault a b
 RunDoes tracing ahead q d status.WriteFault a b = Runs tracing ahead q d status.WriteFault a b
 RunDoes tracing ahead q d status.Memory a b = NotBegun q (Some d) status.Memory a b ⊎ Runs tracing ahead q d status.Memory a b
+RunDoes tracing ahead q d (status.TraceRefused n) a b = ⊥

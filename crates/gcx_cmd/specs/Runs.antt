@@ -72,6 +72,7 @@ StopsMeasure q (status.DocumentRefused f) pieces stop store = HasFault f pieces 
 StopsMeasure q status.ReadFault pieces stop store = IsCut pieces stop × HoldsSeen q 1 pieces stop store
 StopsMeasure q status.WriteFault pieces stop store = ⊥
 StopsMeasure q status.Memory pieces stop store = IsCalm stop
+StopsMeasure q (status.TraceRefused n) pieces stop store = ⊥
 
 -- A run over DOC whose answer isn't written: its report, or the status to end with.
 abbrev pub DocumentMeasures : List ExprTree → (d : List ℕ) → Result Report Status → (a b : ShelfView) → (before after : StoreView) → Type 0

@@ -20,3 +20,4 @@ SelfrunDoes seed count (status.DocumentRefused f) a b = ⊥
 SelfrunDoes seed count status.ReadFault a b = ⊥
 SelfrunDoes seed count status.WriteFault a b = WritesAlone a b × (i : SelfInput seed count) × Owes a.out b.out [] (selfrun_line i)
 SelfrunDoes seed count status.Memory a b = b ≡ a
+SelfrunDoes seed count (status.TraceRefused n) a b = ⊥

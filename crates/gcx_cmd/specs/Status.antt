@@ -3,7 +3,7 @@ use Rattle.std.specs.Prelude.{ℕ}
 use Rattle.engine.specs.declared.report.Ended.{Ended}
 use Rattle.engine.specs.declared.report.Ended.TheVariants as end
 use Rattle.gcx_cmd.specs.declared.status.Status.{Status}
-use Rattle.gcx_cmd.specs.declared.status.Status.TheVariants.{Ok, Usage, QueryRefused, DocumentRefused, ReadFault, WriteFault, Memory}
+use Rattle.gcx_cmd.specs.declared.status.Status.TheVariants.{Ok, Usage, QueryRefused, DocumentRefused, ReadFault, WriteFault, Memory, TraceRefused}
 
 abbrev pub code_of : Status → ℕ
 code_of Ok = 0
@@ -13,6 +13,7 @@ code_of (DocumentRefused f) = 4
 code_of ReadFault = 5
 code_of WriteFault = 6
 code_of Memory = 7
+code_of (TraceRefused n) = 8
 
 abbrev pub ended_status : Ended → Status
 ended_status end.Ok = Ok

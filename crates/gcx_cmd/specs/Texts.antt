@@ -37,6 +37,10 @@ selfrun_text q ts answer =
     let P = seen_tree ts in
     answer_line (length answer) (peak_of plan ts) (length P.nodes) (sum_given plan P) (sum_taken plan P (actions plan P))
 
+-- `check` writes the number of the trace's lines
+abbrev pub lines_line : (lines : ℕ) → List ℕ
+lines_line lines = codes "trace " ++ (decimal lines ++ (codes " lines" ++ newline))
+
 -- the query of `selfrun`
 abbrev pub self_query : List ℕ
 self_query = codes "<r>{for $i in /items/item return if ($i/price >= 50) then $i/note else ()}</r>"

@@ -8,6 +8,10 @@ use Rattle.gcx_model.specs.Query.{ExprTree}
 use Rattle.gcx_model.specs.Seen.{SeenIs}
 use Rattle.gcx_model.specs.Tree.{Token}
 
+-- the text of the trace of the query over these tokens
+abbrev pub trace_text : List ExprTree → List Token → List ℕ
+trace_text q ts = text_of_lines (trace_lines (plan_of (normal q)) ts)
+
 -- t is the trace of the tags read in the bytes
 abbrev pub IsTrace : List ExprTree → List ℕ → (ended : Bool) → List ℕ → Type 0
-IsTrace q bytes ended t = (ts : List Token) × SeenIs full_limits bytes ended ts × (t ≡ text_of_lines (trace_lines (plan_of (normal q)) ts))
+IsTrace q bytes ended t = (ts : List Token) × SeenIs full_limits bytes ended ts × (t ≡ trace_text q ts)

@@ -26,6 +26,7 @@ EndsWhole x (status.DocumentRefused f) ps stop a b = HasFault f ps stop × (b �
 EndsWhole x status.ReadFault ps stop a b = IsCut ps stop × (b ≡ a)
 EndsWhole x status.WriteFault ps stop a b = (doc : Nodes) × ReadsWhole ps stop doc × Owes a b [] (answer x doc)
 EndsWhole x status.Memory ps stop a b = IsCalm stop × (b ≡ a)
+EndsWhole x (status.TraceRefused n) ps stop a b = ⊥
 
 -- The answer of QUERY's one query x over the tree of what DOC gave. Nothing else is written, and the store isn't used.
 pub record Answers (q d : List ℕ) (s : Status) (a b : Outside) : Type 0 where
@@ -45,3 +46,4 @@ WholeDoes q d (status.DocumentRefused f) a b = Answers q d (status.DocumentRefus
 WholeDoes q d status.ReadFault a b = NotBegun q (Some d) status.ReadFault a b ⊎ Answers q d status.ReadFault a b
 WholeDoes q d status.WriteFault a b = Answers q d status.WriteFault a b
 WholeDoes q d status.Memory a b = NotBegun q (Some d) status.Memory a b ⊎ Answers q d status.Memory a b
+WholeDoes q d (status.TraceRefused n) a b = ⊥

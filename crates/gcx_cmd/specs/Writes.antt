@@ -13,6 +13,7 @@ WritesText (status.DocumentRefused f) a b text = ⊥
 WritesText status.ReadFault a b text = ⊥
 WritesText status.WriteFault a b text = Owes a b [] text
 WritesText status.Memory a b text = ⊥
+WritesText (status.TraceRefused n) a b text = ⊥
 
 -- the same of a text for which memory may be wanting
 abbrev pub PrintsText : Status → (a b : SinkView) → (text : List ℕ) → Type 0
@@ -23,3 +24,4 @@ PrintsText (status.DocumentRefused f) a b text = ⊥
 PrintsText status.ReadFault a b text = ⊥
 PrintsText status.WriteFault a b text = Owes a b [] text
 PrintsText status.Memory a b text = b ≡ a
+PrintsText (status.TraceRefused n) a b text = ⊥

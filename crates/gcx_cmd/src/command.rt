@@ -16,6 +16,7 @@ ghost use Rattle.gcx_cmd.specs.Main.{Accepts};
 ghost use Rattle.gcx_cmd.specs.Outside.{outside};
 
 use crate::Status;
+use crate::checking::write_check;
 use crate::diagnosis::diagnose;
 use crate::explain::write_plan;
 use crate::made::write_made;
@@ -61,6 +62,11 @@ fn obey<F: Shelf, O: Sink, E: Sink, N: NodeStore<Row> + Drop>(
         }
         Command::Gen { seed, count } => write_made(alloc, *seed, *count, out),
         Command::Selfrun { seed, count } => write_selfrun(alloc, *seed, *count, out),
+        Command::Check {
+            query,
+            document,
+            trace,
+        } => write_check(alloc, query, document, trace, files, out),
     }
 }
 

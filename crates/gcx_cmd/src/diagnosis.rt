@@ -111,6 +111,7 @@ impl Line {
             Status::ReadFault => Some(Line::words(b"gcx: read fault")),
             Status::WriteFault => Some(Line::words(b"gcx: write fault")),
             Status::Memory => Some(Line::words(b"gcx: out of memory")),
+            Status::TraceRefused(line) => Some(Line::numbered(b"gcx: trace ", line)),
         }
     }
 }

@@ -1,15 +1,17 @@
-//! DOC as a tree.
+//! DOC as a tree, or as tokens.
 ghost use Rattle.std.specs.Prelude.{IfErr, IsErrOf};
-ghost use Rattle.gcx_cmd.specs.DocumentDoes.{TreeDoes};
+ghost use Rattle.gcx_cmd.specs.DocumentDoes.{TokensDoes, TreeDoes};
 ghost use Rattle.gcx_cmd.specs.Main.{HasNoMemory};
 ghost use Rattle.gcx_cmd.specs.Reads.{CausesFault, KeepsShelf};
 
 use crate::Status;
+use doc_reader::Token;
+use doc_tree::Tree;
 use gcx_base::Text;
 use gcx_io::{AttachFault, Opened, Shelf};
 use std::alloc::Global;
-use tree_eval::Tree;
-use tree_read::{DocumentEnd, read_tree};
+use std::collections::VecDeque;
+use tree_read::{DocumentEnd, read_tokens, read_tree};
 
 impl From<DocumentEnd> for Status {
     ghost use Rattle.std.specs.Prelude.{◌≡◌};
@@ -26,7 +28,7 @@ impl From<DocumentEnd> for Status {
     }
 }
 
-/// Reads a document, or the status to end with.
+/// The tree of a document, or the status to end with.
 pub(crate) fn read_document<F: Shelf>(
     alloc: Global,
     files: &mut F,
@@ -45,6 +47,29 @@ pub(crate) fn read_document<F: Shelf>(
     let mut source = Opened::new(files, handle);
     match read_tree(alloc, &mut source) {
         Ok(tree) => Ok(tree),
+        Err(end) => Err(Status::from(end)),
+    }
+}
+
+/// The tokens of a document, or the status to end with.
+pub(crate) fn read_document_tokens<F: Shelf>(
+    alloc: Global,
+    files: &mut F,
+    name: &Text,
+) -> Result<VecDeque<Token>, Status>
+    ensures reads { TokensDoes name.now result (F.seen files.old) (F.seen files.new) }
+    ensures keeps { KeepsShelf (F.seen files.old) (F.seen files.new) }
+    ensures cause { IsErrOf result Status.ReadFault → CausesFault name.now (F.seen files.old) (F.seen files.new) }
+    ensures memory { IfErr result HasNoMemory }
+{
+    let handle = match files.attach(name) {
+        Ok(handle) => handle,
+        Err(AttachFault::Failed) => return Err(Status::ReadFault),
+        Err(AttachFault::Memory) => return Err(Status::Memory),
+    };
+    let mut source = Opened::new(files, handle);
+    match read_tokens(alloc, &mut source) {
+        Ok(tokens) => Ok(tokens),
         Err(end) => Err(Status::from(end)),
     }
 }

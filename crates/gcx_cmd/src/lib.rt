@@ -1,10 +1,12 @@
 //! The command line of `gcx`.
 #![tactic(auto)]
 
+mod checking;
 mod command;
 mod diagnosis;
 mod document;
 mod explain;
+mod laws;
 mod lines;
 mod made;
 mod peak;
@@ -19,5 +21,6 @@ mod writing;
 
 pub use command::gcx_main;
 pub use diagnosis::diagnose;
+pub use laws::runs_are_accepted;
 pub use real::gcx_files;
 pub use status::Status;

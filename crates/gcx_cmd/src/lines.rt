@@ -1,6 +1,6 @@
-//! The lines that `peak` and `selfrun` print.
+//! The lines that `peak`, `selfrun` and `check` print.
 ghost use Rattle.std.specs.Prelude.{◌≡◌, ◌++◌, decimal, OnOk};
-ghost use Rattle.gcx_cmd.specs.Texts.{answer_line, peak_line};
+ghost use Rattle.gcx_cmd.specs.Texts.{answer_line, lines_line, peak_line};
 
 use engine::Report;
 use gcx_base::Memory;
@@ -52,4 +52,15 @@ pub(crate) fn put_answer_line(
     put_number(line, answer)?;
     line.extend_from_slice(b" ")?;
     put_peak_line(line, report)
+}
+
+/// Appends the line of a trace's number of lines.
+pub(crate) fn put_lines_line(line: &mut Vec<u8>, lines: u64) -> Result<(), Memory>
+    ensures { OnOk result (line.new.items ≡ line.old.items ++ lines_line lines) }
+{
+    line.extend_from_slice(b"trace ")?;
+    put_number(line, lines)?;
+    line.extend_from_slice(b" lines")?;
+    line.extend_from_slice(b"\n")?;
+    Ok(())
 }

@@ -16,6 +16,8 @@ pub enum Status {
     WriteFault,
     /// Want of memory.
     Memory,
+    /// TRACE isn't the trace, and this is its first line that differs.
+    TraceRefused(u64),
 }
 
 impl Status {
@@ -34,6 +36,7 @@ impl Status {
             Status::ReadFault => 5,
             Status::WriteFault => 6,
             Status::Memory => 7,
+            Status::TraceRefused(_) => 8,
         }
     }
 }

@@ -1,11 +1,13 @@
 //! Runs of the top call over files in memory.
 mod calls;
+mod checks;
 mod commands;
 mod failing;
 mod limits;
 mod objects;
 
 use crate::large::{joined, repeated};
+use checks::is_accepted;
 use gcx_cmd::Status;
 use gcx_model::{DocFault, QueryFault, What};
 use objects::{End, NOTHING, run, run_surely};
@@ -42,7 +44,7 @@ fn ends_with(
     Ok(())
 }
 
-/// The query has this answer over the document, and `err` takes nothing.
+/// The query has this answer over the document, `err` takes nothing, and the trace of the run is accepted.
 fn is_answered(
     rt: &impl Abort,
     alloc: Global,
@@ -55,7 +57,8 @@ fn is_answered(
         out: answer,
         err: b"",
     };
-    ends_with(rt, alloc, (query, document), end)
+    ends_with(rt, alloc, (query, document), end)?;
+    is_accepted(rt, alloc, query, document)
 }
 
 /// The query over the document ends with this status and this line, and nothing is written.
@@ -458,6 +461,7 @@ fn each_status_has_its_code(rt: HostRuntime) {
         Status::ReadFault.code(),
         Status::WriteFault.code(),
         Status::Memory.code(),
+        Status::TraceRefused(7).code(),
     ];
-    assert_eq!(rt; codes, [0, 2, 3, 4, 5, 6, 7]);
+    assert_eq!(rt; codes, [0, 2, 3, 4, 5, 6, 7, 8]);
 }

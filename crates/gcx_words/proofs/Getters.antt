@@ -10,7 +10,7 @@ use Rattle.clap.specs.declared.parser.matches.Found.{Found}
 use Rattle.clap.proofs.ValueTestLemmas.{accepts-Accepts, Accepts-accepts}
 use Rattle.clap.proofs.WalkLemmas.{one_text-rows}
 use Rattle.gcx_words.specs.Rows.{read_number, any_number_at, found_by, found_if, rows_found}
-use Rattle.gcx_words.specs.Words.{run_app, pair_app, single_app, numbers_app}
+use Rattle.gcx_words.specs.Words.{run_app, pair_app, check_app, single_app, numbers_app}
 use Rattle.std.specs.Prelude.{IfOk}
 use Rattle.std.proofs.Common.{inl, inr, ap₂}
 use Rattle.clap.specs.Words.{App, is_simple, is_simple_and_free, fault_of, matches_of, HasMatchesOf, FailsBy, HasKind, Kinds, kind_of}
@@ -69,6 +69,10 @@ takes_gen = refl
 pub takes_selfrun : is_simple_and_free (numbers_app (codes "selfrun")) ≡ true
 unfolding clap_on_literals
 takes_selfrun = refl
+
+pub takes_check : is_simple_and_free check_app ≡ true
+unfolding clap_on_literals
+takes_check = refl
 
 simple_part : (app : App) → is_simple_and_free app ≡ true → is_simple app ≡ true
 simple_part app e = (both _ _ e).0

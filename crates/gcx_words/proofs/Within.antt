@@ -3,10 +3,10 @@ use Rattle.std.proofs.Common.{◌≡◌, ℕ, ◌≤◌, Bool, true, false, cond
 use Rattle.std.specs.Prelude.{option_and_then, option_map, ◌&&◌, IfSome}
 use Rattle.clap.specs.Words.{Row, Text, first_of}
 use Rattle.gcx_words.specs.Rows.{any_number_at, between, flag_at, found_by, number_at}
-use Rattle.gcx_words.specs.Words.{command_of, named, numbers_app, numbers_of, pair_app, pair_of, read, run_app, run_of, run_with, single_app}
+use Rattle.gcx_words.specs.Words.{check_app, check_of, command_of, named, numbers_app, numbers_of, pair_app, pair_of, read, run_app, run_of, run_with, single_app}
 use Rattle.gcx_words.specs.Within.{IsWithin}
 use Rattle.gcx_words.specs.declared.command.Command.{Command}
-use Rattle.gcx_words.specs.declared.command.Command.TheVariants.{Run, Whole, Explain, Peak, Gen, Selfrun}
+use Rattle.gcx_words.specs.declared.command.Command.TheVariants.{Run, Whole, Explain, Peak, Gen, Selfrun, Check}
 use Rattle.gcx_words.specs.declared.command.Name.{Name}
 use Rattle.gcx_words.specs.declared.command.Name.TheVariants as name
 
@@ -67,6 +67,11 @@ read_within name.Selfrun words c e =
     let h = map_some (λ p. Selfrun p.0 p.1) (option_and_then numbers_of (found_by (numbers_app (codes "selfrun")) words)) c e in
     let r = and_then_some numbers_of (found_by (numbers_app (codes "selfrun")) words) h.0 h.1 in
     subst IsWithin h.2 (numbers_of_within r.0 h.0 r.2)
+read_within name.Check words c e =
+    let h = and_then_some check_of (found_by check_app words) c e in
+    let p = and_then_some (λ (p : Text × Text). option_map (λ trace. Check p.0 p.1 trace) (first_of (codes "trace") h.0)) (pair_of h.0) c h.2 in
+    let t = map_some (λ trace. Check p.0.0 p.0.1 trace) (first_of (codes "trace") h.0) c p.2 in
+    subst IsWithin t.2 tt
 
 -- of what is read under a name
 pub if_within : (n : Name) (words : List Text) (o : Option Command) → o ≡ read n words → IfSome o IsWithin

@@ -11,7 +11,7 @@ use Rattle.gcx_words.specs.Rows.{flag_at, found_by, number_at}
 use Rattle.gcx_words.specs.declared.command.Name.{Name}
 use Rattle.gcx_words.specs.declared.command.Name.TheVariants as name
 use Rattle.gcx_words.specs.declared.command.Command.{Command}
-use Rattle.gcx_words.specs.declared.command.Command.TheVariants.{Run, Whole, Explain, Peak, Gen, Selfrun}
+use Rattle.gcx_words.specs.declared.command.Command.TheVariants.{Run, Whole, Explain, Peak, Gen, Selfrun, Check}
 
 -- ---- The table of names
 
@@ -23,6 +23,7 @@ named_by word =
     else if bytes_eq word (codes "peak") then Some name.Peak
     else if bytes_eq word (codes "gen") then Some name.Gen
     else if bytes_eq word (codes "selfrun") then Some name.Selfrun
+    else if bytes_eq word (codes "check") then Some name.Check
     else None
 
 -- the command that the first word names
@@ -51,6 +52,10 @@ run_app = with_rule (with_rule (with_rule (with_rule (new_app (codes "run")) tra
 -- NAME QUERY DOC
 abbrev pub pair_app : Text → App
 pair_app name = with_rule (with_rule (new_app name) (wanted (codes "query"))) (wanted (codes "document"))
+
+-- check QUERY DOC TRACE
+abbrev pub check_app : App
+check_app = with_rule (with_rule (with_rule (new_app (codes "check")) (wanted (codes "query"))) (wanted (codes "document"))) (wanted (codes "trace"))
 
 -- explain QUERY
 abbrev pub single_app : App
@@ -96,6 +101,12 @@ read_gen words = option_map (λ p. Gen p.0 p.1) (option_and_then numbers_of (fou
 abbrev pub read_selfrun : List Text → Option Command
 read_selfrun words = option_map (λ p. Selfrun p.0 p.1) (option_and_then numbers_of (found_by (numbers_app (codes "selfrun")) words))
 
+abbrev pub check_of : List Row → Option Command
+check_of rows = option_and_then (λ p. option_map (λ trace. Check p.0 p.1 trace) (first_of (codes "trace") rows)) (pair_of rows)
+
+abbrev pub read_check : List Text → Option Command
+read_check words = option_and_then check_of (found_by check_app words)
+
 abbrev pub read : Name → List Text → Option Command
 read name.Run words = read_run words
 read name.Whole words = read_whole words
@@ -103,6 +114,7 @@ read name.Explain words = read_explain words
 read name.Peak words = read_peak words
 read name.Gen words = read_gen words
 read name.Selfrun words = read_selfrun words
+read name.Check words = read_check words
 
 -- Command
 abbrev pub command_of : List Text → Option Command

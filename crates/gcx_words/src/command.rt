@@ -9,6 +9,7 @@ pub enum Name {
     Peak,
     Gen,
     Selfrun,
+    Check,
 }
 
 /// A command, with its arguments.
@@ -44,5 +45,11 @@ pub enum Command {
     Selfrun {
         seed: u32,
         count: u32,
+    },
+    /// Whether TRACE is the trace of QUERY over DOC.
+    Check {
+        query: Text,
+        document: Text,
+        trace: Text,
     },
 }

@@ -1,7 +1,7 @@
 //! The commands of `clap`, one for each form of arguments.
 ghost use Rattle.std.specs.Prelude.{◌≡◌, IfOk};
 ghost use Rattle.clap.specs.Words.{app_of};
-ghost use Rattle.gcx_words.specs.Words.{run_app, pair_app, single_app, numbers_app};
+ghost use Rattle.gcx_words.specs.Words.{run_app, pair_app, check_app, single_app, numbers_app};
 
 use clap::builder::ValueParser;
 use clap::{Arg, ArgAction, Command};
@@ -35,6 +35,20 @@ pub(crate) fn pair_parser<'a>(alloc: Global, name: &'a str) -> Result<Command<'a
     let query = Arg::new(alloc, "query").required(true);
     let document = Arg::new(alloc, "document").required(true);
     let command = Command::new(alloc, name).arg(query)?.arg(document)?;
+    Ok(command)
+}
+
+/// `check QUERY DOC TRACE`.
+pub(crate) fn check_parser<'a>(alloc: Global) -> Result<Command<'a>, Memory>
+    ensures { IfOk result (λ c. app_of c ≡ check_app) }
+{
+    let query = Arg::new(alloc, "query").required(true);
+    let document = Arg::new(alloc, "document").required(true);
+    let trace = Arg::new(alloc, "trace").required(true);
+    let command = Command::new(alloc, "check")
+        .arg(query)?
+        .arg(document)?
+        .arg(trace)?;
     Ok(command)
 }
 

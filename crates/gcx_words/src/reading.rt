@@ -3,11 +3,11 @@ ghost use Rattle.std.specs.Prelude.{◌≡◌, ◌+◌, ℕ, List, [], None, Ok,
 ghost use Rattle.clap.specs.Words.{found_of, rows_of};
 ghost use Rattle.gcx_words.specs.Words.{command_of, named, named_by, numbers_of, pair_of, run_of, run_with};
 ghost use Rattle.gcx_words.specs.Within.{IsWithin};
-ghost use Rattle.gcx_words.specs.Words.{read, read_explain, read_gen, read_peak, read_run, read_selfrun, read_whole};
+ghost use Rattle.gcx_words.specs.Words.{read, read_check, read_explain, read_gen, read_peak, read_run, read_selfrun, read_whole};
 
 use crate::command::{Command, Name};
 use crate::found::{flag_found, number_found, own_found, parsed};
-use crate::parsers::{numbers_parser, pair_parser, run_parser, single_parser};
+use crate::parsers::{check_parser, numbers_parser, pair_parser, run_parser, single_parser};
 use clap::ArgMatches;
 use gcx_base::{Memory, Text};
 use std::alloc::Global;
@@ -28,6 +28,8 @@ fn named_by(word: &[u8]) -> Option<Name>
         Some(Name::Gen)
     } else if word == b"selfrun".as_slice() {
         Some(Name::Selfrun)
+    } else if word == b"check".as_slice() {
+        Some(Name::Check)
     } else {
         None
     }
@@ -141,6 +143,25 @@ fn read_peak(alloc: Global, words: &[&str]) -> Result<Option<Command>, Memory>
     Ok(Some(Command::Peak { query, document }))
 }
 
+fn read_check(alloc: Global, words: &[&str]) -> Result<Option<Command>, Memory>
+    ensures { IfOk result (λ c. c ≡ read_check (map (λ w. w.now) words.now)) }
+{
+    let Some(matches) = parsed(check_parser(alloc)?, words)? else {
+        return Ok(None);
+    };
+    let Some((query, document)) = pair_of(alloc, &matches)? else {
+        return Ok(None);
+    };
+    let Some(trace) = own_found(alloc, &matches, "trace")? else {
+        return Ok(None);
+    };
+    Ok(Some(Command::Check {
+        query,
+        document,
+        trace,
+    }))
+}
+
 fn read_explain(alloc: Global, words: &[&str]) -> Result<Option<Command>, Memory>
     ensures { IfOk result (λ c. c ≡ read_explain (map (λ w. w.now) words.now)) }
 {
@@ -188,6 +209,7 @@ fn read(alloc: Global, name: Name, words: &[&str]) -> Result<Option<Command>, Me
         Name::Peak => read_peak(alloc, words),
         Name::Gen => read_gen(alloc, words),
         Name::Selfrun => read_selfrun(alloc, words),
+        Name::Check => read_check(alloc, words),
     }
 }
 

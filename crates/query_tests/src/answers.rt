@@ -2,11 +2,12 @@
 ghost use Rattle.doc_reader.specs.Standing.{IsOpen};
 
 use doc_reader::Reader;
+use doc_tree::Tree;
 use gcx_base::Limits;
 use std::alloc::Global;
 use std::process::Abort;
 use std::test::Fail;
-use tree_eval::{Tree, answer_whole};
+use tree_eval::answer_whole;
 use xq_parse::parse;
 
 /// A tree of the tokens that wait.

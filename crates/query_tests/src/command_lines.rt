@@ -34,6 +34,16 @@ fn run_shown(
     format!(in alloc; "run {trace} {ahead} {q} {d}")
 }
 
+fn check_shown(
+    alloc: Global,
+    query: &Text,
+    document: &Text,
+    trace: &Text,
+) -> Result<String, AllocError> {
+    let (q, d, t) = (query.as_str(), document.as_str(), trace.as_str());
+    format!(in alloc; "check {q} {d} {t}")
+}
+
 /// A command and its arguments in one line, `none` where there is none.
 fn shown(alloc: Global, command: &Option<Command>) -> Result<String, AllocError> {
     match command {
@@ -51,6 +61,13 @@ fn shown(alloc: Global, command: &Option<Command>) -> Result<String, AllocError>
         Some(Command::Peak { query, document }) => over(alloc, "peak", query, document),
         Some(Command::Gen { seed, count }) => format!(in alloc; "gen {seed} {count}"),
         Some(Command::Selfrun { seed, count }) => format!(in alloc; "selfrun {seed} {count}"),
+        Some(
+            Command::Check {
+                query,
+                document,
+                trace,
+            },
+        ) => check_shown(alloc, query, document, trace),
     }
 }
 
@@ -131,7 +148,17 @@ const OTHERS: &[(&str, &str)] = &[
     ("selfrun|5|1000", "selfrun 5 1000"),
     ("selfrun|5|1000|1", "none"),
     ("many|d|q|o", "none"),
-    ("check|q|d|t", "none"),
+    ("check|q|d|t", "check q d t"),
+    ("check|q|d", "none"),
+    ("check|q|d|t|t", "none"),
+    ("check", "none"),
+    ("check|--trace|q|d|t", "none"),
+    ("check|q|d|--trace", "none"),
+    ("check|--|q|d|t", "check q d t"),
+    ("check|q|--|d|-t", "check q d -t"),
+    ("check|-|-|-", "check - - -"),
+    ("check|q|d|t|--help", "none"),
+    ("Check|q|d|t", "none"),
     ("Run|q|d", "none"),
     ("ru|q|d", "none"),
     ("run |q|d", "none"),

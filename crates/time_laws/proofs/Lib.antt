@@ -1,11 +1,11 @@
 mod Begun
 mod Cuts
 mod Truths
-mod Runs
-mod Clocks
+pub mod Runs
+pub mod Clocks
 mod LastOffs
 mod Lives
-mod Traces
-mod Starts
+pub mod Traces
+pub mod Starts
 mod Judged
 mod InOrder

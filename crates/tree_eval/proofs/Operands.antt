@@ -3,7 +3,7 @@ use Rattle.std.proofs.Common.{◌≡◌, ℕ, List, [], ◌∷◌, map, refl, �
 use Rattle.gcx_model.specs.Tree.{Node, Tree}
 use Rattle.gcx_model.specs.Paths.{value}
 use Rattle.gcx_model.specs.Values as model
-use Rattle.tree_eval.specs.Rows.{node_at}
+use Rattle.doc_tree.specs.Rows.{node_at}
 use Rattle.tree_eval.specs.Operands.{values_at}
 
 each : (P : Tree) (is : List ℕ) → map (values_at P) is ≡ map (λ (n : Node). model.Bytes (value P n)) (map (node_at P.nodes) is)

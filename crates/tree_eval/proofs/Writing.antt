@@ -11,7 +11,7 @@ use Rattle.gcx_model.specs.Query.{CondTree, ExprTree, exprs_of, expr_tree}
 use Rattle.gcx_model.specs.Written.{start_tag, end_tag}
 use Rattle.gcx_model.specs.Answer.{Scope, bind, found, turns, answer_expr, answer_exprs}
 use Rattle.tree_eval.specs.declared.scope.Binding.{Binding}
-use Rattle.tree_eval.specs.Rows.{node_at}
+use Rattle.doc_tree.specs.Rows.{node_at}
 use Rattle.tree_eval.specs.Scopes.{bound_in, bound_node, scope_of}
 use Rattle.tree_eval.specs.Turns.{turn_bytes, turns_bytes}
 use Rattle.tree_eval.proofs.Weight.{weight, weights}

@@ -5,7 +5,7 @@ use Rattle.gcx_model.specs.Paths.{value}
 use Rattle.gcx_model.specs.Values as model
 use Rattle.tree_eval.specs.declared.conditions.Value.{Value}
 use Rattle.tree_eval.specs.declared.conditions.Value.TheVariants as compared
-use Rattle.tree_eval.specs.Rows.{node_at}
+use Rattle.doc_tree.specs.Rows.{node_at}
 
 abbrev pub value_in : Value → model.Value
 value_in (compared.Bytes bytes) = model.Bytes bytes.items

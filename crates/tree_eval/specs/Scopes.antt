@@ -3,7 +3,7 @@ use Rattle.std.specs.Prelude.{ℕ, cond, List, [], ◌∷◌, bytes_eq, Option, 
 use Rattle.gcx_model.specs.Tree.{Node, Root, Tree}
 use Rattle.gcx_model.specs.Answer.{Scope}
 use Rattle.tree_eval.specs.declared.scope.Binding.{Binding}
-use Rattle.tree_eval.specs.Rows.{node_at}
+use Rattle.doc_tree.specs.Rows.{node_at}
 
 -- what the last binding of the name binds it to
 abbrev pub bound_in : Option ℕ → List ℕ → List Binding → Option ℕ

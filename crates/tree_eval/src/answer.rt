@@ -3,13 +3,13 @@ ghost use Rattle.std.specs.Prelude.{◌≡◌, ◌++◌, OnOk, IfOk, flat_map, m
 ghost use Rattle.gcx_model.specs.Document.{Nodes, tree_of};
 ghost use Rattle.gcx_model.specs.Query.{expr_tree, expr_trees, exprs_of, query_trees, cond_tree};
 ghost use Rattle.gcx_model.specs.Answer.{answer, answer_expr, answer_exprs, filtered, copy_of};
-ghost use Rattle.tree_eval.specs.Rows.{node_at};
+ghost use Rattle.doc_tree.specs.Rows.{node_at};
 ghost use Rattle.tree_eval.specs.Scopes.{scope_of};
 ghost use Rattle.tree_eval.specs.Turns.{turns_bytes};
 
 use crate::conditions::{found, holds};
 use crate::scope::Binding;
-use crate::tree::Tree;
+use doc_tree::Tree;
 use doc_write::{put_end, put_start};
 use gcx_base::Memory;
 use gcx_model::{Clause, Expr, Exprs, QCond, Query};

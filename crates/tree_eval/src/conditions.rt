@@ -4,12 +4,12 @@ ghost use Rattle.gcx_model.specs.Paths.{any};
 ghost use Rattle.gcx_model.specs.Values.{compare};
 ghost use Rattle.gcx_model.specs.Query.{cond_tree};
 ghost use Rattle.gcx_model.specs.Answer.{found, values, some_pair, holds};
-ghost use Rattle.tree_eval.specs.Rows.{node_at};
+ghost use Rattle.doc_tree.specs.Rows.{node_at};
 ghost use Rattle.tree_eval.specs.Scopes.{scope_of};
 ghost use Rattle.tree_eval.specs.Operands.{value_in, values_at};
 
 use crate::scope::{Binding, look_up};
-use crate::tree::Tree;
+use doc_tree::Tree;
 use gcx_base::{Memory, Rel};
 use gcx_model::{PathExpr, QCond, QOperand};
 use std::alloc::Global;

@@ -3,12 +3,6 @@
 
 mod answer;
 mod conditions;
-mod copies;
-mod row;
 mod scope;
-mod sets;
-mod texts;
-mod tree;
 
 pub use answer::answer_whole;
-pub use tree::Tree;

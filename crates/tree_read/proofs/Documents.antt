@@ -11,10 +11,9 @@ use Rattle.gcx_model.specs.Tree.{Tree, Token as Said, Start, Chars, End, opening
 use Rattle.gcx_model.specs.Faults.{FaultIs, none_yet, within_limit}
 use Rattle.gcx_model.specs.declared.fault.DocFault.{DocFault}
 use Rattle.gcx_model.specs.declared.fault.DocFault.TheVariants as fault
-use Rattle.doc_reader.specs.Standing.{ReaderView, Stands, Keeps, Accepted, Answers, waiting, reader_tokens, given_token}
+use Rattle.doc_reader.specs.Standing.{ReaderView, Stands, Keeps, Accepted, Answers, waiting, reader_tokens, given_token, said_of}
 use Rattle.doc_reader.specs.declared.token.Token.{Token}
 use Rattle.doc_reader.specs.declared.token.Token.TheVariants.{EndOfDocument}
-use Rattle.tree_eval.specs.Tokens.{token_of}
 use Rattle.tree_read.specs.declared.reading.DocumentEnd.TheVariants as end
 use Rattle.tree_read.specs.Document.{IsWhole, HasGrown, EndsBy, SaysWhy, end_of}
 
@@ -24,7 +23,7 @@ use Rattle.tree_read.specs.Document.{IsWhole, HasGrown, EndsBy, SaysWhy, end_of}
 pub record HasTaken (old new : ReaderView) (before after : Tree) : Type 0 where
   pub tokens : List Token
   pub waits : waiting old ≡ tokens ++ waiting new
-  pub tree_is : after ≡ grow_all (map token_of tokens) before
+  pub tree_is : after ≡ grow_all (map said_of tokens) before
   pub stands : (lim : Limits) (b : List ℕ) (ended : Bool) (given : List Token) → Stands old lim b ended given → Stands new lim b ended (given ++ tokens)
   pub keeps : Keeps old new
 
@@ -41,12 +40,12 @@ grow_more : (ts us : List Said) (P : Tree) → grow_all (ts ++ us) P ≡ grow_al
 grow_more [] us P = refl
 grow_more (t ∷ ts) us P = grow_more ts us (grow t P)
 
-grown_on : (xs ys : List Token) (P Q R : Tree) → Q ≡ grow_all (map token_of xs) P → R ≡ grow_all (map token_of ys) Q → R ≡ grow_all (map token_of (xs ++ ys)) P
-grown_on xs ys P Q R h k = k ∙ ap (grow_all (map token_of ys)) h ∙ sym (grow_more (map token_of xs) (map token_of ys) P) ∙ ap (λ (l : List Said). grow_all l P) (sym (map-append token_of xs ys))
+grown_on : (xs ys : List Token) (P Q R : Tree) → Q ≡ grow_all (map said_of xs) P → R ≡ grow_all (map said_of ys) Q → R ≡ grow_all (map said_of (xs ++ ys)) P
+grown_on xs ys P Q R h k = k ∙ ap (grow_all (map said_of ys)) h ∙ sym (grow_more (map said_of xs) (map said_of ys) P) ∙ ap (λ (l : List Said). grow_all l P) (sym (map-append said_of xs ys))
 
 pub taken_on : (a b c : ReaderView) (s t u : Tree) (x : Token) → HasTaken a b s t → waiting b ≡ x ∷ waiting c
     → ((lim : Limits) (bs : List ℕ) (ended : Bool) (given : List Token) → Stands b lim bs ended given → Stands c lim bs ended (given ++ (x ∷ [])))
-    → Keeps b c → u ≡ grow (token_of x) t → HasTaken a c s u
+    → Keeps b c → u ≡ grow (said_of x) t → HasTaken a c s u
 taken_on a b c s t u x h waits on keeps tree = record {
   tokens = h.tokens ++ (x ∷ []);
   waits = h.waits ∙ ap (λ (l : List Token). h.tokens ++ l) waits ∙ sym (append_assoc h.tokens (x ∷ []) (waiting c));
@@ -59,8 +58,8 @@ taken_on a b c s t u x h waits on keeps tree = record {
 pub taken_all : (a b : ReaderView) (s t : Tree) → (h : HasTaken a b s t) → waiting b ≡ [] → h.tokens ≡ waiting a
 taken_all a b s t h none = sym (h.waits ∙ ap (λ (l : List Token). h.tokens ++ l) none ∙ append-nil h.tokens)
 
-pub taken_tree : (a b : ReaderView) (s t : Tree) → HasTaken a b s t → waiting b ≡ [] → t ≡ grow_all (map token_of (waiting a)) s
-taken_tree a b s t h none = h.tree_is ∙ ap (λ (l : List Token). grow_all (map token_of l) s) (taken_all a b s t h none)
+pub taken_tree : (a b : ReaderView) (s t : Tree) → HasTaken a b s t → waiting b ≡ [] → t ≡ grow_all (map said_of (waiting a)) s
+taken_tree a b s t h none = h.tree_is ∙ ap (λ (l : List Token). grow_all (map said_of l) s) (taken_all a b s t h none)
 
 pub taken_stands : (a b : ReaderView) (s t : Tree) → HasTaken a b s t → waiting b ≡ [] → (lim : Limits) (bs : List ℕ) (ended : Bool) (given : List Token) → Stands a lim bs ended given → Stands b lim bs ended (given ++ waiting a)
 taken_stands a b s t h none lim bs ended given st = subst (λ (l : List Token). Stands b lim bs ended (given ++ l)) (taken_all a b s t h none) (h.stands lim bs ended given st)
@@ -119,7 +118,7 @@ pub piece_grown : (r0 r1 r2 : ReaderView) (s t : Tree) (b piece : List ℕ) → 
     → ((lim : Limits) (b : List ℕ) (given : List Token) → Stands r0 lim b false given → Stands r1 lim (b ++ piece) false given)
     → ((lim : Limits) (b : List ℕ) (given : List Token) → Stands r0 lim b false given → FaultIs lim (b ++ piece) false None)
     → ((lim : Limits) (b : List ℕ) (ended : Bool) (given : List Token) → Stands r1 lim b ended given → Stands r2 lim b ended (given ++ waiting r1))
-    → waiting r2 ≡ [] → t ≡ grow_all (map token_of (waiting r1)) s → HasGrown r2 t (b ++ piece)
+    → waiting r2 ≡ [] → t ≡ grow_all (map said_of (waiting r1)) s → HasGrown r2 t (b ++ piece)
 piece_grown r0 r1 r2 s t b piece h fed clean took none tree = record {
   given = h.given ++ waiting r1;
   stands = took full_limits (b ++ piece) false h.given (fed full_limits b h.given h.stands);
@@ -128,21 +127,24 @@ piece_grown r0 r1 r2 s t b piece h fed clean took none tree = record {
   no_fault = clean full_limits b h.given h.stands;
 }
 
-tokens_back : (ts : List Said) → map token_of (map given_token ts) ≡ ts
+tokens_back : (ts : List Said) → map said_of (map given_token ts) ≡ ts
 tokens_back [] = refl
 tokens_back (Start n ∷ ts) = ap (λ (l : List Said). Start n ∷ l) (tokens_back ts)
 tokens_back (Chars t ∷ ts) = ap (λ (l : List Said). Chars t ∷ l) (tokens_back ts)
 tokens_back (End ∷ ts) = ap (λ (l : List Said). End ∷ l) (tokens_back ts)
 
-document_tree : (d : Nodes) → grow_all (map token_of (reader_tokens d)) opening ≡ tree_of d
-document_tree d = ap (λ (l : List Said). grow_all l opening) (map-append token_of (map given_token (tokens d)) (EndOfDocument ∷ []) ∙ ap (λ (l : List Said). l ++ (End ∷ [])) (tokens_back (tokens d)))
+pub said_back : (d : Nodes) → map said_of (reader_tokens d) ≡ tokens d ++ End ∷ []
+said_back d = map-append said_of (map given_token (tokens d)) (EndOfDocument ∷ []) ∙ ap (λ (l : List Said). l ++ (End ∷ [])) (tokens_back (tokens d))
+
+document_tree : (d : Nodes) → grow_all (map said_of (reader_tokens d)) opening ≡ tree_of d
+document_tree d = ap (λ (l : List Said). grow_all l opening) (said_back d)
 
 pub whole_grown : (r0 r1 : ReaderView) (s t : Tree) (b : List ℕ) → (h : HasGrown r0 s b) → Accepted b (h.given ++ waiting r1) → FaultIs full_limits b true None
-    → t ≡ grow_all (map token_of (waiting r1)) s → IsWhole b t
+    → t ≡ grow_all (map said_of (waiting r1)) s → IsWhole b t
 whole_grown r0 r1 s t b h a clean tree = record {
   document = a.document;
   spells = record { chars = a.chars; characters = a.scalars_are; encoded = a.bytes; spells = a.spells };
   only = λ d sp. a.only sp.chars d sp.characters sp.encoded sp.spells;
-  tree_is = grown_on h.given (waiting r1) opening s t h.tree_is tree ∙ ap (λ (l : List Token). grow_all (map token_of l) opening) a.tokens_are ∙ document_tree a.document;
+  tree_is = grown_on h.given (waiting r1) opening s t h.tree_is tree ∙ ap (λ (l : List Token). grow_all (map said_of l) opening) a.tokens_are ∙ document_tree a.document;
   no_fault = clean;
 }

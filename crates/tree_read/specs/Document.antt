@@ -1,21 +1,23 @@
 -- A document's bytes and its tree, and what is read of it.
-use Rattle.std.specs.Prelude.{◌≡◌, ℕ, Bool, true, false, List, [], map, Some, None, Result, ⊤}
+use Rattle.std.specs.Prelude.{◌≡◌, ℕ, Bool, true, false, List, [], ◌∷◌, ◌++◌, map, Some, None, Result, ⊤}
 use Rattle.std.specs.declared.result.Result.TheVariants.{Ok, Err}
+use Rattle.std.specs.Global.{Global}
+use Rattle.std.specs.declared.collections.VecDeque.{VecDeque}
 use lib.Utf8.{scalars, encodes}
 use Rattle.gcx_base.specs.Limits.{full_limits}
 use Rattle.gcx_io.specs.Views.{SourceView}
 use Rattle.gcx_io.specs.Writing.{joined}
-use Rattle.gcx_model.specs.Document.{Nodes, tree_of}
-use Rattle.gcx_model.specs.Tree.{Tree, opening, grow_all}
+use Rattle.gcx_model.specs.Document.{Nodes, tree_of, tokens}
+use Rattle.gcx_model.specs.Tree.{Tree, Token as Said, End as said_end, opening, grow_all}
 use Rattle.gcx_model.specs.Grammar.{SpellsDocument}
 use Rattle.gcx_model.specs.Faults.{FaultIs}
+use Rattle.gcx_model.specs.Seen.{SeenIs}
 use Rattle.gcx_model.specs.declared.fault.DocFault.{DocFault}
 use Rattle.gcx_model.specs.declared.fault.DocFault.TheVariants as fault
 use Rattle.run_words.specs.Reading.{SourceGave, ReadsOn}
 use Rattle.run_words.specs.Stops.{Stop, End, Fault, IsCalm, is_end}
-use Rattle.doc_reader.specs.Standing.{ReaderView, Stands, waiting}
+use Rattle.doc_reader.specs.Standing.{ReaderView, Stands, waiting, said_of}
 use Rattle.doc_reader.specs.declared.token.Token.{Token}
-use Rattle.tree_eval.specs.Tokens.{token_of}
 use Rattle.tree_read.specs.declared.reading.DocumentEnd.{DocumentEnd}
 use Rattle.tree_read.specs.declared.reading.DocumentEnd.TheVariants as end
 
@@ -34,12 +36,27 @@ pub record IsWhole (bytes : List ℕ) (tree : Tree) : Type 0 where
   pub tree_is : tree ≡ tree_of document
   pub no_fault : FaultIs full_limits bytes true None
 
+-- The bytes spell one document, and these are its tokens, those that are seen in them; no fault comes in them.
+pub record AreTokens (bytes : List ℕ) (ts : List Said) : Type 0 where
+  pub document : Nodes
+  pub spells : BytesSpell bytes document
+  pub only : (d : Nodes) → BytesSpell bytes d → d ≡ document
+  pub tokens_are : ts ≡ tokens document ++ said_end ∷ []
+  pub seen : SeenIs full_limits bytes true ts
+  pub no_fault : FaultIs full_limits bytes true None
+
+-- The reader was fed these bytes, which have no fault, and gave these tokens; none waits.
+pub record HasGiven (reader : ReaderView) (given : List Token) (bytes : List ℕ) : Type 0 where
+  pub stands : Stands reader full_limits bytes false given
+  pub nothing_waits : waiting reader ≡ []
+  pub no_fault : FaultIs full_limits bytes false None
+
 -- The reader was fed these bytes, which have no fault, and its tokens grew the tree; none waits.
 pub record HasGrown (reader : ReaderView) (tree : Tree) (bytes : List ℕ) : Type 0 where
   pub given : List Token
   pub stands : Stands reader full_limits bytes false given
   pub nothing_waits : waiting reader ≡ []
-  pub tree_is : tree ≡ grow_all (map token_of given) opening
+  pub tree_is : tree ≡ grow_all (map said_of given) opening
   pub no_fault : FaultIs full_limits bytes false None
 
 -- how a call ends: at Ok this holds, and a refusal is the fault of the bytes
@@ -49,20 +66,28 @@ EndsBy ended bytes (Err (end.Refused f)) P = FaultIs full_limits bytes ended (So
 EndsBy ended bytes (Err end.Fault) P = ⊤
 EndsBy ended bytes (Err end.Memory) P = ⊤
 
--- what is found in the pieces that a document's source gave, by how the reading stopped
-abbrev pub Finds : Result Tree DocumentEnd → List (List ℕ) → Stop → Type 0
-Finds (Ok tree) pieces stop = (stop ≡ End) × IsWhole (joined pieces) tree
-Finds (Err (end.Refused f)) pieces stop = IsCalm stop × FaultIs full_limits (joined pieces) (is_end stop) (Some f)
-Finds (Err end.Fault) pieces stop = (stop ≡ Fault) × FaultIs full_limits (joined pieces) false None
-Finds (Err end.Memory) pieces stop = IsCalm stop
+-- what is found in the pieces that a document's source gave, by how the reading stopped; `Is` ties what is made to all bytes
+abbrev pub Finds : {T : Type 0} → (List ℕ → T → Type 0) → Result T DocumentEnd → List (List ℕ) → Stop → Type 0
+Finds Is (Ok x) pieces stop = (stop ≡ End) × Is (joined pieces) x
+Finds Is (Err (end.Refused f)) pieces stop = IsCalm stop × FaultIs full_limits (joined pieces) (is_end stop) (Some f)
+Finds Is (Err end.Fault) pieces stop = (stop ≡ Fault) × FaultIs full_limits (joined pieces) false None
+Finds Is (Err end.Memory) pieces stop = IsCalm stop
 
 -- The source gave these pieces, and this is found in them.
-pub record ReadsDocument (a b : SourceView) (result : Result Tree DocumentEnd) : Type 0 where
+pub record ReadsBy {T : Type 0} (Is : List ℕ → T → Type 0) (a b : SourceView) (result : Result T DocumentEnd) : Type 0 where
   pub pieces : List (List ℕ)
   pub stop : Stop
   pub gave : SourceGave a b pieces stop
   pub reads_on : ReadsOn full_limits pieces stop
-  pub finds : Finds result pieces stop
+  pub finds : Finds Is result pieces stop
+
+-- so a document's tree is read,
+abbrev pub ReadsDocument : SourceView → SourceView → Result Tree DocumentEnd → Type 0
+ReadsDocument a b result = ReadsBy IsWhole a b result
+
+-- and so are its tokens
+abbrev pub ReadsTokens : SourceView → SourceView → Result (VecDeque Token Global) DocumentEnd → Type 0
+ReadsTokens a b result = ReadsBy (λ bytes ts. AreTokens bytes (map said_of ts.items)) a b result
 
 -- want of memory is an end of its own, not a refusal
 abbrev pub IsRefusal : DocFault → Type 0

@@ -2,21 +2,20 @@
 ghost use Rattle.std.specs.Prelude.{◌≡◌, ◌≤◌, ◌++◌, [], ℕ, List, Some, Bool, true, false, map, OnOk, IfErr, IsErrOf};
 ghost use Rattle.gcx_base.specs.declared.limits.Limits.{Limits};
 ghost use Rattle.gcx_model.specs.Tree.{grow_all};
-ghost use Rattle.doc_reader.specs.Standing.{IsOpen, Stands, Keeps, waiting};
+ghost use Rattle.doc_reader.specs.Standing.{IsOpen, Stands, Keeps, waiting, said_of};
 ghost use Rattle.doc_reader.specs.declared.token.Token.{Token as Given};
-ghost use Rattle.tree_eval.specs.Tokens.{token_of};
 ghost use Rattle.tree_read.specs.Document.{HasGrown, IsWhole, EndsBy, ReadsDocument, SaysWhy};
 
 use doc_reader::Reader;
+use doc_tree::Tree;
 use gcx_base::{Limits, Memory};
 use gcx_io::{Failed, Source};
 use gcx_model::DocFault;
 use std::alloc::Global;
 use thiserror::Error;
-use tree_eval::Tree;
 
 /// The most bytes of one read.
-const PIECE: usize = 65_536;
+pub(crate) const PIECE: usize = 65_536;
 
 /// Why there is no tree.
 #[derive(Clone, Copy, Debug, PartialEq, Eq, Error)]
@@ -70,7 +69,7 @@ impl From<DocFault> for DocumentEnd {
 
 /// Grows the tree by the tokens that wait.
 fn take_waiting(reader: &mut Reader, tree: &mut Tree) -> Result<(), Memory>
-    ensures tree { OnOk result (tree.new ≡ grow_all (map token_of (waiting reader.old)) tree.old) }
+    ensures tree { OnOk result (tree.new ≡ grow_all (map said_of (waiting reader.old)) tree.old) }
     ensures waiting { OnOk result (waiting reader.new ≡ []) }
     ensures stands { OnOk result
         ((lim : Limits) (b : List ℕ) (ended : Bool) (given : List Given) → Stands reader.old lim b ended given

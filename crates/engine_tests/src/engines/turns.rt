@@ -38,7 +38,7 @@ fn read(alloc: Global, document: &[u8]) -> Result<Reader, Fail>
 }
 
 /// The tokens of the document.
-fn tokens_of(alloc: Global, document: &[u8]) -> Result<VecDeque<Token>, Fail>
+pub(super) fn tokens_of(alloc: Global, document: &[u8]) -> Result<VecDeque<Token>, Fail>
     ensures comes { IfOk result (λ tokens. may_all (map said_of tokens.items) opening ≡ true) }
     ensures within { IfOk result (λ tokens. AreWithin (map said_of tokens.items)) }
 {
@@ -75,9 +75,9 @@ fn act(
     Ok(machine.act(alloc, buffer, out)?)
 }
 
-const COPIES: &[u8] = b"<r>{for $x in /a/b return $x}</r>";
+pub(super) const COPIES: &[u8] = b"<r>{for $x in /a/b return $x}</r>";
 
-const TWO: &[u8] = b"<a><b>1</b><c/><b>2</b></a>";
+pub(super) const TWO: &[u8] = b"<a><b>1</b><c/><b>2</b></a>";
 
 /// What the first two calls answer.
 fn first_acted(alloc: Global, plan: &Plan, out: &mut Vec<u8>) -> Result<(Acted, Acted), Fail>

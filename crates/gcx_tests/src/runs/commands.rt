@@ -9,18 +9,18 @@ use std::process::Abort;
 use std::test::Fail;
 
 /// A query, and a document that has all its forms.
-const BS: &[u8] = b"<r>{for $x in /a/b return $x}</r>";
+pub(super) const BS: &[u8] = b"<r>{for $x in /a/b return $x}</r>";
 
-const AB: &[u8] = b"<a><b>1</b><c/><b>2</b></a>";
+pub(super) const AB: &[u8] = b"<a><b>1</b><c/><b>2</b></a>";
 
 const PAIRS: &[u8] =
     b"for $a in /r/x return for $b in /r/y return if ($a/k = $b/k) then <m/> else ()";
 
 const XY: &[u8] = b"<r><x><k>1</k></x><y><k>1</k></y><y><k>2</k></y></r>";
 
-const KS: &[u8] = b"for $x in /r/p return if (exists($x/k)) then <y/> else <n/>";
+pub(super) const KS: &[u8] = b"for $x in /r/p return if (exists($x/k)) then <y/> else <n/>";
 
-const ONES: &[u8] = b"for $x in /r/p return if ($x/k = \"1\") then <y/> else <n/>";
+pub(super) const ONES: &[u8] = b"for $x in /r/p return if ($x/k = \"1\") then <y/> else <n/>";
 
 const CHEAP: &[u8] = b"<out>{
   for $b in /bib/book
@@ -44,7 +44,8 @@ const BIB: &[u8] = b"<?xml version=\"1.0\" encoding=\"UTF-8\"?>
 </bib>
 ";
 
-const JS: &[u8] = b"for $x in /r/p return if (exists($x/k)) then for $y in $x/j return $y else ()";
+pub(super) const JS: &[u8] =
+    b"for $x in /r/p return if (exists($x/k)) then for $y in $x/j return $y else ()";
 
 const EXPLAINED_BS: &[u8] = b"var 0 root
 var 1 of 0 child::a straight
@@ -95,7 +96,7 @@ off 0 6 child::r/child::y child::k whole
 off 0 0 . . own
 ";
 
-const TRACE_BS: &[u8] = b"+ 0 / 0
+pub(super) const TRACE_BS: &[u8] = b"+ 0 / 0
 w 3
 + 1 a 1
 + 2 b 2 3
@@ -130,7 +131,7 @@ o 0 0
 x 0
 ";
 
-const TRACE_KS: &[u8] = b"+ 0 / 0
+pub(super) const TRACE_KS: &[u8] = b"+ 0 / 0
 + 1 r 1
 + 2 p 2
 + 3 k 3
@@ -151,7 +152,7 @@ x 0
 ";
 
 /// The comparison is true once the first `k` is closed, so the later ones leave at once.
-const TRACE_ONES: &[u8] = b"+ 0 / 0
+pub(super) const TRACE_ONES: &[u8] = b"+ 0 / 0
 + 1 r 1
 + 2 p 2
 + 3 k 3
@@ -247,6 +248,7 @@ fn runs_with_a_trace_or_ahead(rt: HostRuntime) -> Result<(), Fail> {
             b"",
         ),
         (b"run|q", BS, AB, Status::Usage, b"", usage),
+        (b"check|q|d", BS, AB, Status::Usage, b"", usage),
         (b"run|--ahead|0|q|d", BS, AB, Status::Usage, b"", usage),
         (
             b"run|--trace|--ahead|3|q|d",

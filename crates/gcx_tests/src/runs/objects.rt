@@ -1,5 +1,5 @@
 //! The objects of a run, in memory, and what it leaves in them.
-ghost use Rattle.std.specs.Prelude.{◌≡◌, ◌<◌, OnOk, []};
+ghost use Rattle.std.specs.Prelude.{◌≡◌, ◌<◌, IfOk, OnOk, []};
 
 use buf_tree::Row;
 use gcx_base::{Memory, Text};
@@ -90,6 +90,7 @@ fn mem_files(
     call: Option<u64>,
 ) -> Result<MemShelf, Fail>
     requires { 0 < most }
+    ensures { IfOk result (λ files. files.kept.openings ≡ []) }
 {
     let (query, document) = files;
     let mut files = MemShelf::new(alloc, 0, most, fails(alloc, call)?);
@@ -161,6 +162,22 @@ pub(super) fn run(
     assert!(rt; most > 0);
     let words = texts(alloc, words)?;
     let mut files = mem_files(alloc, files, most, failing.files)?;
+    Ok(run_over(rt, alloc, &words, &mut files, most, failing)?)
+}
+
+/// A run of `check q d t` over these files and this trace.
+pub(super) fn run_check(
+    rt: &impl Abort,
+    alloc: Global,
+    files: (&[u8], &[u8]),
+    trace: &[u8],
+    most: usize,
+    failing: FailingCalls,
+) -> Result<Ran, Fail> {
+    assert!(rt; most > 0);
+    let words = texts(alloc, &[b"check", b"q", b"d", b"t"])?;
+    let mut files = mem_files(alloc, files, most, failing.files)?;
+    put_file(alloc, &mut files, b"t", trace)?;
     Ok(run_over(rt, alloc, &words, &mut files, most, failing)?)
 }
 

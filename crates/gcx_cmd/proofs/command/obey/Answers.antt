@@ -33,3 +33,9 @@ returns-in-Selfrun g c = record {
       (c.write_selfrun.ensures.does (g.F.Shelf.seen c.args.files.now) (g.E.Sink.seen c.args.err.now)
       (stored (g.N.NodeStore.rows c.args.nodes.now) (g.N.NodeStore.most_held c.args.nodes.now)));
 }
+
+pub returns-in-Check : goal.returns-in-Check
+returns-in-Check g c = record {
+  does = obeyed c.args.command.now _ _ _ _ c.in-Check.is
+      (c.write_check.ensures.does (g.E.Sink.seen c.args.err.now) (stored (g.N.NodeStore.rows c.args.nodes.now) (g.N.NodeStore.most_held c.args.nodes.now)));
+}

@@ -4,7 +4,7 @@ use Rattle.std.proofs.lemmas.List.{take_all}
 use Rattle.gcx_model.specs.Query.{expr_tree, expr_trees, exprs_of, cond_tree}
 use Rattle.gcx_model.specs.Answer.{answer_expr, answer_exprs, bind, found}
 use Rattle.gcx_model.proofs.Folds.{fold_Elem}
-use Rattle.tree_eval.specs.Rows.{node_at}
+use Rattle.doc_tree.specs.Rows.{node_at}
 use Rattle.tree_eval.specs.Scopes.{scope_of}
 use Rattle.tree_eval.specs.Turns.{turns_bytes}
 use Rattle.tree_eval.proofs.Weight.{weights}

@@ -2,7 +2,7 @@ use Rattle.std.proofs.Common.{◌≡◌, ◌+◌, ◌++◌, suc, map, take, leng
 use Rattle.std.specs.Prelude.{flat_map, option_map}
 use Rattle.gcx_model.specs.Query.{expr_tree, expr_trees, exprs_of, cond_tree}
 use Rattle.gcx_model.specs.Answer.{answer_exprs, bind}
-use Rattle.tree_eval.specs.Rows.{node_at}
+use Rattle.doc_tree.specs.Rows.{node_at}
 use Rattle.tree_eval.specs.Scopes.{scope_of}
 use Rattle.tree_eval.specs.Turns.{turns_bytes}
 use Rattle.tree_eval.proofs.Weight.{weight, weights}

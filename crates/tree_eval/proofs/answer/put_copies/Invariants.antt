@@ -1,7 +1,7 @@
 use Rattle.std.proofs.Common.{◌≡◌, ◌++◌, map, take}
 use Rattle.std.specs.Prelude.{flat_map}
 use Rattle.gcx_model.specs.Answer.{copy_of}
-use Rattle.tree_eval.specs.Rows.{node_at}
+use Rattle.doc_tree.specs.Rows.{node_at}
 use Rattle.tree_eval.proofs.answer.put_copies.Given as goal
 
 abbrev pub invariant-loop-node : goal.invariant-loop-node

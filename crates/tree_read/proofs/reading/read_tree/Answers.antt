@@ -6,7 +6,7 @@ use Rattle.gcx_base.specs.Limits.{full_limits}
 use Rattle.gcx_model.specs.Tree.{Tree}
 use Rattle.doc_reader.specs.Standing.{Stands}
 use Rattle.tree_read.specs.declared.reading.DocumentEnd.TheVariants as end
-use Rattle.tree_read.specs.Document.{HasGrown, ReadsDocument}
+use Rattle.tree_read.specs.Document.{IsWhole, HasGrown, ReadsDocument}
 use Rattle.tree_read.proofs.Documents.{grown_none}
 use Rattle.tree_read.proofs.Stopping.{read_none, read_on, stops_at_once, stops_at_fault, stops_in_end, stops_in_piece, ends_whole}
 use Rattle.tree_read.proofs.reading.read_tree.Goals as goal
@@ -16,7 +16,7 @@ reading-init g c =
     let stands : Stands c.new-reader.result full_limits [] false [] = subst (λ (l : Limits). Stands c.new-reader.result l [] false []) c.full-limits.ensures c.new-reader.ensures.stands in
     let grown : HasGrown c.new-reader.result c.in_ok-tree.tree [] = subst (λ (t : Tree). HasGrown c.new-reader.result t []) (sym c.in_ok-tree.ensures) (grown_none c.new-reader.result stands c.new-reader.ensures.nothing) in
     record {
-      so_far = read_none c.new-reader.result c.in_ok-tree.tree (g.S.Source.seen c.args.source.now) grown;
+      so_far = read_none (HasGrown c.new-reader.result c.in_ok-tree.tree) (g.S.Source.seen c.args.source.now) grown;
       is_open = c.new-reader.ensures.open;
       kept = search rules;
       later = omega arith;
@@ -25,7 +25,7 @@ reading-init g c =
 pub returns-in_err-tree-clause-reads : goal.returns-in_err-tree-clause-reads
 returns-in_err-tree-clause-reads g c =
     let seen = g.S.Source.seen c.args.source.now in
-    let reads : ReadsDocument seen seen (Err end.Memory) = stops_at_once seen in
+    let reads : ReadsDocument seen seen (Err end.Memory) = stops_at_once IsWhole seen in
     let p = err_from_is_err_and c.from_residual.result c.from_residual.ensures.1 in
     rw (p.1, p.2) reads
 
@@ -42,7 +42,7 @@ returns-in_err-take_end-clause-reads g c =
     let e = c.in_err-take_end.field-0.0 in
     let room : 0 < length c.read.new.buf = search rules in
     let reads : ReadsDocument (g.S.Source.seen c.args.source.now) (g.S.Source.seen c.read.new.self) (Err e) =
-    stops_in_end (Unit {0}) _ _ _ _ _ _ _ _ _ e h c.in_ok-n.ensures.reads c.if-n-eq0.true room (c.in_err-take_end.ensures.whole _ h.grown)
+    stops_in_end (Unit {0}) _ _ _ _ _ _ _ _ _ e h c.in_ok-n.ensures.reads c.if-n-eq0.true room (c.in_err-take_end.ensures.whole _ h.holds)
     (λ is. c.in_err-take_end.ensures.read (ap Err is)) in
     let p = err_from_is_err_and c.from_residual-in_err-take_end.result c.from_residual-in_err-take_end.ensures.1 in
     rw (p.1, p.2) reads
@@ -51,7 +51,7 @@ pub returns-then-n-eq0-clause-reads : goal.returns-then-n-eq0-clause-reads
 returns-then-n-eq0-clause-reads g c =
     let h = c.reading.invariant.so_far in
     let room : 0 < length c.read.new.buf = search rules in
-    ends_whole _ _ _ _ _ _ _ _ _ h c.in_ok-n.ensures.reads c.if-n-eq0.true room (c.in_ok-take_end.ensures.whole _ h.grown)
+    ends_whole _ _ _ _ _ _ _ _ _ h c.in_ok-n.ensures.reads c.if-n-eq0.true room (c.in_ok-take_end.ensures.whole _ h.holds)
 
 pub returns-in_err-take_piece-clause-reads : goal.returns-in_err-take_piece-clause-reads
 returns-in_err-take_piece-clause-reads g c =
@@ -61,7 +61,7 @@ returns-in_err-take_piece-clause-reads g c =
     let fits : c.in_ok-n.n ≤ length c.read.new.buf = search rules in
     let short : length c.read.new.buf ≤ 65536 = search rules in
     let reads : ReadsDocument (g.S.Source.seen c.args.source.now) (g.S.Source.seen c.read.new.self) (Err e) =
-    stops_in_piece (Unit {0}) _ _ _ _ _ _ _ _ _ e h c.in_ok-n.ensures.reads some fits short (c.in_err-take_piece.ensures.grown _ h.grown)
+    stops_in_piece (Unit {0}) _ _ _ _ _ _ _ _ _ e h c.in_ok-n.ensures.reads some fits short (c.in_err-take_piece.ensures.grown _ h.holds)
     (λ is. c.in_err-take_piece.ensures.read (ap Err is)) in
     let p = err_from_is_err_and c.from_residual-in_err-take_piece.result c.from_residual-in_err-take_piece.ensures.1 in
     rw (p.1, p.2) reads
@@ -73,7 +73,7 @@ reading-preserved g c =
     let fits : c.in_ok-n.n ≤ length c.read.new.buf = search rules in
     let short : length c.read.new.buf ≤ 65536 = search rules in
     record {
-      so_far = read_on _ _ _ _ _ _ _ _ _ _ h c.in_ok-n.ensures.reads some fits short (c.in_ok-take_piece.ensures.grown _ h.grown);
+      so_far = read_on _ _ _ _ _ _ _ _ (λ bytes k. k.no_fault) h c.in_ok-n.ensures.reads some fits short (c.in_ok-take_piece.ensures.grown _ h.holds);
       is_open = c.in_ok-take_piece.ensures.open;
       kept = g.met.S.Source.keeps_on _ _ _ c.reading.invariant.kept c.in_ok-n.ensures.kept;
       later = search rules;

@@ -1,0 +1,141 @@
+"""What the scripts of bench/ have in common: files of the repository, the program, documents, and what a command takes."""
+import contextlib
+import os
+import re
+import shutil
+import subprocess
+import tempfile
+import time
+from typing import NamedTuple
+
+HERE = os.path.dirname(os.path.abspath(__file__))
+TOP = os.path.dirname(HERE)
+PROGRAM = f"{TOP}/crates/gcx/out/gcx"
+PIECE = 1 << 16
+
+
+def text_of(path):
+    """The text of a file of the repository."""
+    with open(os.path.join(TOP, path), encoding="utf-8") as it:
+        return it.read()
+
+
+def write(path, pieces):
+    """Writes pieces of bytes into a file, and gives its size."""
+    with open(path, "wb") as out:
+        for piece in pieces:
+            out.write(piece)
+    return os.path.getsize(path)
+
+
+def program_of(words):
+    """The program that the first word names; without one, that which the gate and `rt run` leave."""
+    program = os.path.abspath(words[0] if words else PROGRAM)
+    if not os.access(program, os.X_OK):
+        raise SystemExit(f"no program {program}: give its path")
+    return program
+
+
+def items(seed, count):
+    """The document of `gcx gen`, in pieces: so many items, each with a price and a note."""
+    yield b"<items>"
+    for first in range(0, count, 10_000):
+        rows = range(first, min(first + 10_000, count))
+        yield b"".join(b"<item><price>%d</price><note>%07d</note></item>" % ((seed + 37 * i) % 100, i) for i in rows)
+    yield b"</items>"
+
+
+def compiled(work, name, *options):
+    """The program of a C file of this folder, made where it isn't there yet."""
+    made = f"{work}/{name}"
+    if not os.path.exists(made):
+        subprocess.run(["cc", "-O2", "-o", made, f"{HERE}/{name}.c", *options], check=True)
+    return made
+
+
+class Took(NamedTuple):
+    """What a run took: processor seconds, peak resident bytes, seconds, those until the first byte of output; and the bytes of
+    output, the exit code, and what stood on standard error."""
+
+    processor: float
+    peak: int
+    seconds: float
+    first: float
+    size: int
+    code: int
+    said: str
+
+
+def timed(command, work):
+    """Runs a command, by measured.c, whose own memory is small."""
+    measured = compiled(work, "measured")
+    with open(f"{work}/said", "w+", encoding="utf-8", errors="replace") as said:
+        start, first, size = time.monotonic(), None, 0
+        child = subprocess.Popen([measured, f"{work}/usage", *command], stdout=subprocess.PIPE, stderr=said)
+        while piece := os.read(child.stdout.fileno(), PIECE):
+            first = first or time.monotonic() - start
+            size += len(piece)
+        child.stdout.close()
+        code = child.wait()
+        seconds = time.monotonic() - start
+        said.seek(0)
+        with open(f"{work}/usage", encoding="utf-8") as it:
+            processor, peak = it.read().split()
+        return Took(float(processor), int(peak), seconds, first or 0.0, size, code, said.read().strip())
+
+
+def best(command, work, times=3):
+    """The run of several that took the least time of the processor; each must end with 0."""
+    runs = [timed(command, work) for _ in range(times)]
+    for took in runs:
+        if took.code:
+            raise SystemExit(f"{command} ended with {took.code}: {took.said}")
+    return min(runs)
+
+
+def instructions(command, work, *options):
+    """The instructions that a command takes, by callgrind, and what it wrote; it must end with 0."""
+    calls = f"{work}/calls"
+    words = ["valgrind", "--tool=callgrind", f"--callgrind-out-file={calls}", *options, *command]
+    done = subprocess.run(words, stdout=subprocess.PIPE, stderr=subprocess.PIPE, check=False)
+    if done.returncode:
+        raise SystemExit(f"{command} ended with {done.returncode} below valgrind: {done.stderr.decode(errors='replace')[-2000:]}")
+    with open(calls, encoding="utf-8") as it:
+        count = next(int(line.split()[1]) for line in it if line.startswith(("summary:", "totals:")))
+    return count, done.stdout
+
+
+@contextlib.contextmanager
+def folder_of(words):
+    """The folder that the first word names, made where it isn't there; without one, one that is removed afterwards."""
+    with tempfile.TemporaryDirectory() as other:
+        folder = os.path.abspath(words[0] if words else other)
+        os.makedirs(folder, exist_ok=True)
+        yield folder
+
+
+def copy_of(work, *names):
+    """A copy of these crates, and of all below them, in work/copy, with its crates.txt; gives its path."""
+    lines = dict(re.findall(r"^(\w+):(.*)$", text_of("crates.txt"), re.M))
+    wanted, waits = [], list(names)
+    while waits:
+        name = waits.pop()
+        if name in lines and name not in wanted:
+            wanted.append(name)
+            waits += lines[name].split()
+    copy = f"{work}/copy"
+    shutil.rmtree(copy, ignore_errors=True)
+    for name in wanted:
+        for part in ("src", "specs", "proofs"):
+            if os.path.isdir(f"{TOP}/crates/{name}/{part}"):
+                shutil.copytree(f"{TOP}/crates/{name}/{part}", f"{copy}/crates/{name}/{part}")
+    write(f"{copy}/crates.txt", [f"{name}:{lines[name]}\n".encode() for name in wanted])
+    return copy
+
+
+def proved(folder, *words):
+    """Proves the program of a crate and runs it once; gives its path."""
+    done = subprocess.run(["rt", "run", "--", *words], cwd=folder, stdout=subprocess.PIPE, stderr=subprocess.STDOUT, text=True, check=False)
+    if done.returncode:
+        raise SystemExit(f"the program of {folder} can't be made:\n" + "\n".join(done.stdout.splitlines()[-20:]))
+    return f"{folder}/out/{os.path.basename(folder)}"

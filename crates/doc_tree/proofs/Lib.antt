@@ -1,0 +1,11 @@
+pub mod Nodes
+pub mod Steps
+pub mod Order
+pub mod Taking
+pub mod Copying
+pub mod Numbers
+pub mod Children
+pub mod Below
+pub mod Counting
+pub mod Values
+pub mod Places

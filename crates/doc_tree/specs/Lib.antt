@@ -1,0 +1,4 @@
+pub mod Coded
+pub mod Rows
+pub mod Sets
+pub mod Copies

@@ -1,0 +1,17 @@
+-- What `run --trace` wrote is what `check` accepts (this project's).
+use Rattle.std.specs.Prelude.{ℕ, true, List}
+use Rattle.gcx_base.specs.Limits.{full_limits}
+use Rattle.gcx_io.specs.Writing.{Takes, joined}
+use Rattle.gcx_model.specs.Seen.{SeenIs}
+use Rattle.gcx_model.specs.Tree.{Token}
+use Rattle.time_laws.specs.Checking.{Yes, Judges, fitted, line_ends}
+use Rattle.gcx_cmd.specs.Outside.{Outside}
+use Rattle.gcx_cmd.specs.RunDoes.{Runs}
+use Rattle.gcx_cmd.specs.Tracing.{trace_text}
+use Rattle.gcx_cmd.specs.declared.status.Status.TheVariants as status
+
+-- What a run wrote on the diagnoses at Ok is judged with yes, of the same query and of the tokens seen in the same bytes of DOC.
+abbrev pub RunsAreAccepted : Type 0
+RunsAreAccepted = (ahead : ℕ) (q d : List ℕ) (a b : Outside) (r : Runs true ahead q d status.Ok a b) (ts : List Token)
+    → SeenIs full_limits (joined r.pieces) true ts
+    → (took : List ℕ) × Takes a.err b.err took × Judges (trace_text r.x ts) (Yes (fitted (line_ends took))) took true

@@ -1,0 +1,10 @@
+pub mod Timing
+pub mod Scopes
+pub mod Settling
+pub mod Memoing
+pub mod Acting
+pub mod Reaching
+pub mod Wanting
+pub mod Telling
+pub mod Judging
+pub mod Accepting

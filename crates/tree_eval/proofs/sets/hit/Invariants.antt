@@ -1,9 +1,0 @@
-use Rattle.std.proofs.Common.{◌≡◌, take}
-use Rattle.gcx_model.specs.Tree.{serial_of}
-use Rattle.gcx_model.specs.Paths.{hits}
-use Rattle.tree_eval.specs.Rows.{node_at, nodes_of}
-use Rattle.tree_eval.specs.Sets.{members}
-use Rattle.tree_eval.proofs.sets.hit.Given as goal
-
-abbrev pub invariant-loop-step : goal.invariant-loop-step
-invariant-loop-step l = l.set.items ≡ members (hits (serial_of (node_at (nodes_of l.rows) l.node)) (take l.step-index l.steps)) l.rows

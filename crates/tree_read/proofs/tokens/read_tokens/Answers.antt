@@ -1,0 +1,73 @@
+use Rattle.std.proofs.Common.{rules, ◌≤◌, ◌<◌, false, List, [], length, sym, ap, subst, arith}
+use Rattle.std.proofs.lemmas.Result.{err_from_is_err_and}
+use Rattle.std.specs.declared.result.Result.TheVariants.{Err}
+use Rattle.gcx_base.specs.declared.limits.Limits.{Limits}
+use Rattle.gcx_base.specs.Limits.{full_limits}
+use Rattle.doc_reader.specs.Standing.{Stands}
+use Rattle.doc_reader.specs.declared.token.Token.{Token}
+use Rattle.tree_read.specs.declared.reading.DocumentEnd.TheVariants as end
+use Rattle.tree_read.specs.Document.{HasGiven, ReadsTokens}
+use Rattle.tree_read.proofs.Keeping.{given_none}
+use Rattle.tree_read.proofs.Stopping.{read_none, read_on, stops_at_fault, stops_in_end, stops_in_piece, ends_whole}
+use Rattle.tree_read.proofs.tokens.read_tokens.Goals as goal
+
+pub reading-init : goal.reading-init
+reading-init g c =
+    let stands : Stands c.new-reader.result full_limits [] false [] = subst (λ (l : Limits). Stands c.new-reader.result l [] false []) c.full-limits.ensures c.new-reader.ensures.stands in
+    let given : HasGiven c.new-reader.result c.new-tokens.result.items [] = subst (λ (ts : List Token). HasGiven c.new-reader.result ts []) (sym c.new-tokens.ensures.items) (given_none c.new-reader.result stands c.new-reader.ensures.nothing) in
+    record {
+      so_far = read_none (HasGiven c.new-reader.result c.new-tokens.result.items) (g.S.Source.seen c.args.source.now) given;
+      is_open = c.new-reader.ensures.open;
+      kept = g.met.S.Source.keeps_same c.args.source.now;
+      later = omega arith;
+    }
+
+pub returns-in_err-n-clause-reads : goal.returns-in_err-n-clause-reads
+returns-in_err-n-clause-reads g c =
+    let reads : ReadsTokens (g.S.Source.seen c.args.source.now) (g.S.Source.seen c.read.new.self) (Err end.Fault) =
+    stops_at_fault _ _ _ _ _ _ _ _ c.reading.invariant.so_far c.in_err-n.ensures.reads in
+    let p = err_from_is_err_and c.from_residual.result c.from_residual.ensures.1 in
+    rw (p.1, p.2) reads
+
+pub returns-in_err-keep_end-clause-reads : goal.returns-in_err-keep_end-clause-reads
+returns-in_err-keep_end-clause-reads g c =
+    let h = c.reading.invariant.so_far in
+    let e = c.in_err-keep_end.field-0.0 in
+    let room : 0 < length c.read.new.buf = search rules in
+    let reads : ReadsTokens (g.S.Source.seen c.args.source.now) (g.S.Source.seen c.read.new.self) (Err e) =
+    stops_in_end (Unit {0}) _ _ _ _ _ _ _ _ _ e h c.in_ok-n.ensures.reads c.if-n-eq0.true room (c.in_err-keep_end.ensures.whole _ h.holds)
+    (λ is. c.in_err-keep_end.ensures.read (ap Err is)) in
+    let p = err_from_is_err_and c.from_residual-in_err-keep_end.result c.from_residual-in_err-keep_end.ensures.1 in
+    rw (p.1, p.2) reads
+
+pub returns-then-n-eq0-clause-reads : goal.returns-then-n-eq0-clause-reads
+returns-then-n-eq0-clause-reads g c =
+    let h = c.reading.invariant.so_far in
+    let room : 0 < length c.read.new.buf = search rules in
+    ends_whole _ _ _ _ _ _ _ _ _ h c.in_ok-n.ensures.reads c.if-n-eq0.true room (c.in_ok-keep_end.ensures.whole _ h.holds)
+
+pub returns-in_err-keep_piece-clause-reads : goal.returns-in_err-keep_piece-clause-reads
+returns-in_err-keep_piece-clause-reads g c =
+    let h = c.reading.invariant.so_far in
+    let e = c.in_err-keep_piece.field-0.0 in
+    let some : 1 ≤ c.in_ok-n.n = omega arith in
+    let fits : c.in_ok-n.n ≤ length c.read.new.buf = search rules in
+    let short : length c.read.new.buf ≤ 65536 = search rules in
+    let reads : ReadsTokens (g.S.Source.seen c.args.source.now) (g.S.Source.seen c.read.new.self) (Err e) =
+    stops_in_piece (Unit {0}) _ _ _ _ _ _ _ _ _ e h c.in_ok-n.ensures.reads some fits short (c.in_err-keep_piece.ensures.given _ h.holds)
+    (λ is. c.in_err-keep_piece.ensures.read (ap Err is)) in
+    let p = err_from_is_err_and c.from_residual-in_err-keep_piece.result c.from_residual-in_err-keep_piece.ensures.1 in
+    rw (p.1, p.2) reads
+
+pub reading-preserved : goal.reading-preserved
+reading-preserved g c =
+    let h = c.reading.invariant.so_far in
+    let some : 1 ≤ c.in_ok-n.n = omega arith in
+    let fits : c.in_ok-n.n ≤ length c.read.new.buf = search rules in
+    let short : length c.read.new.buf ≤ 65536 = search rules in
+    record {
+      so_far = read_on _ _ _ _ _ _ _ _ (λ bytes k. k.no_fault) h c.in_ok-n.ensures.reads some fits short (c.in_ok-keep_piece.ensures.given _ h.holds);
+      is_open = c.in_ok-keep_piece.ensures.open;
+      kept = g.met.S.Source.keeps_on _ _ _ c.reading.invariant.kept c.in_ok-n.ensures.kept;
+      later = search rules;
+    }
