@@ -2,7 +2,6 @@
 use Rattle.std.proofs.Common.{◌≡◌, ◌≢◌, ◌==◌, ℕ, ◌<◌, Bool, true, false, cond, not, ◌&&◌, List, [], ◌∷◌, map, refl, sym, ◌∙◌, ap, subst, inl, inr, ◌⊎◌, arith, Some, None, Option}
 use Rattle.std.specs.Prelude.{option_map, option_and_then}
 use Rattle.std.specs.List.{filter}
-use Rattle.std.specs.Ordering.{nat_cmp, eq_by_cmp}
 use Rattle.std.specs.Cmp.{nat_cmp_total, unsigned_tied}
 use Rattle.std.specs.FinMap.{get, insert, remove, get-insert, get-remove}
 use Rattle.std.proofs.lemmas.Bool.{and_parts, and_from, true≢false, false≢true, eqb-true, eq-eqb, ne_eqb, false_from_ne_true}
@@ -14,9 +13,6 @@ use Rattle.buf_tree.specs.Shape.{Store, Cell, num, Rising, at_place, at_serial, 
 use Rattle.buf_tree.proofs.Shaping.{at_place_in, at_serial_is, held_in, get_of}
 
 -- ---- reading a changed map
-
-key_is : (q k : ℕ) (b : Bool) → (q == k) ≡ b → eq_by_cmp nat_cmp q k ≡ b
-key_is q k b e = unsigned_tied q k ∙ e
 
 pub get_put : (m : Store) (k : ℕ) (v : Entry Row) (r : ℕ) → get (insert m k v) r ≡ cond (r == k) (Some v) (get m r)
 get_put m k v r = get-insert nat_cmp_total m k v r ∙ ap (λ b. cond b (Some v) (get m r)) (unsigned_tied r k)
@@ -167,9 +163,6 @@ module _ (f : Row → Row) (p : ℕ) (keeps : (r : Row) → ((f r).serial ≡ r.
 -- ---- a leaf less
 
 module _ (m : Store) (xs : List Cell) (s : Shape m xs) (c0 : Cell) (i0 : In c0 xs) (spare : (d : Cell) → In d xs → is_under (num c0) d ≡ false) where
-  abbrev p0 : ℕ
-  p0 = c0.place
-
   abbrev ys : List Cell
   ys = without c0.place xs
 

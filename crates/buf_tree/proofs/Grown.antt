@@ -197,6 +197,3 @@ shape_planted p row z = record {
     each : (r : ℕ) (b : Bool) → (r == p) ≡ b → cond (r == p) (Some (leaf None row)) None ≡ option_map (entry_in (record { place = p; row = row } ∷ [])) (cond (p == r) (Some (record { place = p; row = row })) None)
     each r true f = rw (f, eq-eqb p r (sym (eqb-true r p f))) (ap (λ y. Some y) (sym self))
     each r false f = rw (f, ne_eqb p r (λ h. true≢false (sym (eq-eqb r p (sym h)) ∙ f))) refl
-
-pub shape_empty : Shape empty []
-shape_empty = record { gets = λ r. get-empty nat_cmp r; rising = tt; apart = λ a b i j e. absurd i; up = λ c i. absurd i }

@@ -11,17 +11,17 @@ use Rattle.std.proofs.lemmas.Bool.{false≢true, eqb-true, eq-eqb, ne_eqb, cases
 use Rattle.tree_laws.proofs.Lists.{In, In-left, In-append, In-filter}
 use Rattle.node_store.specs.Rows.{Entry, changed_at, paid_by, with_payload, planted, appended}
 use Rattle.buf_tree.specs.declared.row.Row.{Row}
-use Rattle.buf_tree.specs.Shape.{Store, Cell, num, cells, Rising, is_under, entry_in, Shape, Shaped, with_at, at_place}
+use Rattle.buf_tree.specs.Shape.{Store, Cell, num, cells, is_under, entry_in, Shape, Shaped, with_at, at_place}
 use Rattle.gcx_base.specs.Kinds.{is_text}
 use Rattle.buf_tree.specs.Rows.{shut_row, untaken, IsDead, serials, is_bare}
 use Rattle.gcx_base.specs.declared.kind.Kind.{Kind}
 use Rattle.gcx_base.specs.declared.ids.Serial.{Serial}
 use Rattle.base_laws.proofs.Members.{in_map, from_map}
 use Rattle.buf_tree.specs.Purge.{is_gone, Keeps, Tidy, TidyBut, Purged, Cleared}
-use Rattle.buf_tree.specs.View.{View, Ordered, Kept, Ready, Innermost, num_in}
+use Rattle.buf_tree.specs.View.{View, Ordered, Kept, Ready, Innermost}
 use Rattle.buf_tree.specs.Calls.{HasRole, Left}
 use Rattle.buf_tree.proofs.Shaping.{cells_is, shaped, get_of, at_place_is, rows_number}
-use Rattle.buf_tree.proofs.Grown.{shape_appended, shape_planted, Rising-push}
+use Rattle.buf_tree.proofs.Grown.{shape_appended, shape_planted}
 use Rattle.buf_tree.proofs.Changes.{shape_changed, g_num, get_changed}
 
 length-map : {X Y : Type 0} (f : X → Y) (xs : List X) → length (map f xs) ≡ length xs
@@ -261,15 +261,8 @@ pub kept_same : (m m' : Store) (gone gone' : List ℕ) (cap cap' count nodes : �
 kept_same m m' gone gone' cap cap' count nodes e f l k =
     subst (λ (z : Store). Kept z gone' cap' count nodes) (sym e) (record { shape = k.shape; tidy = k.tidy; held = k.held; room = omega (arith, k.room, ap length f, l); below = k.below; ordered = k.ordered })
 
-pub parent_in : (m : Store) (v : View) (q : ℕ) (above : Row) → cells m ≡ v.rows → Shaped m → Innermost v.rows q → option_map (λ (e : Entry Row). e.payload) (get m q) ≡ Some above → above.serial ≡ num_in (at_place q v.rows)
-parent_in m v q above e s i h = row_in m v.rows q above e s i h ∙ ap num_in (sym (place_in m v.rows q e s i))
-
 pub more_rows : (m : Store) (xs : List Cell) (c : Cell) → Shaped m → cells m ≡ xs ++ c ∷ [] → len m ≡ length xs + 1
 more_rows m xs c s e = rows_number m (cells m) s ∙ ap length e ∙ length-append xs (c ∷ [])
-
-pub rising_new : (m : Store) (v : View) (gone : List ℕ) (cap count nodes : ℕ) → cells m ≡ v.rows → Kept m gone cap count nodes → nodes ≡ v.nodes → (c : Cell) → num c ≡ v.nodes → Rising (v.rows ++ c ∷ [])
-rising_new m v gone cap count nodes e k n c f =
-    Rising-push v.rows c (subst (λ (zs : List Cell). Rising zs) e k.shape.rising) (λ x j. let l = k.below x (subst (λ (zs : List Cell). In x zs) (sym e) j) in omega arith)
 
 keeps_untaken : (k : ℕ) (r : Row) → ((untaken k r).serial ≡ r.serial) × ((untaken k r).parent ≡ r.parent)
 keeps_untaken k r = (refl, refl)

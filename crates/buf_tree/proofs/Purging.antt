@@ -313,6 +313,3 @@ some_entry (Some e) h = (e, refl)
 
 pub count_left : (a b c d e f : ℕ) → a + 1 ≡ b → c ≡ a → d ≡ e + 1 → e + b ≡ f → d + c ≡ f
 count_left a b c d e f h1 h2 h3 h4 = omega arith
-
-pub some_left : (n b : ℕ) → n + 1 ≡ b → 0 < b
-some_left n b h = omega arith

@@ -154,9 +154,6 @@ module _ (m : Store) (s : Shaped m) (T : Tree) (tree : TreeOf (cells m) T) where
 
   -- whether the tail leads to n, by the first of its flags
   module _ (a n : Node) (tail : List Step) (flags : List Bool) (i : In a T.nodes) (j : In n T.nodes) (up : In a (above n)) where
-    flag : (k : RoleKind) → Flags (tail_ends k n) (serial_of a) (tail_steps k tail) n flags → get_or flags 0 false ≡ leads (tail_ends k n) (serial_of a) (tail_steps k tail) n
-    flag k f = f.each 0 (omega arith)
-
     own_flag : Flags (tail_ends Own n) (serial_of a) [] n flags → get_or flags 0 false ≡ is_same n a
     own_flag f = f.each 0 (omega arith) ∙ leads_none (is_same n) n (tree_descends n j) a up
 

@@ -157,14 +157,6 @@ at_place_is (x ∷ xs) a c i = go (x.place == c.place) refl (at_place_is xs (λ 
     go false e ih (inl f) = absurd (false≢true (sym e ∙ eq-eqb x.place c.place (ap (λ (y : Cell). y.place) f)))
     go false e ih (inr k) = ih k
 
-pub at_serial_in : (k : ℕ) (xs : List Cell) (c : Cell) → at_serial k xs ≡ Some c → In c xs × (num c ≡ k)
-at_serial_in k [] c h = absurd (cc)
-at_serial_in k (x ∷ xs) c h = go (num x == k) refl (at_serial_in k xs c) h
-  where
-    go : (b : Bool) → (num x == k) ≡ b → (at_serial k xs ≡ Some c → In c xs × (num c ≡ k)) → cond b (Some x) (at_serial k xs) ≡ Some c → In c (x ∷ xs) × (num c ≡ k)
-    go true e ih l = let f : x ≡ c = cc in (inl f, ap num (sym f) ∙ eqb-true (num x) k e)
-    go false e ih l = let r = ih l in (inr r.0, r.1)
-
 pub at_serial_is : (xs : List Cell) → Rising xs → (c : Cell) (k : ℕ) → In c xs → num c ≡ k → at_serial k xs ≡ Some c
 at_serial_is [] r c k i f = absurd i
 at_serial_is (x ∷ xs) r c k (inl e) f = rw (eq-eqb (num x) k (ap num e ∙ f)) (ap (λ y. Some y) e)

@@ -278,9 +278,6 @@ module _ (m0 : Store) (s0 : Shaped m0) (nest0 : Nested (cells m0)) (off : Off) (
   -- ---- behind `withdraw`: the row goes where nothing keeps it
 
   module _ (m : Store) (k : ℕ) (g : List ℕ) (n : ℕ) (h : Cell) (w : Sweeping m0 m off others c k (num h) g0 g n) (i0 : In h xs) (last : LastBefore xs h k) (inner : Inside xs c h) (p : ℕ) (d : Cell) (j : In d (cells m)) (at : d.place ≡ p) (same : num d ≡ num h) where
-    shed_upto : Upto num (num h) xs (cells m)
-    shed_upto = let l = last.0 in now_upto m k (num h) g n w (omega arith)
-
     d_or : (x : Cell) → In x (cells m) → num h ≤ num x → (x ≡ d) ⊎ (k ≤ num x)
     d_or x v l =
         let z = (now_thinned m k (num h) g n w).each x v in

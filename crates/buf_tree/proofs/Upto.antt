@@ -31,9 +31,6 @@ pub record Upto {X : Type 0} (size : X → ℕ) (k : ℕ) (xs ys : List X) : Typ
 pub upto_back : {X : Type 0} (size : X → ℕ) (k : ℕ) (xs ys : List X) → Upto size k xs ys → Upto size k ys xs
 upto_back size k xs ys u = record { there = u.back; back = u.there }
 
-pub upto_less : {X : Type 0} (size : X → ℕ) (j k : ℕ) (xs ys : List X) → j ≤ k → Upto size k xs ys → Upto size j xs ys
-upto_less size j k xs ys l u = record { there = λ x m i. u.there x (omega arith) i; back = λ x m i. u.back x (omega arith) i }
-
 -- ---- nodes
 
 abbrev pub AllDescend : List Node → Type 0

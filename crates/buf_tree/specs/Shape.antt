@@ -68,9 +68,6 @@ pub record Shape (m : Store) (xs : List Cell) : Type 0 where
 abbrev pub Shaped : Store → Type 0
 Shaped m = Shape m (cells m)
 
-abbrev pub row_now : Store → ℕ → Option Row
-row_now m p = option_map (λ e. e.payload) (get m p)
-
 -- the row at the place p changed by f
 abbrev pub with_at : (Row → Row) → ℕ → Cell → Cell
 with_at f p c = cond (c.place == p) (record { place = c.place; row = f c.row }) c

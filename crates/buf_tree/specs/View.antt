@@ -41,10 +41,6 @@ pub record Ordered (xs : List Cell) : Type 0 where
   pub nested : Nested xs
   pub open_last : (a b : Cell) → In a xs → In b xs → a.row.is_open ≡ true → num a < num b → num a ≤ b.row.parent
 
--- a row lies one level below its parent
-abbrev pub Levelled : List Cell → Type 0
-Levelled xs = (c d : Cell) → In c xs → In d xs → d.row.parent ≡ num c → num c < num d → d.row.level ≡ c.row.level + 1
-
 -- what holds of the store beside the departures, their room, and the numbers of rows and of nodes
 pub record Kept (m : Store) (gone : List ℕ) (capacity count nodes : ℕ) : Type 0 where
   pub shape : Shaped m

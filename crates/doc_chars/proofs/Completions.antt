@@ -26,9 +26,6 @@ record Completes (radix v : ℕ) : Type 0 where
 below_surrogates : (c : ℕ) → 32 ≤ c → c ≤ 55295 → is_char c ≡ true
 below_surrogates c l h = grind (arith, nat_tests)
 
-above_surrogates : (c : ℕ) → 57344 ≤ c → c ≤ 65533 → is_char c ≡ true
-above_surrogates c l h = grind (arith, nat_tests)
-
 above_plane : (c : ℕ) → 65536 ≤ c → c ≤ 1114111 → is_char c ≡ true
 above_plane c l h = grind (arith, nat_tests)
 

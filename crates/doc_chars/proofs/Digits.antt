@@ -1,5 +1,5 @@
 -- Digits of a reference: what they may go on to, and what they can't.
-use Rattle.std.proofs.Common.{◌≡◌, ◌≢◌, ◌⊎◌, ◌++◌, ◌∷◌, [], ◌&&◌, ◌<◌, ◌≤◌, ◌+◌, ◌*◌, ℕ, suc, zero, List, length, drop, get_or, true, false, refl, sym, ap, subst, ◌∙◌, arith, length-append, append_assoc, None, Some, inl, inr, lt-ltb, le-ltb}
+use Rattle.std.proofs.Common.{◌≡◌, ◌≢◌, ◌⊎◌, ◌++◌, ◌∷◌, [], ◌&&◌, ◌<◌, ◌≤◌, ◌+◌, ◌*◌, ℕ, suc, zero, List, length, drop, get_or, true, false, refl, sym, ap, subst, ◌∙◌, arith, append_assoc, None, Some, inl, inr, lt-ltb, le-ltb}
 use Rattle.std.specs.Prelude.{Option, MatchOption, unwrap_or, fold}
 use Rattle.std.specs.Char.{is_digit, digit_value}
 use Rattle.std.proofs.lemmas.Bool.{and_parts, cases_lt, true≢false}
@@ -17,9 +17,6 @@ char_small c h = grind (arith, nat_tests)
 
 -- ---- values
 
-number_push : (radix : ℕ) (digits : List ℕ) (c : ℕ) → number radix (digits ++ c ∷ []) ≡ number radix digits * radix + digit_value c
-number_push radix digits c = fold-append (λ value digit. value * radix + digit_value digit) 0 digits (c ∷ [])
-
 grows : (radix v : ℕ) (digits : List ℕ) → 1 ≤ radix → v ≤ fold (λ value digit. value * radix + digit_value digit) v digits
 grows radix v [] some = omega arith
 grows zero v (d ∷ digits) some = absurd (omega arith)
@@ -31,9 +28,6 @@ grows (suc k) v (d ∷ digits) some =
 value_or : (radix : ℕ) (value : Option ℕ) (digits : List ℕ) → IsValueOf radix value digits → unwrap_or value 0 ≡ number radix digits
 value_or radix None digits is = sym (ap (number radix) is)
 value_or radix (Some v) digits (some, is, small) = sym is
-
-all_push : (radix : ℕ) (digits : List ℕ) (c : ℕ) → all_digits radix digits ≡ true → is_digit c radix ≡ true → all_digits radix (digits ++ c ∷ []) ≡ true
-all_push radix digits c h k = list_all-append (λ d. is_digit d radix) digits (c ∷ []) ∙ (λ i. h i && (k i && true))
 
 pub digit_in : (radix : ℕ) (digits : List ℕ) (c : ℕ) (rest : List ℕ) → all_digits radix (digits ++ c ∷ rest) ≡ true → is_digit c radix ≡ true
 digit_in radix digits c rest h =
@@ -187,27 +181,6 @@ never_other radix value text c n no_digit no_end no_start = never_digit radix va
     behind Hexadecimal value digits is no_start = tt
 
 -- ---- how digits go on
-
-pub digit_more : (radix : Radix) (value : Option ℕ) (text : List ℕ) (c more : ℕ) → InNumber radix value text → is_digit c (base_of radix) ≡ true
-    → more ≡ unwrap_or value 0 * base_of radix + digit_value c → more ≤ 1114111 → InNumber radix (Some more) (text ++ c ∷ [])
-digit_more radix value text c more n digit is small = record {
-  digits = n.digits ++ c ∷ [];
-  text_is = ap (λ t. t ++ c ∷ []) n.text_is ∙ append_assoc (opening_of radix) n.digits (c ∷ []);
-  are = all_push (base_of radix) n.digits c n.are digit;
-  value_is = (
-    omega (arith, length-append n.digits (c ∷ [])),
-    number_push (base_of radix) n.digits c ∙ sym (is ∙ ap (λ v. v * base_of radix + digit_value c) (value_or (base_of radix) value n.digits n.value_is)),
-    small,
-  );
-}
-
-pub to_hexadecimal : (text : List ℕ) → InNumber Decimal None text → InNumber Hexadecimal None (text ++ 120 ∷ [])
-to_hexadecimal text n = record {
-  digits = [];
-  text_is = ap (λ t. t ++ 120 ∷ []) (n.text_is ∙ ap (λ l. 35 ∷ l) n.value_is);
-  are = refl;
-  value_is = refl;
-}
 
 pub closes : (radix : Radix) (v : ℕ) (text : List ℕ) → InNumber radix (Some v) text → is_char v ≡ true → Refers (text ++ 59 ∷ []) v
 closes Decimal v text n char = decimal n.digits (record { some = n.value_is.0; are = n.are; value = n.value_is.1; char = char }) (ap (λ t. t ++ 59 ∷ []) n.text_is)

@@ -1,5 +1,5 @@
 -- Fronts of texts that are Chars.
-use Rattle.std.proofs.Common.{◌≡◌, ◌++◌, ◌∷◌, [], ◌&&◌, ◌<◌, ◌+◌, ℕ, List, length, take, drop, true, false, refl, sym, ap, subst, ◌∙◌, append-nil, arith, length-append, append_assoc, None, Some, take-add, length-drop, length-take, take-take, take-append-drop}
+use Rattle.std.proofs.Common.{◌≡◌, ◌++◌, ◌∷◌, [], ◌&&◌, ◌<◌, ◌+◌, ℕ, List, length, take, drop, true, false, refl, sym, ap, subst, ◌∙◌, append-nil, arith, append_assoc, None, Some, take-add, length-drop, length-take, take-take, take-append-drop}
 use Rattle.std.specs.Prelude.{Option, is_some}
 use Rattle.std.specs.List.{list_all}
 use Rattle.std.specs.Char.{IsScalar, encode_utf8}
@@ -39,13 +39,6 @@ some_bytes c =
     let one = length-le-encodes (c ∷ []) in
     let same = ap length (append-nil (encode_utf8 c)) in
     omega (arith, one, same)
-
-pub front_within : (text front rest : List ℕ) (c : ℕ) (after : List ℕ) (at : ℕ) → text ≡ front ++ rest → length front ≡ at → rest ≡ encode_utf8 c ++ after → at < length text
-front_within text front rest c after at is len parts =
-    let a = ap length is ∙ length-append front rest in
-    let b = ap length parts ∙ length-append (encode_utf8 c) after in
-    let some = some_bytes c in
-    omega (arith, a, b, len, some)
 
 -- ---- where UTF-8 ends
 

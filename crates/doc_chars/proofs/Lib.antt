@@ -6,6 +6,4 @@ pub mod Streams
 pub mod Digits
 pub mod Names
 pub mod Completions
-pub mod Laws
-pub mod ReferenceLaws
 pub mod Agreement

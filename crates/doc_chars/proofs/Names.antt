@@ -1,5 +1,5 @@
 -- Names of entities: what their first letters may go on to.
-use Rattle.std.proofs.Common.{◌≡◌, ◌≢◌, ◌⊎◌, ◌++◌, ◌∷◌, [], ◌==◌, ℕ, List, get_or, refl, ap, arith, inl, inr, cond}
+use Rattle.std.proofs.Common.{◌≡◌, ◌≢◌, ◌⊎◌, ◌∷◌, [], ℕ, List, get_or, refl, ap, arith, inl, inr}
 use Rattle.doc_chars.specs.declared.reference.Entity.{Entity}
 use Rattle.doc_chars.specs.declared.reference.Entity.TheVariants.{Lt, Gt, Amp, Apos, Quot}
 use Rattle.doc_chars.specs.Reference.{Refers, lt, gt, amp, apos, quot, decimal, hexadecimal, NeverRefers}
@@ -24,35 +24,6 @@ kind_of text d (apos e v) = inl (Apos, e, v)
 kind_of text d (quot e v) = inl (Quot, e, v)
 kind_of text d (decimal digits n e) = inr (ap (letter 0) e)
 kind_of text d (hexadecimal digits n e) = inr (ap (letter 0) e)
-
--- the entity by the letter that tells it
-abbrev pub told_by : ℕ → Entity
-told_by c = cond (c == 108) Lt (cond (c == 103) Gt (cond (c == 109) Amp (cond (c == 112) Apos Quot)))
-
-abbrev pub entity_at : List ℕ → Entity
-entity_at text = told_by (cond (letter 0 text == 97) (letter 1 text) (letter 0 text))
-
-pub told_whole : (e : Entity) → entity_at (spelling_of e) ≡ e
-told_whole Lt = refl
-told_whole Gt = refl
-told_whole Amp = refl
-told_whole Apos = refl
-told_whole Quot = refl
-
--- its whole spelling tells it, with anything behind it
-pub told_beyond : (e : Entity) (rest : List ℕ) → entity_at (spelling_of e ++ rest) ≡ e
-told_beyond Lt rest = refl
-told_beyond Gt rest = refl
-told_beyond Amp rest = refl
-told_beyond Apos rest = refl
-told_beyond Quot rest = refl
-
-pub no_hash_beyond : (e : Entity) (rest : List ℕ) → letter 0 (spelling_of e ++ rest) ≡ 35 → ⊥
-no_hash_beyond Lt rest is = omega (arith, is)
-no_hash_beyond Gt rest is = omega (arith, is)
-no_hash_beyond Amp rest is = omega (arith, is)
-no_hash_beyond Apos rest is = omega (arith, is)
-no_hash_beyond Quot rest is = omega (arith, is)
 
 -- ---- the first letters
 

@@ -1,7 +1,7 @@
 -- Carried bytes and a piece.
-use Rattle.std.proofs.Common.{◌≡◌, ◌++◌, ◌∷◌, [], ◌<◌, ◌≤◌, ◌+◌, ◌-◌, ℕ, List, length, take, drop, true, false, refl, sym, ap, subst, ◌∙◌, append-nil, arith, length-append, append_assoc, None, Some, take_all, take_at, inl, inr, length-drop, length-take, take-append-drop, drop-drop}
+use Rattle.std.proofs.Common.{◌≡◌, ◌++◌, [], ◌<◌, ◌≤◌, ◌+◌, ◌-◌, ℕ, List, length, take, drop, true, refl, sym, ap, subst, ◌∙◌, append-nil, arith, length-append, append_assoc, Some, take_all, take_at, inl, inr, length-drop, length-take, take-append-drop, drop-drop}
 use Rattle.std.specs.Prelude.{Option, MatchOption, slice_range, min}
-use Rattle.std.specs.Char.{IsScalar, encode_utf8}
+use Rattle.std.specs.Char.{encode_utf8}
 use Rattle.std.proofs.Math.Seq.{take-append-add}
 use Rattle.std.proofs.lemmas.List.{take-append-le}
 use Rattle.std.proofs.lemmas.Bool.{cases_lt}
@@ -13,11 +13,11 @@ use Rattle.doc_chars.specs.declared.scan.First.{First}
 use Rattle.doc_chars.specs.declared.scan.First.TheVariants.{Whole, Bad, Front}
 use Rattle.doc_chars.specs.declared.scan.Cause.{Cause}
 use Rattle.doc_chars.specs.declared.cut.Cut.{Cut}
-use Rattle.doc_chars.specs.Stream.{IsCharFront, IsNotChar, still_carried}
+use Rattle.doc_chars.specs.Stream.{IsCharFront, still_carried}
 use Rattle.doc_chars.specs.Scan.{AreChars, BeginsWith, Ends, Scanned}
 use Rattle.doc_chars.specs.Cut.{IsCut}
 use Rattle.doc_chars.proofs.Bytes.{front_short, encode_short}
-use Rattle.doc_chars.proofs.Fronts.{begins_front, chars_nil}
+use Rattle.doc_chars.proofs.Fronts.{begins_front}
 
 -- four bytes tell what bytes begin with
 pub begins_whole : (f : First) (s : List ℕ) → BeginsWith f (take 4 s) → BeginsWith f s
@@ -104,28 +104,3 @@ cut_done carried piece cut c used one two fits in_order s some bytes char =
       chars = subst (λ n. AreChars (slice_range piece n cut.whole)) (sym two) s.chars;
       ends = subst (λ (o : Option ℕ). Ends cut.cause (still_carried o carried ++ drop cut.whole piece)) (sym one) (ends_at piece used cut.whole cut.cause in_order s.ends);
     }
-
-pub cut_free : (carried piece : List ℕ) (cut : Cut) → length carried ≡ 0 → cut.first ≡ None → cut.used ≡ 0 → Scanned (drop 0 piece) (cut.whole - 0) cut.cause → IsCut carried piece cut
-cut_free [] piece cut empty one two s =
-    let within = s.within in
-    record {
-      in_order = omega arith;
-      within = omega arith;
-      first = subst (λ (o : Option ℕ). MatchOption o ((cut.used ≡ 0) × (0 < 0 → cut.whole ≡ 0)) (λ d. (0 < 0) × (encode_utf8 d ≡ take cut.used piece) × (is_char d ≡ true))) (sym one)
-          (two, λ some. absurd (omega arith));
-      chars = subst (λ n. AreChars (slice_range piece n cut.whole)) (sym two) s.chars;
-      ends = subst (λ (o : Option ℕ). Ends cut.cause (still_carried o [] ++ drop cut.whole piece)) (sym one) (ends_at piece 0 cut.whole cut.cause (omega arith) s.ends);
-    }
-cut_free (x ∷ carried) piece cut empty one two s = absurd (omega arith)
-
-pub cut_none : (carried piece : List ℕ) (cut : Cut) (cause : Option Cause) → cut ≡ record { first = None; used = 0; whole = 0; cause = cause } → Ends cause (carried ++ piece) → IsCut carried piece cut
-cut_none carried piece cut cause is e = subst (IsCut carried piece) (sym is) (record {
-  in_order = omega arith;
-  within = omega arith;
-  first = (refl, λ _. refl);
-  chars = chars_nil;
-  ends = e;
-})
-
-pub other_char : (s rest : List ℕ) (c : ℕ) → s ≡ encode_utf8 c ++ rest → IsScalar c → is_char c ≡ false → IsNotChar s
-other_char s rest c bytes scalar other = record { c = c; rest = rest; scalar = scalar; bytes = bytes; other = other }

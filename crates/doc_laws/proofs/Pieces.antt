@@ -1,5 +1,5 @@
 -- Bytes in pieces: the characters, the fault of the bytes, and their limit.
-use Rattle.std.proofs.Common.{ℕ, zero, suc, ◌≡◌, ◌+◌, ◌-◌, ◌<◌, ◌≤◌, ◌⊎◌, inl, inr, Bool, true, false, List, [], ◌∷◌, ◌++◌, length, take, Option, Some, None, Ok, Err, refl, sym, ap, ◌∙◌, subst, append_assoc, append-nil, arith, length-append}
+use Rattle.std.proofs.Common.{ℕ, zero, suc, ◌≡◌, ◌+◌, ◌-◌, ◌<◌, ◌≤◌, ◌⊎◌, inl, inr, Bool, true, false, List, [], ◌∷◌, ◌++◌, length, take, Some, None, refl, sym, ap, ◌∙◌, subst, append_assoc, append-nil, arith, length-append}
 use Rattle.std.proofs.lemmas.Str.{encodes-append, length-encode}
 use Rattle.std.proofs.lemmas.Bool.{false≢true, cases_lt, and_parts, and_from}
 use lib.Utf8.{scalar, scalars, encode, encodes}
@@ -7,12 +7,11 @@ use Rattle.gcx_base.specs.declared.limits.Limits.{Limits}
 use Rattle.gcx_model.specs.Document.{Nodes, tokens}
 use Rattle.gcx_model.specs.Grammar.{SpellsDocument}
 use Rattle.gcx_model.specs.declared.fault.DocFault.{DocFault}
-use Rattle.gcx_model.specs.declared.fault.DocFault.TheVariants.{Utf8, Truncated, TooLong}
-use Rattle.gcx_model.specs.Faults.{Refusal, fault_of, size, IsNotUtf8, Decodes, IsBad, FaultWithin, by_character, by_sequence, by_cut, by_end, none_yet, none_whole, FaultIs, within_limit, before_limit, past_limit}
-use Rattle.doc_laws.specs.Machine.{State, is_whole, start}
-use Rattle.doc_laws.specs.Judging.{judged_steps}
+use Rattle.gcx_model.specs.declared.fault.DocFault.TheVariants.{Utf8, Truncated}
+use Rattle.gcx_model.specs.Faults.{size, IsNotUtf8, Decodes, FaultWithin, by_character, by_sequence, by_cut, by_end, none_yet, none_whole, FaultIs, within_limit, before_limit, past_limit}
+use Rattle.doc_laws.specs.Machine.{State, is_whole}
 use Rattle.doc_laws.proofs.Theorems.{whole_spells, not_whole}
-use Rattle.doc_laws.proofs.Faults.{Reads, Said, judged_says, start_reads}
+use Rattle.doc_laws.proofs.Faults.{Reads}
 
 pub scalars_append : (cs ds : List ℕ) → scalars cs ≡ true → scalars ds ≡ true → scalars (cs ++ ds) ≡ true
 scalars_append [] ds h k = k
@@ -20,9 +19,6 @@ scalars_append (c ∷ cs) ds h k = let q = and_parts (scalar c) (scalars cs) h i
 
 joined : (b cs tail piece ds rest : List ℕ) → b ≡ encodes cs ++ tail → tail ++ piece ≡ encodes ds ++ rest → b ++ piece ≡ encodes (cs ++ ds) ++ rest
 joined b cs tail piece ds rest d e = ap (λ l. l ++ piece) d ∙ append_assoc (encodes cs) tail piece ∙ ap (λ l. encodes cs ++ l) e ∙ sym (append_assoc (encodes cs) (encodes ds) rest) ∙ ap (λ l. l ++ rest) (sym (encodes-append cs ds))
-
-pub decodes_more : (b cs tail piece ds rest : List ℕ) → Decodes b cs tail → Decodes (tail ++ piece) ds rest → Decodes (b ++ piece) (cs ++ ds) rest
-decodes_more b cs tail piece ds rest d e = record { chars = scalars_append cs ds d.chars e.chars; parts = joined b cs tail piece ds rest d.parts e.parts; part = e.part }
 
 -- how many bytes characters take
 pub size_is : (cs : List ℕ) → size cs ≡ length (encodes cs)
@@ -38,29 +34,6 @@ pub record Stands (lim : Limits) (b tail : List ℕ) (s : State) : Type 0 where
 -- the place of the bytes that are no character yet
 pub stands_place : (lim : Limits) (b tail : List ℕ) (s : State) (h : Stands lim b tail s) → size h.chars + length tail ≡ length b
 stands_place lim b tail s h = omega (arith, size_is h.chars, ap length h.decodes.parts, length-append (encodes h.chars) tail)
-
-pub start_stands : (lim : Limits) → Stands lim [] [] start
-unfolding encode
-start_stands lim = record { chars = []; decodes = record { chars = refl; parts = refl; part = record { c = 97; rest = 97 ∷ []; scalar = refl; bytes = refl; more = omega arith } }; reads = start_reads lim }
-
--- a piece without a fault
-pub piece_on : (lim : Limits) (b tail piece ds rest : List ℕ) (s t : State) (h : Stands lim b tail s) → Decodes (tail ++ piece) ds rest → judged_steps lim (size h.chars) s ds ≡ Ok t → Stands lim (b ++ piece) rest t
-piece_on lim b tail piece ds rest s t h d e = record {
-  chars = h.chars ++ ds;
-  decodes = decodes_more b h.chars tail piece ds rest h.decodes d;
-  reads = subst (Said lim (h.chars ++ ds)) e (judged_says lim h.chars s ds h.reads);
-}
-
--- a piece with a fault of its characters
-pub piece_fault : (lim : Limits) (b tail piece ds rest : List ℕ) (s : State) (f : Refusal) (ended : Bool) (h : Stands lim b tail s) → scalars ds ≡ true → tail ++ piece ≡ encodes ds ++ rest → judged_steps lim (size h.chars) s ds ≡ Err f → FaultWithin lim (b ++ piece) ended (Some (fault_of f))
-piece_fault lim b tail piece ds rest s f ended h k d e =
-    by_character (h.chars ++ ds) rest f (scalars_append h.chars ds h.decodes.chars k) (joined b h.chars tail piece ds rest h.decodes.parts d) (subst (Said lim (h.chars ++ ds)) e (judged_says lim h.chars s ds h.reads)) refl
-
--- a piece with a sequence that isn't UTF-8
-pub piece_bad : (lim : Limits) (b tail piece ds : List ℕ) (s t : State) (ended : Bool) (h : Stands lim b tail s) → IsBad (tail ++ piece) ds → judged_steps lim (size h.chars) s ds ≡ Ok t → FaultWithin lim (b ++ piece) ended (Some (Utf8 (size (h.chars ++ ds))))
-piece_bad lim b tail piece ds s t ended h d e =
-    let r : Reads lim (h.chars ++ ds) t = subst (Said lim (h.chars ++ ds)) e (judged_says lim h.chars s ds h.reads) in
-    by_sequence (h.chars ++ ds) (record { rest = d.rest; chars = scalars_append h.chars ds h.decodes.chars d.chars; parts = joined b h.chars tail piece ds d.rest h.decodes.parts d.parts; bad = d.bad }) r.clean refl
 
 -- no fault so far
 pub none_stands : (lim : Limits) (b tail : List ℕ) (s : State) → Stands lim b tail s → FaultWithin lim b false None
@@ -129,16 +102,8 @@ take_front zero b more h = refl
 take_front (suc n) [] more h = absurd (omega arith)
 take_front (suc n) (c ∷ b) more h = ap (λ l. c ∷ l) (take_front n b more (omega arith))
 
--- within the limit of bytes, and past it: of a piece the bytes that may be are read first
-pub bytes_within : (lim : Limits) (b : List ℕ) (ended : Bool) (o : Option DocFault) → length b ≤ lim.bytes → FaultWithin lim b ended o → FaultIs lim b ended o
-bytes_within lim b ended o h f = within_limit h f
-
 pub bytes_fault : (lim : Limits) (b piece : List ℕ) (ended : Bool) (f : DocFault) → length b ≤ lim.bytes → lim.bytes < length (b ++ piece) → FaultWithin lim (b ++ take (lim.bytes - length b) piece) false (Some f) → FaultIs lim (b ++ piece) ended (Some f)
 bytes_fault lim b piece ended f h k w = before_limit f k (subst (λ l. FaultWithin lim l false (Some f)) (sym (take_past lim.bytes b piece h)) w) refl
-
-pub bytes_past : (lim : Limits) (b piece tail : List ℕ) (s : State) (ended : Bool) → length b ≤ lim.bytes → lim.bytes < length (b ++ piece) → Stands lim (b ++ take (lim.bytes - length b) piece) tail s → FaultIs lim (b ++ piece) ended (Some (TooLong lim.bytes))
-bytes_past lim b piece tail s ended h k w =
-    past_limit k (subst (λ l. FaultWithin lim l false None) (sym (take_past lim.bytes b piece h)) (none_stands lim (b ++ take (lim.bytes - length b) piece) tail s w)) refl
 
 -- a fault of bytes stays
 pub fault_stays : (lim : Limits) (b more : List ℕ) (ended : Bool) (f : DocFault) → FaultIs lim b false (Some f) → FaultIs lim (b ++ more) ended (Some f)

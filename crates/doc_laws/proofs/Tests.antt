@@ -32,19 +32,6 @@ space_not_name c h =
           ]
     ]
 
-pub space_char : (c : ℕ) → is_white c ≡ true → is_text_char c ≡ true
-space_char c h =
-    let is : (n : ℕ) → is_text_char n ≡ true → eqb c n ≡ true → is_text_char c ≡ true = λ n e f. ap is_text_char (eqb-true c n f) ∙ e in
-    elim (or_cases (eqb c 32) _ h) [
-      | inl e ↦ is 32 refl e
-      | inr h ↦
-          elim (or_cases (eqb c 9) _ h) [
-            | inl e ↦ is 9 refl e
-            | inr h ↦
-                elim (or_cases (eqb c 13) _ h) [ inl e ↦ is 13 refl e | inr e ↦ is 10 refl e ]
-          ]
-    ]
-
 pub not_start : (c : ℕ) → is_part_char c ≡ false → is_start_char c ≡ false
 not_start c h = left (is_start_char c) _ h
   where

@@ -5,8 +5,8 @@ use Rattle.std.proofs.lemmas.Bool.{true≢false}
 use Rattle.std.proofs.lemmas.Str.{chars-encodes}
 use lib.Utf8.{encodes}
 use Rattle.gcx_base.specs.declared.limits.Limits.{Limits}
-use Rattle.gcx_model.specs.Document.{Nodes, tokens, tree_of}
-use Rattle.gcx_model.specs.Tree.{Token as Said, End as said_end, opening, grow_all}
+use Rattle.gcx_model.specs.Document.{Nodes, tokens}
+use Rattle.gcx_model.specs.Tree.{Token as Said, End as said_end}
 use Rattle.gcx_model.specs.Grammar.{SpellsDocument}
 use Rattle.gcx_model.specs.Faults.{Decodes, Clean, FaultIs, within_limit, before_limit, past_limit, FaultWithin, by_character, by_sequence, by_cut, by_end, none_yet, none_whole, fault_of}
 use Rattle.gcx_model.specs.Seen.{closes, stays_open}
@@ -17,10 +17,8 @@ use Rattle.doc_laws.proofs.LastTag.{longest_so_far, seen_whole, seen_one}
 use Rattle.doc_laws.proofs.Pieces.{Stands as Kept}
 use Rattle.doc_laws.proofs.Theorems.{whole_spells, not_whole, spells_one}
 use Rattle.doc_laws.proofs.Unique.{clean_reads}
-use Rattle.doc_reader.specs.Standing.{ReaderView, waiting, given_end, said_of, Gives, GivesBy, IsFault, Stands, answer_by, answer_of, Accepted, reader_tokens, given_token}
-use Rattle.doc_reader.proofs.Givings.{said-map, said-append}
+use Rattle.doc_reader.specs.Standing.{ReaderView, waiting, given_end, said_of, Gives, GivesBy, IsFault, Stands, answer_by, answer_of, Accepted, given_token}
 use Rattle.doc_reader.specs.declared.token.Token.{Token}
-use Rattle.doc_reader.specs.declared.token.Token.TheVariants.{EndOfDocument}
 
 -- what a document's bytes are
 record Whole (lim : Limits) (b : List ℕ) : Type 0 where
@@ -102,10 +100,3 @@ accepts h lim b given r e s = subst (λ (q : Result (Unit {0}) DocFault). OnOk q
     by : (o : Option DocFault) → IsFault o lim b true → GivesBy o lim b true (given ++ waiting h) → OnOk (answer_by o) (Accepted b (given ++ waiting h))
     by None k g = accepted lim b (given ++ waiting h) k g
     by (Some f) k g = tt
-
--- the tokens of a document make its tree
-pub said_tokens : (d : Nodes) → map said_of (reader_tokens d) ≡ tokens d ++ (said_end ∷ [])
-said_tokens d = said-append (map given_token (tokens d)) (EndOfDocument ∷ []) ∙ ap (λ l. l ++ (said_end ∷ [])) (said-map (tokens d))
-
-pub tokens_tree : (d : Nodes) → grow_all (map said_of (reader_tokens d)) opening ≡ tree_of d
-tokens_tree d = ap (λ l. grow_all l opening) (said_tokens d)

@@ -118,10 +118,6 @@ module _ (before : List Token) where
   pub step_ahead : (s : State) (c : ℕ) → step (with_given before s) c ≡ ahead before (step s c)
   step_ahead s c = f_mode s c s.mode
 
-  ok_cond : (b : Bool) (x y : Result State Refusal) → cond b (ahead_ok before x) (ahead_ok before y) ≡ ahead_ok before (cond b x y)
-  ok_cond true x y = refl
-  ok_cond false x y = refl
-
   by_ahead : (lim : Limits) (k : ℕ) (s : State) (c : ℕ) (o : Option State) → judged_by lim k (with_given before s) c (ahead before o) ≡ ahead_ok before (judged_by lim k s c o)
   by_ahead lim k s c None = refl
   by_ahead lim k s c (Some t) =

@@ -1,5 +1,5 @@
 -- Lists of names and bytes.
-use Rattle.std.proofs.Common.{ℕ, ◌≡◌, ◌+◌, ◌-◌, ◌<◌, ◌≤◌, min, Bool, true, false, cond, not, ◌&&◌, eqb, eqb-true, List, [], ◌∷◌, ◌++◌, length, take, drop, get_or, reverse, Some, None, refl, sym, ap, ◌∙◌, inl, inr, arith, length-take}
+use Rattle.std.proofs.Common.{ℕ, ◌≡◌, ◌+◌, ◌-◌, ◌<◌, ◌≤◌, min, Bool, true, false, cond, not, ◌&&◌, eqb, eqb-true, List, [], ◌∷◌, ◌++◌, length, take, drop, get_or, reverse, None, refl, sym, ap, ◌∙◌, inl, inr, arith, length-take}
 use Rattle.std.specs.Prelude.{nat_lt, slice_range, bytes_eq}
 use Rattle.std.specs.Cmp.Lexicographic.{pointwise}
 use Rattle.std.specs.Bool.{Decides}
@@ -92,17 +92,6 @@ not_behind (x ∷ xs) (y ∷ ys) h =
     elim (eqb x y) as (λ (b : Bool). b && pointwise eqb xs (take (length xs) ys) ≡ false → cond b (behind xs ys) None ≡ None) [
       | true ↦ λ h. not_behind xs ys h
       | false ↦ λ h. refl
-    ] h
-
--- bytes that do
-pub is_behind : (xs ys : List ℕ) → pointwise eqb xs (take (length xs) ys) ≡ true → behind xs ys ≡ Some (drop (length xs) ys)
-is_behind [] [] h = refl
-is_behind [] (y ∷ ys) h = refl
-is_behind (x ∷ xs) [] h = absurd (false≢true h)
-is_behind (x ∷ xs) (y ∷ ys) h =
-    elim (eqb x y) as (λ (b : Bool). b && pointwise eqb xs (take (length xs) ys) ≡ true → cond b (behind xs ys) None ≡ Some (drop (length xs) ys)) [
-      | true ↦ λ h. is_behind xs ys h
-      | false ↦ λ h. absurd (false≢true h)
     ] h
 
 pub begins_is : (xs ys : List ℕ) → pointwise eqb xs (take (length xs) ys) ≡ true → ys ≡ xs ++ drop (length xs) ys

@@ -1,5 +1,5 @@
 -- Characters read one after another, and text as a whole.
-use Rattle.std.proofs.Common.{ℕ, ◌≡◌, ◌+◌, ◌-◌, List, [], ◌∷◌, ◌++◌, length, drop, Ok, Err, refl, sym, ap, ◌∙◌, append_assoc, append-nil, arith, length-append, length-drop}
+use Rattle.std.proofs.Common.{ℕ, ◌≡◌, ◌+◌, ◌-◌, List, [], ◌∷◌, ◌++◌, length, drop, Ok, Err, sym, ap, ◌∙◌, append_assoc, append-nil, arith, length-append, length-drop}
 use Rattle.std.specs.Char.{len_utf8}
 use Rattle.std.specs.Str.{chars, IsUtf8}
 use Rattle.std.proofs.lemmas.Str.{chars-nil, length-encode, chars_past_char, IsUtf8-past_char}
@@ -13,7 +13,6 @@ use Rattle.doc_reader.specs.declared.stop.Stop.{Stop}
 use Rattle.doc_reader.specs.declared.stop.Stop.TheVariants.{Refused, Memory}
 use Rattle.doc_reader.specs.Judged.{fault, Refuses, ReadsFront, Judged}
 use Rattle.doc_reader.specs.Limited.{JudgedOne}
-use Rattle.doc_reader.specs.Sound.{IsSound}
 use Rattle.doc_reader.specs.Reading.{IsFirst, Moves, Reached}
 use Rattle.doc_reader.proofs.Sound.{judged_sound}
 
@@ -33,9 +32,6 @@ size_append (x ∷ xs) ys = omega (arith, size_append xs ys)
 
 pub judged_on : (lim : Limits) (place : ℕ) (s t u : State) (a b : List ℕ) → judged_steps lim place s a ≡ Ok t → judged_steps lim (place + size a) t b ≡ Ok u → judged_steps lim place s (a ++ b) ≡ Ok u
 judged_on lim place s t u a b e f = judged_append lim place s a b ∙ ap (λ r. on_ok r (λ v. judged_steps lim (place + size a) v b)) e ∙ f
-
-pub reached_start : (lim : Limits) (place : ℕ) (s : State) (text : List ℕ) → IsSound s → Reached lim place s text place s text
-reached_start lim place s text h = record { front = []; parts = refl; read = refl; at_is = omega arith; room = refl; sound = h }
 
 pub reached_moves : (lim : Limits) (place : ℕ) (old : State) (text : List ℕ) (at : ℕ) (s t : State) (rest : List ℕ) (n : ℕ) → Reached lim place old text at s rest → Moves lim s rest n t → Reached lim place old text (at + n) t (drop n rest)
 reached_moves lim place old text at s t rest n r m = record {

@@ -18,9 +18,6 @@ use Rattle.doc_laws.proofs.Pieces.{size_is}
 use Rattle.doc_reader.specs.Reading.{Moves}
 use Rattle.doc_reader.proofs.Sound.{steps_sound}
 
-pub text_of_chars : (text : List ℕ) → AreChars text → IsUtf8 text
-text_of_chars text h = are_text text h
-
 pub chars_are : (text : List ℕ) (h : AreChars text) → h.cs ≡ chars text
 chars_are text h = sym (chars-encodes h.cs (scalars_of h.cs h.chars)) ∙ ap chars h.bytes
 

@@ -16,11 +16,10 @@ use Rattle.gcx_model.specs.Attributes.{is_quote, is_fresh}
 use Rattle.gcx_model.specs.Faults.{size}
 use Rattle.gcx_model.specs.Fronts.{is_inside}
 use Rattle.gcx_model.specs.Grammar.{may_open}
-use Rattle.gcx_model.specs.Tree.{Token}
 use Rattle.doc_chars.specs.Stream.{AreChars}
 use Rattle.doc_chars.proofs.Streams.{are_text as utf8_of}
 use Rattle.doc_laws.specs.Machine as laws
-use Rattle.doc_laws.specs.Machine.{Mode, Referring, Letters, State, Between, Less, StartName, StartSpace, AttributeName, Equals, InValue, InValueReference, InReference, ValueEnd, Slash, EndName, innermost, begun, opened, emptied, valued, closed, behind, refer, on_referred, on_end, on_ended, on_tag, on_value, to_end_name, step}
+use Rattle.doc_laws.specs.Machine.{Mode, Referring, Letters, State, Between, Less, StartName, StartSpace, AttributeName, Equals, InValue, InValueReference, InReference, ValueEnd, Slash, EndName, innermost, begun, opened, emptied, valued, behind, refer, on_referred, on_ended, to_end_name, step}
 use Rattle.doc_laws.specs.Judging.{naming_by, begins_deep, is_deep, judged_by, judged, judged_steps, on_ok}
 use Rattle.doc_laws.proofs.Pieces.{size_is}
 use Rattle.doc_laws.proofs.Moves.{behind_self}
@@ -53,9 +52,6 @@ moves_on lim s t u text n k a b =
       read = λ place. judged_on lim place s t u a.front b.front (a.read place) (b.read (place + size a.front));
       sound = λ h. b.sound (a.sound h);
     }
-
-pub stops_at : (lim : Limits) (s t : State) (text : List ℕ) (n : ℕ) (waiting : List Token) → Moves lim s text n t → waiting ≡ t.tokens → Stops lim s text waiting
-stops_at lim s t text n waiting m e = record { n = n; state = t; moves = m; waits = e }
 
 pub reached_stops : (lim : Limits) (place : ℕ) (old : State) (text : List ℕ) (at : ℕ) (s : State) (rest : List ℕ) (t : State) → Reached lim place old text at s rest → Stops lim s rest t.tokens → ReadsFront lim place old (chars text) t.tokens
 reached_stops lim place old text at s rest t r h = reached_front lim place old text (at + h.n) h.state t (drop h.n rest) (reached_moves lim place old text at s h.state rest h.n r h.moves) h.waits

@@ -11,7 +11,7 @@ use Rattle.gcx_model.specs.Held.{sum_given}
 use Rattle.move_laws.proofs.Keeping.{taken_are_there}
 use Rattle.buf_tree.specs.View.{View, capped}
 use Rattle.projector.specs.declared.projector.Projector.{Projector}
-use Rattle.pull_eval.specs.Acting.{Acts, MayAct}
+use Rattle.pull_eval.specs.Acting.{Acts}
 use Rattle.pull_eval.specs.declared.machine.Acted.{Acted}
 use Rattle.pull_eval.specs.declared.machine.Acted.TheVariants as acted
 use Rattle.pull_eval.specs.declared.position.Position.{Position}
@@ -20,10 +20,6 @@ use Rattle.engine.specs.Engine.{Actors, ActorsStand, past_at}
 use Rattle.engine.specs.Going.{ActsOn, ActsOne, ActsSome, Goes, SomeActors, all_of}
 use Rattle.engine.proofs.Writing.{goes_none, goes_on}
 use Rattle.engine.proofs.Taking.{Did, did, taken_few, told_all}
-
--- what stands beside a machine may act
-pub may_act : (plan : PlanTree) (stands : Tree → Type 0) (p : Projector) (w : Position) (v : View) (P : Tree) (k : ℕ) → ActorsStand plan stands p w v P k → MayAct stands w v
-may_act plan stands p w v P k s = record { past = past_at plan P k s.fed; taken = k; beside = s.beside; stand = s.stand }
 
 pub acts_by : (plan : PlanTree) (before now : Tree → Type 0) (p : Projector) (w m : Position) (v u : View) (out new : List ℕ) (a : Acted) → Acts before now w m v u out new a
     → (P : Tree) (k : ℕ) → ActorsStand plan before p w v P k → Did plan now p m v u P k out new a

@@ -52,18 +52,6 @@ by lim b ended (Err (NameLong n)) other h = ByFault (NameLong n) refl h
 by lim b ended (Err (TextLong n)) other h = ByFault (TextLong n) refl h
 by lim b ended (Err (TooLong n)) other h = ByFault (TooLong n) refl h
 
--- an answer never is a read fault or a write fault
-pub by_no_read : (r : Result ⊤ DocFault) → ended_by r ≡ ends.ReadFault → ⊥
-by_no_read (Ok u) e = cc
-by_no_read (Err Memory) e = cc
-by_no_read (Err (Utf8 n)) e = cc
-by_no_read (Err (Syntax n)) e = cc
-by_no_read (Err (Truncated n)) e = cc
-by_no_read (Err (Depth n)) e = cc
-by_no_read (Err (NameLong n)) e = cc
-by_no_read (Err (TextLong n)) e = cc
-by_no_read (Err (TooLong n)) e = cc
-
 ok_is : (r : Result ⊤ DocFault) (X : Type 0) → ended_by r ≡ ends.Ok → OnOk r X → X
 ok_is (Ok u) X e h = h
 ok_is (Err Memory) X e h = absurd (cc)
@@ -80,9 +68,3 @@ pub ok_by : (r : Result ⊤ DocFault) (e : Ended) (out trace : List ℕ) (a b : 
 ok_by r e out trace a b X (inl (memory, is, same)) ok h = (let no : ends.Memory ≡ ends.Ok = sym is ∙ ok in absurd (cc))
 ok_by r e out trace a b X (inr (inl (other, is, wrote))) ok h = ok_is r X (sym is ∙ ok) h
 ok_by r e out trace a b X (inr (inr (other, is, stops))) ok h = (let no : ends.WriteFault ≡ ends.Ok = sym is ∙ ok in absurd (cc))
-
--- and it never ends with a read fault
-pub ends_no_read : (r : Result ⊤ DocFault) (e : Ended) (out trace : List ℕ) (a b : Sinks) → EndsWaiting r e out trace a b → e ≡ ends.ReadFault → ⊥
-ends_no_read r e out trace a b (inl (memory, is, same)) fault = (let no : ends.Memory ≡ ends.ReadFault = sym is ∙ fault in cc)
-ends_no_read r e out trace a b (inr (inl (other, is, wrote))) fault = by_no_read r (sym is ∙ fault)
-ends_no_read r e out trace a b (inr (inr (other, is, stops))) fault = (let no : ends.WriteFault ≡ ends.ReadFault = sym is ∙ fault in cc)

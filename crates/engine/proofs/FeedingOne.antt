@@ -1,5 +1,5 @@
 -- A token is fed to an engine.
-use Rattle.std.proofs.Common.{◌≡◌, ℕ, ◌+◌, ◌≤◌, ◌^◌, true, [], length, refl, sym, ◌∙◌, ap, subst, arith}
+use Rattle.std.proofs.Common.{◌≡◌, ℕ, ◌≤◌, true, [], length, refl, sym, ◌∙◌, ap, subst, arith}
 use Rattle.gcx_model.specs.Tree.{Tree, Token as Said, opening, grow}
 use Rattle.gcx_model.specs.Members.{In}
 use Rattle.gcx_model.specs.PlanView.{plan_tree}
@@ -10,7 +10,7 @@ use Rattle.gcx_model.specs.Past.{Past, past_fed}
 use Rattle.buf_tree.specs.Shape.{Cell}
 use Rattle.buf_tree.specs.View.{View, capped}
 use Rattle.buf_tree.specs.Stands.{StandsFor}
-use Rattle.projector.specs.Projector.{Projects, MayBeFed, Places, Changes, DoesBy}
+use Rattle.projector.specs.Projector.{Projects, Places, Changes, DoesBy}
 use Rattle.projector.specs.declared.projector.Fed.{Fed}
 use Rattle.projector.specs.declared.projector.Projector.{Projector}
 use Rattle.engine.specs.declared.engine.Engine.{Engine}
@@ -24,15 +24,6 @@ use Rattle.engine.proofs.Quieting.{quiet_fed}
 
 module _ {N C : Type 0} (stands : C → Tree → Type 0) where
   -- ---- what feeding asks
-
-  pub fed_place : (e : Engine N C) (t : Said) → MayFeed stands e t → Places e.projector e.buffer
-  fed_place e t m = m.of.keeps
-
-  pub fed_may : (e : Engine N C) (t : Said) → MayFeed stands e t → MayBeFed e.buffer t
-  fed_may e t m = record { past = past_at (plan_tree e.plan.now) m.tree m.taken m.of.fed; stands = m.of.beside.buffer; may = m.comes.may }
-
-  pub fed_nodes : (e : Engine N C) (t : Said) → MayFeed stands e t → e.buffer.nodes ≤ 2 ^ 40 + 1
-  fed_nodes e t m = let n = m.of.beside.buffer.nodes in let l = m.comes.nodes in omega arith
 
   pub fed_depth : (e : Engine N C) (t : Said) → MayFeed stands e t → (c : Cell) → In c e.buffer.rows → c.row.is_open ≡ true → c.row.level ≤ 1000
   fed_depth e t m = shallow_rows e.buffer (past_at (plan_tree e.plan.now) m.tree m.taken m.of.fed) m.of.beside.buffer 1000 m.comes.depth

@@ -1,8 +1,6 @@
 -- Which fields of an engine a call leaves as they are.
 use Rattle.std.proofs.Common.{◌≡◌, refl, sym, ◌∙◌, ap, subst}
 use Rattle.doc_reader.specs.Standing.{ReaderView, Keeps}
-use Rattle.projector.specs.declared.projector.Projector.{Projector}
-use Rattle.engine.specs.declared.engine.Counts.{Counts}
 use Rattle.engine.specs.declared.engine.Engine.{Engine}
 
 module _ {N C : Type 0} where
@@ -32,19 +30,6 @@ module _ {N C : Type 0} where
 
   pub acts_on : (old e d : Engine N C) → e ≡ act_form old e → d ≡ act_form e d → d ≡ act_form old d
   acts_on old e d a b = subst (λ (z : Engine N C). d ≡ act_form z d) a b
-
-  pub all_acted : (old e d : Engine N C) → e ≡ fed_form old e → d ≡ act_form e d → d ≡ all_form old d
-  all_acted old e d a b =
-      let h : d ≡ record old { reader = e.reader; projector = e.projector; buffer = d.buffer; machine = d.machine; out = d.out; trace = d.trace; counts = e.counts } = subst (λ (z : Engine N C). d ≡ act_form z d) a b in
-      let r = ap (λ (z : Engine N C). z.reader) b in
-      let p = ap (λ (z : Engine N C). z.projector) b in
-      let n = ap (λ (z : Engine N C). z.counts) b in
-      subst (λ (x : ReaderView). d ≡ record old { reader = x; projector = d.projector; buffer = d.buffer; machine = d.machine; out = d.out; trace = d.trace; counts = d.counts }) (sym r)
-      (subst (λ (x : Projector). d ≡ record old { reader = e.reader; projector = x; buffer = d.buffer; machine = d.machine; out = d.out; trace = d.trace; counts = d.counts }) (sym p)
-      (subst (λ (x : Counts). d ≡ record old { reader = e.reader; projector = e.projector; buffer = d.buffer; machine = d.machine; out = d.out; trace = d.trace; counts = x }) (sym n) h))
-
-  pub all_quiet : (old e : Engine N C) → e ≡ fed_form old e → e ≡ all_form old e
-  all_quiet old e a = all_acted old e e a refl
 
   pub all_on : (old e d : Engine N C) → e ≡ all_form old e → d ≡ all_form e d → d ≡ all_form old d
   all_on old e d a b = subst (λ (z : Engine N C). d ≡ all_form z d) a b

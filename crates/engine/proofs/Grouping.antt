@@ -1,5 +1,5 @@
 -- A group of tokens: one fed after the other, with no action between.
-use Rattle.std.proofs.Common.{◌≡◌, ℕ, ◌+◌, ◌<◌, ◌≤◌, Bool, true, ◌&&◌, List, [], ◌∷◌, ◌++◌, length, map, refl, sym, ◌∙◌, ap, subst, arith, append_assoc, Some, None, Option}
+use Rattle.std.proofs.Common.{◌≡◌, ℕ, ◌+◌, ◌<◌, ◌≤◌, Bool, true, ◌&&◌, List, [], ◌∷◌, ◌++◌, length, map, refl, sym, ◌∙◌, ap, subst, arith, append_assoc}
 use Rattle.std.proofs.lemmas.List.{append-nil, length-append, map-append, length-map}
 use Rattle.std.proofs.lemmas.Bool.{and_parts}
 use Rattle.gcx_base.specs.declared.limits.Limits.{Limits}
@@ -21,11 +21,6 @@ use Rattle.engine.specs.Engine.{Actors, CountsOf, KeepsMost, PartsStand}
 use Rattle.engine.specs.Going.{ComesWithin, Counted, FeedsOne, FeedsSome, MayFeed, all_of}
 use Rattle.engine.proofs.Seeing.{next_comes, seeing, may_parts}
 use Rattle.engine.proofs.Counting.{counts_on}
-
--- an answer that isn't one of a token
-pub not_some : {X : Type 0} (o : Option X) → ((x : X) → o ≡ Some x → ⊥) → o ≡ None
-not_some None h = refl
-not_some (Some x) h = absurd (h x refl)
 
 -- the tree with the next token
 pub tree_on : (given : List Token) (t : Token) → seen_tree (map said_of (given ++ t ∷ [])) ≡ grow (said_of t) (seen_tree (map said_of given))

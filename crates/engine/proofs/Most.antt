@@ -43,13 +43,6 @@ unless_both ends.ReadFault X Y h k = (h, k)
 unless_both ends.WriteFault X Y h k = (h, k)
 unless_both ends.Memory X Y h k = tt
 
--- So the store's most is near the peak, or near what it had had.
-pub most_near : (peak ahead counted lent most : ℕ) → Peaks peak ahead counted → most ≡ max lent counted → Peaks (max lent peak) ahead most
-most_near peak ahead counted lent most p e =
-    let low = p.least in
-    let high = p.near in
-    record { least = omega arith; near = omega arith }
-
 -- where it had had none
 pub most_fresh : (peak ahead counted most : ℕ) → Peaks peak ahead counted → most ≡ max 0 counted → Peaks peak ahead most
 most_fresh peak ahead counted most p e =

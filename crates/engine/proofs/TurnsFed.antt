@@ -37,7 +37,7 @@ use Rattle.engine.proofs.RowsHeld.{shallow_rows}
 use Rattle.engine.proofs.Taking.{beside_told, Did, told_all}
 use Rattle.engine.proofs.Feeding.{given_fed, stands_fed}
 use Rattle.engine.proofs.Acting.{acts_by}
-use Rattle.engine.proofs.TurnsTaken.{TurnedTo, acted_reaches, fed_reaches, feed_goes, from_start, none_left, still_reaches, token_comes, turned_front, turned_on, turned_written}
+use Rattle.engine.proofs.TurnsTaken.{TurnedTo, acted_reaches, fed_reaches, feed_goes, from_start, none_left, still_reaches, token_comes, turned_front, turned_on}
 
 -- ---- each token opens or closes a node, so there are at most two for each node
 
@@ -107,9 +107,6 @@ module _ {N C : Type 0} (stands : C → Tree → Type 0) (plan : PlanTree) (ts :
         let l = h.there in
         let w = tokens_fit ts h.may h.within in
         omega arith
-
-    pub feed_place : Places a.projector a.buffer
-    feed_place = h.actors.keeps
 
     pub feed_may : MayBeFed a.buffer t
     feed_may = record { past = past_at plan P s.acted h.actors.fed; stands = h.actors.beside.buffer; may = comes.may }
@@ -196,10 +193,6 @@ module _ (plan : PlanTree) (ts : List Said) (may : may_all ts opening ≡ true) 
   turns_within u v g =
       let f = turned_front plan ts may (turns_of (take k us)) (turns_of (drop k us)) u v g in
       (f.0, f.1, ap (λ (z : List Turn). bytes_at plan (tree_fed ts (turned plan ts z)) (turned plan ts z).acted) (sym parts_of) ∙ f.2, f.3)
-
-  -- and behind all of them
-  pub turns_written : length us ≤ k → (u v : List ℕ) → Goes plan opening 0 (tree_fed ts (turned plan ts (turns_of (take k us)))) (turned plan ts (turns_of (take k us))).acted u v → v ≡ u ++ written plan ts us
-  turns_written l u v g = turned_written plan ts may (turns_of (take k us)) u v g ∙ ap (λ (z : List CodeTurn). u ++ written plan ts z) (take_all k us l)
 
   pub turns_reach : {N C : Type 0} (stands : C → Tree → Type 0) (a : Actors N C) → length us ≤ k → Reaches stands plan ts (turned plan ts (turns_of (take k us))) a → Reaches stands plan ts (turned plan ts (turns_of us)) a
   turns_reach stands a l h = subst (λ (z : List CodeTurn). Reaches stands plan ts (turned plan ts (turns_of z)) a) (take_all k us l) h

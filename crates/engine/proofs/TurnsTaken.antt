@@ -168,9 +168,6 @@ pub record TurnedTo {N C : Type 0} (stands : C → Tree → Type 0) (plan : Plan
   pub reaches : Reaches stands plan ts (turned plan ts turns) a
   pub goes : Goes plan opening 0 (tree_fed ts (turned plan ts turns)) (turned plan ts turns).acted before after
 
-pub turned_none : {N C : Type 0} (stands : C → Tree → Type 0) (plan : PlanTree) (ts : List Said) (a : Actors N C) (w : List ℕ) → Reaches stands plan ts from_start a → TurnedTo stands plan ts [] a w w
-turned_none stands plan ts a w h = record { reaches = h; goes = goes_none plan opening 0 w }
-
 pub turned_on : {N C : Type 0} (stands : C → Tree → Type 0) (plan : PlanTree) (ts : List Said) (turns : List Turn) (t : Turn) (a d : Actors N C) (u v w : List ℕ) → TurnedTo stands plan ts turns a u v
     → TurnsOn stands plan ts (turned plan ts turns) t d v w → TurnedTo stands plan ts (turns ++ t ∷ []) d u w
 turned_on stands plan ts turns t a d u v w h o =

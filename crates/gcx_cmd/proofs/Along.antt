@@ -8,12 +8,12 @@ use Rattle.std.proofs.lemmas.Bool.{cases_lt}
 use Rattle.gcx_io.proofs.Written.{joined_push, is_some}
 use Rattle.gcx_io.specs.Calls.{GivesHandle, MissesName, ReadsOnce, fresh}
 use Rattle.gcx_io.specs.Causes.{Rose}
-use Rattle.gcx_io.specs.Shelf.{content_of, IsMissing}
+use Rattle.gcx_io.specs.Shelf.{content_of}
 use Rattle.gcx_io.specs.Views.{Call, Gave, Failed, HandleView, ShelfView, missed}
 use Rattle.gcx_io.specs.Writing.{IsSomeBytes, joined}
 use Rattle.run_words.specs.Stops.{More, End, Fault}
 use Rattle.gcx_cmd.proofs.Lists.{slice_get_push, slice_get_set, slice_get_before, slice_get_other}
-use Rattle.gcx_cmd.specs.Reads.{CausesFault, Reads, Opens, Misses, KeepsShelf, Within, PassesIn, most_of_query}
+use Rattle.gcx_cmd.specs.Reads.{Reads, Opens, Misses, KeepsShelf, Within, PassesIn, most_of_query}
 
 -- ---- a handle that was given now
 
@@ -132,15 +132,6 @@ keeps_given name a b h o names = record {
   write_faults = o.write_faults;
 }
 
-pub keeps_missed : (name : List ℕ) (a b : ShelfView) → MissesName name a b → b.write_faults ≡ a.write_faults
-    → Rose a.faults b.faults ⊎ (IsMissing a.names name × (b.faults ≡ a.faults)) → a.faults ≤ b.faults → KeepsShelf a b
-keeps_missed name a b m writes cause later = record {
-  names = m.names;
-  given = λ k within. ap (λ (l : List HandleView). slice_get l k) m.given;
-  faults = later;
-  write_faults = writes;
-}
-
 -- a read of a handle that was given in this call
 pub keeps_read : {E : Type 0} (h : ℕ) (a b c : ShelfView) (r : Result ℕ E) (buf : List ℕ) → KeepsShelf a b → length a.given ≤ h
     → ReadsOnce h b c r buf → KeepsShelf a c
@@ -155,9 +146,3 @@ keeps_read h a b c r buf k behind once = record {
 -- the count rose since an earlier state
 pub rose_since : (a b c : ℕ) → a ≤ b → Rose b c → Rose a c
 rose_since a b c before rose = omega (arith, before, rose)
-
--- an attach failed
-pub cause_missed : (name : List ℕ) (a b : ShelfView) → MissesName name a b → Rose a.faults b.faults ⊎ (IsMissing a.names name × (b.faults ≡ a.faults))
-    → CausesFault name a b
-cause_missed name a b m (inl rose) = inl rose
-cause_missed name a b m (inr missing) = inr (missing.0, length a.given, m.refused)

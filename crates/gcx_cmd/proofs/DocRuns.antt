@@ -1,16 +1,13 @@
 -- A run over DOC, from what its source gave.
-use Rattle.std.proofs.Common.{◌≡◌, inl, inr, ℕ, Bool, List, refl, arith}
-use Rattle.gcx_io.specs.Calls.{MissesName}
-use Rattle.gcx_io.specs.Views.{ShelfView, SinkView, SourceView}
+use Rattle.std.proofs.Common.{◌≡◌, inr, ℕ, Bool, List, refl}
+use Rattle.gcx_io.specs.Views.{SourceView}
 use Rattle.gcx_model.specs.Query.{ExprTree}
 use Rattle.engine.specs.declared.report.Ended.{Ended}
 use Rattle.engine.specs.declared.report.Ended.TheVariants as end
 use Rattle.engine.specs.declared.report.Report.{Report}
-use Rattle.gcx_cmd.proofs.Along.{misses_none}
 use Rattle.gcx_cmd.proofs.FileRead.{FileRead}
 use Rattle.gcx_cmd.specs.DocumentDoes.{OverDoc}
-use Rattle.gcx_cmd.specs.Outside.{Outside, StoreView, beside, sinks_of}
-use Rattle.gcx_cmd.specs.Reads.{Opens}
+use Rattle.gcx_cmd.specs.Outside.{Outside, sinks_of}
 use Rattle.gcx_cmd.specs.RunDoes.{EndsBy, HoldsSeen}
 use Rattle.gcx_cmd.specs.Running.{UnlessMemory}
 use Rattle.gcx_cmd.specs.Runs.{DocumentRuns, SourceRuns}
@@ -40,18 +37,6 @@ module _ (tracing : Bool) (ahead : ℕ) (x : List ExprTree) (d : List ℕ) (a b 
       by_end end.ReadFault o = inr o
       by_end end.WriteFault o = o
       by_end end.Memory o = inr o
-
--- ---- where DOC isn't opened
-
-module _ (tracing : Bool) (ahead : ℕ) (x : List ExprTree) (d : List ℕ) (o e : SinkView) (st : StoreView) where
-  pub document_missed : (a b : ShelfView) → MissesName d a b → DocumentRuns tracing ahead x d status.ReadFault (beside a o e st) (beside b o e st)
-  document_missed a b gone = inl (record { out = refl; err = refl; store = refl }, misses_none d a b gone)
-
-  pub document_lacks : (a b : ShelfView) → b ≡ a → DocumentRuns tracing ahead x d status.Memory (beside a o e st) (beside b o e st)
-  document_lacks a b same = inl (record { out = refl; err = refl; store = refl }, none)
-    where
-      none : Opens 0 a b
-      none = rw same (record { count = omega arith; refused = refl })
 
 -- the status of a read fault is that of no other end
 pub ended_fault : (x : Ended) → ended_status x ≡ status.ReadFault → x ≡ end.ReadFault

@@ -1,8 +1,7 @@
 -- Documents: what bytes without a fault spell, and faults that bytes can't have.
-use Rattle.std.proofs.Common.{◌≡◌, ℕ, Bool, true, false, List, [], ◌∷◌, ◌++◌, take, Option, Some, None, refl, sym, ◌∙◌, ap, subst, append-nil}
+use Rattle.std.proofs.Common.{◌≡◌, ℕ, Bool, true, false, List, [], ◌∷◌, ◌++◌, take, Some, None, refl, sym, ◌∙◌, ap, subst, append-nil}
 use Rattle.std.specs.Prelude.{chars}
 use Rattle.std.proofs.lemmas.Str.{chars-encodes}
-use Rattle.std.specs.Io.KnownBytes.{Consumes}
 use lib.Utf8.{encodes}
 use Rattle.gcx_base.specs.declared.limits.Limits.{Limits}
 use Rattle.gcx_model.specs.Document.{Nodes, tree_of}
@@ -47,10 +46,6 @@ no_memory lim b ended (before_limit f h w o) =
 no_memory lim b ended (past_limit h w o) = let no : ⊥ = cc in no
 
 -- ---- no bytes
-
-pub consumes_none : (a : Option (List ℕ)) → Consumes a a []
-consumes_none None = tt
-consumes_none (Some xs) = refl
 
 -- ---- a whole document
 

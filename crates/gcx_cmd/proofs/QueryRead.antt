@@ -1,17 +1,14 @@
 -- The reading of the text of a query, so far.
-use Rattle.std.proofs.Common.{◌≡◌, ◌⊎◌, inl, inr, ℕ, ◌<◌, ◌≤◌, List, [], ◌∷◌, ◌++◌, take, length, Result, Ok, Err, refl, ap, subst, ◌∙◌, arith}
+use Rattle.std.proofs.Common.{◌≡◌, ◌⊎◌, inl, inr, ℕ, ◌<◌, ◌≤◌, List, [], ◌∷◌, ◌++◌, take, length, Ok, Err, refl, ap, subst, ◌∙◌, arith}
 use Rattle.std.proofs.lemmas.List.{length-take-le}
 use Rattle.gcx_io.proofs.Written.{joined_push}
 use Rattle.gcx_io.specs.Calls.{GivesHandle, ReadsOnce}
 use Rattle.gcx_io.specs.Shelf.{content_of}
 use Rattle.gcx_io.specs.Views.{ShelfView}
 use Rattle.gcx_io.specs.Writing.{joined}
-use Rattle.gcx_model.specs.declared.fault.QueryFault.{QueryFault}
-use Rattle.gcx_model.specs.declared.fault.QueryFault.TheVariants.{TooLarge}
-use Rattle.gcx_model.specs.declared.fault.What.TheVariants.{Text}
 use Rattle.run_words.specs.Stops.{More, End, Fault}
 use Rattle.gcx_cmd.proofs.Along.{opens_one, opens_on, reads_none, reads_more, reads_end, reads_fault, keeps_given, keeps_read, within_or_passes, passes}
-use Rattle.gcx_cmd.specs.QueryDoes.{ReadsText, RefusesText, FailsInText, RunsOutInText}
+use Rattle.gcx_cmd.specs.QueryDoes.{ReadsText, FailsInText, RunsOutInText}
 use Rattle.gcx_cmd.specs.Reads.{Reads, Opens, KeepsShelf, Within, PassesIn, Calmly, most_of_query}
 
 pub record HasRead (name text : List ℕ) (h : ℕ) (a b : ShelfView) : Type 0 where
@@ -77,14 +74,5 @@ pub runs_out : (name text : List ℕ) (h : ℕ) (a b : ShelfView) → HasRead na
 runs_out name text h a b r =
     inr (r.opens, r.pieces, More, subst (λ (k : ℕ). Reads name k a b r.pieces More) r.number r.reads, calmly r.pieces r.near)
 
-pub is_too_large : (name text : List ℕ) (h : ℕ) (a b : ShelfView) (f : QueryFault) → HasRead name text h a b → most_of_query < length text
-    → f ≡ TooLarge Text most_of_query → RefusesText name f a b
-is_too_large name text h a b f r past is =
-    record { opens = r.opens; pieces = r.pieces; why = inr (subst (λ (k : ℕ). Reads name k a b r.pieces More) r.number r.reads, passes r.pieces r.near (omega (arith, past, ap length r.whole)), is) }
-
 pub texts : (name text text' : List ℕ) (h : ℕ) (a b : ShelfView) → text ≡ text' → HasRead name text h a b → HasRead name text' h a b
 texts name text text' h a b same r = subst (λ (l : List ℕ). HasRead name l h a b) same r
-
-pub keeps_next : {E : Type 0} (name text : List ℕ) (h : ℕ) (a b c : ShelfView) (r : Result ℕ E) (buf : List ℕ) → HasRead name text h a b
-    → ReadsOnce h b c r buf → KeepsShelf a c
-keeps_next name text h a b c r buf has once = keeps_read h a b c r buf has.keeps (omega (arith, has.number)) once

@@ -1,6 +1,5 @@
 -- What is seen outside: the files, the two sinks and the lent store (this project's).
 use Rattle.std.specs.Prelude.{◌≡◌, ℕ}
-use Rattle.std.specs.FinMap as map
 use Rattle.gcx_io.specs.Views.{ShelfView, SinkView}
 use Rattle.node_store.specs.Rows.{Rows}
 use Rattle.buf_tree.specs.declared.row.Row.{Row}
@@ -38,8 +37,3 @@ pub record WritesAlone (a b : Outside) : Type 0 where
   pub shelf : b.shelf ≡ a.shelf
   pub err : b.err ≡ a.err
   pub store : b.store ≡ a.store
-
--- a new store has no row, and never had one
-pub record IsNew (store : StoreView) : Type 0 where
-  pub rows : store.rows ≡ map.empty
-  pub most : store.most ≡ 0

@@ -60,14 +60,6 @@ opened_adds os name rest handle is = record {
   count = length-append os (record { name = name; rest = rest; calls = [] } ∷ []);
 }
 
-names_opened : (os : List Opening) (o : Opening) → names_of (os ++ o ∷ []) ≡ names_of os ++ o.name ∷ []
-names_opened [] o = refl
-names_opened (x ∷ os) o = ap (λ l. x.name ∷ l) (names_opened os o)
-
-names_count : (os : List Opening) → length (names_of os) ≡ length os
-names_count [] = refl
-names_count (o ∷ os) = ap suc (names_count os)
-
 last_name : (os : List Opening) (o : Opening) → slice_get (names_of (os ++ o ∷ [])) (length os) ≡ Some o.name
 last_name [] o = refl
 last_name (x ∷ os) o = last_name os o

@@ -1,28 +1,11 @@
 -- What is seen of the file system's shelf behind its calls.
 use Rattle.std.proofs.Common.{◌≡◌, ℕ, zero, suc, ◌<◌, List, [], ◌∷◌, ◌++◌, length, map, get_or, slice_get, slice_set, Result, Ok, Err, OnOk, Some, None, refl, sym, ap, ◌∙◌, arith}
-use Rattle.std.proofs.lemmas.List.{map_push, map-set}
+use Rattle.std.proofs.lemmas.List.{map-set}
 use Rattle.std.specs.Io.KnownBytes.{ReadConsumes}
 use Rattle.gcx_io.specs.Causes.{HasCause}
-use Rattle.gcx_io.specs.FileShelf.{FileShelfState, untold, untold_count, file_shelf_seen}
-use Rattle.gcx_io.specs.Views.{HandleCalls, missed, calls_of}
-use Rattle.gcx_io.specs.Calls.{read_call, write_call, GivesHandle, MissesName, ReadsOnce, WritesHandle}
-
-pub files_give : (a b : FileShelfState) (name : List ℕ) (handle : ℕ) → b ≡ record a { given = a.given ++ record { name = name; calls = [] } ∷ [] } → handle ≡ length a.given
-    → GivesHandle name None (file_shelf_seen a) (file_shelf_seen b) handle
-files_give a b name handle is number = record {
-  number = number ∙ sym (untold_count a.given);
-  given = ap (λ (s : FileShelfState). map untold s.given) is ∙ map_push untold a.given (record { name = name; calls = [] });
-  refused = ap (λ (s : FileShelfState). s.refused) is;
-  faults = ap (λ (s : FileShelfState). s.faults) is;
-  write_faults = ap (λ (s : FileShelfState). s.write_faults) is;
-}
-
-pub files_miss : (a b : FileShelfState) (name : List ℕ) → b.given ≡ a.given → b.refused ≡ a.refused ++ missed name (length a.given) ∷ [] → MissesName name (file_shelf_seen a) (file_shelf_seen b)
-files_miss a b name given refused = record {
-  given = ap (map untold) given;
-  names = refl;
-  refused = refused ∙ ap (λ (n : ℕ). a.refused ++ missed name n ∷ []) (sym (untold_count a.given));
-}
+use Rattle.gcx_io.specs.FileShelf.{FileShelfState, untold, file_shelf_seen}
+use Rattle.gcx_io.specs.Views.{HandleCalls, calls_of}
+use Rattle.gcx_io.specs.Calls.{read_call, write_call, ReadsOnce, WritesHandle}
 
 there : (given : List HandleCalls) (h : ℕ) (x : HandleCalls) → h < length given → x ≡ get_or given h x → slice_get (map untold given) h ≡ Some (untold x)
 there [] h x within is = absurd (omega (arith, within))

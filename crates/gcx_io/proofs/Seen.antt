@@ -1,15 +1,15 @@
 -- What is seen of shelves in memory behind their calls.
-use Rattle.std.proofs.Common.{◌≡◌, ℕ, zero, suc, ◌<◌, min, Bool, true, false, List, [], ◌∷◌, ◌++◌, length, map, take, drop, get_or, slice_get, slice_set, Result, Ok, Err, OnOk, Option, Some, None, refl, sym, ap, subst, ◌∙◌, arith, length-take-le}
+use Rattle.std.proofs.Common.{◌≡◌, ℕ, zero, suc, ◌<◌, min, Bool, true, false, List, [], ◌∷◌, ◌++◌, length, map, take, drop, get_or, slice_get, slice_set, Result, Ok, Err, OnOk, Option, Some, refl, sym, ap, subst, ◌∙◌, arith, length-take-le}
 use Rattle.std.proofs.lemmas.List.{map_push, map-set, take_at}
 use Rattle.std.proofs.lemmas.Option.{slice_get-map, slice_get-get_or}
 use Rattle.std.specs.Prelude.{option_map}
 use Rattle.std.specs.Io.KnownBytes.{Keeps}
 use Rattle.gcx_io.specs.Causes.{HasCause}
 use Rattle.gcx_io.specs.Held.{Opening, held_or_none, rest_at, read_opening, read_at, noted_opening, noted_at}
-use Rattle.gcx_io.specs.Files.{OpenFiles, while_whole, all_names, rests, rests_of, told_rest, owners, names_of, handle_count, opened, after_miss, view_of, views, views_count, files_seen}
+use Rattle.gcx_io.specs.Files.{OpenFiles, while_whole, all_names, rests, rests_of, told_rest, owners, names_of, handle_count, opened, view_of, views, views_count, files_seen}
 use Rattle.gcx_io.specs.Shelf.{Names, content_of, LeavesOthers, OthersStay}
-use Rattle.gcx_io.specs.Views.{Call, Gave, Failed, HandleCalls, missed, calls_of}
-use Rattle.gcx_io.specs.Calls.{write_call, fresh, GivesHandle, MissesName, ReadsOnce, WritesHandle}
+use Rattle.gcx_io.specs.Views.{Call, Gave, Failed, HandleCalls, calls_of}
+use Rattle.gcx_io.specs.Calls.{write_call, fresh, GivesHandle, ReadsOnce, WritesHandle}
 use Rattle.gcx_io.proofs.Moved.{front_of}
 use Rattle.gcx_io.proofs.Handles.{Consumed, count_noted, names_noted, rests_noted, stays_whole}
 
@@ -35,13 +35,6 @@ sure_content s name = told s.whole
     told : (whole : Bool) → content_of (while_whole whole (Some (λ n. Some (held_or_none s.files n)))) name ≡ while_whole whole (Some (held_or_none s.files name))
     told true = refl
     told false = refl
-
-pub shelf_misses : (na nb : Names) (f f' w w' : ℕ) (old new : OpenFiles) (name : List ℕ) → nb ≡ na → new ≡ after_miss name old → MissesName name (files_seen na f w old) (files_seen nb f' w' new)
-shelf_misses na nb f f' w w' old new name names is = record {
-  given = ap (λ (s : OpenFiles). views s.whole s.openings) is;
-  names = names;
-  refused = ap (λ (s : OpenFiles). s.refused) is ∙ ap (λ (n : ℕ). old.refused ++ missed name n ∷ []) (sym (views_count old.whole old.openings));
-}
 
 -- ---- one handle
 
@@ -139,13 +132,6 @@ shelf_fails e na nb f f' w w' old new h buf names cause ww is given =
 
 pub noted_left : (old new : OpenFiles) (h : ℕ) (call : Call) → new ≡ record old { openings = noted_at old.openings h call } → rests new ≡ rests old
 noted_left old new h call is = ap (λ (s : OpenFiles). rests s) is ∙ ap (λ (l : List (List ℕ)). λ (k : ℕ). while_whole old.whole (slice_get l k)) (rests_noted old.openings h call)
-
-pub noted_keeps : (old new : OpenFiles) (h : ℕ) (call : Call) → new ≡ record old { openings = noted_at old.openings h call } → Keeps (rests old h) (rests new h)
-noted_keeps old new h call is = subst (λ (o : Option (List ℕ)). Keeps (rests old h) o) (ap (λ (g : ℕ → Option (List ℕ)). g h) (sym (noted_left old new h call is))) (keeps_same (rests old h))
-  where
-    keeps_same : (o : Option (List ℕ)) → Keeps o o
-    keeps_same None = tt
-    keeps_same (Some x) = refl
 
 pub noted_others : (old new : OpenFiles) (h : ℕ) (call : Call) → new ≡ record old { openings = noted_at old.openings h call } → LeavesOthers (rests old) (rests new) h
 noted_others old new h call is k other = ap (λ (g : ℕ → Option (List ℕ)). g k) (noted_left old new h call is)

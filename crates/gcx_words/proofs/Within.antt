@@ -3,7 +3,7 @@ use Rattle.std.proofs.Common.{◌≡◌, ℕ, ◌≤◌, Bool, true, false, cond
 use Rattle.std.specs.Prelude.{option_and_then, option_map, ◌&&◌, IfSome}
 use Rattle.clap.specs.Words.{Row, Text, first_of}
 use Rattle.gcx_words.specs.Rows.{any_number_at, between, flag_at, found_by, number_at}
-use Rattle.gcx_words.specs.Words.{check_app, check_of, command_of, named, numbers_app, numbers_of, pair_app, pair_of, read, run_app, run_of, run_with, single_app}
+use Rattle.gcx_words.specs.Words.{check_app, check_of, numbers_app, numbers_of, pair_app, pair_of, read, run_app, run_of, run_with, single_app}
 use Rattle.gcx_words.specs.Within.{IsWithin}
 use Rattle.gcx_words.specs.declared.command.Command.{Command}
 use Rattle.gcx_words.specs.declared.command.Command.TheVariants.{Run, Whole, Explain, Peak, Gen, Selfrun, Check}
@@ -77,7 +77,3 @@ read_within name.Check words c e =
 pub if_within : (n : Name) (words : List Text) (o : Option Command) → o ≡ read n words → IfSome o IsWithin
 if_within n words None is = tt
 if_within n words (Some c) is = read_within n words c (sym is)
-
--- of each command line
-pub command_within : (words : List Text) (c : Command) → command_of words ≡ Some c → IsWithin c
-command_within words c e = let h = and_then_some (λ n. read n words) (named words) c e in read_within h.0 words c h.2

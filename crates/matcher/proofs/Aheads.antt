@@ -161,9 +161,6 @@ module _ (m : Matcher) (past : Past) (text : Bool) (s : Stands m past text) wher
 
   -- a role and its way
   module _ (r : ℕ) (rw : RoleRowTree) (at : row_at past.plan.roles r ≡ Some rw) (wy : Way) (is : IsWay past.plan s.spots.path (length m.spots.spots.items) wy rw) where
-    abbrev way_path : List Step
-    way_path = path_of past.plan rw.var
-
     abbrev Var : RoleKind → ℕ → Type 0
     Var k u = IsVar past.tree s.here (path_of past.plan rw.var) rw.tail k u
 

@@ -32,14 +32,6 @@ module _ {Y : Type 0} where
     );
   }
 
-  pub gains_append : (xs ys us : List Y) → ys ≡ xs ++ us → Gains xs ys (λ y. In y us)
-  gains_append xs ys us e = record {
-    has = λ y. (
-      (λ i. In-append y xs us (subst (λ (z : List Y). In y z) e i)),
-      (λ h. subst (λ (z : List Y). In y z) (sym e) (elim h [ inl i ↦ In-left y xs us i | inr i ↦ In-right y xs us i ])),
-    );
-  }
-
   pub gains_insert : (xs ys : List Y) (i : ℕ) (x : Y) → ys ≡ insert xs i x → Gains xs ys (λ y. x ≡ y)
   gains_insert xs ys i x e =
       let t = take-append-drop i xs in
@@ -66,10 +58,6 @@ module _ {Y : Type 0} where
 
   pub in_more : (xs : List Y) (i : ℕ) (d y : Y) → i < length xs → In y (take (i + 1) xs) → In y (take i xs) ⊎ (get_or xs i d ≡ y)
   in_more xs i d y l j = elim (In-append y (take i xs) (get_or xs i d ∷ []) (subst (λ (z : List Y). In y z) (take_more xs i d l) j)) [ inl k ↦ inl k | inr k ↦ elim k [ inl e ↦ inr e | inr b ↦ absurd b ] ]
-
-  -- where it is there already, it isn't gained
-  pub gains_there : (xs : List Y) (x : Y) → In x xs → Gains xs xs (λ y. x ≡ y)
-  gains_there xs x h = record { has = λ y. (λ i. inl i, λ s. elim s [ inl i ↦ i | inr e ↦ subst (λ (z : Y). In z xs) e h ]) }
 
   -- two gains, one behind the other
   pub gains_two : (xs ys zs : List Y) (Q R : Y → Type 0) → Gains xs ys Q → Gains ys zs R → Gains xs zs (λ y. Q y ⊎ R y)

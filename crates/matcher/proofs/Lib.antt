@@ -11,7 +11,6 @@ pub mod NewRow
 pub mod GivenRoles
 pub mod Upwards
 pub mod Origins
-pub mod Firsts
 pub mod Marking
 pub mod Finding
 pub mod Noting

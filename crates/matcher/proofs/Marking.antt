@@ -1,5 +1,5 @@
 -- Marks of the spots that are pending.
-use Rattle.std.proofs.Common.{◌≡◌, ℕ, zero, suc, ◌+◌, ◌<◌, ◌≤◌, Bool, true, false, List, [], ◌∷◌, ◌++◌, length, take, drop, set, get_or, refl, sym, ap, subst, inl, inr, ◌⊎◌, arith, Some, drop-cons}
+use Rattle.std.proofs.Common.{◌≡◌, ℕ, zero, suc, ◌+◌, ◌<◌, Bool, true, false, List, [], ◌∷◌, ◌++◌, length, take, drop, set, get_or, refl, sym, ap, subst, inl, inr, ◌⊎◌, arith, Some, drop-cons}
 use Rattle.std.specs.Prelude.{slice_get}
 use Rattle.std.proofs.lemmas.List.{take-append-drop, with_items_is}
 use Rattle.std.specs.declared.vec.Vec.{Vec}
@@ -47,15 +47,6 @@ cut_next ws vs ps left i l e k c h =
   where
     one : suc i ≡ i + 1
     one = omega arith
-
-none_past : (ps : List ℕ) (i c : ℕ) → length ps ≤ i → In c (drop i ps) → ⊥
-none_past [] zero c l j = j
-none_past [] (suc i) c l j = j
-none_past (p ∷ ps) zero c l j = omega arith
-none_past (p ∷ ps) (suc i) c l j = let m : length ps ≤ i = omega arith in none_past ps i c m j
-
-pub cut_end : (ws : List Bool) (ps : List ℕ) (left i : ℕ) → length ps ≤ i → Cut ws ps left i → Marks ws (take left ps)
-cut_end ws ps left i l k c h = elim (k c h) [ inl j ↦ j | inr j ↦ absurd (none_past ps i c l j) ]
 
 -- marks that are lent as a slice
 pub marks_lent : {Z : Type 0} (v : Vec Bool Z) (ws us : List Bool) (ps qs : List ℕ) → us ≡ v.items → length ws ≡ v.len → (Marks us ps → Marks ws qs) → Marks v.items ps → Marks (with_items v ws).items qs

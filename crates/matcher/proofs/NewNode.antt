@@ -14,7 +14,7 @@ use Rattle.gcx_model.specs.Paths.{head, hits, reach, lies, first, matches}
 use Rattle.gcx_model.specs.Nodes.{Grown}
 use Rattle.gcx_model.specs.Growth.{level, may_come}
 use Rattle.gcx_model.specs.Past.{Past, IsPast, open_nodes, open_from, Opens, IsLast, IsNode, past_grown, token_for}
-use Rattle.tree_laws.proofs.Lists.{In, In-append, In-left, In-right, any_in, filter_none}
+use Rattle.tree_laws.proofs.Lists.{In, In-append, In-right, any_in, filter_none}
 use Rattle.tree_laws.proofs.Matches.{Grown-grow, Numbered-high, Matches-in, Matches-from, added, grow_nodes}
 use Rattle.tree_laws.proofs.Chains.{above_in}
 use Rattle.tree_laws.proofs.Growing.{level_above}
@@ -89,9 +89,6 @@ module _ (P : Tree) (w : Grown P) (t : Token) (n : Node) (o : Opens P t n) where
 
   nodes_are : Q.nodes ≡ P.nodes ++ n ∷ []
   nodes_are = grow_nodes t P ∙ ap (λ (z : List Node). P.nodes ++ z) added_is
-
-  pub old_in : (a : Node) → In a P.nodes → In a Q.nodes
-  old_in a i = subst (λ (z : List Node). In a z) (sym nodes_are) (In-left a P.nodes (n ∷ []) i)
 
   old_or_new : (a : Node) → In a Q.nodes → In a P.nodes ⊎ (n ≡ a)
   old_or_new a i = elim (In-append a P.nodes (n ∷ []) (subst (λ (z : List Node). In a z) nodes_are i)) [ inl j ↦ inl j | inr j ↦ elim j [ inl e ↦ inr e | inr b ↦ absurd b ] ]

@@ -1,5 +1,5 @@
 -- The row of a new node, from that of its parent.
-use Rattle.std.proofs.Common.{◌≡◌, ℕ, zero, suc, ◌<◌, true, List, [], ◌∷◌, ◌++◌, length, refl, sym, ◌∙◌, ap, subst, inl, inr, arith, Some}
+use Rattle.std.proofs.Common.{◌≡◌, ℕ, zero, suc, ◌<◌, true, List, ◌++◌, length, refl, sym, ◌∙◌, ap, subst, inl, inr, arith, Some}
 use Rattle.std.specs.Prelude.{slice_get}
 use Rattle.std.proofs.lemmas.Bool.{or_cases, or_left, or_right, eqb-true}
 use Rattle.std.proofs.lemmas.Option.{slice_get_within}
@@ -39,10 +39,6 @@ first_tail Whole tail e = refl
 module _ (plan : PlanTree) (t : Spots) (A : AreSpots plan t) where
   abbrev count : ℕ
   count = length t.spots.items
-
-  -- the spot above, and the path by it
-  pub step_of : (c : ℕ) (s : Spot) → slice_get t.spots.items c ≡ Some s → 0 < c → (s.parent < c) × (A.path c ≡ A.path s.parent ++ s.step ∷ [])
-  step_of c s e l = A.step c s e l
 
   pub parent_at : (c : ℕ) (s : Spot) → slice_get t.spots.items c ≡ Some s → 0 < c → (q : Spot) × (slice_get t.spots.items s.parent ≡ Some q)
   parent_at c s e l =

@@ -57,9 +57,6 @@ same_none xs (y ∷ ys) l e = let f = ap length e in absurd (omega arith)
 
 -- that a row is noted changes nothing of its parts
 module _ (before : Rows) (now : Rows) (l : ℕ) (h : IsNoted before.rows.items now.rows.items l) where
-  abbrev after : Rows
-  after = record before { rows = now.rows }
-
   pub noted_stacked : AreStacked before → AreStacked (record before { rows = now.rows })
   noted_stacked A = record {
     rising = λ i j one other k at to.
@@ -83,9 +80,6 @@ module _ (before : Rows) (now : Rows) (l : ℕ) (h : IsNoted before.rows.items n
 module _ (m n : Matcher) (past : Past) (S : Stands m past false) (o : OffTree) (of : In o (offs_in past.plan.body)) (k : Node) (is_open : In k (open_nodes past.tree))
     (base : In k (matches past.tree 0 (path_of past.plan o.base))) (x : Sign) (role : o.role ≡ x.role) (at : level k ≡ x.level) (steps : length o.rel ≡ x.steps)
     (noted : IsNoted m.rows.rows.items n.rows.rows.items x.level) (gains : Gains m.signs.items n.signs.items (λ s. x ≡ s)) (turn : InTurn n.signs.items) where
-  abbrev next : Past
-  next = past_acted (Offed o (serial_of k)) past
-
   w : Grown past.tree
   w = grown_from past.tree S.is_past.grown
 

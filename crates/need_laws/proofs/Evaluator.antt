@@ -1,23 +1,22 @@
 -- At each point: how its variables are bound, which statements wait, and that the evaluator sees in the held rows what it would see in the whole tree.
-use Rattle.std.proofs.Common.{◌≡◌, ℕ, true, List, [], ◌∷◌, ◌++◌, refl, sym, ap, subst, inl, inr, ◌⊎◌, append_assoc, ltb}
+use Rattle.std.proofs.Common.{◌≡◌, ℕ, true, List, [], ◌∷◌, ◌++◌, refl, sym, ap, subst, inl, inr, append_assoc, ltb}
 use Rattle.need_laws.proofs.Plans.{good_zero}
 use Rattle.gcx_model.specs.Needs.{Uses}
 use Rattle.gcx_model.specs.Tree.{Node, serial_of, Tree, Token}
 use Rattle.gcx_base.specs.declared.steps.Step.{Step}
 use Rattle.gcx_model.specs.Paths.{hits, matches}
-use Rattle.gcx_model.specs.Core.{CondTree, For, If, Off, BodyTree, Nil, Then, OffTree, ItemTree, Write, Copy}
-use Rattle.gcx_model.specs.Truth.{Env, bind_var, truth}
+use Rattle.gcx_model.specs.Core.{CondTree, For, If, Off, BodyTree, Then, OffTree, ItemTree, Write, Copy}
+use Rattle.gcx_model.specs.Truth.{Env, truth}
 use Rattle.gcx_model.specs.Run.{env0, Offed, copy}
 use Rattle.tree_laws.proofs.Reading.{is_held, reading}
 use Rattle.gcx_model.specs.Variables.{var_tree}
-use Rattle.gcx_model.specs.Placed.{at_end, offs_of}
 use Rattle.gcx_model.specs.Roles.{whole_row, roles_of}
 use Rattle.gcx_model.specs.Cores.{Good}
 use Rattle.tree_laws.proofs.Lists.{In, In-filter}
 use Rattle.tree_laws.proofs.Matches.{Matches-in, Grown}
 use Rattle.point_laws.proofs.PointForms.{Frame, Rest, Round, Part, IsPoint, later}
 use Rattle.need_laws.proofs.Waits.{Waits, waits_unsigned, Waits-right}
-use Rattle.need_laws.proofs.Frames.{waits_bound, Here, Bound_in, Turn, Fact, Facts, facts, hit_on, Last, Loop, Fact_item, bound_hit}
+use Rattle.need_laws.proofs.Frames.{waits_bound, Here, Bound_in, Turn, Fact, Facts, facts, hit_on, Loop, Fact_item, bound_hit}
 use Rattle.need_laws.proofs.Need.{Frame_needs, Needs, needs_held}
 use Rattle.need_laws.proofs.Local.{later_held}
 use Rattle.need_laws.proofs.Pruned.{pruned, matches_kept, truth_kept, copy_kept}
@@ -77,19 +76,6 @@ module _ (core : BodyTree) (good : Good core) (ts : List Token) (k : ℕ) (top :
   -- the parent of a loop's variable is bound below to the node at which the loop runs
   pub parent_bound : (x y : ℕ) (s : Step) (e : BodyTree) (env : Env) (n : Node) → At (Round x y s e env n) → Bound_in y (env y) below
   parent_bound x y s e env n st = let t : Turn (tree ts) (grown ts) core good top x y s e env n below = fact (Round x y s e env n) st in t.bound
-
-  -- and so is the base of a statement that comes next
-  pub base_bound : (o : OffTree) (d : BodyTree) (env : Env) → At (Rest (Then (Off o) d) env) → Bound_in o.base (env o.base) below
-  base_bound o d env st = let f : Fact (tree ts) (grown ts) core good top (Rest (Then (Off o) d) env) below = fact (Rest (Then (Off o) d) env) st in f.0
-
-  -- below a round the statements of its parent's base wait, with the base bound to a node from which its steps lead to the parent's node
-  pub turn_waits : (x y : ℕ) (s : Step) (e : BodyTree) (env : Env) (n : Node) → At (Round x y s e env n)
-      → (v : Env) × ((o : OffTree) → In o (at_end (offs_of core) (var_tree core y).base) → Waits o v below) × (hits (serial_of (v (var_tree core y).base)) (var_tree core y).rel (env y) ≡ true)
-  turn_waits x y s e env n st = let t : Turn (tree ts) (grown ts) core good top x y s e env n below = fact (Round x y s e env n) st in (t.parent.env, t.parent.waiting, t.parent.reached)
-
-  -- above a round the last statement of its variable waits, until the body is over
-  pub turn_last : (x y : ℕ) (s : Step) (e : BodyTree) (env : Env) (n : Node) → At (Round x y s e env n) → (o : OffTree) → Last o (at_end (offs_of core) x) → Waits o (bind_var env x n) top ⊎ (top ≡ Rest Nil (bind_var env x n) ∷ [])
-  turn_last x y s e env n st o l = let t : Turn (tree ts) (grown ts) core good top x y s e env n below = fact (Round x y s e env n) st in t.last o l
 
   -- a copy of the held nodes is one of the tree
   pub copy_held : (x : ℕ) (env : Env) (made : ℕ) → At (Part x env made) → (most : ℕ) → copy most (held_tree core (tree ts) k) (env x) ≡ copy most (tree ts) (env x)

@@ -9,7 +9,7 @@ use Rattle.gcx_model.specs.Paths.{any, all, hits, matches, first}
 use Rattle.gcx_base.specs.declared.steps.Step.{Step}
 use Rattle.gcx_model.specs.Core.{CondTree, Always, Exists, Compare, Not, All, Any, CondTrees, no_cond, more_conds, OperandTree, Path, Str, Num, Write, Copy, For, If, Off, BodyTree, Nil, Then, OffTree, RoleKind, Own, First, Whole, RoleRowTree}
 use Rattle.gcx_model.specs.Truth.{Env, bind_var}
-use Rattle.gcx_model.specs.Run.{env0, Action, Wrote, Offed, idle}
+use Rattle.gcx_model.specs.Run.{env0, Action, Wrote, Offed}
 use Rattle.tree_laws.proofs.Reading.{Reading, given, signed, taken, live_some, is_live, is_held, reading}
 use Rattle.gcx_model.specs.Held.{is_node, gives, is_off}
 use Rattle.gcx_model.specs.Variables.{Var, var0, child_var, var_tree, vars}
@@ -218,9 +218,6 @@ module _ (P : Tree) (w : Grown P) (root : In Root P.nodes) (core : BodyTree) (go
       waiting_live r.0 l.0 r.1 v (wait l.0 l.1) (subst (λ (z : Node). In z P.nodes) (sym at) i)
       (subst (λ (z : ℕ). hits 0 (V z).path (v (l.0).base) ≡ true) (sym l.3) (subst (λ (z : Node). hits 0 (V x).path z ≡ true) (sym at) hit))
       n i (subst (λ (z : Node). gives P (serial_of z) (l.0).rel (l.0).tail (l.0).kind n ≡ true) (sym at) (rw (l.4, l.5) (own_gives n (l.0).tail)))
-
-  over_nil : (env : Env) → to_come P (Rest Nil env ∷ []) ≡ idle true
-  over_nil env = refl
 
   -- the present match, unless the body is over, and the later ones
   turn_live : (top below : List Frame) (x y : ℕ) (s : Step) (e : BodyTree) (env : Env) (n m : Node) → fs ≡ top ++ Round x y s e env n ∷ below → Turn P w core good top x y s e env n below

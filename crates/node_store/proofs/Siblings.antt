@@ -124,10 +124,6 @@ after_self k (c ∷ cs) zs none = let parts = not_listed k c cs none in cond_ne 
 pub after_around : (p k : ℕ) (pre post : List ℕ) → p ≢ k → last_of pre ≢ Some p → after p (pre ++ k ∷ post) ≡ after p (pre ++ post)
 after_around p k pre post d n = after_same p pre (k ∷ post) post n (cond_ne k p _ _ (λ e. d (sym e)))
 
-pub after_none : (k : ℕ) (cs : List ℕ) → is_listed k cs ≡ false → after k cs ≡ None
-after_none k [] e = refl
-after_none k (c ∷ cs) e = let parts = not_listed k c cs e in cond_ne c k _ _ parts.0 ∙ after_none k cs parts.1
-
 starts_none : (k : ℕ) (cs : List ℕ) → is_listed k cs ≡ false → starts k cs ≡ false
 starts_none k [] e = refl
 starts_none k (c ∷ cs) e = ne_eqb c k (not_listed k c cs e).0

@@ -107,15 +107,6 @@ module _ {T : Type 0} (s : Slab (Cell T)) (root : Option ℕ) (most : ℕ) (soun
       ap (option_map linked_of) (sym there) ∙ held s root most sound q ∙ ap (option_map (linked_at here q)) e.1 in
       (e.0, e.1, search some)
 
-  pub is_living : (q : ℕ) → IsSome (get here q) → slab.ContainsKey s q
-  is_living q used =
-      let e = some_row (get here q) used in
-      living (slab.get s q) (held s root most sound q ∙ ap (option_map (linked_at here q)) e.1)
-    where
-      living : {m : Linked T} (o : Option (Cell T)) → option_map linked_of o ≡ Some m → IsSome o
-      living None h = absurd (cc)
-      living (Some c) h = search rules
-
   places_used : (o : Option Place) → ((k : ℕ) → index_of o ≡ Some k → IsSome (get here k)) → IfSome o (λ p. IsSome (get here p.0))
   places_used None used = tt
   places_used (Some p) used = used p.0 refl
@@ -148,10 +139,6 @@ module _ {T : Type 0} (s : Slab (Cell T)) (root : Option ℕ) (most : ℕ) (soun
   prev_used q c there used =
       let is = cell_is q c there used in
       places_used c.prev (λ k e. beside_used k is.0.parent (before_listed q (children_of here is.0.parent) k (sym (ap (λ m. m.prev) is.2) ∙ e)))
-
-  -- the root is in use
-  pub root_used : (o : Option Place) → index_of o ≡ root → IfSome o (λ p. IsSome (get here p.0))
-  root_used o is = places_used o (λ k e. let top = sound.tree.top k (sym is ∙ e) in is_there here k top.0 top.1)
 
 -- a payload that is written behind `get_mut`
 module _ {T : Type 0} where

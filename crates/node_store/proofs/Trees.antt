@@ -390,9 +390,6 @@ module _ {T : Type 0} where
     pub paid_is : changed_at (with_payload x) p rows ≡ paid
     paid_is = changed_some (with_payload x) p rows e has
 
-    pub paid_here : get paid p ≡ Some (with_payload x e)
-    paid_here = get_same rows p (with_payload x e) p refl
-
     pub paid_others : (r : ℕ) → r ≢ p → get paid r ≡ get rows r
     paid_others r np = get_other rows p (with_payload x e) r np
 

@@ -39,9 +39,6 @@ quiet_if false a b f e = absurd (false≢true (sym f ∙ ap (λ (z : Out). z.don
 quiet_both : (a b : Out) → seq a b ≡ idle true → (a ≡ idle true) × (b ≡ idle true)
 quiet_both a b e = quiet_if a.done a b refl e
 
-quiet_seq : (a b : Out) → a ≡ idle true → b ≡ idle true → seq a b ≡ idle true
-quiet_seq a b e f = rw (e, f) refl
-
 -- a body in which nothing is done is over
 pass_body : (plan : PlanTree) (P : Tree) (k : ℕ) (d : BodyTree) (env : Env) (fs : List Frame) → IsQuiet d env P → AtPoint plan P k (Rest d env ∷ fs) → PointAt plan P k (Rest Nil env ∷ fs)
 pass_body plan P k Nil env fs q st = st.point

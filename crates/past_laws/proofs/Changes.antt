@@ -157,9 +157,6 @@ module _ (past : Past) (is : IsPast past) (s : OffTree) (stands : In s (offs_in 
     now : IsPast (past_acted (Offed s (serial_of m)) past)
     now = (past_acts past is).1 s m stands base
 
-    abbrev Other : Type 0
-    Other = (b : Node) × In b (bases past s) × (signed past.acts s b ≡ false) × (serial_of b ≡ serial_of m → ⊥) × (reaches past.tree s b n ≡ true)
-
     by_other : live past.plan past.tree (past.acts ++ Offed s (serial_of m) ∷ []) n s.role ≡ true → (b : Node) × In b (bases past s) × (signed past.acts s b ≡ false) × (serial_of b ≡ serial_of m → ⊥) × (reaches past.tree s b n ≡ true)
     by_other h =
         let r = live_reached (past_acted a past) now s stands n h in

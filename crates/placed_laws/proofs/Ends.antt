@@ -15,11 +15,6 @@ use Rattle.placed_laws.proofs.Bridge.{row_places}
 
 -- The Own rows
 
-own_part : RoleKind → ℕ → List ℕ
-own_part Own x = x ∷ []
-own_part First x = []
-own_part Whole x = []
-
 abbrev own_vars : List RoleRowTree → List ℕ
 own_vars [] = []
 own_vars (r ∷ rs) = cond (is_own_kind r.kind) (r.var ∷ own_vars rs) (own_vars rs)

@@ -13,13 +13,13 @@ use Rattle.gcx_model.specs.declared.query.QOperand.{QOperand}
 use Rattle.gcx_model.specs.declared.query.QOperand.TheVariants as operand
 use Rattle.gcx_model.specs.Query as query
 use Rattle.gcx_model.specs.Query.{ExprTree, ExprTrees, exprs_of}
-use Rattle.gcx_model.specs.Document.{Nodes, none, element, text, tokens, tree_of}
-use Rattle.gcx_model.specs.Tree.{Node, Root, Under, serial_of, kind_of, Tree, Token, Start, Chars, End, opening, grow, grow_at, grow_all, is_closed}
+use Rattle.gcx_model.specs.Document.{tokens, tree_of}
+use Rattle.gcx_model.specs.Tree.{Node, Root, serial_of, kind_of, Tree, Token, End, opening, is_closed}
 use Rattle.gcx_model.specs.Paths.{matches}
 use Rattle.gcx_model.specs.Values.{compare}
 use Rattle.gcx_model.specs.Written.{start_tag, end_tag, escaped}
 use Rattle.gcx_model.specs.Answer as meaning
-use Rattle.gcx_model.specs.Answer.{child_step, children, copied_with, copied, copy_of, Scope, start_of, found, some_pair, is_any, holds, holds_all, holds_any, turns, answer_expr, answer_exprs, no_scope, answer}
+use Rattle.gcx_model.specs.Answer.{child_step, children, copied_with, copied, copy_of, Scope, start_of, found, some_pair, is_any, holds, holds_all, holds_any, turns, answer_expr, answer_exprs, answer}
 use Rattle.gcx_model.specs.Core.{OperandTree, Path, Str, Num, CondTree, CondTrees, Always, Exists, Compare, Not, All, Any, no_cond, more_conds, ItemTree, Write, Copy, For, If, Off, BodyTree, Nil, Then}
 use Rattle.gcx_model.specs.declared.truth.Truth.{Truth}
 use Rattle.gcx_model.specs.declared.truth.Truth.TheVariants.{True, False}
@@ -39,7 +39,6 @@ use Rattle.tree_laws.proofs.Matches.{Matches-in, Matches-from, Numbered-high, Gr
 use Rattle.tree_laws.proofs.Order.{chain_is}
 use Rattle.point_laws.proofs.Whole.{run_is_done, item_is_done, copy_is_done, child_above}
 use Rattle.need_laws.proofs.Plans.{In-count}
-use Rattle.tree_laws.proofs.Growing.{grow_all-append}
 use Rattle.placed_laws.proofs.Moved.{vars-expr, cond_scoped}
 use Rattle.tree_laws.proofs.Fed.{root_in, ordered_all, ordered_opening}
 use Rattle.tree_laws.proofs.Documents.{whole_closed}
@@ -191,9 +190,6 @@ module _ (P : Tree) (w : Grown P) (o : Ordered P) (over : P.at ≡ None) where
   settle_is : (b ov : Bool) → ov ≡ true → settle b ov ≡ Known_as b
   settle_is true ov e = refl
   settle_is false ov e = rw e refl
-
-  scope_at : Names → Env → Scope
-  scope_at names env = λ x. env (names x)
 
   start_is : (names : Names) (env : Env) (st : Option (List ℕ)) → env 0 ≡ Root → start_of (λ x. env (names x)) st ≡ env (start_var names st)
   start_is names env None e = sym e

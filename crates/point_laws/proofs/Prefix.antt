@@ -36,9 +36,6 @@ Before-trans a b c (More d r e) (More d' r' e') = More d (r ++ r') (e' ∙ (ap (
 pub idle_before : (b : Out) → Before (idle false) b
 idle_before b = More refl b.acts refl
 
-seq_done : (a b : Out) → a.done ≡ true → seq a b ≡ record { acts = a.acts ++ b.acts; done = b.done }
-seq_done a b e = rw e refl
-
 pub seq_wait : (a b : Out) → a.done ≡ false → seq a b ≡ a
 seq_wait a b e = rw e refl
 

@@ -2,7 +2,7 @@
 use Rattle.std.proofs.Common.{ℕ, zero, suc, ◌≡◌, ◌+◌, ◌<◌, ◌≤◌, min, Bool, true, false, ◌||◌, List, [], ◌∷◌, ◌++◌, map, length, take, get_or, refl, sym, ap, ◌∙◌, arith, add-one}
 use Rattle.std.specs.Prelude.{nat_lt, Some, None, if◌then◌else◌}
 use Rattle.std.proofs.lemmas.List.{map-append, map_more, length-map}
-use Rattle.std.proofs.lemmas.Bool.{ltb-true, ltb-false, lt-ltb, le-ltb, or_from, or_parts, or_left, or_right}
+use Rattle.std.proofs.lemmas.Bool.{ltb-true, ltb-false, lt-ltb, le-ltb, or_left, or_right}
 use Rattle.gcx_base.specs.declared.steps.Step.{Step}
 use Rattle.gcx_model.specs.Core.{ItemTree, Write, Copy, For, If, Off, BodyTree, Nil, Then, VarRowTree, RoleRowTree}
 use Rattle.gcx_model.specs.Cores.{Good}
@@ -132,15 +132,6 @@ pub any_same : {X : Type 0} (p q : X → Bool) → ((x : X) → p x ≡ q x) →
 any_same p q h [] = refl
 any_same p q h (x ∷ xs) = (λ i. h x i || any_same p q h xs i)
 
-any_more : {X : Type 0} (p : X → Bool) (xs : List X) (x : X) → any p xs ≡ false → p x ≡ false → any p (xs ++ x ∷ []) ≡ false
-any_more p [] x e f = or_from (p x) false f refl
-any_more p (y ∷ ys) x e f = let q = or_parts (p y) (any p ys) e in or_from (p y) (any p (ys ++ x ∷ [])) q.0 (any_more p ys x q.1 f)
-
-pub none_more : (p : RoleRowTree → Bool) (xs : List RoleRow) (i : ℕ) (x : RoleRow) → i < length xs → x ≡ get_or xs i x → any p (map role_row_tree (take i xs)) ≡ false → p (role_row_tree x) ≡ false → any p (map role_row_tree (take (i + 1) xs)) ≡ false
-none_more p xs i x h e b f =
-    ap (any p) (map_more role_row_tree xs i x h ∙ ap (λ (y : RoleRow). map role_row_tree (take i xs) ++ role_row_tree y ∷ []) (sym e))
-    ∙ any_more p (map role_row_tree (take i xs)) (role_row_tree x) b f
-
 pub some_at : (p : RoleRowTree → Bool) (xs : List RoleRow) (i : ℕ) (x : RoleRow) → i < length xs → x ≡ get_or xs i x → p (role_row_tree x) ≡ true → any p (map role_row_tree xs) ≡ true
 some_at p [] i x h e f = absurd (omega arith)
 some_at p (y ∷ ys) zero x h e f = or_left (p (role_row_tree y)) (any p (map role_row_tree ys)) (ap (λ (z : RoleRow). p (role_row_tree z)) (sym e) ∙ f)
@@ -159,14 +150,3 @@ none_passed core few shallow =
     let e : nat_lt 2000 (length (roles_of core)) ≡ false = le-ltb 2000 (length (roles_of core)) few in
     ap (λ b. if b then Some (TooLarge Roles 2000) else (if any (is_deep core) (roles_of core) then Some (TooLarge Descendants 6) else None)) e
     ∙ ap (λ b. if b then Some (TooLarge Descendants 6) else None) shallow
-
-pub many_passed : (core : BodyTree) → 2000 < length (roles_of core) → roles_refusal core ≡ Some (TooLarge Roles 2000)
-many_passed core many =
-    let e : nat_lt 2000 (length (roles_of core)) ≡ true = lt-ltb 2000 (length (roles_of core)) many in
-    ap (λ b. if b then Some (TooLarge Roles 2000) else (if any (is_deep core) (roles_of core) then Some (TooLarge Descendants 6) else None)) e
-
-pub deep_passed : (core : BodyTree) → length (roles_of core) ≤ 2000 → any (is_deep core) (roles_of core) ≡ true → roles_refusal core ≡ Some (TooLarge Descendants 6)
-deep_passed core few deep =
-    let e : nat_lt 2000 (length (roles_of core)) ≡ false = le-ltb 2000 (length (roles_of core)) few in
-    ap (λ b. if b then Some (TooLarge Roles 2000) else (if any (is_deep core) (roles_of core) then Some (TooLarge Descendants 6) else None)) e
-    ∙ ap (λ b. if b then Some (TooLarge Descendants 6) else None) deep

@@ -1,9 +1,7 @@
 -- The nodes of a projection tree, one behind the other.
-use Rattle.std.proofs.Common.{ℕ, zero, suc, ◌≡◌, ◌+◌, ◌<◌, ◌==◌, Bool, cond, List, [], ◌∷◌, ◌++◌, map, length, take, get_or, refl, sym, ap, ◌∙◌, arith, append_assoc, append-nil, Some, None}
+use Rattle.std.proofs.Common.{ℕ, zero, suc, ◌≡◌, ◌+◌, ◌<◌, List, [], ◌∷◌, ◌++◌, map, length, take, get_or, refl, sym, ap, ◌∙◌, arith, append_assoc, append-nil}
 use Rattle.std.proofs.lemmas.List.{map_more, length-map, length-take, length-append}
-use Rattle.std.proofs.lemmas.Bool.{ne_eqb}
 use Rattle.gcx_base.specs.declared.ids.Role.{Role}
-use Rattle.gcx_base.specs.declared.steps.Step.{Step}
 use Rattle.gcx_model.specs.declared.plan.RoleRow.{RoleRow}
 use Rattle.gcx_model.specs.declared.plan.VarRow.{VarRow}
 use Rattle.gcx_model.specs.Core.{BodyTree, VarRowTree, RoleRowTree}
@@ -15,7 +13,7 @@ use Rattle.gcx_model.specs.Variables.{var_rows, vars}
 use Rattle.var_tree.specs.Loops.{loops}
 use Rattle.var_tree.proofs.Growing.{number}
 use Rattle.proj_tree.specs.Own.{own_list}
-use Rattle.proj_tree.specs.Projection.{NodeTree, root_node, var_node, var_nodes, step_nodes, role_nodes, other_nodes, projected}
+use Rattle.proj_tree.specs.Projection.{NodeTree, root_node, var_node, var_nodes, role_nodes, other_nodes, projected}
 use Rattle.proj_tree.proofs.Falls.{row_of, rows_are}
 use Rattle.proj_tree.proofs.Owned.{own_is, own_length}
 
@@ -46,21 +44,6 @@ same_nodes f g x [] h = refl
 same_nodes f g x (r ∷ rs) h = (λ i. var_node (h x (omega arith) i) r ∷ same_nodes f g (suc x) rs (λ y l. h y (omega arith)) i)
 
 -- ---- Steps
-
-pub step_first : (above next role : ℕ) (s : Step) (rest : List Step) → step_nodes above next role (s ∷ rest)
-    ≡ record { parent = Some above; step = Some s; role = cond (length rest == 0) (Some role) None } ∷ step_nodes next (suc next) role rest
-step_first above next role s [] = refl
-step_first above next role s (t ∷ rest) =
-    ap (λ (b : Bool). record { parent = Some above; step = Some s; role = cond b (Some role) None } ∷ step_nodes next (suc next) role (t ∷ rest)) (sym (ne_eqb (suc (length rest)) 0 (λ h. omega arith)))
-
-pub steps_more : (now new whole : List NodeTree) (above next role count : ℕ) (s : Step) (steps rest : List Step) → steps ≡ s ∷ rest → next ≡ count →
-    now ++ step_nodes above count role steps ≡ whole →
-    new ≡ now ++ record { parent = Some above; step = Some s; role = cond (length rest == 0) (Some role) None } ∷ [] → new ++ step_nodes next (suc count) role rest ≡ whole
-steps_more now new whole above next role count s steps rest is n so_far put =
-    ap (λ (ns : List NodeTree). ns ++ step_nodes next (suc count) role rest) put
-    ∙ (append_assoc now (record { parent = Some above; step = Some s; role = cond (length rest == 0) (Some role) None } ∷ []) (step_nodes next (suc count) role rest)
-    ∙ (ap (λ (m : ℕ). now ++ (record { parent = Some above; step = Some s; role = cond (length rest == 0) (Some role) None } ∷ step_nodes m (suc count) role rest)) n
-    ∙ (ap (λ (ns : List NodeTree). now ++ ns) (sym (step_first above count role s rest)) ∙ (ap (λ (ss : List Step). now ++ step_nodes above count role ss) (sym is) ∙ so_far))))
 
 -- ---- Roles
 

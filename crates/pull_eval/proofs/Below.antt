@@ -57,9 +57,6 @@ Rising_to rows m last top q = (P : Tree) (keep : Node → Bool) (l n t : Node) �
     → (h : Node) × NodeAt rows P keep q h × In h (above n) × (In t (above n) → In t (above h))
 
 module _ (m : Store) (rows : List Cell) (s : Shape m rows) (x last top : Member) where
-  pub climb_start : Rising_to rows x last top x.place
-  climb_start P keep l n t a i j e f lt = (n, a, above_self n, λ h. h)
-
   -- one row up
   pub climb_on : (q r : ℕ) → Rising_to rows x last top q → ((c : Cell) → In c rows → c.place ≡ q → last.serial < num c) → parent_of m q ≡ Some r → Rising_to rows x last top r
   climb_on q r c high up P keep l n t a i j e f lt =
@@ -183,9 +180,6 @@ Downward rows p k None = NotBelow rows p k
 Downward rows p k (Some q) = (P : Tree) (keep : Node → Bool) (n m : Node) → NodeAt rows P keep p n → In m P.nodes → keep m ≡ true → serial_of m ≡ k → In n (above m) → (h : Node) × NodeAt rows P keep q h × In h (above m)
 
 module _ (rows : List Cell) (p k : ℕ) where
-  pub down_start : Downward rows p k (Some p)
-  down_start P keep n m a i j e h = (n, a, h)
-
   -- the child of the node at hand towards the one that is sought
   child_there : (q : ℕ) → Downward rows p k (Some q) → ((c : Cell) → In c rows → c.place ≡ q → num c ≡ k → ⊥) → (P : Tree) (keep : Node → Bool) (n m : Node) → NodeAt rows P keep p n → In m P.nodes → keep m ≡ true → serial_of m ≡ k → In n (above m)
       → (h : Node) × NodeAt rows P keep q h × ((s : ℕ) × (v : Kind) × In (Under h s v) (above m) × ((e : Cell) × In e rows × OfNode P keep e (Under h s v)))

@@ -190,9 +190,6 @@ or_false : (b c : Bool) → b ≡ false → c ≡ b || c
 or_false b c e = ap (λ z. z || c) (sym e)
 
 module _ (rows : List Cell) (X : Tree → (Node → Bool) → List Node → Type 0) (r : Tree → List Node → Value → Bool) (ms : List Member) where
-  pub passes_none : PassesOn rows X r ms 0
-  passes_none P keep ns os read x = refl
-
   pub passes_all : (i : ℕ) → length ms ≤ i → PassesOn rows X r ms i → (P : Tree) (keep : Node → Bool) (ns os : List Node) → Readable rows P keep ms ns → X P keep os → false ≡ any (r P os) (map (node_value P) ns)
   passes_all i h on P keep ns os read x =
       let same = same_length ms ns read.nodes.serials in

@@ -2,7 +2,6 @@
 use Rattle.std.proofs.Common.{◌≡◌, ◌==◌, ◌<◌, ◌≤◌, ◌+◌, ◌-◌, ℕ, suc, Bool, true, false, cond, List, [], ◌∷◌, ◌++◌, length, Option, Some, None, refl, sym, ◌∙◌, ap, subst, inl, inr, ◌⊎◌, arith}
 use Rattle.std.proofs.lemmas.Bool.{true≢false}
 use Rattle.std.proofs.lemmas.List.{append-nil, length-append}
-use Rattle.gcx_base.specs.declared.kind.Kind.{Kind}
 use Rattle.gcx_base.specs.declared.kind.Kind.TheVariants.{Document, Element, Text}
 use Rattle.gcx_model.specs.Document.{is_blank}
 use Rattle.gcx_model.specs.Tree.{Node, Under, kind_of, Tree, opening}
@@ -21,9 +20,6 @@ use Rattle.pull_eval.specs.declared.machine.Acted.TheVariants.{Wrote}
 use Rattle.pull_eval.specs.declared.position.Position.{Position}
 
 -- ---- texts aren't empty
-
-abbrev IsText : Kind → List ℕ → Type 0
-IsText k b = k ≡ Text b
 
 -- the node is one of these or the new one
 among : (n m : Node) (ns ms : List Node) → ms ≡ ns ++ m ∷ [] → In n ms → In n ns ⊎ (m ≡ n)

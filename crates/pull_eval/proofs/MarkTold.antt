@@ -1,19 +1,19 @@
 -- What a mark is told of a node, and what it tells afterwards.
-use Rattle.std.proofs.Common.{◌≡◌, ◌<◌, ◌≤◌, ◌+◌, ℕ, suc, Bool, true, false, List, [], ◌∷◌, length, Option, Some, None, refl, sym, ◌∙◌, ap, subst, inl, inr, ◌⊎◌, arith}
+use Rattle.std.proofs.Common.{◌≡◌, ◌<◌, ◌≤◌, ◌+◌, ℕ, Bool, true, false, List, [], ◌∷◌, length, Option, Some, None, refl, sym, ◌∙◌, ap, subst, inl, inr, ◌⊎◌, arith}
 use Rattle.std.specs.Prelude.{Result, IfOk}
 use Rattle.std.specs.declared.result.Result.TheVariants.{Ok, Err}
 use Rattle.std.proofs.lemmas.Bool.{false≢true, eqb-true, eq-eqb, cases_eq}
 use Rattle.gcx_base.specs.declared.ids.Serial.{Serial}
 use Rattle.gcx_base.specs.declared.steps.Step.{Step}
 use Rattle.gcx_model.specs.Tree.{Node, serial_of, Tree, is_closed}
-use Rattle.gcx_model.specs.Paths.{hits, matches}
+use Rattle.gcx_model.specs.Paths.{matches}
 use Rattle.gcx_model.specs.Members.{In}
 use Rattle.gcx_model.specs.Truth.{settle}
 use Rattle.tree_laws.proofs.Matches.{Grown, Numbered-high, Numbered-same, Matches-in, Matches-from}
 use Rattle.buf_tree.specs.Shape.{Cell, num}
 use Rattle.pull_eval.specs.Asking.{RowsOf}
 use Rattle.pull_eval.specs.Reads.{NodeAt}
-use Rattle.pull_eval.specs.Marks.{answer, known, settled, does, is_settled, KeepsValue, AsksLiteral, IsFound, NotFound, Tried, Knows, Fits, IsMark, Asks, Settles, Found}
+use Rattle.pull_eval.specs.Marks.{answer, known, settled, does, is_settled, KeepsValue, AsksLiteral, NotFound, Tried, Knows, Fits, IsMark, Asks, Settles, Found}
 use Rattle.pull_eval.specs.declared.mark.Ask.{Ask}
 use Rattle.pull_eval.specs.declared.mark.Mark.{Mark}
 use Rattle.pull_eval.proofs.Rows.{grown_tree, node_for, serial_told}
@@ -138,13 +138,6 @@ turned_mark rows P keep r n i of e m now same other k = go m.of refl
       | inl h ↦ is_same (f ∙ ap Some (same_serial s of h))
       | inr h ↦ is_other (λ z. let y : Some s ≡ Some of = sym f ∙ z in let x : s ≡ of = cc in h (ap (λ (t : Serial). t.0) x))
     ]
-
--- what a mark tells that knows the truth
-pub known_told : (rows : List Cell) (P : Tree) (keep : Node → Bool) → RowsOf rows P keep → (n : Node) → In n P.nodes → (of : Serial) → serial_of n ≡ of.0 → (m now : Mark) → Turned P of m now → (v : Bool) → now.value ≡ Some v
-    → answer P m.steps m.ask n ≡ known (Some v)
-known_told rows P keep r n i of e m now t v f =
-    let k = knows_of P (grown_tree rows P keep r) n i of e now t.mark t.of_it in
-    ap (λ (s : List Step). answer P s m.ask n) (sym t.steps) ∙ (ap (λ (a : Option Ask). answer P now.steps a n) (sym t.ask) ∙ k.truth v f)
 
 pub asked_told : (rows : List Cell) (nodes p : ℕ) (P : Tree) (keep : Node → Bool) (n : Node) (of : Serial) → serial_of n ≡ of.0 → (m now found_mark kept_mark : Mark) → Asks rows nodes m.steps m.ask p P keep n → Turned P of m now → now.value ≡ None
     → (found over : Bool) → found_mark ≡ record now { waiting = found_mark.waiting; upto = found_mark.upto } → (found_mark.upto ≡ now.upto) ⊎ (found_mark.upto + 1 ≡ nodes)

@@ -1,39 +1,31 @@
 -- The matches of a path as those of its last step, and the truth of a mark's question by the matches that do.
-use Rattle.std.proofs.Common.{◌≡◌, ◌<◌, ◌≤◌, ℕ, zero, suc, Bool, true, false, cond, not, ◌&&◌, ◌||◌, ◌==◌, List, [], ◌∷◌, ◌++◌, length, map, Option, Some, None, refl, sym, ◌∙◌, ap, subst, inl, inr, ◌⊎◌, arith, eqb, length-append}
+use Rattle.std.proofs.Common.{◌≡◌, ◌<◌, ◌≤◌, ℕ, Bool, true, false, cond, ◌&&◌, ◌||◌, ◌==◌, List, [], ◌∷◌, ◌++◌, length, map, Option, Some, None, refl, sym, ◌∙◌, ap, subst, inl, inr, arith, eqb}
 use Rattle.std.specs.List.{filter}
 use Rattle.std.proofs.lemmas.Bool.{and_parts, and_from, or_cases, false≢true, true≢false, eqb-true}
 use Rattle.std.proofs.Math.Bool.{or-true}
-use Rattle.gcx_base.specs.declared.ids.Serial.{Serial}
 use Rattle.gcx_base.specs.declared.steps.Axis.{Axis}
 use Rattle.gcx_base.specs.declared.steps.Axis.TheVariants.{Child, Descendant}
 use Rattle.gcx_base.specs.declared.steps.Test.{Test}
 use Rattle.gcx_base.specs.declared.steps.Step.{Step}
-use Rattle.gcx_model.specs.Tree.{Node, Root, Under, serial_of, kind_of, above, within, Tree, opening, is_open_at, is_closed}
+use Rattle.gcx_model.specs.Tree.{Node, Root, Under, serial_of, kind_of, above, within, Tree, is_closed}
 use Rattle.gcx_base.specs.Tests.{passes}
-use Rattle.gcx_model.specs.Paths.{any, lies, reach, hits, matches, value}
+use Rattle.gcx_model.specs.Paths.{lies, reach, hits, matches, value}
 use Rattle.gcx_model.specs.Members.{In}
 use Rattle.gcx_model.specs.Answer.{is_any, some_pair}
-use Rattle.gcx_model.specs.Core.{CondTree, Exists, Compare, Path, RoleRowTree}
-use Rattle.gcx_model.specs.Roles.{cond_rows}
+use Rattle.gcx_model.specs.Core.{Path}
 use Rattle.gcx_model.specs.Values.{Value, Bytes, compare}
-use Rattle.gcx_model.specs.declared.truth.Truth.{Truth}
-use Rattle.gcx_model.specs.declared.truth.Truth.TheVariants.{True, False, Unknown}
+use Rattle.gcx_model.specs.declared.truth.Truth.TheVariants.{True}
 use Rattle.gcx_model.specs.Truth.{Env, node_value, settled_values, is_over, settle, truth}
-use Rattle.gcx_model.specs.Growth.{Leads}
 use Rattle.gcx_model.specs.CondView.{operand_tree}
 use Rattle.gcx_model.specs.declared.cond.Operand.{Operand}
 use Rattle.gcx_model.specs.declared.cond.Operand.TheVariants as operand
-use Rattle.tree_laws.proofs.Lists.{In-left, In-append, In-filter, In-kept, any_in, any_from}
-use Rattle.tree_laws.proofs.Matches.{Grown, Numbered-same, Matches-in, Matches-from}
+use Rattle.tree_laws.proofs.Lists.{any_in}
+use Rattle.tree_laws.proofs.Matches.{Grown}
 use Rattle.tree_laws.proofs.Freeze.{hits_within}
 use Rattle.tree_laws.proofs.Chains.{above_in, hits_one}
-use Rattle.move_laws.proofs.Keeping.{closed_stays}
-use Rattle.tree_laws.proofs.Fed.{grown_from}
-use Rattle.run_laws.proofs.Feeds.{nodes_grow, truth_stays}
-use Rattle.pull_eval.specs.Marks.{question, answer, known, AsksLiteral, does, is_settled, IsFound, NotFound, WasOpen, Tried, Knows, EndsAs, Fits, IsMark}
+use Rattle.pull_eval.specs.Marks.{question, answer, AsksLiteral, does, IsFound, NotFound, EndsAs, Fits}
 use Rattle.pull_eval.specs.Literals.{literal_value, IsLiteral}
 use Rattle.pull_eval.specs.declared.mark.Ask.{Ask}
-use Rattle.pull_eval.specs.declared.mark.Mark.{Mark}
 
 -- ---- serials of matches
 
@@ -101,9 +93,6 @@ module _ (P : Tree) (g : Grown P) where
       and_from _ _ pass (subst (λ (x : Axis). lies x n m ≡ true) (sym (ends_below t rest last f)) low)
 
 -- ---- the last step
-
-pub fits_only : (t : Step) (front : List Step) → front ≡ [] → Fits (front ++ t ∷ []) t
-fits_only t front e = subst (λ (xs : List Step). Fits (xs ++ t ∷ []) t) (sym e) refl
 
 ends_as : (t : Step) (front : List Step) → EndsAs (front ++ t ∷ []) (record { axis = Descendant; test = t.test })
 ends_as t [] = (refl, refl)

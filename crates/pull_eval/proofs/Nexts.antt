@@ -180,9 +180,6 @@ module _ (rows : List Cell) (s : Step) where
       let told = serial_told rows P keep of is.used.cell n.0 n.1 in
       (n.0, subst (λ q. NodeAt rows P keep q n.0) is.used.place (node_at rows P keep of is.used.cell n.0 is.used.among n.1), sym told ∙ is.number is.used.cell is.used.among is.used.place)
 
-  pub gathers_none : Gathers rows s [] []
-  gathers_none = record { members = λ m i. absurd i; told = λ P keep of. refl }
-
   pub gathers_more : (before found new : List Member) (m : Member) → Gathers rows s before found → IsMember rows m → Puts rows m.place s found new → Gathers rows s (before ++ m ∷ []) new
   gathers_more before found new m g is p = record {
     members = subst (λ (ms : List Member). AreMembers rows ms) (sym p.new_is) (members_append rows found p.more g.members p.members);
@@ -419,9 +416,6 @@ module _ (rows : List Cell) (s : Step) (ax : s.axis ≡ Descendant) where
         let n = member_node rows s m is P keep of in
         outside_in P keep of before found new m n.0 done n.1 n.2 out p a (d.told P keep of (ascends_front before m a).0);
   }
-
-  pub descends_end : (set found : List Member) (done : Option (Member × Member)) → Descends rows s set found done → AreNext rows set s found
-  descends_end set found state d = record { members = d.members; told = λ P keep of a. (d.told P keep of a).listed }
 
 pub tells_as : (rows : List Cell) (m last top : Member) (b c : Bool) → b ≡ c → Tells rows m last top b → Tells rows m last top c
 tells_as rows m last top b c e t = subst (λ (x : Bool). Tells rows m last top x) e t

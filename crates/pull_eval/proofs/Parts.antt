@@ -11,10 +11,10 @@ use Rattle.gcx_model.specs.Tree.{Node, Tree}
 use Rattle.gcx_model.specs.Members.{In}
 use Rattle.gcx_base.specs.declared.ids.VarId.{VarId}
 use Rattle.gcx_base.specs.declared.steps.Step.{Step}
-use Rattle.gcx_model.specs.Core.{CondTree, Always, Exists, Not, All, Any, RoleRowTree}
+use Rattle.gcx_model.specs.Core.{CondTree, Exists, Not, All, Any, RoleRowTree}
 use Rattle.gcx_model.specs.CondView.{core_cond_tree, core_conds_of}
 use Rattle.gcx_model.specs.declared.truth.Truth.{Truth}
-use Rattle.gcx_model.specs.Truth.{Env, truth, truth_all, truth_any, both, either, negate}
+use Rattle.gcx_model.specs.Truth.{Env, truth, truth_all, truth_any, both, either}
 use Rattle.gcx_model.specs.Roles.{cond_rows, conds_rows}
 use Rattle.gcx_model.specs.Needs.{Cond_needs, Conds_need}
 use Rattle.gcx_model.specs.declared.truth.Truth.TheVariants.{True, False, Unknown}
@@ -128,12 +128,6 @@ module _ (before now after : Tree → Type 0) (rows : List Cell) (bound : Bindin
 
   pub ends_any : (cs : List CondTree) → Goes before now rows bound (Any (core_conds_of cs)) (rest_any []) → Answers before now rows bound (Any (core_conds_of cs)) False
   ends_any cs goes = goes
-
-  pub answers_not : (d : CondTree) (t u : Truth) → Answers before after rows bound d t → u ≡ negate t → Answers before after rows bound (Not d) u
-  answers_not d t u answers e P env s a = let r = answers P env s (asked_not rows bound P env d a) in (e ∙ ap negate r.0, r.1)
-
-  pub answers_always : Answers before before rows bound Always True
-  answers_always P env s a = (refl, s)
 
 -- ---- in the code
 

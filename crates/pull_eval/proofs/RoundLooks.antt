@@ -1,6 +1,5 @@
 -- A loop looks for its next match while a statement is still to come in its body.
 use Rattle.std.proofs.Common.{◌≡◌, ℕ, Bool, true, false, List, [], ◌∷◌, ◌++◌, reverse, Some, None, refl, sym, ◌∙◌, ap, subst, inl, inr}
-use Rattle.std.proofs.lemmas.Bool.{false≢true}
 use Rattle.gcx_model.specs.declared.item.Item.{Item}
 use Rattle.gcx_model.specs.declared.item.Item.TheVariants as item
 use Rattle.gcx_model.specs.declared.item.Off.{Off}
@@ -8,7 +7,7 @@ use Rattle.gcx_model.specs.ItemView.{off_tree}
 use Rattle.gcx_model.specs.Tree.{Node, serial_of, Tree}
 use Rattle.gcx_model.specs.Members.{In}
 use Rattle.gcx_model.specs.Truth.{Env, bind_var}
-use Rattle.gcx_model.specs.Run.{Action, Out, idle, seq, seq_if, run}
+use Rattle.gcx_model.specs.Run.{idle, run}
 use Rattle.gcx_model.specs.Past.{Past}
 use Rattle.gcx_model.specs.Points.{Frame, Rest, Round, to_come, Bound_in}
 use Rattle.run_laws.proofs.Free.{some_acts}
@@ -42,17 +41,6 @@ use Rattle.pull_eval.proofs.NextMatches.{learnt_next}
 use Rattle.pull_eval.proofs.RoundEnds.{present_match, present_in, round_context, later_kept}
 
 -- ---- a run in which a statement is to come isn't over without an action
-
-second_idle : (a b : Out) → seq a b ≡ idle true → b ≡ idle true
-second_idle a b e = go a a.done refl e
-  where
-    empty_right : (xs ys : List Action) → xs ++ ys ≡ [] → ys ≡ []
-    empty_right [] ys h = h
-    empty_right (x ∷ xs) ys h = absurd (cc)
-
-    go : (a : Out) (d : Bool) → a.done ≡ d → seq_if d a b ≡ idle true → b ≡ idle true
-    go a true f h = ap (λ (z : List Action). record { acts = z; done = b.done }) (empty_right a.acts b.acts (ap (λ (o : Out). o.acts) h)) ∙ ap (λ (z : Bool). record { acts = []; done = z }) (ap (λ (o : Out). o.done) h)
-    go a false f h = absurd (false≢true (sym f ∙ ap (λ (o : Out). o.done) h))
 
 ends_has : (front : List Item) (o : Off) → Has (off_tree o) (items (front ++ item.Off o ∷ []))
 ends_has [] o = inl (fold_Off o)

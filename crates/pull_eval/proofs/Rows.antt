@@ -12,8 +12,6 @@ use Rattle.tree_laws.proofs.Fed.{nodes_are_numbered}
 use Rattle.buf_tree.specs.Shape.{Cell, num}
 use Rattle.buf_tree.specs.Shape as shape
 use Rattle.buf_tree.specs.Match.{IsChild}
-use Rattle.buf_tree.specs.Ways.{Tells, NodeOf}
-use Rattle.buf_tree.specs.View.{InUse}
 use Rattle.buf_tree.proofs.Shaping.{rising_same}
 use Rattle.buf_tree.proofs.Standing.{pair_left, parent_told}
 use Rattle.pull_eval.specs.Asking.{Facts, facts, node_facts, RowsOf, PlacedAt}
@@ -134,14 +132,6 @@ module _ (rows : List Cell) (P : Tree) (keep : Node → Bool) (of : RowsOf rows 
       let e = parent_for d n s k j u in
       subst (λ (x : Cell). IsChild x d) (same_row e.0 c e.1 i (serial_told e.0 n e.2 ∙ sym (serial_told c n o))) e.3
 
-  -- the first row is that of the document node
-  pub zero_root : (c : Cell) (n : Node) → OfNode P keep c n → num c ≡ 0 → n ≡ Root
-  zero_root c Root o e = refl
-  zero_root c (Under p s k) o e =
-      let low = grown_tree.below p s k o.among in
-      let here = serial_told c (Under p s k) o in
-      absurd (omega arith)
-
   -- ---- places
 
   -- the place of a row is that of its serial
@@ -164,16 +154,3 @@ module _ (rows : List Cell) (P : Tree) (keep : Node → Bool) (p : ℕ) (n : Nod
 
   pub at_placed : PlacedAt rows (serial_of n) p
   at_placed c i e = placed_row rows P keep at.rows_of at.cell at.cell_among c i (e ∙ sym at.number) ∙ at.at
-
-  pub at_used : InUse rows p
-  at_used = record { cell = at.cell; among = at.cell_among; place = at.at }
-
-  -- what a walk up from the row knows of the node
-  pub at_told : NodeOf rows p n
-  at_told = record { cell = at.cell; among = at.cell_among; place = at.at; tells = told at.cell n at.cell_among at_node }
-    where
-      told : (c : Cell) (m : Node) → In c rows → OfNode P keep c m → Tells rows c m
-      told c Root i o = (serial_told rows P keep at.rows_of c Root o, kind_told rows P keep at.rows_of c Root o)
-      told c (Under q s k) i o =
-          let e = parent_for rows P keep at.rows_of c q s k i o in
-          (serial_told rows P keep at.rows_of c (Under q s k) o, kind_told rows P keep at.rows_of c (Under q s k) o, (e.0, e.1, e.3, told e.0 q e.1 e.2))

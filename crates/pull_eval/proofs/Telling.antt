@@ -138,14 +138,6 @@ module _ (rows : List Cell) (bound : Bindings) (t : Truth) where
       ∙ (ap (λ ws. settle (some_pair (compare rel) ws vs) over) (sym (literal_values P env o lit))
       ∙ ap (λ b. settle (some_pair (compare rel) (settled_values P env (operand_tree o)) vs) (b && over)) (sym (literal_over P env o lit))))
 
-  pub literals_told : (rel : Rel) (o u : Operand) → IsLiteral o → IsLiteral u → (b : Bool) → b ≡ compare rel (literal_value o) (literal_value u) → t ≡ settle b true → Tells rows bound (Compare (operand_tree o) rel (operand_tree u)) t
-  literals_told rel o u lit mit b e is P env a =
-      is ∙ (ap (λ z. settle z true) (e ∙ (or_none (compare rel (literal_value o) (literal_value u)) ∙ or_none (compare rel (literal_value o) (literal_value u) || false)))
-      ∙ (ap (λ vs. settle (some_pair (compare rel) vs (literal_value u ∷ [])) true) (sym (literal_values P env o lit))
-      ∙ (ap (λ ws. settle (some_pair (compare rel) (settled_values P env (operand_tree o)) ws) true) (sym (literal_values P env u mit))
-      ∙ (ap (λ b. settle (some_pair (compare rel) (settled_values P env (operand_tree o)) (settled_values P env (operand_tree u))) (b && true)) (sym (literal_over P env o lit))
-      ∙ ap (λ b. settle (some_pair (compare rel) (settled_values P env (operand_tree o)) (settled_values P env (operand_tree u))) (is_over P env (operand_tree o) && b)) (sym (literal_over P env u mit))))))
-
 -- ---- the same of operands in the code
 
 pub is_literal : (o : Operand) → ((x : VarId) (steps : List Step) → o ≡ operand.Path x steps → ⊥) → IsLiteral o

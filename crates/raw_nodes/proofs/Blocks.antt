@@ -1,5 +1,5 @@
 -- Cells that lie apart are found by their pointers, and by their numbers.
-use Rattle.std.proofs.Common.{◌≡◌, ◌≢◌, ℕ, zero, suc, ◌<◌, Bool, true, false, cond, List, [], ◌∷◌, Option, Some, None, map, length, get_or, refl, ap, ◌∙◌, arith, rules}
+use Rattle.std.proofs.Common.{◌≡◌, ◌≢◌, ℕ, zero, suc, ◌<◌, Bool, true, false, cond, List, [], ◌∷◌, Option, Some, None, map, length, get_or, refl, ap, ◌∙◌, arith}
 use Rattle.std.specs.Prelude.{IsSome}
 use Rattle.std.specs.List.{AllByRecursion, IsDistinct}
 use Rattle.std.proofs.lemmas.List.{length-map}
@@ -47,11 +47,6 @@ module _ {X : Type 0} where
   held_within [] k some = absurd (cc)
   held_within (s ∷ ss) zero some = omega arith
   held_within (s ∷ ss) (suc k) some = let rest = held_within ss k some in omega arith
-
-  pub within_held : (ss : List (Spot X)) (k : ℕ) → k < length ss → IsSome (held_at ss k)
-  within_held [] k lt = absurd (omega arith)
-  within_held (s ∷ ss) zero lt = search rules
-  within_held (s ∷ ss) (suc k) lt = within_held ss k (omega arith)
 
   -- ---- a write
 

@@ -7,7 +7,6 @@ use Rattle.std.specs.Ordering.{nat_cmp}
 use Rattle.std.proofs.lemmas.Bool.{cases_eq, eq-eqb, ne_eqb}
 use Rattle.std.proofs.lemmas.List.{length-map}
 use Rattle.std.proofs.Math.Facts.{Fits-of_lt}
-use denote.RawPtr.{Ptr}
 use Rattle.node_store.specs.Rows.{Rows, Entry, leaf, with_child, is_listed, changed, changed_at, planted, appended, unlinked, left_by, without_child, parent_of, last_of, IsTree}
 use Rattle.node_store.specs.Links.{Linked, rows_of, linked_at, fresh_cell, with_last, altered, put, joined, Holds}
 use Rattle.node_store.proofs.Siblings.{listed_cases, not_listed}
@@ -135,13 +134,6 @@ module _ {T : Type 0} where
         count = count ∙ ap fin.len (sym (rows_is (cells_of cells) rows (index_in cells root) holds tree));
         dead = (fs, dead);
       }
-
-  one_node : (cells : List (Spot (Node T))) (p : Ptr) → IsSome (found cells p) → (n : Node T) × (found cells p ≡ Some n)
-  one_node cells p some = go (found cells p) refl some
-    where
-      go : (o : Option (Node T)) → found cells p ≡ o → IsSome o → (n : Node T) × (found cells p ≡ Some n)
-      go None is h = absurd (cc)
-      go (Some n) is h = (n, is)
 
   -- ---- a dead cell is made a row
 

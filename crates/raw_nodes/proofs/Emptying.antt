@@ -42,10 +42,6 @@ module _ {X : Type 0} where
   take_mapped f (suc n) [] = refl
   take_mapped f (suc n) (x ∷ xs) = ap (λ ys. f x ∷ ys) (take_mapped f n xs)
 
-  pub none_placed : (ss : List (Spot X)) → places ss ≡ [] → ss ≡ []
-  none_placed [] e = refl
-  none_placed (s ∷ ss) e = absurd (cc)
-
 module _ {T : Type 0} where
   -- how many cells the last block has
   pub last_long : (ss : List (Spot (Node T))) (ps : List Ptr) → IsLast ps ss → length (map (λ s. s.held) (drop (length ss - length ps) ss)) ≡ length ps

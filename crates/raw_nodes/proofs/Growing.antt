@@ -60,9 +60,6 @@ module _ {T : Type 0} where
       (tabled : addresses new.links.items ≡ addresses old.links.items ++ run_places s base 256)
       (filled : slots ≡ map Some (dead_nodes (length old.links.items) (drop (length old.links.items) new.links.items)))
       (celled : new.arena.cells ≡ old.arena.cells ++ spots s base (somes slots)) where
-    fresh : List Link
-    fresh = drop (length old.links.items) new.links.items
-
     abbrev nodes : List (Node T)
     nodes = dead_nodes (length old.links.items) (drop (length old.links.items) new.links.items)
 

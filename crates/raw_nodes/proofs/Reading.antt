@@ -53,9 +53,6 @@ module _ {T : Type 0} where
     pub root_links : IfSome r.root (λ l. IsSome (fin.get rows (place_of cells l.ptr)))
     root_links = used_links cells rows r.root root_is_used
 
-    pub root_places : (o : Option Place) → option_map (λ p. p.0) o ≡ index_in cells r.root → IfSome o (λ p. IsSome (fin.get rows p.0))
-    root_places o e = used_places rows o (index_in cells r.root) e root_is_used
-
     module _ (k : ℕ) (used : IsSome (fin.get rows k)) (n : Node T) (all : (e : Entry T) → fin.get rows k ≡ Some e → Keeps cells n (linked_at rows k e)) where
       abbrev row : (e : Entry T) × (fin.get rows k ≡ Some e)
       row = some_row (fin.get rows k) used

@@ -87,16 +87,6 @@ module _ {X : Type 0} where
           go true = omega arith
           go false = omega arith
 
-  filter_less : (p q : X → Bool) (xs : List X) → ((x : X) → p x ≡ true → q x ≡ true) → length (filter p xs) ≤ length (filter q xs)
-  filter_less p q [] h = omega arith
-  filter_less p q (x ∷ xs) h = go (p x) (q x) refl refl (filter_less p q xs h)
-    where
-      go : (a b : Bool) → p x ≡ a → q x ≡ b → length (filter p xs) ≤ length (filter q xs) → length (cond a (x ∷ filter p xs) (filter p xs)) ≤ length (cond b (x ∷ filter q xs) (filter q xs))
-      go true true e f r = omega arith
-      go true false e f r = absurd (true≢false (sym (h x e) ∙ f))
-      go false true e f r = omega arith
-      go false false e f r = r
-
   filter_inner : (p q : X → Bool) (xs : List X) → ((x : X) → In x xs → p x ≡ true → q x ≡ true) → filter p (filter q xs) ≡ filter p xs
   filter_inner p q [] h = refl
   filter_inner p q (x ∷ xs) h = go (p x) (q x) refl refl (filter_inner p q xs (λ y i. h y (inr i)))

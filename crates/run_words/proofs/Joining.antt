@@ -1,13 +1,11 @@
 -- Two texts, one behind the other.
-use Rattle.std.proofs.Common.{◌≡◌, ℕ, List, [], ◌∷◌, ◌++◌, map, Bool, true, false, refl, ap, sym, subst, ◌∙◌, append_assoc, append-nil}
+use Rattle.std.proofs.Common.{◌≡◌, ℕ, List, [], ◌∷◌, ◌++◌, map, refl, ap, sym, subst, ◌∙◌, append_assoc}
 use Rattle.std.proofs.lemmas.List.{map-append}
 use Rattle.std.proofs.lemmas.List.Elements.{All-append}
 use Rattle.gcx_io.proofs.Grown.{grows_on}
-use Rattle.gcx_io.proofs.Written.{takes_none}
 use Rattle.gcx_io.specs.Causes.{Rose}
 use Rattle.gcx_io.specs.Views.{Call, Took, Failed, SinkView}
 use Rattle.gcx_io.specs.Writing.{IsSomeBytes, joined, Takes, Owes}
-use Rattle.run_words.specs.Writing.{TakesFront, Traces, TracesFront}
 
 pub joined_both : (ps qs : List (List ℕ)) → joined (ps ++ qs) ≡ joined ps ++ joined qs
 joined_both [] qs = refl
@@ -73,26 +71,3 @@ owes_less a b sure t o = record {
   told = o.told;
   faults = o.faults;
 }
-
--- what was taken is a front of a longer text
-pub takes_front : (a b : SinkView) (sure more rest text : List ℕ) → Takes a b (sure ++ more) → text ≡ sure ++ more ++ rest → TakesFront a b sure text
-takes_front a b sure more rest text took split = record { more = more; rest = rest; took = took; split = split }
-
-pub traces_none : (tracing : Bool) (a : SinkView) → Traces tracing a a []
-traces_none true a = takes_none a
-traces_none false a = refl
-
-pub traces_then : (tracing : Bool) (a b c : SinkView) (t u : List ℕ) → Traces tracing a b t → Traces tracing b c u → Traces tracing a c (t ++ u)
-traces_then true a b c t u x y = takes_then a b c t u x y
-traces_then false a b c t u x y = y ∙ x
-
--- exactly so much of the trace is a front of it
-pub traces_front : (tracing : Bool) (a b : SinkView) (told rest t : List ℕ) → Traces tracing a b told → t ≡ told ++ rest → TracesFront tracing a b told t
-traces_front true a b told rest t took split =
-    record {
-      more = [];
-      rest = rest;
-      took = subst (λ (l : List ℕ). Takes a b l) (sym (append-nil told)) took;
-      split = split ∙ ap (λ (l : List ℕ). l ++ rest) (sym (append-nil told));
-    }
-traces_front false a b told rest t took split = took

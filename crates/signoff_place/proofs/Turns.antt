@@ -1,42 +1,13 @@
 -- The statements of one turn, role by role.
-use Rattle.std.proofs.Common.{ℕ, suc, ◌≡◌, ◌+◌, ◌<◌, ◌==◌, Bool, true, false, cond, not, ◌&&◌, List, [], ◌∷◌, ◌++◌, map, length, take, get_or, refl, sym, ap, ◌∙◌, arith, append_assoc, append-nil}
+use Rattle.std.proofs.Common.{ℕ, suc, ◌≡◌, ◌+◌, ◌<◌, ◌==◌, Bool, ◌&&◌, List, [], ◌∷◌, ◌++◌, map, length, take, get_or, sym, ap, ◌∙◌, arith, append_assoc}
 use Rattle.std.proofs.lemmas.List.{map_more, length-map, length-take}
 use Rattle.std.proofs.lemmas.List.Elements.{filter-append}
 use Rattle.gcx_model.specs.declared.plan.RoleRow.{RoleRow}
 use Rattle.gcx_model.specs.Core.{OffTree, RoleRowTree}
-use Rattle.gcx_model.specs.Placed.{at_end, is_own}
 use Rattle.gcx_model.specs.PlanView.{role_row_tree}
 use Rattle.signoff_place.specs.Spread.{Tables, is_turn, ends_at, stated, all_stated}
 
 -- ---- One statement
-
-one_kept : (here turn : Bool) (o : OffTree) → turn ≡ true → cond here (o ∷ []) [] ≡ cond (here && turn) (o ∷ []) []
-one_kept true turn o e = ap (λ (b : Bool). cond b (o ∷ []) []) (sym e)
-one_kept false turn o e = refl
-
-none_kept : (here turn : Bool) (o : OffTree) → turn ≡ false → [] ≡ cond (here && turn) (o ∷ []) []
-none_kept true turn o e = ap (λ (b : Bool). cond b (o ∷ []) []) (sym e)
-none_kept false turn o e = refl
-
-turn_is : (own is : Bool) (o : OffTree) → is ≡ is_own o → is ≡ own → is_turn own o ≡ true
-turn_is true is o e h = sym e ∙ h
-turn_is false is o e h = ap not (sym e ∙ h)
-
-turn_is_not : (own is : Bool) (o : OffTree) → is ≡ is_own o → (is ≡ own → ⊥) → is_turn own o ≡ false
-turn_is_not true true o e h = absurd (h refl)
-turn_is_not true false o e h = sym e
-turn_is_not false true o e h = ap not (sym e)
-turn_is_not false false o e h = absurd (h refl)
-
--- a statement of this turn
-pub one_added : (own is : Bool) (o q : OffTree) (x : ℕ) (old new : List OffTree) → is ≡ is_own q → is ≡ own → q ≡ o → new ≡ old ++ cond (q.base == x) (q ∷ []) [] → new ≡ old ++ ends_at own (o ∷ []) x
-one_added own is o q x old new e h s n =
-    n ∙ (ap (λ (os : List OffTree). old ++ os) (one_kept (q.base == x) (is_turn own q) q (turn_is own is q e h)) ∙ ap (λ (r : OffTree). old ++ ends_at own (r ∷ []) x) s)
-
--- one of the other turn
-pub none_added : (own is : Bool) (o q : OffTree) (x : ℕ) (old : List OffTree) → is ≡ is_own q → (is ≡ own → ⊥) → q ≡ o → old ≡ old ++ ends_at own (o ∷ []) x
-none_added own is o q x old e h s =
-    sym (append-nil old) ∙ (ap (λ (os : List OffTree). old ++ os) (none_kept (q.base == x) (is_turn own q) q (turn_is_not own is q e h)) ∙ ap (λ (r : OffTree). old ++ ends_at own (r ∷ []) x) s)
 
 -- ---- One role more
 
@@ -59,7 +30,3 @@ turn_more t own x start old new xs i role r h e k so_far n =
   where
     number : role ≡ 0 + length (map role_row_tree (take i xs))
     number = k ∙ omega (arith, length-map (take i xs) role_row_tree, length-take i xs)
-
--- both turns
-pub two_turns : (os : List OffTree) (x : ℕ) (none one two : List OffTree) → none ≡ [] → one ≡ none ++ ends_at false os x → two ≡ one ++ ends_at true os x → two ≡ at_end os x
-two_turns os x none one two n o t = t ∙ ap (λ (ps : List OffTree). ps ++ ends_at true os x) (o ∙ ap (λ (ps : List OffTree). ps ++ ends_at false os x) n)

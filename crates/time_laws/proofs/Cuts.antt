@@ -14,9 +14,6 @@ use Rattle.time_laws.proofs.Begun.{Late, late_then, late_rounds}
 abbrev pub cut : ℕ → Course → Out
 cut j a = record { acts = due j a.acts; done = leb a.till j }
 
-pub out_of : List Action → Bool → Out
-out_of xs d = record { acts = xs; done = d }
-
 pub same_out : (a b : Out) → a.acts ≡ b.acts → a.done ≡ b.done → a ≡ b
 same_out a b e f = two a.acts b.acts a.done b.done e f
   where
@@ -48,9 +45,6 @@ seq_cut j a f b h e = go (leb a.till j) refl
 
 pub one_cut : (j t : ℕ) (a : Action) → t ≤ j → cut j (one_act t a) ≡ record { acts = a ∷ []; done = true }
 one_cut j t a l = same_out (cut j (one_act t a)) (record { acts = a ∷ []; done = true }) (rw (le-leb t j l) refl) (le-leb t j l)
-
-pub none_cut : (j t : ℕ) → cut j (none_till t) ≡ idle (leb t j)
-none_cut j t = refl
 
 -- each node is there before the loop is over and before the later ones
 abbrev pub Rises : Clock → List Node → (over : ℕ) → Type 0

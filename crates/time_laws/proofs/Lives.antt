@@ -72,9 +72,6 @@ module _ (core : BodyTree) (good : Good core) (plan : PlanTree) (pl : Placed cor
   abbrev pub C : Tree
   C = grow_all ts opening
 
-  abbrev pub all_acts : List Action
-  all_acts = actions plan (grow_all ts opening)
-
   grown_at : (j : ℕ) → Grown (tree_at ts j)
   grown_at j = Grown-all (take j ts) opening Grown-opening
 

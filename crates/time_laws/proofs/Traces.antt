@@ -102,9 +102,6 @@ module _ (core : BodyTree) (good : Good core) (plan : PlanTree) (pl : Placed cor
   abbrev C : Tree
   C = grow_all full opening
 
-  abbrev T : List TimedAct
-  T = timed_acts c (grow_all full opening) plan
-
   grown_at : (j : ℕ) → Grown (tree_at full j)
   grown_at j = Grown-all (take j full) opening Grown-opening
 

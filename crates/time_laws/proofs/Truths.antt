@@ -170,9 +170,6 @@ compare_at j o (Some t) h = elim (cases_lt j t) [
 -- ---- conditions
 
 module _ (c : Clock) (ts : List Token) (C : Tree) (most : ℕ) (k : IsClock c ts C most) (j : ℕ) (l : j ≤ most) where
-  abbrev pub P : Tree
-  P = tree_at ts j
-
   -- bound to nodes that are there
   abbrev pub AreThere : ℕ → Env → Type 0
   AreThere t env = (x : ℕ) → In (env x) C.nodes × (c.opened (serial_of (env x)) ≤ t)

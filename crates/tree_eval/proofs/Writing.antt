@@ -32,10 +32,6 @@ flat_map-flat_map : {X : Type 0} (g : X → List ℕ) (h : Node → List X) (xs 
 flat_map-flat_map g h [] = refl
 flat_map-flat_map g h (x ∷ xs) = flat_map-append g (h x) (flat_map h xs) ∙ ap (λ l. flat_map g (h x) ++ l) (flat_map-flat_map g h xs)
 
--- no clause is left: one turn
-pub turns_none : (filter : Option CondTree) (body : ExprTree) (scope : Scope) (P : Tree) → turns_bytes [] filter body scope P ≡ turn_bytes filter body P scope
-turns_none filter body scope P = append-nil _
-
 -- the turns of a clause
 pub turns_more : (c : Clause) (cs : List Clause) (filter : Option CondTree) (body : ExprTree) (scope : Scope) (P : Tree)
     → turns_bytes (c ∷ cs) filter body scope P ≡ flat_map (λ n. turns_bytes cs filter body (bind scope c.var n) P) (found c.path scope P)

@@ -120,9 +120,6 @@ adds (element before name inner) h r s k P e l f =
     (let g = ap length new in let m = length-append Q.nodes (n ∷ []) in omega arith)
     (subst (λ (z : List Node). ends_in_text n z ≡ false) (sym new) (ends_from n Q.nodes n [] refl (λ x i. absurd i))))
 
-more_root : (x y : Node) (zs more : List Node) → has_root ((x ∷ (y ∷ zs)) ++ more) ≡ true
-more_root x y zs more = refl
-
 pub document_comes : (d : Nodes) → IsDocument d → may_all (tokens d ++ End ∷ []) opening ≡ true
 document_comes none h = absurd h
 document_comes (text before bytes) h = absurd h

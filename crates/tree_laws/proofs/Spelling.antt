@@ -23,10 +23,6 @@ Free b w = In b w → ⊥
 abbrev Stops : ℕ → List ℕ → Type 0
 Stops b r = (r ≡ []) ⊎ ((rest : List ℕ) × (r ≡ b ∷ rest))
 
-stops_not : (b y : ℕ) (r v : List ℕ) → Stops b r → Free b (y ∷ v) → r ≡ y ∷ v → ⊥
-stops_not b y r v (inl e) f h = cc
-stops_not b y r v (inr s) f h = let e : y ≡ b = cc in f (inl e)
-
 cut_same : (b : ℕ) (u v r t : List ℕ) → Free b u → Free b v → Stops b r → Stops b t → u ++ r ≡ v ++ t → (u ≡ v) × (r ≡ t)
 cut_same b [] [] r t fu fv sr st e = (refl, e)
 cut_same b [] (y ∷ v) r t fu fv sr st e = elim sr [

@@ -1,6 +1,5 @@
 -- A document's tree from the tokens of its reader.
-use Rattle.std.proofs.Common.{◌≡◌, ℕ, Bool, true, false, List, [], ◌∷◌, ◌++◌, map, None, refl, sym, ◌∙◌, ap, subst, arith, append-nil, append_assoc}
-use Rattle.std.specs.declared.result.Result.TheVariants.{Err}
+use Rattle.std.proofs.Common.{◌≡◌, ℕ, Bool, true, false, List, [], ◌∷◌, ◌++◌, map, None, refl, sym, ◌∙◌, ap, subst, arith, append_assoc}
 use Rattle.std.proofs.lemmas.List.{map-append}
 use lib.Utf8.{encode}
 use Rattle.gcx_base.specs.declared.limits.Limits.{Limits}
@@ -9,13 +8,12 @@ use Rattle.gcx_base.specs.Utf8.{IsCharFront}
 use Rattle.gcx_model.specs.Document.{Nodes, tokens, tree_of}
 use Rattle.gcx_model.specs.Tree.{Tree, Token as Said, Start, Chars, End, opening, grow, grow_all}
 use Rattle.gcx_model.specs.Faults.{FaultIs, none_yet, within_limit}
-use Rattle.gcx_model.specs.declared.fault.DocFault.{DocFault}
 use Rattle.gcx_model.specs.declared.fault.DocFault.TheVariants as fault
-use Rattle.doc_reader.specs.Standing.{ReaderView, Stands, Keeps, Accepted, Answers, waiting, reader_tokens, given_token, said_of}
+use Rattle.doc_reader.specs.Standing.{ReaderView, Stands, Keeps, Accepted, waiting, reader_tokens, given_token, said_of}
 use Rattle.doc_reader.specs.declared.token.Token.{Token}
 use Rattle.doc_reader.specs.declared.token.Token.TheVariants.{EndOfDocument}
 use Rattle.tree_read.specs.declared.reading.DocumentEnd.TheVariants as end
-use Rattle.tree_read.specs.Document.{IsWhole, HasGrown, EndsBy, SaysWhy, end_of}
+use Rattle.tree_read.specs.Document.{IsWhole, HasGrown}
 
 -- ---- tokens taken one after another
 
@@ -26,15 +24,6 @@ pub record HasTaken (old new : ReaderView) (before after : Tree) : Type 0 where
   pub tree_is : after ≡ grow_all (map said_of tokens) before
   pub stands : (lim : Limits) (b : List ℕ) (ended : Bool) (given : List Token) → Stands old lim b ended given → Stands new lim b ended (given ++ tokens)
   pub keeps : Keeps old new
-
-pub taken_none : (h : ReaderView) (t : Tree) → HasTaken h h t t
-taken_none h t = record {
-  tokens = [];
-  waits = refl;
-  tree_is = refl;
-  stands = λ lim b ended given s. subst (λ (l : List Token). Stands h lim b ended l) (sym (append-nil given)) s;
-  keeps = record { finished = refl; answer = refl };
-}
 
 grow_more : (ts us : List Said) (P : Tree) → grow_all (ts ++ us) P ≡ grow_all us (grow_all ts P)
 grow_more [] us P = refl
@@ -54,48 +43,7 @@ taken_on a b c s t u x h waits on keeps tree = record {
   keeps = record { finished = keeps.finished ∙ h.keeps.finished; answer = keeps.answer ∙ h.keeps.answer };
 }
 
--- all that waited were taken
-pub taken_all : (a b : ReaderView) (s t : Tree) → (h : HasTaken a b s t) → waiting b ≡ [] → h.tokens ≡ waiting a
-taken_all a b s t h none = sym (h.waits ∙ ap (λ (l : List Token). h.tokens ++ l) none ∙ append-nil h.tokens)
-
-pub taken_tree : (a b : ReaderView) (s t : Tree) → HasTaken a b s t → waiting b ≡ [] → t ≡ grow_all (map said_of (waiting a)) s
-taken_tree a b s t h none = h.tree_is ∙ ap (λ (l : List Token). grow_all (map said_of l) s) (taken_all a b s t h none)
-
-pub taken_stands : (a b : ReaderView) (s t : Tree) → HasTaken a b s t → waiting b ≡ [] → (lim : Limits) (bs : List ℕ) (ended : Bool) (given : List Token) → Stands a lim bs ended given → Stands b lim bs ended (given ++ waiting a)
-taken_stands a b s t h none lim bs ended given st = subst (λ (l : List Token). Stands b lim bs ended (given ++ l)) (taken_all a b s t h none) (h.stands lim bs ended given st)
-
 -- ---- refusals
-
-pub says_why : (f : DocFault) → SaysWhy (end_of f)
-says_why (fault.Utf8 k) = tt
-says_why (fault.Syntax k) = tt
-says_why (fault.Truncated k) = tt
-says_why (fault.Depth k) = tt
-says_why (fault.NameLong k) = tt
-says_why (fault.TextLong k) = tt
-says_why (fault.TooLong k) = tt
-says_why fault.Memory = tt
-
-pub no_read_fault : (f : DocFault) → end_of f ≡ end.Fault → ⊥
-no_read_fault (fault.Utf8 k) e = cc
-no_read_fault (fault.Syntax k) e = cc
-no_read_fault (fault.Truncated k) e = cc
-no_read_fault (fault.Depth k) e = cc
-no_read_fault (fault.NameLong k) e = cc
-no_read_fault (fault.TextLong k) e = cc
-no_read_fault (fault.TooLong k) e = cc
-no_read_fault fault.Memory e = cc
-
--- what the reader answers of the bytes is what the call ends by
-pub ends_by : (T U : Type 0) (f : DocFault) (b : List ℕ) (ended : Bool) (P : Type 0) → Answers {T = T} (Err f) full_limits b ended → EndsBy {T = U} ended b (Err (end_of f)) P
-ends_by T U (fault.Utf8 k) b ended P h = h
-ends_by T U (fault.Syntax k) b ended P h = h
-ends_by T U (fault.Truncated k) b ended P h = h
-ends_by T U (fault.Depth k) b ended P h = h
-ends_by T U (fault.NameLong k) b ended P h = h
-ends_by T U (fault.TextLong k) b ended P h = h
-ends_by T U (fault.TooLong k) b ended P h = h
-ends_by T U fault.Memory b ended P h = tt
 
 -- ---- a piece, and the end
 

@@ -7,7 +7,7 @@ use Rattle.gcx_io.specs.Calls.{ReadsSource}
 use Rattle.gcx_io.specs.Views.{SourceView}
 use Rattle.gcx_io.specs.Writing.{joined}
 use Rattle.gcx_model.specs.Faults.{FaultIs}
-use Rattle.run_words.proofs.Sourcing.{clean_none, clean_more, clean_within, on_clean, on_piece, source_none, source_more, source_end, source_fault}
+use Rattle.run_words.proofs.Sourcing.{clean_none, clean_more, on_clean, on_piece, source_none, source_more, source_end, source_fault}
 use Rattle.run_words.specs.Reading.{SourceGave, AreClean}
 use Rattle.run_words.specs.Stops.{More, End, Fault}
 use Rattle.tree_read.specs.declared.reading.DocumentEnd.{DocumentEnd}
@@ -44,10 +44,6 @@ read_on H K a b c count n buf sound h once some within short more =
       holds = subst (λ (l : List ℕ). K l) (sym (joined_push h.pieces (take n buf))) more;
       counted = omega (arith, h.counted, ap length (joined_push h.pieces (take n buf)), length-append (joined h.pieces) (take n buf), long);
     }
-
--- not so many bytes are read
-pub never_past : (H : List ℕ → Type 0) (a b : SourceView) (count : ℕ) → HasRead H a b count → full_limits.bytes < count → ⊥
-never_past H a b count h past = absurd (omega (arith, h.counted, clean_within full_limits (joined h.pieces) false h.clean.clean, past))
 
 -- ---- the ends of the reading
 

@@ -12,10 +12,6 @@ pub counts : (k : ℕ) (xs : List ℕ) → xs ≡ count k (length xs) → Counts
 counts k [] e = tt
 counts k (x ∷ xs) e = (cc, counts (suc k) xs (cc))
 
-pub counted : (k : ℕ) (xs : List ℕ) → Counts k xs → xs ≡ count k (length xs)
-counted k [] c = refl
-counted k (x ∷ xs) c = (λ i. c.0 i ∷ counted (suc k) xs c.1 i)
-
 pub counts_left : (k : ℕ) (xs ys : List ℕ) → Counts k (xs ++ ys) → Counts k xs
 counts_left k [] ys c = tt
 counts_left k (x ∷ xs) ys c = (c.0, counts_left (suc k) xs ys c.1)

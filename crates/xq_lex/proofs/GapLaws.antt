@@ -1,5 +1,5 @@
 -- A comment is what is found up to its end, and a text has one gap at its front.
-use Rattle.std.proofs.Common.{ℕ, zero, suc, ◌≡◌, ◌≢◌, ◌+◌, ◌≤◌, ◌<◌, ◌==◌, ◌⊎◌, inl, inr, Bool, true, false, ◌&&◌, cond, List, [], ◌∷◌, length, drop, get_or, length-drop, Option, Some, None, refl, sym, ap, ◌∙◌, subst, arith, eqb-true}
+use Rattle.std.proofs.Common.{ℕ, zero, suc, ◌≡◌, ◌≢◌, ◌+◌, ◌≤◌, ◌==◌, ◌⊎◌, inl, inr, Bool, true, false, ◌&&◌, cond, List, [], ◌∷◌, length, drop, length-drop, Option, Some, None, refl, sym, ap, ◌∙◌, subst, arith, eqb-true}
 use Rattle.std.proofs.lemmas.Bool.{and_parts, or_parts, or_from, cond-true, cond-false, true≢false, false≢true}
 use Rattle.std.proofs.lemmas.List.{drop-drop}
 use Rattle.gcx_base.specs.Characters.{is_char, is_white}
@@ -30,10 +30,6 @@ first_of : (b : ℕ) (inner : Inside) (rest : List ℕ) → is_mark (b ∷ close
 first_of b nothing rest = refl
 first_of b (char c more) rest = refl
 first_of b (nested inner more) rest = refl
-
-free_first : (before : Option ℕ) (inner : Inside) (rest : List ℕ) → NoMark before (closed_chars inner rest) → NoMark before (closed_chars inner [])
-free_first None inner rest h = tt
-free_first (Some b) inner rest h = sym (first_of b inner rest) ∙ h
 
 pub closed : (inner : Inside) (depth : ℕ) (before : Option ℕ) (rest : List ℕ) → IsInside inner → NoMark before (closed_chars inner []) →
     behind_comment depth before (closed_chars inner rest) ≡ closing depth rest (λ d. behind_comment d None rest)
@@ -170,10 +166,6 @@ pub no_gap : (text : List ℕ) → EndsGap text → HasGap text text
 no_gap text e = record { gap = empty; good = tt; chars = refl; whole = e }
 
 -- ---- What is read of a gap.
-
-pub white_part : (c : ℕ) (text : List ℕ) → 0 < length text → get_or text 0 c ≡ c → is_white c ≡ true → HasGapPart text (drop 1 text)
-white_part c [] h e w = absurd (omega arith)
-white_part c (d ∷ ds) h e w = record { shorter = omega arith; part = inl (record { c = d; good = subst (λ (x : ℕ). is_white x ≡ true) (sym e) w; chars = refl }) }
 
 pub comment_part : (text inner : List ℕ) (len : ℕ) → text ≡ 40 ∷ 58 ∷ inner → len ≤ length inner → behind_comment 0 None inner ≡ Some (drop len inner) →
     (len + 2 ≤ length text) × HasGapPart text (drop (len + 2) text)

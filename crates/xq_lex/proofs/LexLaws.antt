@@ -10,10 +10,10 @@ use Rattle.xq_lex.specs.declared.token.TokKind.{TokKind}
 use Rattle.xq_lex.specs.declared.lexer.Step.{Step}
 use Rattle.xq_lex.specs.Gap.{HasGap}
 use Rattle.xq_lex.specs.Form.{BeginsWith}
-use Rattle.xq_lex.specs.Lex.{Reads, ReadsAll, LexesAs, StopsAt, IsNoToken, HasWideNumber, LexFault}
+use Rattle.xq_lex.specs.Lex.{Reads, ReadsAll, LexFault}
 use Rattle.gcx_model.specs.Refusals.{UnlessMemory}
 use Rattle.xq_lex.specs.Answer.{IsLexeme, IsRefusal}
-use Rattle.xq_lex.specs.Steps.{IsNext, IsStopAt, IsStop, IsStopped}
+use Rattle.xq_lex.specs.Steps.{IsNext, IsStop, IsStopped}
 use Rattle.xq_lex.proofs.Encoding.{split_size}
 
 -- a token more at the end
@@ -63,9 +63,6 @@ pub record ReadsTo (text : List ℕ) (tokens : List Tok) (count place : ℕ) : T
   pub within : count ≤ length text
   pub place_is : place + length (encode_utf8_all (drop count text)) ≡ length (encode_utf8_all text)
 
-pub reads_nothing : (text : List ℕ) → ReadsTo text [] 0 0
-reads_nothing text = record { reads = refl; within = omega arith; place_is = omega arith }
-
 pub reads_next : (text : List ℕ) (tokens : List Tok) (count place : ℕ) (step : Step) → ReadsTo text tokens count place → IsNext place (drop count text) step → ReadsTo text (tokens ++ step.token ∷ []) (count + step.count) step.token.to
 reads_next text tokens count place step r n =
     let left : drop step.count (drop count text) ≡ drop (count + step.count) text = drop-drop step.count count text in
@@ -78,31 +75,6 @@ reads_next text tokens count place step r n =
       within = omega (arith, n.within, r.within, length-drop count text);
       place_is = here.to;
     }
-
-pub lexes_to : (text : List ℕ) (tokens : List Tok) (count place : ℕ) → ReadsTo text tokens count place → HasGap (drop count text) [] → LexesAs text tokens
-lexes_to text tokens count place r g = record { rest = drop count text; reads = r.reads; gap = g }
-
-stopped : (text : List ℕ) (tokens : List Tok) (count place at : ℕ) (P : List ℕ → Type 0) → ReadsTo text tokens count place → IsStopAt place (drop count text) at P → StopsAt at P text
-stopped text tokens count place at P r s = record {
-  tokens = tokens;
-  rest = drop count text;
-  behind_gap = s.behind;
-  reads = r.reads;
-  gap = s.gap;
-  place = s.place_is ∙ r.place_is;
-  stops = s.stops;
-}
-
-pub stops_to : (text : List ℕ) (tokens : List Tok) (count place : ℕ) (fault : QueryFault) → ReadsTo text tokens count place → IsStop place (drop count text) fault → IsStopped text fault
-stops_to text tokens count place (Lex at) r s = stopped text tokens count place at IsNoToken r s
-stops_to text tokens count place (IntegerWide at) r s = stopped text tokens count place at HasWideNumber r s
-stops_to text tokens count place (Utf8 at) r s = absurd s
-stops_to text tokens count place (Syntax at) r s = absurd s
-stops_to text tokens count place (UnknownVar at) r s = absurd s
-stops_to text tokens count place (TagMismatch at) r s = absurd s
-stops_to text tokens count place (DescendantNotLast at) r s = absurd s
-stops_to text tokens count place (TooLarge what limit) r s = absurd s
-stops_to text tokens count place Memory r s = tt
 
 -- of the characters and of the bytes
 pub fault_of : (bytes : List ℕ) (fault : QueryFault) → length bytes ≤ 1048576 → IsUtf8 bytes → IsStopped (chars bytes) fault → UnlessMemory (LexFault bytes) fault

@@ -11,7 +11,7 @@ use Rattle.xq_lex.specs.Sign.{begins}
 use Rattle.xq_lex.specs.Strings.{plain, doubled, reference, is_quote, part_chars, parts_chars, parts_value, BeginsWithNoPart}
 use Rattle.xq_lex.specs.Reading.{HasReference, BeginsWithNoReference, HasPart, ReadsValue, HasValue, BeginsWithNoString}
 use Rattle.xq_lex.proofs.ReferenceLaws.{reference_same}
-use Rattle.xq_lex.proofs.StringLaws.{no_part, SameParts, parts_only, ReadsParts, reads_more, value-append}
+use Rattle.xq_lex.proofs.StringLaws.{SameParts, parts_only, ReadsParts, reads_more, value-append}
 use Rattle.xq_lex.proofs.Encoding.{take_more, encode_more}
 
 -- ---- References
@@ -79,12 +79,6 @@ begins_is : (q : ℕ) (rest : List ℕ) → begins q rest ≡ true → (more : L
 begins_is q [] e = cc (e)
 begins_is q (d ∷ ds) e = (ds, ap (λ (x : ℕ). x ∷ ds) (eqb-true d q e))
 
-pub doubled_part : (q c : ℕ) (text rest : List ℕ) → text ≡ c ∷ rest → (c == q) ≡ true → begins q rest ≡ true → HasPart q text q 2
-doubled_part q c text rest e same b =
-    let more : (more : List ℕ) × (rest ≡ q ∷ more) = begins_is q rest b in
-    let all : text ≡ q ∷ q ∷ more.0 = e ∙ (ap (λ (x : ℕ). x ∷ rest) (eqb-true c q same) ∙ ap (λ (x : List ℕ). q ∷ x) more.1) in
-    subst (λ (x : List ℕ). HasPart q x q 2) (sym all) (record { part = doubled; good = tt; chars = refl; value_is = refl; some = omega arith; within = omega arith })
-
 pub reference_part : (q c v n : ℕ) (text rest : List ℕ) → text ≡ c ∷ rest → (c == 38) ≡ true → HasReference rest v n → HasPart q text v (n + 1)
 reference_part q c v n text rest e same r =
     let all : text ≡ 38 ∷ rest = e ∙ ap (λ (x : ℕ). x ∷ rest) (eqb-true c 38 same) in
@@ -98,15 +92,6 @@ reference_part q c v n text rest e same r =
       within = omega (arith, r.within);
     })
 
-pub no_part_empty : (q : ℕ) (text : List ℕ) → length text ≡ 0 → BeginsWithNoPart q text
-no_part_empty q text e (plain c) rest g h = omega (arith, ap length h)
-no_part_empty q text e doubled rest g h = omega (arith, ap length h)
-no_part_empty q text e (reference t c) rest g h = omega (arith, ap length h)
-
-pub no_part_single : (q c : ℕ) (text rest : List ℕ) → is_quote q ≡ true → text ≡ c ∷ rest → (c == q) ≡ true → begins q rest ≡ false → BeginsWithNoPart q text
-no_part_single q c text rest quote e same b =
-    subst (λ (x : List ℕ). BeginsWithNoPart q x) (sym (e ∙ ap (λ (x : ℕ). x ∷ rest) (eqb-true c q same))) (no_part q rest quote b)
-
 differ : {X : Type 0} (c d : ℕ) (x y : List ℕ) → (c == d) ≡ false → c ∷ x ≡ d ∷ y → X
 differ c d x y n e = absurd (true≢false (sym (eq-eqb c d (cons_head c d x y e)) ∙ n))
 
@@ -116,16 +101,7 @@ no_part_reference q c text rest e n same none (plain d) more g h =
 no_part_reference q c text rest e n same none doubled more g h = differ c q rest (q ∷ more) n (sym e ∙ h)
 no_part_reference q c text rest e n same none (reference t v) more g h = none t more v g (cons_tail c 38 rest (t ++ more) (sym e ∙ h))
 
-pub no_part_other : (q c : ℕ) (text rest : List ℕ) → text ≡ c ∷ rest → (c == q) ≡ false → (c == 38) ≡ false → is_char c ≡ false → BeginsWithNoPart q text
-no_part_other q c text rest e n a bad (plain d) more g h =
-    true≢false (sym g.0 ∙ (ap is_char (cons_head d c more rest (sym h ∙ e)) ∙ bad))
-no_part_other q c text rest e n a bad doubled more g h = differ c q rest (q ∷ more) n (sym e ∙ h)
-no_part_other q c text rest e n a bad (reference t v) more g h = differ c 38 rest (t ++ more) a (sym e ∙ h)
-
 -- ---- Strings
-
-pub reads_none : (q : ℕ) (text : List ℕ) (bytes : List ℕ) → bytes ≡ [] → ReadsValue q text bytes 0
-reads_none q text bytes e = record { parts = []; good = tt; chars = refl; value = e; within = omega arith }
 
 pub reads_on : (q : ℕ) (text old bytes : List ℕ) (count value n : ℕ) → ReadsValue q text old count → HasPart q (drop count text) value n → bytes ≡ old ++ encode_utf8 value → ReadsValue q text bytes (count + n)
 reads_on q text old bytes count value n r p e =

@@ -73,10 +73,6 @@ branch_put c out first now a b t e h p q =
     after out first now (spread c true a) (spread c false b) (p ∙ ap (λ d. join out d) (spread_is c true a)) (q ∙ ap (λ d. join first d) (spread_is c false b))
     ∙ ap (λ u. join out (cond u (join (spread c true a) (spread c false b)) (one (If c a b)))) (sym h ∙ e)
 
-pub branch_stays : (c : CondTree) (out now a b : BodyTree) (t : Bool) → t ≡ (has_loop a || has_loop b) → t ≡ false → now ≡ join out (one (If c a b)) → now ≡ join out (branch c a b)
-branch_stays c out now a b t e h p =
-    p ∙ ap (λ u. join out (cond u (join (spread c true a) (spread c false b)) (one (If c a b)))) (sym h ∙ e)
-
 -- a constructor
 pub elem_put : (s t : List ℕ) (out first second now inner : BodyTree) → first ≡ join out (one (Write s)) → second ≡ join first inner → now ≡ join second (one (Write t)) → now ≡ join out (Then (Write s) (join inner (one (Write t))))
 elem_put s t out first second now inner p q r = after out first now (one (Write s)) (join inner (one (Write t))) p (after first second now inner (one (Write t)) q r)

@@ -1,14 +1,14 @@
 -- Lists of members, part by part.
-use Rattle.std.proofs.Common.{◌≡◌, ℕ, zero, suc, ◌+◌, ◌-◌, ◌≤◌, Bool, cond, List, [], ◌∷◌, ◌++◌, length, map, take, refl, sym, ◌∙◌, ap, arith, append_assoc, Option}
+use Rattle.std.proofs.Common.{◌≡◌, ℕ, zero, suc, ◌+◌, ◌-◌, ◌≤◌, Bool, cond, List, [], ◌∷◌, ◌++◌, length, map, refl, sym, ◌∙◌, ap, arith, append_assoc, Option}
 use Rattle.std.specs.Prelude.{codes, bytes_eq}
 use Rattle.std.proofs.Math.Path.{fun_ext}
-use Rattle.std.proofs.lemmas.List.{map-append, length_push, take_at}
+use Rattle.std.proofs.lemmas.List.{map-append}
 use Rattle.gcx_base.specs.declared.steps.Step.{Step}
 use Rattle.gcx_model.specs.declared.query.Clause.{Clause}
 use Rattle.gcx_model.specs.declared.query.QCond.{QCond}
 use Rattle.gcx_model.specs.declared.cond.Cond.{Cond}
 use Rattle.gcx_model.specs.Query as query
-use Rattle.gcx_model.specs.Query.{ExprTree, ExprTrees, cond_tree, conds_of, exprs_of}
+use Rattle.gcx_model.specs.Query.{ExprTree, cond_tree, conds_of, exprs_of}
 use Rattle.gcx_model.specs.Core.{CondTree, more_conds, Copy, For, If, VarRowTree, BodyTree}
 use Rattle.gcx_model.specs.CondView.{core_cond_tree, core_conds_of}
 use Rattle.gcx_model.specs.declared.plan.VarRow.{VarRow}
@@ -53,12 +53,6 @@ bound_in-push v y (c ∷ bs) b = bound_in-push (cond (bytes_eq c.name.now y) c.v
 
 pub names_of-push : (bs pushed : List Binding) (b : Binding) → pushed ≡ bs ++ b ∷ [] → names_of pushed ≡ named (names_of bs) b.name.now b.var.0
 names_of-push bs pushed b e = ap names_of e ∙ fun_ext (λ y. bound_in-push 0 y bs b)
-
--- a binding that came is gone again
-pub popped : (bs pushed rest : List Binding) (b : Binding) (n : ℕ) → rest ≡ take (n - 1) pushed → pushed ≡ bs ++ b ∷ [] → n ≡ length pushed → rest ≡ bs
-popped bs pushed rest b n e f g =
-    let l : length bs ≡ n - 1 = omega (arith, ap length f ∙ length_push bs b) in
-    e ∙ (ap (take (n - 1)) f ∙ take_at bs (b ∷ []) (n - 1) l)
 
 -- ---- Loops
 

@@ -157,9 +157,6 @@ module _ (number : CondTree → ℕ) where
       let m = ap (λ s. copies s * number c) (run_more run i (shape_of d)) in
       omega arith
 
-  copies_run : (i : ℕ) (f b : Bool) → i + 1 ≡ 1 + (i + 0)
-  copies_run i f b = omega arith
-
   -- a loop behind a run, and what comes then
   loop_copies : (run : BodyTree) (n : ℕ) (s : ShapeTree) → copies (beside (run_shape run) (beside (Loops n false false) s)) ≡ copies (run_shape run) + (n + copies s)
   loop_copies Nil n Empty = omega arith

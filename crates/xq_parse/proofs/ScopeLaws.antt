@@ -1,8 +1,7 @@
 -- Scopes that grow and are left.
-use Rattle.std.proofs.Common.{ℕ, zero, suc, ◌≡◌, ◌≤◌, ◌-◌, Bool, true, false, ◌||◌, List, [], ◌∷◌, ◌++◌, length, drop, take, reverse, refl, sym, ap, ◌∙◌, subst, arith}
+use Rattle.std.proofs.Common.{ℕ, zero, suc, ◌≡◌, ◌≤◌, ◌-◌, Bool, true, false, ◌||◌, List, [], ◌∷◌, ◌++◌, length, drop, reverse, refl, sym, ap, ◌∙◌, subst, arith}
 use Rattle.std.specs.List.{list_any}
-use Rattle.std.proofs.Math.Seq.{drop-append_seam}
-use Rattle.std.proofs.lemmas.List.{reverse-append, length-reverse, length-drop, take-append-drop}
+use Rattle.std.proofs.lemmas.List.{reverse-append}
 use Rattle.gcx_model.specs.Paths.{any}
 use Rattle.xq_parse.specs.Places.{Scope}
 use Rattle.xq_parse.specs.Behind.{Extends}
@@ -40,12 +39,6 @@ extends_inner x inner between outer e b =
           ∙ drop_more (length inner - length (x ∷ outer)) inner
           ∙ ap (drop 1) (subst (λ (s : Scope). drop (length inner - length s) inner ≡ s) b e.same);
     }
-
-pub left : (xs : Scope) (n : ℕ) → n ≤ length (reverse xs) → reverse (take n xs) ≡ drop (length (reverse xs) - n) (reverse xs)
-left xs n h =
-    let whole : reverse xs ≡ reverse (drop n xs) ++ reverse (take n xs) = ap reverse (sym (take-append-drop n xs)) ∙ reverse-append (take n xs) (drop n xs) in
-    let count : length (reverse xs) - n ≡ length (reverse (drop n xs)) = ap (λ (k : ℕ). k - n) (length-reverse xs) ∙ sym (length-drop n xs) ∙ sym (length-reverse (drop n xs)) in
-    sym (ap (λ (k : ℕ). drop k (reverse xs)) count ∙ ap (λ (l : Scope). drop (length (reverse (drop n xs))) l) whole ∙ drop-append_seam (reverse (drop n xs)) (reverse (take n xs)))
 
 any-append : (p : List ℕ → Bool) (xs ys : Scope) → any p (xs ++ ys) ≡ any p xs || any p ys
 any-append p [] ys = refl

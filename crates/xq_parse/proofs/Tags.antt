@@ -22,7 +22,7 @@ use Rattle.xq_parse.specs.Signs.{sign_eq}
 use Rattle.xq_parse.specs.Tokens.{Token, TName, TVar, TNum, TStr, TSlash, TSlashes, TSign, for_, where_, return_, if_, then_, else_, or_, and_, not_, true_, exists_, text_, node_, child_, descendant_}
 use Rattle.xq_parse.specs.Grammar.{a_step, a_clause, all_of, any_of, seq_of}
 use Rattle.xq_parse.specs.Places.{Scope}
-use Rattle.xq_parse.specs.Machine.{State, done, sign, word, end_name, var, name, axis, axis_or_name, test, call_or_name, first_step, steps, source, path, rel, operand, atom, ands, ors, expr, rest, inner, clauses, condition, tag, content, a_var, a_route, seen, seen_in_order, steps_behind, side_seen, path_seen, close_list, after_nested, more_ands, more_ors, more_clauses, with_filter, all_state, cond_state, clause_state, for_state, head_state, if_state, elem_state, group_state, not_state, exists_state, true_state, literal_state, compare_state, members, kind_test, rel_of, step, start, at_test, at_axis, at_step, at_path, at_source, at_found, at_operand, at_atom, at_expr, at_content, opens}
+use Rattle.xq_parse.specs.Machine.{State, done, sign, word, end_name, var, name, axis, axis_or_name, test, call_or_name, first_step, steps, source, path, rel, operand, atom, ands, ors, expr, rest, inner, clauses, condition, tag, content, a_var, a_route, seen, seen_in_order, side_seen, path_seen, close_list, after_nested, more_ands, more_ors, more_clauses, with_filter, all_state, cond_state, clause_state, for_state, head_state, if_state, elem_state, group_state, not_state, exists_state, true_state, literal_state, compare_state, members, kind_test, rel_of, step, start, at_test, at_axis, at_step, at_path, at_source, at_found, at_operand, at_atom, at_expr, at_content, opens}
 
 abbrev pub IsOther : State → Type 0
 IsOther (end_name x s) = ⊥
@@ -142,9 +142,6 @@ if_calm n sc m k h =
 elem_calm : (n : ℕ) (sc : Scope) (m : Marks) (k : Marks → ExprTree → State) → CalmExpr k → Calm (elem_state n sc m k)
 unfolding elem_state
 elem_calm n sc m k h = (λ (x : List ℕ). (λ (m : Marks) (es : List ExprTree). h m (q.Elem x (exprs_of es)), tt), tt)
-
-steps_calm : (t : Trail) (k : Trail → State) → ((t : Trail) → Calm (k t)) → (at : ℕ) (s : Step) → Calm (steps_behind t k at s)
-steps_calm t k h at s = (h, tt)
 
 close_calm : (k : Marks → ExprTree → State) → CalmExpr k → (m : Marks) (es : List ExprTree) → Calm (close_list k m es)
 close_calm k h m es = ((h m (seq_of es), refl), tt)

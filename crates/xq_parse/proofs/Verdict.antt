@@ -215,10 +215,6 @@ refused ts end f e = go (given ts end)
     go (inl j) = marked j.derivation j.derives (head (unknown_of j.derivation)) (head (late_of j.derivation)) refl refl (sym j.verdict ∙ e)
     go (inr k) = subst (GrammarFault ts end) (err_is (stop_fault ts end k.stop) f (sym k.verdict ∙ e)) (stop_is_fault ts end k.stop k.stopped)
 
--- a fault token is the one where the machine stops
-why_fault : (why : Why) (K : List Token → Type 0) (front : List Token) → ((v : Why) → IsWhy front v → K front → v ≡ why) → (v : Why) → IsWhy front v → K front → v ≡ why
-why_fault why K front f v i k = f v i k
-
 syntax_is : (front : List Token) (v : Why) → IsWhy front v → IsSyntax front → v ≡ whys.Syntax
 syntax_is front whys.Syntax i k = refl
 syntax_is front whys.TagMismatch i k = absurd (k.1 i.1)

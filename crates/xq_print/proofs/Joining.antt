@@ -36,9 +36,6 @@ pub record IsJoined (A : Type 0) (text : A → List ℕ) (between old : List ℕ
   pub out_is : out ≡ old ++ joined between (map text (take i xs))
   pub later_is : later ≡ is_later (take i xs)
 
-pub none_joined : {A : Type 0} (text : A → List ℕ) (between old : List ℕ) (xs : List A) → IsJoined A text between old xs 0 old false
-none_joined text between old xs = record { out_is = sym (append-nil old); later_is = refl }
-
 pub one_joined : {A : Type 0} (text : A → List ℕ) (between old : List ℕ) (xs : List A) (i : ℕ) (x : A) (out now : List ℕ) (later : Bool) →
     IsJoined A text between old xs i out later → i < length xs → x ≡ get_or xs i x → now ≡ out ++ (cond later between [] ++ text x) → IsJoined A text between old xs (i + 1) now true
 one_joined text between old xs i x out now later j h e put = record {

@@ -1,9 +1,9 @@
 -- Orders of sums and products, and of integers by their sizes.
 use Rattle.std.proofs.Common.{◌≡◌, ◌<◌, ◌≤◌, ◌+◌, ◌*◌, ℕ, zero, suc, ℤ, refl, sym, ap, ◌∙◌, arith}
-use Rattle.std.specs.Prelude.{pos, negsuc, neg_ℤ, ◌*ℤ◌, ◌<ℤ◌, ◌≤ℤ◌, unsigned_abs}
+use Rattle.std.specs.Prelude.{pos, negsuc, neg_ℤ, ◌*ℤ◌, ◌<ℤ◌}
 use Rattle.std.specs.declared.cmp.Ordering.{Ordering}
 use Rattle.std.specs.declared.cmp.Ordering.TheVariants.{Less, Equal, Greater}
-use Rattle.std.specs.Ordering.{nat_cmp, int_cmp, ordering_then, ordering_reverse, MatchOrdering}
+use Rattle.std.specs.Ordering.{nat_cmp, int_cmp, ordering_then, MatchOrdering}
 use Rattle.std.specs.Cmp.{nat_cmp_is, int_cmp_is}
 use Rattle.std.proofs.lemmas.Cmp.{ranked}
 use Rattle.std.proofs.lemmas.Int.{ints}
@@ -46,23 +46,6 @@ then-equal Greater = refl
 
 -- ---- integers
 
-cmp-pos : (a b : ℕ) → nat_cmp a b ≡ int_cmp (pos a) (pos b)
-cmp-pos a b = int_cmp_is (pos a) (pos b) (nat_cmp a b) (go (nat_cmp a b) (ranked a b (nat_cmp a b) refl))
-  where
-    go : (o : Ordering) → MatchOrdering o (a < b) (a ≡ b) (b < a) → MatchOrdering o (pos a <ℤ pos b) (pos a ≡ pos b) (pos b <ℤ pos a)
-    go Less h = omega (arith, ints)
-    go Equal h = ap pos h
-    go Greater h = omega (arith, ints)
-
-cmp-neg : (a b : ℕ) → ordering_reverse (nat_cmp a b) ≡ int_cmp (neg_ℤ (pos a)) (neg_ℤ (pos b))
-cmp-neg a b = int_cmp_is (neg_ℤ (pos a)) (neg_ℤ (pos b)) (ordering_reverse (nat_cmp a b)) (go (nat_cmp a b) (ranked a b (nat_cmp a b) refl))
-  where
-    go : (o : Ordering) → MatchOrdering o (a < b) (a ≡ b) (b < a)
-        → MatchOrdering (ordering_reverse o) (neg_ℤ (pos a) <ℤ neg_ℤ (pos b)) (neg_ℤ (pos a) ≡ neg_ℤ (pos b)) (neg_ℤ (pos b) <ℤ neg_ℤ (pos a))
-    go Less h = omega (arith, ints)
-    go Equal h = ap (λ n. neg_ℤ (pos n)) h
-    go Greater h = omega (arith, ints)
-
 -- a number below 0 times a natural one
 neg-times : (a t : ℕ) → neg_ℤ (pos a) *ℤ pos t ≡ neg_ℤ (pos (a * t))
 neg-times zero t = omega (arith, ints)
@@ -70,24 +53,11 @@ neg-times (suc n) t = refl
 
 -- ---- u * t against l * f, where u is a size with or without a `-`
 
-pub plus_plus : (u t f : ℕ) (l : ℤ) → pos 0 ≤ℤ l → nat_cmp (u * t) (unsigned_abs l * f) ≡ int_cmp (pos u *ℤ pos t) (l *ℤ pos f)
-plus_plus u t f (pos m) h = cmp-pos (u * t) (m * f)
-plus_plus u t f (negsuc n) h = absurd (omega (arith, ints))
-
 pub plus_minus : (u t f : ℕ) (l : ℤ) → 0 < f → l <ℤ pos 0 → Greater ≡ int_cmp (pos u *ℤ pos t) (l *ℤ pos f)
 plus_minus u t f (pos m) some h = absurd (omega (arith, ints))
 plus_minus u t f (negsuc n) some h =
     let size : 0 * f < suc n * f = less_scaled 0 (suc n) f (omega arith) some in
     int_cmp_is (pos (u * t)) (neg_ℤ (pos (suc n * f))) Greater (omega (arith, ints, size))
-
-pub minus_minus : (u t f : ℕ) (l : ℤ) → l ≤ℤ pos 0 → ordering_reverse (nat_cmp (u * t) (unsigned_abs l * f)) ≡ int_cmp (neg_ℤ (pos u) *ℤ pos t) (l *ℤ pos f)
-minus_minus u t f (pos m) h =
-    let none : m ≡ 0 = omega (arith, ints) in
-    cmp-neg (u * t) (m * f) ∙ (λ i. int_cmp (sym (neg-times u t) i) (same none i))
-  where
-    same : m ≡ 0 → neg_ℤ (pos (m * f)) ≡ pos (m * f)
-    same none = let z : m * f ≡ 0 = omega (arith, ap (λ n. n * f) none) in ap (λ n. neg_ℤ (pos n)) z ∙ ap pos (sym z)
-minus_minus u t f (negsuc n) h = cmp-neg (u * t) (suc n * f) ∙ ap (λ a. int_cmp a (neg_ℤ (pos (suc n * f)))) (sym (neg-times u t))
 
 pub minus_plus : (u t f : ℕ) (l : ℤ) → 0 < f → pos 0 <ℤ l → Less ≡ int_cmp (neg_ℤ (pos u) *ℤ pos t) (l *ℤ pos f)
 minus_plus u t f (pos m) some h =
