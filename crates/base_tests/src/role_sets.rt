@@ -1,6 +1,6 @@
 //! Sets of roles.
 use gcx_base::{Memory, Role};
-use role_set::RoleSet;
+use role_set::{NodeRoles, RoleSet};
 use std::process::Abort;
 use std::test::Fail;
 
@@ -70,5 +70,61 @@ fn holds_three_hundred_roles(rt: HostRuntime) -> Result<(), Fail> {
         take_all(&rt, &mut roles, &[299 - number]);
     }
     assert!(rt; roles.is_empty());
+    Ok(())
+}
+
+/// Which of the roles below 400 the node holds, and which are signed.
+fn assert_roles(rt: &impl Abort, roles: &NodeRoles, held: &[u32], signed: &[u32]) {
+    for number in 0..400u32 {
+        assert_eq!(rt;
+            roles.has(Role(number)),
+            held.contains(&number),
+            "held at {number}"
+        );
+        assert_eq!(rt;
+            roles.is_signed(Role(number)),
+            signed.contains(&number),
+            "signed at {number}"
+        );
+    }
+    assert_eq!(rt; roles.is_empty(), held.is_empty());
+}
+
+#[test]
+fn a_node_holds_and_signs_roles_at_the_bounds_of_a_word(rt: HostRuntime) -> Result<(), Fail> {
+    let mut given = RoleSet::new(rt.alloc());
+    give_all(&mut given, &[63, 300, 0, 64])?;
+    let mut roles = NodeRoles::of(rt.alloc(), &given)?;
+    assert_roles(&rt, &roles, &[0, 63, 64, 300], &[]);
+    for number in [0u32, 300, 5, 65] {
+        roles.sign(Role(number))?;
+    }
+    assert_roles(&rt, &roles, &[0, 63, 64, 300], &[0, 5, 65, 300]);
+    for number in [63u32, 64, 0, 300] {
+        assert!(rt; roles.has(Role(number)), "before {number} goes");
+        roles.take(Role(number));
+    }
+    assert_roles(&rt, &roles, &[], &[0, 5, 65, 300]);
+    roles.give(Role(65))?;
+    assert_roles(&rt, &roles, &[65], &[0, 5, 65, 300]);
+    Ok(())
+}
+
+#[test]
+fn a_node_s_first_roles_from_64_on_come_in_any_order(rt: HostRuntime) -> Result<(), Fail> {
+    let mut roles = NodeRoles::new(rt.alloc());
+    assert_roles(&rt, &roles, &[], &[]);
+    roles.give(Role(100))?;
+    assert_roles(&rt, &roles, &[100], &[]);
+    roles.sign(Role(200))?;
+    assert_roles(&rt, &roles, &[100], &[200]);
+    let mut signed = NodeRoles::new(rt.alloc());
+    signed.sign(Role(200))?;
+    signed.give(Role(100))?;
+    assert_roles(&rt, &signed, &[100], &[200]);
+    let mut held = NodeRoles::new(rt.alloc());
+    held.give(Role(100))?;
+    held.give(Role(101))?;
+    assert_roles(&rt, &held, &[100, 101], &[]);
     Ok(())
 }

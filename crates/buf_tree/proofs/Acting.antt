@@ -1,6 +1,6 @@
 -- What a statement that is carried out makes of a buffer.
 use Rattle.std.proofs.Common.{◌≡◌, ◌==◌, ℕ, suc, ◌+◌, Bool, true, false, cond, not, ◌&&◌, List, [], ◌∷◌, ◌++◌, length, map, refl, sym, ◌∙◌, ap, subst, inl, inr, ◌⊎◌, arith}
-use Rattle.std.specs.Prelude.{◌↔◌, IsSome}
+use Rattle.std.specs.Prelude.{IsSome}
 use Rattle.std.specs.List.{filter}
 use Rattle.std.proofs.lemmas.List.{append-nil, map-append}
 use Rattle.std.specs.FinSet as set
@@ -20,11 +20,11 @@ use Rattle.past_laws.proofs.Awaited.{waiting_law}
 use Rattle.past_laws.proofs.PastForms.{past_acts}
 use Rattle.std.specs.FinMap.{get}
 use Rattle.node_store.specs.Rows.{changed_at, paid_by}
-use Rattle.buf_tree.specs.declared.row.Row.{Row}
+use Rattle.buf_tree.specs.Row.{Row}
 use Rattle.buf_tree.specs.declared.ahead.Ahead.{Ahead}
 use Rattle.buf_tree.specs.Rows.{signed_for, IsDead}
 use Rattle.buf_tree.specs.Shape.{Store, Cell, num, cells, Rising, Shaped, with_at, at_place}
-use Rattle.buf_tree.specs.Ways.{BaseAbove, BaseBelow}
+use Rattle.buf_tree.specs.Ways.{TellsOthers}
 use Rattle.buf_tree.specs.Purge.{is_gone, Keeps, Tidy, Purged}
 use Rattle.buf_tree.specs.View.{View, Kept, capped, num_in, serial_at}
 use Rattle.buf_tree.specs.Calls.{Signed, role_count, left_out}
@@ -131,7 +131,6 @@ signed_by v u w k p loses rise rise' b h has = record {
 
     left : h.leaves.left ≡ left_out v.rows w.rows
     left = left_is both (λ c. sym (bare_alike loses k (with_at (signed_for k) p c)).serial ∙ same_num k p c) v.rows w.rows h.leaves.left rise
-        (subst (λ (zs : List Cell). Rising zs) (sym rows) (bare_rising loses k u.rows rise'))
         (subst (λ (zs : List Cell). Purged zs w.rows h.leaves.left) (sym rows) h.leaves.purged)
 
 -- ---- a past for which the buffer stands
@@ -166,10 +165,10 @@ module _ (m0 m1 : Store) (v : View) (p : ℕ) (off : Off) (e0 : cells m0 ≡ v.r
   abbrev pub loses : Cell → Bool
   loses = losing.loses past st.is_past m0 h.shape h.ordered.nested rows0 off stated c0 here p at node.0 node.1 node.2 base
 
-  pub taking : (others : Bool) → ((c : Cell) → In c (cells m0) → c.place ≡ p → (others ≡ true) ↔ ((is_own (off_tree off) ≡ false) × (BaseAbove (cells m0) off c ⊎ BaseBelow (cells m0) off c))) → Taking (cells m1) p off others
+  pub taking : (others : Bool) → TellsOthers (cells m0) p off others → Taking (cells m1) p off others
   taking others law = losing.taking past st.is_past m0 h.shape h.ordered.nested rows0 off stated c0 here p at node.0 node.1 node.2 base m1 kept.shape kept.ordered.nested rows1 others (law c0 here at)
 
-  pub taking_loses : (others : Bool) (law : (c : Cell) → In c (cells m0) → c.place ≡ p → (others ≡ true) ↔ ((is_own (off_tree off) ≡ false) × (BaseAbove (cells m0) off c ⊎ BaseBelow (cells m0) off c))) → (taking others law).loses ≡ loses
+  pub taking_loses : (others : Bool) (law : TellsOthers (cells m0) p off others) → (taking others law).loses ≡ loses
   unfolding taking
   taking_loses others law = losing.taking_loses past st.is_past m0 h.shape h.ordered.nested rows0 off stated c0 here p at node.0 node.1 node.2 base m1 kept.shape kept.ordered.nested rows1 others (law c0 here at)
 
@@ -245,9 +244,6 @@ module _ (m0 m1 : Store) (v : View) (p : ℕ) (off : Off) (e0 : cells m0 ≡ v.r
 
 -- ---- a statement that is due
 
-abbrev pub OthersLaw : List Cell → (p : ℕ) → Off → Bool → Type 0
-OthersLaw xs p off others = (c : Cell) → In c xs → c.place ≡ p → (others ≡ true) ↔ ((is_own (off_tree off) ≡ false) × (BaseAbove xs off c ⊎ BaseBelow xs off c))
-
 pub due_there : (m : Store) (v : View) (p : ℕ) (off : Off) → cells m ≡ v.rows → Shaped m → Due v p off → IsSome (get m p)
 due_there m v p off e s due = used m v.rows p s e (record { cell = due.cell; among = due.among; place = due.place })
 
@@ -258,7 +254,7 @@ module _ (m0 m1 : Store) (v : View) (p : ℕ) (off : Off) (e0 : cells m0 ≡ v.r
   pub due_kept : Kept m1 gone cap count nodes
   due_kept = kept_signed m0 m1 off.role.0 p gone cap count nodes f h due.cell cell_there due.place
 
-  module _ (others : Bool) (law : OthersLaw (cells m0) p off others) where
+  module _ (others : Bool) (law : TellsOthers (cells m0) p off others) where
     pub due_taking : Taking (cells m1) p off others
     due_taking = taking m0 m1 v p off e0 gone cap count nodes h f due.cell due.among due.place due.base due.past due.stands due.stated others law
 

@@ -8,7 +8,7 @@ use Rattle.std.proofs.lemmas.Bool.{and_parts, and_from, true≢false, false≢tr
 use Rattle.base_laws.proofs.Members.{filter_all, in_map, from_map}
 use Rattle.tree_laws.proofs.Lists.{In, In-filter, In-kept}
 use Rattle.node_store.specs.Rows.{Entry, without_child, changed, changed_at, parent_of, left_by, unlinked, paid_by}
-use Rattle.buf_tree.specs.declared.row.Row.{Row}
+use Rattle.buf_tree.specs.Row.{Row}
 use Rattle.buf_tree.specs.Shape.{Store, Cell, num, Rising, at_place, at_serial, place_for, is_under, entry_in, Above, Shape, with_at, without}
 use Rattle.buf_tree.proofs.Shaping.{at_place_in, at_serial_is, held_in, get_of}
 

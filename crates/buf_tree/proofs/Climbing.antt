@@ -16,7 +16,7 @@ use Rattle.tree_laws.proofs.Lists.{In, any_in, any_from}
 use Rattle.tree_laws.proofs.Chains.{above_self, above_trans}
 use Rattle.tree_laws.proofs.Freeze.{hits_within}
 use Rattle.node_store.specs.Rows.{Entry, parent_of}
-use Rattle.buf_tree.specs.declared.row.Row.{Row}
+use Rattle.buf_tree.specs.Row.{Row}
 use Rattle.buf_tree.specs.Shape.{Store, Cell, num, cells, Rising, Shaped}
 use Rattle.buf_tree.specs.Walk.{low_at}
 use Rattle.buf_tree.specs.Ways.{Tells, NodeOf, Descends, is_same, leads, Flags}

@@ -109,12 +109,12 @@ module _ (t : Token) (past : Past) (is : IsPast past) where
   pub row_same : (n : Node) (b : Bool) → In n past.tree.nodes → is_open_at (grow t past.tree).at (serial_of n) ≡ b → told (past_fed t past) n ≡ record (told past n) { is_open = b }
   row_same n b i e = ap (told_row (level n)) (live_by_feed past is t n i).1 ∙ ap (λ z. record (told past n) { is_open = z }) e
 
-abbrev is_top : Option Node → ℕ → Bool
+abbrev pub is_top : Option Node → ℕ → Bool
 is_top None k = false
 is_top (Some a) k = serial_of a == k
 
 -- a closed node is open no more, and the others are as before
-end_open : (P : Tree) → Grown P → (k : ℕ) → is_open_at (grow End P).at k ≡ cond (is_top P.at k) false (is_open_at P.at k)
+pub end_open : (P : Tree) → Grown P → (k : ℕ) → is_open_at (grow End P).at k ≡ cond (is_top P.at k) false (is_open_at P.at k)
 end_open P w k = go P.at refl
   where
     go : (o : Option Node) → P.at ≡ o → is_open_at (grow_at o End P).at k ≡ cond (is_top o k) false (is_open_at o k)
@@ -130,7 +130,7 @@ end_open P w k = go P.at refl
         last true f = false_from_ne_true _ (λ g. let i = w.at_in (Under q s kd) e in let l = within_low P w k q (w.upward q s kd i) g in let b = w.below q s kd i in let z = eqb-true s k f in absurd (omega arith))
         last false f = refl
 
-added_end : (P : Tree) → added End P ≡ []
+pub added_end : (P : Tree) → added End P ≡ []
 added_end P = go P.at
   where
     go : (o : Option Node) → added_at o End P ≡ []

@@ -9,7 +9,7 @@ use Rattle.std.proofs.lemmas.List.Elements.{filter-append}
 use Rattle.std.proofs.lemmas.Bool.{and_parts, true≢false, false≢true, eqb-true, eq-eqb, ne_eqb, cases_eq, false_from_ne_true}
 use Rattle.tree_laws.proofs.Lists.{In, In-left, In-append, filter_none}
 use Rattle.node_store.specs.Rows.{Entry, leaf, with_child, planted, appended}
-use Rattle.buf_tree.specs.declared.row.Row.{Row}
+use Rattle.buf_tree.specs.Row.{Row}
 use Rattle.buf_tree.specs.Shape.{Store, Cell, num, Rising, at_place, at_serial, place_for, is_under, entry_in, Shape}
 use Rattle.buf_tree.proofs.Shaping.{at_place_in, at_place_is, at_serial_is}
 use Rattle.buf_tree.proofs.Changes.{get_put, get_changed, none_either}

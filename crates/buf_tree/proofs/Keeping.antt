@@ -10,7 +10,7 @@ use Rattle.std.specs.FinSet.{FinSet, nat_cmp-IsAntisymmetric, len-empty, empty_o
 use Rattle.std.proofs.lemmas.Bool.{false≢true, eqb-true, eq-eqb, ne_eqb, cases_eq}
 use Rattle.tree_laws.proofs.Lists.{In, In-left, In-append, In-filter}
 use Rattle.node_store.specs.Rows.{Entry, changed_at, paid_by, with_payload, planted, appended}
-use Rattle.buf_tree.specs.declared.row.Row.{Row}
+use Rattle.buf_tree.specs.Row.{Row}
 use Rattle.buf_tree.specs.Shape.{Store, Cell, num, cells, is_under, entry_in, Shape, Shaped, with_at, at_place}
 use Rattle.gcx_base.specs.Kinds.{is_text}
 use Rattle.buf_tree.specs.Rows.{shut_row, untaken, IsDead, serials, is_bare}
@@ -172,6 +172,10 @@ kept_cleared m m' p gone gone' cap cap' count nodes n n' r c e h h' l =
       below = λ d i. r.below d (In-filter (λ (x : Cell). not (is_gone c.left.0 x)) d (cells m) (subst (λ (zs : List Cell). In d zs) c.left.2.leaves.rows i)).0;
       ordered = ordered_part (cells m) (cells m') (λ d i. (In-filter (λ (x : Cell). not (is_gone c.left.0 x)) d (cells m) (subst (λ (zs : List Cell). In d zs) c.left.2.leaves.rows i)).0) r.ordered;
     }
+
+-- and where nothing is to go
+pub kept_still : (m : Store) (p : ℕ) (gone : List ℕ) (cap count nodes : ℕ) → Ready m p gone cap count nodes → Cleared m m gone gone → Kept m gone cap count nodes
+kept_still m p gone cap count nodes r c = record { shape = r.shape; tidy = c.left.2.tidy; held = r.held; room = r.room; below = r.below; ordered = r.ordered }
 
 pub in_use : (m : Store) (xs : List Cell) (p : ℕ) → Shaped m → cells m ≡ xs → Innermost xs p → IsSome (get m p)
 in_use m xs p s e i =

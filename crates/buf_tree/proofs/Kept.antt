@@ -13,7 +13,7 @@ use Rattle.gcx_model.specs.Tree.{Tree, Node, Root, Under, serial_of, above}
 use Rattle.tree_laws.proofs.Lists.{In}
 use Rattle.tree_laws.proofs.Chains.{above_self, above_trans}
 use Rattle.node_store.specs.Rows.{Entry, parent_of}
-use Rattle.buf_tree.specs.declared.row.Row.{Row}
+use Rattle.buf_tree.specs.Row.{Row}
 use Rattle.buf_tree.specs.Shape.{Store, Cell, cells, Shaped}
 use Rattle.buf_tree.specs.Ways.{Tells, NodeOf, Descends, Flags, FlagsBut, TreeOf, IsKept, is_waiting, is_same, is_whole, tail_steps, tail_ends, ends_at}
 use Rattle.buf_tree.proofs.Seeking.{cell_row}

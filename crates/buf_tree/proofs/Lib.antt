@@ -29,3 +29,11 @@ pub mod Taking
 pub mod Sweeping
 pub mod Sweeps
 pub mod Counts
+pub mod PassedRows
+pub mod OwnPlaces
+pub mod PassedOpening
+pub mod PassedEnds
+pub mod OpenRows
+pub mod WithRoles
+pub mod LateRows
+pub mod Departed

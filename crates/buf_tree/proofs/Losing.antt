@@ -126,7 +126,7 @@ module _ (past : Past) (is : IsPast past) (m0 : Store) (s0 : Shaped m0) (nest0 :
   stays_is n i = ap later (node_for_is past.tree.nodes one n i)
 
   has_role : (c : Cell) (n : Node) → seen c ≡ told past n → (r : ℕ) → set.contains c.row.roles r ≡ live past.plan past.tree past.acts n r
-  has_role c n e r = ap (λ (z : Seen). set.contains z.roles r) e ∙ has_live past is (off_tree off) stated m base past is n r
+  has_role c n e r = ap (λ (z : Seen). set.contains z.roles r) e ∙ has_live past is n r
 
   serial : (c : Cell) (n : Node) → seen c ≡ told past n → num c ≡ serial_of n
   serial c n e = ap (λ (z : Seen). z.serial) e

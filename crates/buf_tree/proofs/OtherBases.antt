@@ -7,7 +7,7 @@ use Rattle.std.proofs.lemmas.Bool.{false≢true, cases_lt}
 use Rattle.gcx_model.specs.declared.item.Off.{Off}
 use Rattle.tree_laws.proofs.Lists.{In}
 use Rattle.node_store.specs.Rows.{Entry, parent_of}
-use Rattle.buf_tree.specs.declared.row.Row.{Row}
+use Rattle.buf_tree.specs.Row.{Row}
 use Rattle.buf_tree.specs.Shape.{Store, Cell, num, cells, Shaped}
 use Rattle.buf_tree.specs.Walk.{Nested, Inside, Within, BeforeIn}
 use Rattle.buf_tree.specs.Ways.{is_waiting, BaseAbove, BaseBelow}

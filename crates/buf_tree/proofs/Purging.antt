@@ -8,7 +8,7 @@ use Rattle.std.proofs.lemmas.Bool.{or_cases, or_left, and_parts, and_from, false
 use Rattle.gcx_model.specs.Paths.{any}
 use Rattle.tree_laws.proofs.Lists.{In, In-append, In-filter, In-kept, filter_same}
 use Rattle.node_store.specs.Rows.{Entry, unlinked, parent_of}
-use Rattle.buf_tree.specs.declared.row.Row.{Row}
+use Rattle.buf_tree.specs.Row.{Row}
 use Rattle.buf_tree.specs.Shape.{Store, Cell, num, cells, Rising, at_serial, place_for, is_under, entry_in, Shape, Shaped, without}
 use Rattle.buf_tree.specs.Rows.{IsDead, IsSpare}
 use Rattle.buf_tree.specs.Purge.{is_gone, Keeps, TidyBut, Falling, Leaves, Purged, PurgedBut, Climb, Cleared}
@@ -310,6 +310,10 @@ climb_end m0 m g0 g c = record { shape = c.shape; left = (c.left.0, c.left.1, en
 pub some_entry : (o : Option (Entry Row)) → IsSome o → (e : Entry Row) × (o ≡ Some e)
 some_entry None h = absurd (false≢true h)
 some_entry (Some e) h = (e, refl)
+
+-- a purge that takes nothing out
+pub cleared_none : (m : Store) (p : ℕ) (g : List ℕ) → Shaped m → IsSome (get m p) → TidyBut (Some p) (cells m) → ((e : Entry Row) → get m p ≡ Some e → IsSpare e → ⊥) → Cleared m m g g
+cleared_none m p g s i t n = let r = some_entry (get m p) i in climb_stop m m g g p r.0 r.1 s (climb_start m g p s i t) (n r.0 r.1)
 
 pub count_left : (a b c d e f : ℕ) → a + 1 ≡ b → c ≡ a → d ≡ e + 1 → e + b ≡ f → d + c ≡ f
 count_left a b c d e f h1 h2 h3 h4 = omega arith

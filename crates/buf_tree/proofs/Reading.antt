@@ -16,7 +16,7 @@ use Rattle.gcx_model.specs.Members.{In}
 use Rattle.gcx_model.specs.Paths.{head}
 use Rattle.node_store.specs.Rows.{Entry, parent_of, Rises, IsTree}
 use Rattle.node_store.specs.declared.store.Place.{Place}
-use Rattle.buf_tree.specs.declared.row.Row.{Row}
+use Rattle.buf_tree.specs.Row.{Row}
 use Rattle.buf_tree.specs.Shape.{Store, Cell, num, cells, at_place, at_serial, entry_in, Shape, Shaped}
 use Rattle.buf_tree.specs.View.{View, InUse, Innermost, num_in, level_in, serial_at}
 use Rattle.buf_tree.specs.Calls.{Started, root_row, numbers, less}

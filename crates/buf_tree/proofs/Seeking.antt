@@ -12,7 +12,7 @@ use Rattle.gcx_base.specs.declared.steps.Step.{Step}
 use Rattle.gcx_base.specs.Tests.{passes}
 use Rattle.tree_laws.proofs.Lists.{In}
 use Rattle.node_store.specs.Rows.{Entry, parent_of, prev_of, last_of, children_in}
-use Rattle.buf_tree.specs.declared.row.Row.{Row}
+use Rattle.buf_tree.specs.Row.{Row}
 use Rattle.buf_tree.specs.Shape.{Store, Cell, num, cells, at_place, Shaped}
 use Rattle.buf_tree.specs.Walk.{Nested, Inside, Deeper, IsLast, JustBefore, BeforeIn, Found, Back, serial_in, low_at, rows_behind}
 use Rattle.buf_tree.specs.Match.{IsChild, Lies, Unreached, FirstReached}

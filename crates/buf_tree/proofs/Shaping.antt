@@ -8,7 +8,7 @@ use Rattle.std.specs.FinMap.{empty, get, keys, insert, get-empty, get-insert, co
 use Rattle.std.proofs.lemmas.Bool.{or_cases, false≢true, eqb-true, eq-eqb, ne_eqb, cases_eq, ltb-true, ltb-false}
 use Rattle.tree_laws.proofs.Lists.{In}
 use Rattle.node_store.specs.Rows.{Entry}
-use Rattle.buf_tree.specs.declared.row.Row.{Row}
+use Rattle.buf_tree.specs.Row.{Row}
 use Rattle.buf_tree.specs.Shape.{Store, Cell, num, put, put_entry, gather, cells, Rising, at_place, at_serial, entry_in, Shape, Shaped}
 
 -- ---- lists by rising serials

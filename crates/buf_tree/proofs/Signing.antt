@@ -20,7 +20,7 @@ use Rattle.past_laws.proofs.Changes.{live_by_act, signed_by_act}
 use Rattle.placed_laws.proofs.HeldChanges.{held_by_act}
 use Rattle.past_laws.proofs.PastForms.{past_acts}
 use Rattle.past_laws.proofs.RowFacts.{row_tells}
-use Rattle.buf_tree.specs.declared.row.Row.{Row}
+use Rattle.buf_tree.specs.Row.{Row}
 use Rattle.buf_tree.specs.Shape.{Cell, Rising}
 use Rattle.buf_tree.specs.Purge.{Purged}
 use Rattle.buf_tree.specs.Stands.{Seen, seen, told}
@@ -55,18 +55,19 @@ in_listed (x ∷ xs) q h = elim (or_cases (eq_by_cmp nat_cmp q x) (list_any (eq_
 pub has_listed : (xs : List ℕ) (q : ℕ) (b : Bool) → (In q xs → b ≡ true) → (b ≡ true → In q xs) → set.contains (from_list {R = nat_cmp} xs) q ≡ b
 has_listed xs q b to from = contains-from_list nat_cmp_total xs q ∙ same_bools _ b (λ h. to (in_listed xs q h)) (λ h. listed xs q (from h))
 
+-- the roles of a row as a set are those live at its node, and the roles signed at it those signed
+pub has_live : (past : Past) → IsPast past → (n : Node) (r : ℕ) → set.contains (told past n).roles r ≡ live past.plan past.tree past.acts n r
+has_live past is n r = has_listed (roles_live past.plan past.tree past.acts n) r (live past.plan past.tree past.acts n r) (row_tells past is n r).0.0 (row_tells past is n r).0.1
+
+pub has_signed : (past : Past) → IsPast past → (n : Node) (r : ℕ) → set.contains (told past n).signed r ≡ is_signed past.plan past.acts n r
+has_signed past is n r = has_listed (roles_signed past.plan past.acts n) r (is_signed past.plan past.acts n r) (row_tells past is n r).1.0 (row_tells past is n r).1.1
+
 module _ (past : Past) (is : IsPast past) (s : OffTree) (stated : In s (offs_in past.plan.body)) (m : Node) (base : In m (bases past s)) where
   abbrev now : Past
   now = past_acted (Offed s (serial_of m)) past
 
   is_now : IsPast now
   is_now = (past_acts past is).1 s m stated base
-
-  pub has_live : (p : Past) (q : IsPast p) (n : Node) (r : ℕ) → set.contains (from_list {R = nat_cmp} (roles_live p.plan p.tree p.acts n)) r ≡ live p.plan p.tree p.acts n r
-  has_live p q n r = has_listed (roles_live p.plan p.tree p.acts n) r (live p.plan p.tree p.acts n r) ((row_tells p q n r).0.0) ((row_tells p q n r).0.1)
-
-  has_signed : (p : Past) (q : IsPast p) (n : Node) (r : ℕ) → set.contains (from_list {R = nat_cmp} (roles_signed p.plan p.acts n)) r ≡ is_signed p.plan p.acts n r
-  has_signed p q n r = has_listed (roles_signed p.plan p.acts n) r (is_signed p.plan p.acts n r) ((row_tells p q n r).1.0) ((row_tells p q n r).1.1)
 
   -- a role that is live then was so before
   was_live : (n : Node) → In n past.tree.nodes → live past.plan past.tree now.acts n s.role ≡ true → live past.plan past.tree past.acts n s.role ≡ true

@@ -15,7 +15,7 @@ use Rattle.base_laws.proofs.Lists.{nil_cons, cons_tail, cons_head}
 use Rattle.tree_laws.proofs.Lists.{In, In-filter, In-kept, any_in, any_from}
 use Rattle.tree_laws.proofs.Matches.{Grown, Numbered-same, Numbered-high}
 use Rattle.tree_laws.proofs.Freeze.{within_self, within_trans, open_up_at}
-use Rattle.buf_tree.specs.declared.row.Row.{Row}
+use Rattle.buf_tree.specs.Row.{Row}
 use Rattle.buf_tree.specs.Rows.{IsDead}
 use Rattle.buf_tree.specs.Shape.{Cell, num, Rising, is_under}
 use Rattle.buf_tree.specs.Purge.{is_gone, Purged}

@@ -11,7 +11,7 @@ use Rattle.gcx_model.specs.Tree.{Tree, Node, serial_of}
 use Rattle.base_laws.proofs.Members.{in_map, from_map, map_same}
 use Rattle.tree_laws.proofs.Lists.{In, In-append, In-filter, In-kept, any_in, filter_same}
 use Rattle.node_store.specs.Rows.{Entry, changed_at, paid_by, unlinked}
-use Rattle.buf_tree.specs.declared.row.Row.{Row}
+use Rattle.buf_tree.specs.Row.{Row}
 use Rattle.buf_tree.specs.Rows.{IsSpare, untaken}
 use Rattle.buf_tree.specs.Shape.{Store, Cell, num, cells, is_under, entry_in, Shape, Shaped, with_at}
 use Rattle.buf_tree.specs.Purge.{is_gone, Keeps, Tidy, Leaves}

@@ -10,7 +10,7 @@ use Rattle.base_laws.proofs.Lists.{filter_few}
 use Rattle.tree_laws.proofs.Lists.{In}
 use Rattle.node_store.specs.declared.store.Place.{Place}
 use Rattle.node_store.specs.Rows.{Entry, changed_at, paid_by}
-use Rattle.buf_tree.specs.declared.row.Row.{Row}
+use Rattle.buf_tree.specs.Row.{Row}
 use Rattle.buf_tree.specs.Rows.{untaken}
 use Rattle.buf_tree.specs.Shape.{Store, Cell, num, cells, Shaped}
 use Rattle.buf_tree.specs.Purge.{Tidy}

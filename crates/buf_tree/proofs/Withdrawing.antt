@@ -14,17 +14,17 @@ use Rattle.tree_laws.proofs.Lists.{In, In-append, In-filter, In-kept, filter_non
 use Rattle.tree_laws.specs.Departing as trace
 use Rattle.tree_laws.proofs.Departures.{falling_same}
 use Rattle.node_store.specs.Rows.{Entry, changed_at, paid_by}
-use Rattle.buf_tree.specs.declared.row.Row.{Row}
+use Rattle.buf_tree.specs.Row.{Row}
 use Rattle.buf_tree.specs.Rows.{untaken}
 use Rattle.buf_tree.specs.Shape.{Store, Cell, num, cells, Rising, is_under, entry_in, Shape, Shaped, with_at}
 use Rattle.buf_tree.specs.Purge.{is_gone, Tidy, TidyBut, Falling, Purged, PurgedBut, Cleared}
 use Rattle.buf_tree.specs.Sweep.{taken_by, Swept}
-use Rattle.gcx_model.specs.declared.item.Off.{Off}
+use Rattle.buf_tree.specs.declared.ahead.Ahead.{Ahead}
 use Rattle.base_laws.proofs.Lists.{reverse_cons}
 use Rattle.base_laws.proofs.Bools.{same_bools}
 use Rattle.base_laws.proofs.Members.{in_map, from_map, map_same}
-use Rattle.buf_tree.specs.Withdraw.{Taking, Withdrawn}
-use Rattle.buf_tree.specs.View.{View, Ordered, Kept, Ready, capped}
+use Rattle.buf_tree.specs.Withdraw.{TakenBack, Withdrawn}
+use Rattle.buf_tree.specs.View.{Ordered, Kept, Ready, capped}
 use Rattle.buf_tree.specs.Calls.{role_count, left_out}
 use Rattle.buf_tree.proofs.Shaping.{get_of, held_in, shaped}
 use Rattle.buf_tree.proofs.Changes.{Rising-filtered, shape_changed}
@@ -245,8 +245,8 @@ any_listed [] d k i e = absurd i
 any_listed (x ∷ now) d k (inl f) e = or_left _ _ (eq-eqb (num x) k (ap num f ∙ e))
 any_listed (x ∷ now) d k (inr i) e = or_right (num x == k) _ (any_listed now d k i e)
 
-pub left_is : (f : Cell → Cell) → ((c : Cell) → num (f c) ≡ num c) → (xs zs : List Cell) (left : List ℕ) → Rising xs → Rising (map f xs) → Purged (map f xs) zs left → left ≡ left_out xs zs
-left_is f same xs zs left r r' u = falling_same left (left_out xs zs) (as_falling left u.leaves.falling) (as_falling (left_out xs zs) (reverse_falls (filter out xs) (Rising-filtered out xs r))) to from
+pub left_is : (f : Cell → Cell) → ((c : Cell) → num (f c) ≡ num c) → (xs zs : List Cell) (left : List ℕ) → Rising xs → Purged (map f xs) zs left → left ≡ left_out xs zs
+left_is f same xs zs left r u = falling_same left (left_out xs zs) (as_falling left u.leaves.falling) (as_falling (left_out xs zs) (reverse_falls (filter out xs) (Rising-filtered out xs r))) to from
   where
     out : Cell → Bool
     out c = not (list_any (λ (d : Cell). num d == num c) zs)
@@ -391,24 +391,15 @@ few_own zs c res false i e = omega (arith, e)
 pub gone_longer : (m0 m1 : Store) (p : ℕ) (loses : Cell → Bool) (k : ℕ) (g0 g1 : List ℕ) (res : ℕ) → Swept m0 m1 p loses k g0 g1 res → length g0 ≤ length g1
 gone_longer m0 m1 p loses k g0 g1 res w = omega (arith, ap length w.left.1 ∙ length-append g0 w.left.0)
 
--- the same for rows that a view has
-pub swept_of : (m0 m1 : Store) (xs : List Cell) (p : ℕ) (off : Off) (others : Bool) (k : ℕ) (g0 g1 : List ℕ) (res : ℕ) → cells m0 ≡ xs → ((u : Taking (cells m0) p off others) → Swept m0 m1 p u.loses k g0 g1 res) → (t : Taking xs p off others) → Swept m0 m1 p t.loses k g0 g1 res
-swept_of m0 m1 xs p off others k g0 g1 res e h = subst (λ (zs : List Cell). (t : Taking zs p off others) → Swept m0 m1 p t.loses k g0 g1 res) e h
-
-pub withdrawn_by : (v w : View) (m0 m1 m2 : Store) (p : ℕ) (off : Off) (others : Bool) (k : ℕ) (g0 g1 : List ℕ) (res : ℕ) → cells m0 ≡ v.rows → cells m2 ≡ w.rows → g0 ≡ v.gone → ((u : Taking (cells m0) p off others) → Swept m0 m1 p u.loses k g0 g1 res) → Cleared m1 m2 g1 w.gone
-    → w.taken ≡ capped (v.taken + res) → w.waiting ≡ v.waiting → w.nodes ≡ v.nodes → w.most ≡ v.most → w.loans ≡ v.loans → (t : Taking v.rows p off others) → Withdrawn v w t.loses k
-withdrawn_by v w m0 m1 m2 p off others k g0 g1 res e f g h c taken waiting nodes most loans t =
-    let s = swept_of m0 m1 v.rows p off others k g0 g1 res e h t in
-    let l = swept_cleared m0 m1 m2 p t.loses k g0 g1 w.gone res s c in
-    record {
-      leaves = record {
-        left = l.0;
-        gone = l.1 ∙ ap (λ z. z ++ l.0) g;
-        purged = subst (λ (zs : List Cell). Purged (taken_by t.loses k zs) w.rows l.0) e (subst (λ (zs : List Cell). Purged (taken_by t.loses k (cells m0)) zs l.0) f l.2);
-      };
-      taken = taken ∙ ap (λ z. capped (v.taken + z)) (s.taken ∙ ap (λ zs. length (filter t.loses zs)) e);
-      waiting = waiting;
-      nodes = nodes;
-      most = most;
-      loans = loans;
-    }
+-- what a withdrawal makes of a buffer with these fields
+pub withdrawn_by : (waiting : List Ahead) (nodes : ℕ) (m0 m : Store) (g0 g : List ℕ) (loses : Cell → Bool) (k count taken taken' most most' : ℕ) (loans loans' : List ℕ)
+    → TakenBack m0 m loses k g0 g count → taken' ≡ capped (taken + count) → most' ≡ most → loans' ≡ loans
+    → Withdrawn (record { rows = cells m0; gone = g0; waiting = waiting; nodes = nodes; taken = taken; most = most; loans = loans }) (record { rows = cells m; gone = g; waiting = waiting; nodes = nodes; taken = taken'; most = most'; loans = loans' }) loses k
+withdrawn_by waiting nodes m0 m g0 g loses k count taken taken' most most' loans loans' h t o l = record {
+  leaves = record { left = h.left.0; gone = h.left.1; purged = h.left.2 };
+  taken = t ∙ ap (λ z. capped (taken + z)) h.taken;
+  waiting = refl;
+  nodes = refl;
+  most = o;
+  loans = l;
+}

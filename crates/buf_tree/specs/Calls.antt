@@ -5,10 +5,9 @@ use Rattle.std.specs.FinSet as set
 use Rattle.std.specs.Ordering.{nat_cmp}
 use Rattle.gcx_base.specs.declared.ids.Role.{Role}
 use Rattle.gcx_base.specs.declared.kind.Kind.{Kind}
-use Rattle.gcx_base.specs.declared.kind.Kind.TheVariants.{Document}
 use Rattle.gcx_model.specs.Members.{In}
-use Rattle.buf_tree.specs.declared.row.Row.{Row}
-use Rattle.buf_tree.specs.Rows.{is_bare, below_row, shut_row, untaken}
+use Rattle.buf_tree.specs.Row.{Row}
+use Rattle.buf_tree.specs.Rows.{is_bare, document_row, below_row, shut_row, untaken}
 use Rattle.buf_tree.specs.Shape.{Cell, num, at_place, with_at}
 use Rattle.buf_tree.specs.Purge.{Purged}
 use Rattle.buf_tree.specs.View.{View, capped, num_in, level_in}
@@ -22,7 +21,7 @@ less given ahead = filter (λ r. not (list_any (λ y. y == r) ahead)) given
 
 -- the row of the document node
 abbrev pub root_row : List Role → Row
-root_row given = record { serial = 0; parent = 0; level = 0; is_open = true; kind = Document; roles = set.from_list (numbers given); signed = set.empty }
+root_row given = document_row (set.from_list (numbers given))
 
 -- `new`
 pub record Started (v : View) (given : List Role) : Type 0 where

@@ -1,3 +1,4 @@
+pub mod Row
 pub mod Rows
 pub mod Shape
 pub mod Walk
@@ -5,7 +6,11 @@ pub mod Purge
 pub mod View
 pub mod Calls
 pub mod Match
+pub mod Search
 pub mod Stands
 pub mod Ways
+pub mod Trail
 pub mod Sweep
 pub mod Withdraw
+pub mod Loose
+pub mod PassedCalls

@@ -1,12 +1,13 @@
 -- Which rows a step reaches from a row, and from where a search for them may go on.
-use Rattle.std.specs.Prelude.{◌≡◌, ◌<◌, ◌≤◌, ◌⊎◌, ℕ, zero, suc, true, List}
+use Rattle.std.specs.Prelude.{◌≡◌, ◌<◌, ◌≤◌, ◌⊎◌, ℕ, zero, suc, true, List, Option, IfSome, MatchOption}
 use Rattle.gcx_base.specs.declared.steps.Axis.{Axis}
 use Rattle.gcx_base.specs.declared.steps.Axis.TheVariants.{Child, Descendant}
 use Rattle.gcx_base.specs.declared.steps.Step.{Step}
 use Rattle.gcx_model.specs.Members.{In}
 use Rattle.gcx_base.specs.Tests.{passes}
-use Rattle.buf_tree.specs.Shape.{Cell, num}
-use Rattle.buf_tree.specs.View.{InUse}
+use Rattle.node_store.specs.declared.store.Place.{Place}
+use Rattle.buf_tree.specs.Shape.{Cell, num, AtPlace, AtPlaces}
+use Rattle.buf_tree.specs.View.{InUse, serial_at}
 
 -- the row d is a child of the row c
 abbrev pub IsChild : Cell → Cell → Type 0
@@ -38,6 +39,18 @@ pub record FirstReached (xs : List Cell) (c : Cell) (s : Step) (after p : ℕ) :
   pub reached : Reached xs c s after cell
   pub place : cell.place ≡ p
   pub least : (d : Cell) → Reached xs c s after d → num cell ≤ num d
+
+-- a search from the row at the place p answers the first row that the step reaches above `after`, or None where it reaches none
+abbrev pub FindsAbove : List Cell → (p : ℕ) → Step → (after : ℕ) → Option Place → Type 0
+FindsAbove xs p s after r = AtPlace xs p (λ c. MatchOption r (Unreached xs c s after) (λ q. FirstReached xs c s after q.0))
+
+-- the first behind the row at the place q
+abbrev pub FindsBehind : List Cell → (p q : ℕ) → Step → Option Place → Type 0
+FindsBehind xs p q s r = AtPlaces xs p q (λ c d. MatchOption r (Unreached xs c s (num d)) (λ o. FirstReached xs c s (num d) o.0))
+
+-- the row that is answered has the serial at its place
+abbrev pub SerialFound : List Cell → Option Place → Type 0
+SerialFound xs r = IfSome r (λ p. AtPlace xs p.0 (λ c. serial_at p.0 xs ≡ num c))
 
 -- from where a search may go on: the row itself, a child of it, or for a descendant step any row below it
 abbrev pub IsFrom : List Cell → Axis → Cell → Cell → Type 0

@@ -1,13 +1,13 @@
 -- What single edits make of a row.
-use Rattle.std.specs.Prelude.{◌≡◌, ◌+◌, ◌==◌, ◌&&◌, ℕ, Bool, false, not, List, [], map}
+use Rattle.std.specs.Prelude.{◌≡◌, ◌+◌, ◌==◌, ◌&&◌, ℕ, Bool, true, false, not, List, [], map}
 use Rattle.std.specs.Ordering.{nat_cmp}
 use Rattle.std.specs.FinSet as set
 use Rattle.gcx_base.specs.declared.ids.Serial.{Serial}
 use Rattle.gcx_base.specs.declared.kind.Kind.{Kind}
-use Rattle.gcx_base.specs.declared.kind.Kind.TheVariants.{Document, Element, Text}
+use Rattle.gcx_base.specs.declared.kind.Kind.TheVariants.{Document}
 use Rattle.gcx_base.specs.Kinds.{is_text}
 use Rattle.node_store.specs.Rows.{Entry}
-use Rattle.buf_tree.specs.declared.row.Row.{Row}
+use Rattle.buf_tree.specs.Row.{Row}
 
 -- a text without a role
 abbrev pub is_bare : Kind → set.FinSet nat_cmp → Bool
@@ -15,6 +15,10 @@ is_bare kind roles = is_text kind && (set.len roles == 0)
 
 abbrev pub serials : List Serial → List ℕ
 serials ss = map (λ (s : Serial). s.0) ss
+
+-- the row of the open document node with these roles
+abbrev pub document_row : set.FinSet nat_cmp → Row
+document_row roles = record { serial = 0; parent = 0; level = 0; is_open = true; kind = Document; roles = roles; signed = set.empty }
 
 -- the row of a new child of the node with this serial and level
 abbrev pub below_row : (parent level serial : ℕ) → Kind → set.FinSet nat_cmp → Row

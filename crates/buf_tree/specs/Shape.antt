@@ -4,7 +4,7 @@ use Rattle.std.specs.Ordering.{nat_cmp}
 use Rattle.std.specs.FinMap.{FinMap, get, keys}
 use Rattle.node_store.specs.Rows.{Entry}
 use Rattle.gcx_model.specs.Members.{In}
-use Rattle.buf_tree.specs.declared.row.Row.{Row}
+use Rattle.buf_tree.specs.Row.{Row}
 
 abbrev pub Store : Type 0
 Store = FinMap nat_cmp (Entry Row)
@@ -67,6 +67,22 @@ pub record Shape (m : Store) (xs : List Cell) : Type 0 where
 
 abbrev pub Shaped : Store → Type 0
 Shaped m = Shape m (cells m)
+
+-- R holds of the row at the place
+abbrev pub AtPlace : List Cell → ℕ → (Cell → Type 0) → Type 0
+AtPlace xs p R = (c : Cell) → In c xs → c.place ≡ p → R c
+
+-- of the rows at two places
+abbrev pub AtPlaces : List Cell → (p q : ℕ) → (Cell → Cell → Type 0) → Type 0
+AtPlaces xs p q R = (c d : Cell) → In c xs → In d xs → c.place ≡ p → d.place ≡ q → R c d
+
+-- of what the store has at the place, where it has something
+abbrev pub AtEntry : Store → ℕ → (Entry Row → Type 0) → Type 0
+AtEntry m p R = (e : Entry Row) → get m p ≡ Some e → R e
+
+-- and it has something there
+abbrev pub HasEntry : Store → ℕ → (Entry Row → Type 0) → Type 0
+HasEntry m p R = (e : Entry Row) × (get m p ≡ Some e) × R e
 
 -- the row at the place p changed by f
 abbrev pub with_at : (Row → Row) → ℕ → Cell → Cell

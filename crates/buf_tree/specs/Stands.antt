@@ -4,19 +4,21 @@ use Rattle.std.specs.Ordering.{nat_cmp}
 use Rattle.std.specs.FinSet as set
 use Rattle.gcx_base.specs.declared.ids.Role.{Role}
 use Rattle.gcx_base.specs.declared.kind.Kind.{Kind}
-use Rattle.gcx_base.specs.declared.kind.Kind.TheVariants.{Document, Element, Text}
 use Rattle.gcx_model.specs.declared.item.Off.{Off}
 use Rattle.gcx_model.specs.ItemView.{off_tree}
 use Rattle.gcx_model.specs.Members.{In}
-use Rattle.gcx_model.specs.Placed.{offs_in, is_own}
-use Rattle.gcx_model.specs.Tree.{Node, Token, Start, Chars, End, grow}
-use Rattle.gcx_model.specs.Growth.{level}
+use Rattle.gcx_model.specs.Core.{BodyTree, PlanTree}
+use Rattle.gcx_model.specs.Cores.{Good}
+use Rattle.gcx_model.specs.Placed.{Placed, offs_in, is_own}
+use Rattle.gcx_model.specs.Run.{Offed}
+use Rattle.gcx_model.specs.Tree.{Node, Root, Token, End, opening, grow}
+use Rattle.gcx_model.specs.Growth.{level, may_come}
 use Rattle.gcx_model.specs.Held.{held, roles_given, roles_taken}
-use Rattle.gcx_model.specs.Past.{Past, IsPast, HeldRow, row_of, Awaited, waiting_offs}
-use Rattle.buf_tree.specs.declared.row.Row.{Row}
+use Rattle.gcx_model.specs.Past.{Past, IsPast, HeldRow, row_of, Awaited, waiting_offs, opening_past, past_fed, past_grown, past_acted, token_for}
+use Rattle.buf_tree.specs.Row.{Row}
 use Rattle.buf_tree.specs.declared.ahead.Ahead.{Ahead}
 use Rattle.buf_tree.specs.Shape.{Cell}
-use Rattle.buf_tree.specs.View.{View}
+use Rattle.buf_tree.specs.View.{View, serial_at}
 use Rattle.buf_tree.specs.Calls.{numbers}
 
 -- what a row tells of its node, with its roles and the roles signed at it as sets, and how deep it lies
@@ -60,6 +62,23 @@ past_told past = record past { fed = length past.acts }
 abbrev pub GivenTo : Past → Token → List Role → List Role → Type 0
 GivenTo past t gs as_ = (n : Node) → drop (length past.tree.nodes) (grow t past.tree).nodes ≡ n ∷ []
     → (numbers gs ≡ roles_given past.plan (grow t past.tree) n) × (numbers as_ ≡ roles_taken past.plan (grow t past.tree) past.acts n)
+
+-- a buffer of these roles stands for the opening past of each placed plan that gives them to the document node
+abbrev pub StandsFirst : View → List Role → Type 0
+StandsFirst w given = (core : BodyTree) (plan : PlanTree) → Good core → Placed core plan → numbers given ≡ roles_given plan opening Root → StandsFor w (opening_past plan)
+
+-- for each past for which it stood it stands for that with the token that opens a node of this kind
+abbrev pub StandsOpened : (v w : View) → Kind → (given ahead : List Role) → Type 0
+StandsOpened v w kind given ahead =
+    (past : Past) → StandsFor v past → may_come (token_for kind) past.tree ≡ true → GivenTo past (token_for kind) given ahead → StandsFor w (past_grown (token_for kind) past)
+
+-- with the end of the innermost open node
+abbrev pub StandsClosed : (v w : View) → Type 0
+StandsClosed v w = (past : Past) → StandsFor v past → may_come End past.tree ≡ true → StandsFor w (past_fed End past)
+
+-- with the statement carried out at the node of the place
+abbrev pub StandsSigned : (v w : View) → (p : ℕ) → Off → Type 0
+StandsSigned v w p off = (past : Past) → StandsFor v past → In (off_tree off) (offs_in past.plan.body) → StandsFor w (past_acted (Offed (off_tree off) (serial_at p v.rows)) past)
 
 -- The statement is due at the node of the place: the base's own role is there, live or signed, the statement isn't signed there, and it is one of the plan of a past for which the buffer stands.
 pub record Due (v : View) (p : ℕ) (off : Off) : Type 0 where

@@ -5,17 +5,26 @@ use Rattle.std.specs.FinSet as set
 use Rattle.gcx_model.specs.declared.item.Off.{Off}
 use Rattle.gcx_model.specs.Members.{In}
 use Rattle.gcx_model.specs.Tree.{Tree, Node}
-use Rattle.node_store.specs.Rows.{Entry, unlinked}
-use Rattle.buf_tree.specs.declared.row.Row.{Row}
+use Rattle.node_store.specs.Rows.{Entry, unlinked, changed_at, paid_by}
+use Rattle.buf_tree.specs.Row.{Row}
 use Rattle.buf_tree.specs.Rows.{IsSpare, untaken}
 use Rattle.buf_tree.specs.Shape.{Store, Cell, cells, Shaped}
 use Rattle.buf_tree.specs.Purge.{PurgedBut}
 use Rattle.buf_tree.specs.Walk.{Within}
-use Rattle.buf_tree.specs.Ways.{Tells, IsKept}
+use Rattle.buf_tree.specs.Ways.{Tells, NodeOf, TreeOf, IsKept}
 
 -- the rows, without the role k where it is lost
 abbrev pub taken_by : (Cell → Bool) → ℕ → List Cell → List Cell
 taken_by loses k xs = map (λ c. cond (loses c) (record { place = c.place; row = untaken k c.row }) c) xs
+
+-- the store, without the role k at the place where it is taken there
+abbrev pub taken_at : ℕ → ℕ → (taken : Bool) → Store → Store
+taken_at k p taken m = cond taken (changed_at (paid_by (untaken k)) p m) m
+
+-- at the row at the place the role is taken, where it has it and no other base keeps it
+abbrev pub TakesAt : List Cell → Off → (others : Bool) → (p count : ℕ) → Type 0
+TakesAt xs off others p count =
+    (T : Tree) (n : Node) (c : Cell) → TreeOf xs T → NodeOf xs p n → In c xs → c.place ≡ p → (count ≡ 1) ↔ ((set.contains c.row.roles off.role.0 ≡ true) × (others ≡ true → IsKept xs T off n → ⊥))
 
 -- The row d loses the statement's role: it is the base's row c or lies below it, has the role, and where there are other bases none of them keeps it.
 pub record Loses (xs : List Cell) (T : Tree) (off : Off) (others : Bool) (c d : Cell) : Type 0 where
@@ -39,3 +48,8 @@ pub record Swept (m0 m : Store) (place : ℕ) (loses : Cell → Bool) (k : ℕ) 
   pub there : IsSome (get m place)
   pub left : (left : List ℕ) × (g ≡ g0 ++ left) × PurgedBut (Some place) (taken_by loses k (cells m0)) (cells m) left
   pub taken : count ≡ length (filter loses (cells m0))
+
+-- and so for each test that tells which rows lose the statement's role
+abbrev pub SweptBy : (m0 m : Store) → Off → (others : Bool) → (place : ℕ) → (g0 g : List ℕ) → (count : ℕ) → Type 0
+SweptBy m0 m off others place g0 g count =
+    (T : Tree) (c : Cell) (loses : Cell → Bool) → TreeOf (cells m0) T → In c (cells m0) → c.place ≡ place → LosesBy (cells m0) T off others c loses → Swept m0 m place loses off.role.0 g0 g count

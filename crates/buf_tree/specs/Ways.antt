@@ -1,5 +1,5 @@
--- What the rows tell of paths: of which node a row is, and whether steps lead from one node to another. Public clauses speak of `NodeOf` and `is_waiting`; the rest follows the code.
-use Rattle.std.specs.Prelude.{◌≡◌, ◌<◌, ◌≤◌, ◌+◌, ◌==◌, ◌&&◌, ◌||◌, not, ℕ, Bool, true, false, List, [], length, drop, get_or}
+-- What the rows tell of paths: of which node a row is, and whether steps lead from one node to another. Public clauses speak of `NodeOf`, `LeadsBy` and `is_waiting`; the rest follows the code.
+use Rattle.std.specs.Prelude.{◌≡◌, ◌↔◌, ◌⊎◌, ◌<◌, ◌≤◌, ◌+◌, ◌==◌, ◌&&◌, ◌||◌, not, ℕ, Bool, true, false, List, [], length, drop, get_or}
 use Rattle.std.specs.FinSet as set
 use Rattle.gcx_base.specs.declared.kind.Kind.TheVariants.{Document}
 use Rattle.gcx_base.specs.declared.kind.Kind.{Kind}
@@ -11,12 +11,13 @@ use Rattle.gcx_model.specs.Core.{RoleKind, Own, First, Whole}
 use Rattle.gcx_model.specs.Held.{is_node, reaches}
 use Rattle.gcx_model.specs.ItemView.{off_tree}
 use Rattle.gcx_model.specs.Nodes.{Rising}
+use Rattle.gcx_model.specs.Placed.{is_own}
 use Rattle.gcx_model.specs.Members.{In}
 use Rattle.gcx_base.specs.Tests.{passes}
 use Rattle.gcx_model.specs.Paths.{any, hits, first}
 use Rattle.gcx_model.specs.Tree.{Tree, Node, Root, Under, serial_of, above}
-use Rattle.buf_tree.specs.declared.row.Row.{Row}
-use Rattle.buf_tree.specs.Shape.{Cell, num}
+use Rattle.buf_tree.specs.Row.{Row}
+use Rattle.buf_tree.specs.Shape.{Cell, num, AtPlace}
 use Rattle.buf_tree.specs.Walk.{Inside}
 use Rattle.buf_tree.specs.Match.{IsChild}
 
@@ -58,6 +59,10 @@ goes_on Descendant = true
 abbrev pub flag_up : Step → Kind → (here next : Bool) → Bool
 flag_up s kind here next = (next && passes s.test kind) || (here && goes_on s.axis)
 
+-- the flags of a node of this kind become those of its parent, where the last one is to be this
+abbrev pub GoesUp : List Step → Kind → (end : Bool) → (before now : List Bool) → Type 0
+GoesUp steps kind end before now = (ends : Node → Bool) (n p : Node) (s : ℕ) → Descends n → In (Under p s kind) (above n) → end ≡ ends p → Flags ends s steps n before → Flags ends (serial_of p) steps n now
+
 -- the steps lead from a to no row before that of n
 abbrev pub NoneBefore : List Cell → (a n : Node) → List Step → Type 0
 NoneBefore xs a n steps = (p : ℕ) (j : Node) → NodeOf xs p j → In a (above j) → serial_of j < serial_of n → hits (serial_of a) steps j ≡ false
@@ -66,6 +71,18 @@ NoneBefore xs a n steps = (p : ℕ) (j : Node) → NodeOf xs p j → In a (above
 pub record FlagsBut (ends : Node → Bool) (a : ℕ) (steps : List Step) (n : Node) (flags : List Bool) : Type 0 where
   pub count : length flags ≡ length steps + 1
   pub each : (i : ℕ) → i < length steps → get_or flags i false ≡ leads ends a (drop i steps) n
+
+-- the flags but the last become those of the parent, whatever the last one is
+abbrev pub GoesUpBut : List Step → Kind → (before now : List Bool) → Type 0
+GoesUpBut steps kind before now = (ends : Node → Bool) (n p : Node) (s : ℕ) → Descends n → In (Under p s kind) (above n) → Flags ends s steps n before → FlagsBut ends (serial_of p) steps n now
+
+-- whether the steps lead from the row at p to that at q
+abbrev pub LeadsBy : List Cell → (p : ℕ) → List Step → (q : ℕ) → Bool → Type 0
+LeadsBy xs p steps q b = (a n : Node) → NodeOf xs p a → NodeOf xs q n → b ≡ hits (serial_of a) steps n
+
+-- whether they lead to no row before that at q, which is that at p or below it
+abbrev pub FirstBy : List Cell → (p : ℕ) → List Step → (q : ℕ) → Bool → Type 0
+FirstBy xs p steps q b = (a n : Node) → NodeOf xs p a → NodeOf xs q n → In a (above n) → (b ≡ true) ↔ NoneBefore xs a n steps
 
 -- T has the nodes of the rows, in order
 pub record TreeOf (xs : List Cell) (T : Tree) : Type 0 where
@@ -100,6 +117,11 @@ ends_at T Own tail n j = is_same n j
 ends_at T First tail n j = is_node (serial_of n) (first T (serial_of j) tail)
 ends_at T Whole tail n j = any (hits (serial_of j) tail) (above n)
 
+-- whether the tail leads by its kind from the row at p to that at q, of which the flags say whether its steps do
+abbrev pub EndsHere : List Cell → Off → (p q : ℕ) → List Bool → Bool → Type 0
+EndsHere xs off p q flags b =
+    (T : Tree) (a n : Node) → TreeOf xs T → NodeOf xs p a → NodeOf xs q n → In a (above n) → Flags (tail_ends (off_tree off).kind n) (serial_of a) (tail_steps (off_tree off).kind off.tail) n flags → b ≡ ends_at T (off_tree off).kind off.tail n a
+
 -- the statement reaches n from a row of a base at which it isn't signed
 pub record IsKept (xs : List Cell) (T : Tree) (off : Off) (n : Node) : Type 0 where
   pub place : ℕ
@@ -108,6 +130,10 @@ pub record IsKept (xs : List Cell) (T : Tree) (off : Off) (n : Node) : Type 0 wh
   pub waits : is_waiting at.cell.row off ≡ true
   pub reached : reaches T (off_tree off) base n ≡ true
 
+-- whether it does so at the row at the place
+abbrev pub KeptBy : List Cell → Off → ℕ → Bool → Type 0
+KeptBy xs off p b = (T : Tree) (n : Node) → TreeOf xs T → NodeOf xs p n → (b ≡ true) ↔ IsKept xs T off n
+
 -- a row above that of c, or below it, of a base at which the statement isn't signed
 abbrev pub BaseAbove : List Cell → Off → Cell → Type 0
 BaseAbove xs off c = (b : Cell) × In b xs × Inside xs b c × (is_waiting b.row off ≡ true)
@@ -115,7 +141,15 @@ BaseAbove xs off c = (b : Cell) × In b xs × Inside xs b c × (is_waiting b.row
 abbrev pub BaseBelow : List Cell → Off → Cell → Type 0
 BaseBelow xs off c = (b : Cell) × In b xs × Inside xs c b × (is_waiting b.row off ≡ true)
 
--- the same, from a row other than that with the serial k
+-- whether R holds of the row at the place
+abbrev pub TellsOf : List Cell → ℕ → (Cell → Type 0) → Bool → Type 0
+TellsOf xs p R b = AtPlace xs p (λ c. (b ≡ true) ↔ R c)
+
+-- whether another base than the row at the place may keep the statement's role
+abbrev pub TellsOthers : List Cell → ℕ → Off → Bool → Type 0
+TellsOthers xs p off others = TellsOf xs p (λ c. (is_own (off_tree off) ≡ false) × (BaseAbove xs off c ⊎ BaseBelow xs off c)) others
+
+-- the statement reaches n from a row of such a base other than that with the serial k
 pub record IsKeptBut (xs : List Cell) (T : Tree) (off : Off) (n : Node) (k : ℕ) : Type 0 where
   pub place : ℕ
   pub base : Node

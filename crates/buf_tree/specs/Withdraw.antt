@@ -1,12 +1,13 @@
 -- What a statement takes back at a node. This follows the code: private functions alone speak of it.
-use Rattle.std.specs.Prelude.{◌≡◌, ◌↔◌, ◌+◌, ℕ, Bool, true, false, List, length, filter}
+use Rattle.std.specs.Prelude.{◌≡◌, ◌↔◌, ◌+◌, ◌++◌, ℕ, Bool, true, false, List, length, filter}
 use Rattle.std.specs.FinSet as set
 use Rattle.gcx_model.specs.declared.item.Off.{Off}
 use Rattle.gcx_model.specs.ItemView.{off_tree}
 use Rattle.gcx_model.specs.Members.{In}
 use Rattle.gcx_model.specs.Placed.{is_own}
 use Rattle.gcx_model.specs.Tree.{Tree}
-use Rattle.buf_tree.specs.Shape.{Cell}
+use Rattle.buf_tree.specs.Shape.{Store, Cell, cells}
+use Rattle.buf_tree.specs.Purge.{Purged}
 use Rattle.buf_tree.specs.Ways.{TreeOf}
 use Rattle.buf_tree.specs.View.{View, capped}
 use Rattle.buf_tree.specs.Calls.{Left}
@@ -27,7 +28,12 @@ pub record Taking (xs : List Cell) (p : ℕ) (off : Off) (others : Bool) : Type 
   pub place : base.place ≡ p
   pub each : TakesBy xs tree off others base loses
 
--- the role k is taken from the rows that lose it, and what nothing keeps then leaves
+-- from the store m0 to m: the role k is taken from the rows that lose it, and what nothing keeps then leaves, falling
+pub record TakenBack (m0 m : Store) (loses : Cell → Bool) (k : ℕ) (g0 g : List ℕ) (count : ℕ) : Type 0 where
+  pub left : (left : List ℕ) × (g ≡ g0 ++ left) × Purged (taken_by loses k (cells m0)) (cells m) left
+  pub taken : count ≡ length (filter loses (cells m0))
+
+-- the same of a buffer
 pub record Withdrawn (v w : View) (loses : Cell → Bool) (k : ℕ) : Type 0 where
   pub leaves : Left v w (taken_by loses k v.rows)
   pub taken : w.taken ≡ capped (v.taken + length (filter loses v.rows))

@@ -1,35 +1,27 @@
 //! The buffer.
 ghost use Rattle.std.specs.List.{list_any};
-ghost use Rattle.std.specs.Prelude.{◌≡◌, ◌==◌, ◌↔◌, ◌+◌, ◌≤◌, ◌<◌, ◌^◌, ℕ, List, Option, Some, None, IfOk, IfErr, OnOk, OnErr, IfSome, IsSome, IsTrue, MatchOption, max, not, option_map, true, [], ◌∷◌, ◌++◌, length, map as list_map};
+ghost use Rattle.std.specs.Prelude.{◌≡◌, ◌==◌, ◌+◌, ◌≤◌, ◌<◌, ◌^◌, Option, Some, None, IfOk, OnOk, OnErr, max, not, option_map, true, [], length};
 ghost use Rattle.std.specs.FinMap as map;
 ghost use Rattle.std.specs.FinSet as set;
 ghost use Rattle.gcx_model.specs.Members.{In};
 ghost use Rattle.gcx_model.specs.Paths.{head};
-ghost use Rattle.gcx_model.specs.Tree.{Token, Root, End, opening};
-ghost use Rattle.gcx_model.specs.Growth.{may_come};
-ghost use Rattle.gcx_model.specs.Core.{BodyTree, PlanTree};
-ghost use Rattle.gcx_model.specs.Cores.{Good};
-ghost use Rattle.gcx_model.specs.Placed.{Placed};
-ghost use Rattle.gcx_model.specs.Held.{roles_given};
-ghost use Rattle.gcx_model.specs.Past.{Past, opening_past, past_fed};
-ghost use Rattle.gcx_model.specs.Past.{IsNode};
+ghost use Rattle.gcx_model.specs.Past.{Past, IsNode};
 ghost use Rattle.buf_tree.specs.Rows.{serials};
-ghost use Rattle.buf_tree.specs.Shape.{Cell, num, cells, Shape};
+ghost use Rattle.buf_tree.specs.Shape.{Cell, num, cells, Shape, at_place};
 ghost use Rattle.buf_tree.specs.View.{View, InUse, Innermost, serial_at, level_in};
-ghost use Rattle.buf_tree.specs.Shape.{at_place};
 ghost use Rattle.buf_tree.specs.Calls.{Started, Opened, Closed, HasRole, Untaken, numbers, less};
 ghost use Rattle.buf_tree.specs.Ways.{is_waiting};
-ghost use Rattle.buf_tree.specs.Stands.{StandsFor, past_told, GivenTo};
-ghost use Rattle.gcx_model.specs.Past.{past_grown, token_for};
+ghost use Rattle.buf_tree.specs.Stands.{StandsFor, past_told, StandsFirst, StandsOpened, StandsClosed};
 
 use crate::ahead::Ahead;
-use crate::edits::{add_row, plant_row, settle, shut, untake};
-use crate::row::{Row, is_bare, row_below};
+use crate::edits::{is_spare, leave, plant_row, settle, shut, untake};
+use crate::row::Row;
+use crate::trail::Trail;
 use crate::upward::is_waiting;
 use gcx_base::{Kind, Memory, Role, Serial};
 use gcx_model::{Given, Off};
 use node_store::{At, NodeStore, Place};
-use role_set::RoleSet;
+use role_set::NodeRoles;
 use std::alloc::Global;
 use std::marker::Model;
 
@@ -45,6 +37,7 @@ pub struct Buffer<N: NodeStore<Row>> {
     pub(crate) held: usize,
     pub(crate) count: u64,
     pub(crate) taken: u128,
+    pub(crate) trail: Trail,
 }
 
 impl<N: NodeStore<Row>> Model for Buffer<N> {
@@ -79,21 +72,13 @@ impl<N: NodeStore<Row> + Drop> Buffer<N> {
         ensures started { IfOk result (λ b. Started b given) }
         ensures most { IfOk result (λ b. b.most ≡ max (N.most_held nodes) 1) }
         ensures loans { IfOk result (λ b. b.loans ≡ N.loans nodes) }
-        ensures stands { IfOk result (λ b. (core : BodyTree) (plan : PlanTree) → Good core → Placed core plan → numbers given ≡ roles_given plan opening Root → StandsFor b (opening_past plan)) }
+        ensures stands { IfOk result (λ b. StandsFirst b given) }
     {
         let mut gone = Vec::new(alloc);
         gone.reserve(1)?;
-        let row = Row {
-            serial: 0,
-            parent: 0,
-            level: 0,
-            is_open: true,
-            kind: Kind::Document,
-            roles: roles_left(alloc, given.items(), &[])?,
-            signed: RoleSet::new(alloc),
-        };
+        let roles = roles_left(alloc, given.items(), &[])?;
         let mut nodes = nodes;
-        plant_row(&mut nodes, row)?;
+        plant_row(&mut nodes, Row::document(roles))?;
         Ok(Buffer {
             nodes,
             gone,
@@ -101,6 +86,7 @@ impl<N: NodeStore<Row> + Drop> Buffer<N> {
             held: 1,
             count: 1,
             taken: 0,
+            trail: Trail::new(alloc),
         })
     }
 }
@@ -120,11 +106,13 @@ impl<N: NodeStore<Row>> Buffer<N> {
             held: _,
             count: _,
             taken: _,
+            trail: _,
         } = self;
         nodes
     }
 
     /// The place of the document node, or None where the buffer is empty. Takes no memory.
+    #[inline(always)]
     pub fn root(&self) -> Option<Place>
         ensures { option_map (λ p. p.0) result ≡ option_map (λ c. c.place) (head self.now.rows) }
     {
@@ -149,26 +137,14 @@ impl<N: NodeStore<Row>> Buffer<N> {
         requires nodes { self.old.nodes ≤ 2 ^ 40 + 1 }
         requires depth { level_in (at_place parent.0 self.old.rows) ≤ 1000 }
         ensures opened { IfOk result (λ p. Opened self.old self.new parent.0 (option_map (λ q. q.0) p) kind given ahead) }
-        ensures stands { OnOk result ((past : Past) → StandsFor self.old past → may_come (token_for kind) past.tree ≡ true → GivenTo past (token_for kind) given ahead → StandsFor self.new (past_grown (token_for kind) past)) }
+        ensures stands { OnOk result (StandsOpened self.old self.new kind given ahead) }
         ensures err { OnErr result (self.new ≡ self.old) }
         ensures loans { self.new.loans ≡ self.old.loans }
     {
         let roles = roles_left(alloc, given.items(), ahead.items())?;
-        self.gone.reserve(self.held + 1)?;
         let taken = ahead.items().len() as u128;
-        if is_bare(&kind, &roles) {
-            self.gone.push_reserved(Serial(self.count));
-            self.count += 1;
-            self.taken = self.taken.saturating_add(taken);
-            return Ok(None);
-        }
-        let above = self.nodes.payload(parent);
-        let row = row_below(alloc, above, self.count, kind, roles);
-        let place = add_row(&mut self.nodes, parent, row)?;
-        self.held += 1;
-        self.count += 1;
-        self.taken = self.taken.saturating_add(taken);
-        Ok(Some(place))
+        let place = self.open_row(parent, kind, roles, taken)?;
+        Ok(place)
     }
 
     /// Closes the innermost open node, while nothing waits. Then what nothing keeps leaves. Takes no memory.
@@ -177,11 +153,14 @@ impl<N: NodeStore<Row>> Buffer<N> {
         requires innermost { Innermost self.old.rows place.0 }
         requires waiting { self.old.waiting ≡ [] }
         ensures closed { Closed self.old self.new place.0 }
-        ensures stands { (past : Past) → StandsFor self.old past → may_come End past.tree ≡ true → StandsFor self.new (past_fed End past) }
+        ensures stands { StandsClosed self.old self.new }
         ensures loans { self.new.loans ≡ self.old.loans }
     {
         shut(&mut self.nodes, place);
-        let held = settle(&mut self.nodes, &mut self.gone, place, self.held);
+        if !is_spare(&self.nodes, place) {
+            return;
+        }
+        let held = leave(&mut self.nodes, &mut self.gone, place, self.held);
         self.held = held;
     }
 
@@ -198,6 +177,7 @@ impl<N: NodeStore<Row>> Buffer<N> {
     }
 
     /// The statements that wait for the next token, in order. Takes no memory.
+    #[inline(always)]
     pub fn waiting(&self) -> &[Ahead]
         ensures { result.now ≡ self.now.waiting }
     {
@@ -205,6 +185,7 @@ impl<N: NodeStore<Row>> Buffer<N> {
     }
 
     /// No statement waits any more. Takes no memory.
+    #[inline(always)]
     pub fn clear_waiting(&mut self)
         ensures cleared { self.new ≡ record self.old { waiting = [] } }
         ensures stands { (past : Past) → StandsFor self.old past → StandsFor self.new (past_told past) }
@@ -251,6 +232,7 @@ impl<N: NodeStore<Row>> Buffer<N> {
     }
 
     /// The number of rows, which is that of the nodes held. Takes no memory.
+    #[inline(always)]
     pub fn held(&self) -> u64
         ensures { result ≡ length self.now.rows }
     {
@@ -258,6 +240,7 @@ impl<N: NodeStore<Row>> Buffer<N> {
     }
 
     /// The number of nodes so far, the document node among them. Takes no memory.
+    #[inline(always)]
     pub fn nodes(&self) -> u64
         ensures { result ≡ self.now.nodes }
     {
@@ -266,6 +249,7 @@ impl<N: NodeStore<Row>> Buffer<N> {
 
     /// The serials of the nodes that left since `clear_gone`, in the order of the calls that made them leave, and those
     /// of one call falling. Takes no memory.
+    #[inline(always)]
     pub fn gone(&self) -> &[Serial]
         ensures { serials result.now ≡ self.now.gone }
     {
@@ -281,6 +265,7 @@ impl<N: NodeStore<Row>> Buffer<N> {
     }
 
     /// The number of roles that were taken back from nodes so far. It stands still at 2^128 - 1. Takes no memory.
+    #[inline(always)]
     pub fn taken(&self) -> u128
         ensures { result ≡ self.now.taken }
     {
@@ -302,10 +287,11 @@ fn holds(roles: &[Role], role: Role) -> bool
 
 /// The roles that are given and not ahead.
 #[inline(always)]
-fn roles_left(alloc: Global, given: &[Role], ahead: &[Role]) -> Result<RoleSet, Memory>
-    ensures { IfOk result (λ s. s ≡ set.from_list (less (numbers given.now) (numbers ahead.now))) }
+fn roles_left(alloc: Global, given: &[Role], ahead: &[Role]) -> Result<NodeRoles, Memory>
+    ensures held { IfOk result (λ s. s.held ≡ set.from_list (less (numbers given.now) (numbers ahead.now))) }
+    ensures signed { IfOk result (λ s. s.signed ≡ set.empty) }
 {
-    let mut roles = RoleSet::new(alloc);
+    let mut roles = NodeRoles::new(alloc);
     for role in given {
         if !holds(ahead, *role) {
             roles.give(*role)?;

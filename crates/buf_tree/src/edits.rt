@@ -1,11 +1,11 @@
 //! Single edits of the rows, each with what it makes of them.
-ghost use Rattle.std.specs.Prelude.{◌≡◌, ◌↔◌, ◌+◌, ◌≤◌, ◌<◌, ℕ, List, Option, Some, None, IfOk, IfErr, OnOk, OnErr, IfSome, IsSome, IsTrue, MatchOption, max, option_map, true, [], ◌∷◌, ◌++◌, length, vec_len, vec_capacity, map as list_map, cond};
+ghost use Rattle.std.specs.Prelude.{◌≡◌, ◌↔◌, ◌+◌, ◌≤◌, ◌<◌, ℕ, Option, Some, None, IfOk, OnOk, OnErr, IsSome, IsTrue, max, option_map, true, [], ◌∷◌, ◌++◌, length, vec_len, vec_capacity};
 ghost use Rattle.std.specs.FinMap as map;
 ghost use Rattle.std.specs.FinSet as set;
 ghost use Rattle.gcx_base.specs.declared.ids.Serial.{Serial};
 ghost use Rattle.node_store.specs.Rows.{Entry, planted, appended, unlinked, parent_of, changed_at, paid_by};
 ghost use Rattle.buf_tree.specs.Rows.{IsSpare, shut_row, untaken, signed_for, serials};
-ghost use Rattle.buf_tree.specs.Shape.{cells, Shaped};
+ghost use Rattle.buf_tree.specs.Shape.{cells, Shaped, AtEntry, HasEntry};
 ghost use Rattle.buf_tree.specs.Purge.{TidyBut, Cleared};
 ghost use Rattle.buf_tree.specs.View.{Ready, Kept};
 
@@ -23,20 +23,20 @@ pub(crate) fn shut<N: NodeStore<Row>>(nodes: &mut N, place: Place)
     ensures loans { N.loans nodes.new ≡ N.loans nodes.old }
 {
     let row = nodes.payload_mut(place);
-    row.is_open = false;
+    row.shut();
 }
 
 /// Takes a role, which the node has, back from it.
 #[inline(always)]
 pub(crate) fn untake<N: NodeStore<Row>>(nodes: &mut N, place: Place, role: Role)
-    requires { (e : Entry Row) × (map.get (N.rows nodes.old) place.0 ≡ Some e) × (set.contains e.payload.roles role.0 ≡ true) }
+    requires { HasEntry (N.rows nodes.old) place.0 (λ e. set.contains e.payload.roles role.0 ≡ true) }
     ensures rows { N.rows nodes.new ≡ changed_at (paid_by (untaken role.0)) place.0 (N.rows nodes.old) }
     ensures most { N.most_held nodes.new ≡ N.most_held nodes.old }
     ensures root { N.root_of nodes.new ≡ N.root_of nodes.old }
     ensures loans { N.loans nodes.new ≡ N.loans nodes.old }
 {
     let row = nodes.payload_mut(place);
-    row.roles.take(role);
+    row.untake(role);
 }
 
 /// Signs the node for the role's statement.
@@ -50,7 +50,7 @@ pub(crate) fn sign<N: NodeStore<Row>>(nodes: &mut N, place: Place, role: Role) -
     ensures loans { N.loans nodes.new ≡ N.loans nodes.old }
 {
     let row = nodes.payload_mut(place);
-    row.signed.give(role)?;
+    row.sign(role)?;
     Ok(())
 }
 
@@ -61,7 +61,7 @@ pub(crate) fn is_spare<N: NodeStore<Row>>(nodes: &N, place: Place) -> bool
     ensures { (e : Entry Row) → map.get (N.rows nodes.now) place.0 ≡ Some e → IsTrue result ↔ IsSpare e }
 {
     let row = nodes.payload(place);
-    !row.is_open && row.roles.is_empty() && nodes.first(place).is_none()
+    row.is_closed() && row.has_none() && nodes.first(place).is_none()
 }
 
 /// Takes out a row that nothing keeps, and answers where its parent is.
@@ -71,10 +71,11 @@ pub(crate) fn drop_row<N: NodeStore<Row>>(
     gone: &mut Vec<Serial>,
     place: Place,
 ) -> Option<Place>
-    requires spare { (e : Entry Row) × (map.get (N.rows nodes.old) place.0 ≡ Some e) × IsSpare e }
+    requires spare { HasEntry (N.rows nodes.old) place.0 IsSpare }
     requires room { vec_len gone.old < vec_capacity gone.old }
     ensures rows { N.rows nodes.new ≡ unlinked (N.rows nodes.old) place.0 }
-    ensures gone { (e : Entry Row) → map.get (N.rows nodes.old) place.0 ≡ Some e → serials gone.new.items ≡ serials gone.old.items ++ e.payload.serial ∷ [] }
+    ensures gone { AtEntry (N.rows nodes.old) place.0 (λ e.
+        serials gone.new.items ≡ serials gone.old.items ++ e.payload.serial ∷ []) }
     ensures len { vec_len gone.new ≡ vec_len gone.old + 1 }
     ensures capacity { vec_capacity gone.old ≤ vec_capacity gone.new }
     ensures up { option_map (λ p. p.0) result ≡ parent_of (N.rows nodes.old) place.0 }
@@ -82,9 +83,9 @@ pub(crate) fn drop_row<N: NodeStore<Row>>(
     ensures loans { N.loans nodes.new ≡ N.loans nodes.old }
 {
     let up = nodes.parent(place);
-    let serial = nodes.payload(place).serial;
+    let serial = nodes.payload(place).serial();
     nodes.drop_leaf(place);
-    gone.push_reserved(Serial(serial));
+    gone.push_reserved(serial);
     up
 }
 
@@ -96,7 +97,8 @@ pub(crate) fn purge<N: NodeStore<Row>>(nodes: &mut N, gone: &mut Vec<Serial>, pl
     requires tidy { TidyBut (Some place.0) (cells (N.rows nodes.old)) }
     requires room { vec_len gone.old + length (cells (N.rows nodes.old)) ≤ vec_capacity gone.old }
     ensures cleared { Cleared (N.rows nodes.old) (N.rows nodes.new) (serials gone.old.items) (serials gone.new.items) }
-    ensures count { vec_len gone.new + length (cells (N.rows nodes.new)) ≡ vec_len gone.old + length (cells (N.rows nodes.old)) }
+    ensures count { vec_len gone.new + length (cells (N.rows nodes.new))
+        ≡ vec_len gone.old + length (cells (N.rows nodes.old)) }
     ensures capacity { vec_capacity gone.old ≤ vec_capacity gone.new }
     ensures most { N.most_held nodes.new ≡ N.most_held nodes.old }
     ensures loans { N.loans nodes.new ≡ N.loans nodes.old }
@@ -154,11 +156,30 @@ pub(crate) fn settle<N: NodeStore<Row>>(
 ) -> usize
     requires { (n : ℕ) × Ready (N.rows nodes.old) place.0 (serials gone.old.items) (vec_capacity gone.old) held n }
     ensures cleared { Cleared (N.rows nodes.old) (N.rows nodes.new) (serials gone.old.items) (serials gone.new.items) }
-    ensures kept { (n : ℕ) → Ready (N.rows nodes.old) place.0 (serials gone.old.items) (vec_capacity gone.old) held n → Kept (N.rows nodes.new) (serials gone.new.items) (vec_capacity gone.new) result n }
+    ensures kept { (n : ℕ) → Ready (N.rows nodes.old) place.0 (serials gone.old.items) (vec_capacity gone.old) held n
+        → Kept (N.rows nodes.new) (serials gone.new.items) (vec_capacity gone.new) result n }
     ensures most { N.most_held nodes.new ≡ N.most_held nodes.old }
     ensures loans { N.loans nodes.new ≡ N.loans nodes.old }
 {
     let before = gone.len();
     purge(nodes, gone, place);
     held - (gone.len() - before)
+}
+
+/// The same out of line, for callers that seldom need it.
+#[inline(never)]
+pub(crate) fn leave<N: NodeStore<Row>>(
+    nodes: &mut N,
+    gone: &mut Vec<Serial>,
+    place: Place,
+    held: usize,
+) -> usize
+    requires { (n : ℕ) × Ready (N.rows nodes.old) place.0 (serials gone.old.items) (vec_capacity gone.old) held n }
+    ensures cleared { Cleared (N.rows nodes.old) (N.rows nodes.new) (serials gone.old.items) (serials gone.new.items) }
+    ensures kept { (n : ℕ) → Ready (N.rows nodes.old) place.0 (serials gone.old.items) (vec_capacity gone.old) held n
+        → Kept (N.rows nodes.new) (serials gone.new.items) (vec_capacity gone.new) result n }
+    ensures most { N.most_held nodes.new ≡ N.most_held nodes.old }
+    ensures loans { N.loans nodes.new ≡ N.loans nodes.old }
+{
+    settle(nodes, gone, place, held)
 }

@@ -4,7 +4,10 @@
 mod ahead;
 mod buffer;
 mod edits;
+mod loose;
 mod matches;
+mod opened;
+mod passed;
 mod row;
 mod search;
 mod statements;
@@ -14,4 +17,8 @@ mod upward;
 
 pub use ahead::Ahead;
 pub use buffer::Buffer;
+pub use loose::{
+    ends_passed, last_is_innermost, one_row_more, passes_element, passes_text, row_there,
+    rows_rise, settles_none, settles_one,
+};
 pub use row::Row;

@@ -1,12 +1,8 @@
 //! The searches for the matches of a step among the rows of a buffer, and whether steps lead from one row to another.
-ghost use Rattle.std.specs.Prelude.{◌≡◌, IfOk, IfSome, MatchOption};
-ghost use Rattle.gcx_model.specs.Members.{In};
-ghost use Rattle.gcx_model.specs.Paths.{hits};
-ghost use Rattle.gcx_model.specs.Tree.{Node, serial_of};
-ghost use Rattle.buf_tree.specs.Shape.{Cell, num};
-ghost use Rattle.buf_tree.specs.View.{InUse, serial_at};
-ghost use Rattle.buf_tree.specs.Match.{Unreached, FirstReached, GoesFrom};
-ghost use Rattle.buf_tree.specs.Ways.{NodeOf};
+ghost use Rattle.std.specs.Prelude.{IfOk};
+ghost use Rattle.buf_tree.specs.View.{InUse};
+ghost use Rattle.buf_tree.specs.Match.{FindsAbove, FindsBehind, SerialFound, GoesFrom};
+ghost use Rattle.buf_tree.specs.Ways.{LeadsBy};
 
 use crate::buffer::Buffer;
 use crate::row::Row;
@@ -22,8 +18,8 @@ impl<N: NodeStore<Row>> Buffer<N> {
     #[inline(always)]
     pub fn next_match(&self, place: Place, step: &Step, after: Serial) -> Option<Place>
         requires { InUse self.now.rows place.0 }
-        ensures found { (c : Cell) → In c self.now.rows → c.place ≡ place.0 → MatchOption result (Unreached self.now.rows c step.now after.0) (λ p. FirstReached self.now.rows c step.now after.0 p.0) }
-        ensures serial { IfSome result (λ p. (c : Cell) → In c self.now.rows → c.place ≡ p.0 → serial_at p.0 self.now.rows ≡ num c) }
+        ensures found { FindsAbove self.now.rows place.0 step.now after.0 result }
+        ensures serial { SerialFound self.now.rows result }
     {
         match step.axis {
             Axis::Child => first_child(&self.nodes, place, step, after.0),
@@ -37,8 +33,8 @@ impl<N: NodeStore<Row>> Buffer<N> {
     #[inline(always)]
     pub fn match_behind(&self, place: Place, step: &Step, from: Place) -> Option<Place>
         requires { GoesFrom self.now.rows place.0 step.now.axis from.0 }
-        ensures found { (c d : Cell) → In c self.now.rows → In d self.now.rows → c.place ≡ place.0 → d.place ≡ from.0 → MatchOption result (Unreached self.now.rows c step.now (num d)) (λ p. FirstReached self.now.rows c step.now (num d) p.0) }
-        ensures serial { IfSome result (λ p. (c : Cell) → In c self.now.rows → c.place ≡ p.0 → serial_at p.0 self.now.rows ≡ num c) }
+        ensures found { FindsBehind self.now.rows place.0 from.0 step.now result }
+        ensures serial { SerialFound self.now.rows result }
     {
         match step.axis {
             Axis::Child => next_child(&self.nodes, place, step, from),
@@ -59,7 +55,7 @@ impl<N: NodeStore<Row>> Buffer<N> {
         flags: &mut Vec<bool>,
     ) -> Result<bool, Memory>
         requires { InUse self.now.rows place.0 }
-        ensures { IfOk result (λ b. (a n : Node) → NodeOf self.now.rows from.0 a → NodeOf self.now.rows place.0 n → b ≡ hits (serial_of a) steps.now n) }
+        ensures { IfOk result (λ b. LeadsBy self.now.rows from.0 steps.now place.0 b) }
     {
         make_room(flags, steps)?;
         Ok(leads(&self.nodes, from, steps, place, flags))

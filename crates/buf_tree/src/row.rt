@@ -1,32 +1,95 @@
 //! What the buffer keeps of a node.
-ghost use Rattle.std.specs.Prelude.{◌≡◌, ◌≤◌, not};
-ghost use Rattle.buf_tree.specs.Rows.{is_bare, below_row};
+ghost use Rattle.std.specs.Prelude.{◌≡◌, ◌≤◌, ◌↔◌, not, true, IsTrue, OnOk, OnErr};
+ghost use Rattle.std.specs.FinSet as set;
+ghost use Rattle.buf_tree.specs.Rows.{is_bare, document_row, below_row, shut_row, untaken, signed_for};
 
-use gcx_base::{Kind, Serial};
-use role_set::RoleSet;
-use std::alloc::Global;
+use gcx_base::{Kind, Memory, Role, Serial};
+use role_set::NodeRoles;
+use std::marker::Model;
 
-/// A node of the buffer. `parent` is its parent's serial, and 0 for the document node.
+/// A node of the buffer, seen as its number and that of its parent, how deep it lies, whether it is open, what it is, its
+/// roles, and those whose statements were carried out at it.
 #[derive(Drop)]
 pub struct Row {
-    pub(crate) serial: u64,
-    pub(crate) parent: u64,
-    pub(crate) level: u32,
-    pub(crate) is_open: bool,
-    pub(crate) kind: Kind,
-    pub(crate) roles: RoleSet,
-    pub(crate) signed: RoleSet,
+    serial: u64,
+    /// Of the document node 0.
+    parent: u64,
+    level: u32,
+    is_open: bool,
+    kind: Kind,
+    roles: NodeRoles,
+}
+
+impl Model for Row {
+    ghost use Rattle.gcx_base.specs.contracts.kind.Kind as kinds;
+    ghost use Rattle.buf_tree.specs.Row.{Row as RowView, row_code};
+
+    ghost Value = { RowView };
+
+    ghost coded = { row_code kinds.the_row.coded };
+
+    ghost view = { λ r. record {
+      serial = r.serial;
+      parent = r.parent;
+      level = r.level;
+      is_open = r.is_open;
+      kind = r.kind;
+      roles = r.roles.held;
+      signed = r.roles.signed;
+    } };
 }
 
 impl Row {
+    /// The row of the open document node with these roles.
+    pub(crate) fn document(roles: NodeRoles) -> Row
+        requires { roles.signed ≡ set.empty }
+        ensures { result ≡ document_row roles.held }
+    {
+        Row {
+            serial: 0,
+            parent: 0,
+            level: 0,
+            is_open: true,
+            kind: Kind::Document,
+            roles,
+        }
+    }
+
+    /// The row of a new child of this one, with these roles. A text is closed.
+    #[inline(always)]
+    pub(crate) fn new_child(&self, serial: u64, kind: Kind, roles: NodeRoles) -> Row
+        requires level { self.now.level ≤ 1000 }
+        requires signed { roles.signed ≡ set.empty }
+        ensures { result ≡ below_row self.now.serial self.now.level serial kind roles.held }
+    {
+        Row {
+            serial,
+            parent: self.serial,
+            level: self.level + 1,
+            is_open: !kind.is_text(),
+            kind,
+            roles,
+        }
+    }
+
     /// The node's number in document order.
+    #[inline(always)]
     pub fn serial(&self) -> Serial
         ensures { result.0 ≡ self.now.serial }
     {
         Serial(self.serial)
     }
 
+    /// How deep the node lies. The document node lies at 0.
+    #[inline(always)]
+    pub(crate) fn level(&self) -> u32
+        ensures { result ≡ self.now.level }
+    {
+        self.level
+    }
+
     /// What the node is.
+    #[inline(always)]
     pub fn kind(&self) -> &Kind
         ensures { result.now ≡ self.now.kind }
     {
@@ -34,37 +97,72 @@ impl Row {
     }
 
     /// Whether the node is closed.
+    #[inline(always)]
     pub fn is_closed(&self) -> bool
         ensures { result ≡ not self.now.is_open }
     {
         !self.is_open
     }
+
+    /// Whether the node has the role.
+    #[inline(always)]
+    pub(crate) fn has(&self, role: Role) -> bool
+        ensures { result ≡ set.contains self.now.roles role.0 }
+    {
+        self.roles.has(role)
+    }
+
+    /// Whether the node has no role.
+    #[inline(always)]
+    pub(crate) fn has_none(&self) -> bool
+        ensures { IsTrue result ↔ self.now.roles ≡ set.empty }
+    {
+        self.roles.is_empty()
+    }
+
+    /// Whether the node is signed for the role's statement.
+    #[inline(always)]
+    pub(crate) fn is_signed(&self, role: Role) -> bool
+        ensures { result ≡ set.contains self.now.signed role.0 }
+    {
+        self.roles.is_signed(role)
+    }
+
+    /// Closes the node.
+    #[inline(always)]
+    pub(crate) fn shut(&mut self)
+        ensures { self.new ≡ shut_row self.old }
+    {
+        self.is_open = false;
+    }
+
+    /// Takes a role, which the node has, back from it.
+    #[inline(always)]
+    pub(crate) fn untake(&mut self, role: Role)
+        requires { set.contains self.old.roles role.0 ≡ true }
+        ensures { self.new ≡ untaken role.0 self.old }
+    {
+        self.roles.take(role);
+    }
+
+    /// Signs the node for the role's statement. Want of memory leaves it as it was.
+    #[inline(always)]
+    pub(crate) fn sign(&mut self, role: Role) -> Result<(), Memory>
+        ensures ok { OnOk result (self.new ≡ signed_for role.0 self.old) }
+        ensures err { OnErr result (self.new ≡ self.old) }
+    {
+        self.roles.sign(role)?;
+        Ok(())
+    }
 }
 
 /// Whether a new node of this kind with these roles leaves at once.
 #[inline(always)]
-pub(crate) fn is_bare(kind: &Kind, roles: &RoleSet) -> bool
-    ensures { result ≡ is_bare kind.now roles.now }
+pub(crate) fn is_bare(kind: &Kind, roles: &NodeRoles) -> bool
+    ensures { result ≡ is_bare kind.now roles.now.held }
 {
     if !kind.is_text() {
         return false;
     }
     roles.is_empty()
-}
-
-/// The row of a new child of this one, with these roles.
-#[inline(always)]
-pub(crate) fn row_below(alloc: Global, above: &Row, serial: u64, kind: Kind, roles: RoleSet) -> Row
-    requires { above.now.level ≤ 1000 }
-    ensures { result ≡ below_row above.now.serial above.now.level serial kind roles }
-{
-    Row {
-        serial,
-        parent: above.serial,
-        level: above.level + 1,
-        is_open: !kind.is_text(),
-        kind,
-        roles,
-        signed: RoleSet::new(alloc),
-    }
 }

@@ -1,13 +1,13 @@
 //! Walks over the rows in document order, and the searches for matches.
-ghost use Rattle.std.specs.Prelude.{◌≡◌, ◌==◌, ◌≤◌, ◌⊎◌, cond, Option, Some, None, IsSome, MatchOption, option_map};
+ghost use Rattle.std.specs.Prelude.{◌≡◌, ◌==◌, cond, Option, Some, None, IsSome, option_map};
 ghost use Rattle.std.specs.FinMap as map;
 ghost use Rattle.gcx_base.specs.declared.steps.Axis.TheVariants.{Child, Descendant};
-ghost use Rattle.gcx_model.specs.Members.{In};
 ghost use Rattle.gcx_base.specs.Tests.{passes};
 ghost use Rattle.node_store.specs.Rows.{head_of, children_in};
-ghost use Rattle.buf_tree.specs.Shape.{Cell, num, cells, Shaped};
-ghost use Rattle.buf_tree.specs.Walk.{Nested, Inside, Within, IsLast, JustBefore, BeforeIn, BehindIn};
-ghost use Rattle.buf_tree.specs.Match.{IsChild, Unreached, FirstReached, IsFrom};
+ghost use Rattle.buf_tree.specs.Shape.{cells, Shaped, AtPlaces};
+ghost use Rattle.buf_tree.specs.Walk.{Nested, Within};
+ghost use Rattle.buf_tree.specs.Match.{FindsAbove, FindsBehind, IsFrom};
+ghost use Rattle.buf_tree.specs.Search.{LastAt, BeforeAt, LastBelow, BeforeBelow, BehindBelow, ChildBehind};
 
 use crate::row::Row;
 use gcx_base::{Step, Test};
@@ -26,7 +26,7 @@ fn tail<N: NodeStore<Row>>(nodes: &N, top: Place) -> Place
     requires shape { Shaped (N.rows nodes.now) }
     requires nested { Nested (cells (N.rows nodes.now)) }
     requires there { IsSome (map.get (N.rows nodes.now) top.0) }
-    ensures { (c : Cell) → In c (cells (N.rows nodes.now)) → c.place ≡ top.0 → (t : Cell) × In t (cells (N.rows nodes.now)) × (t.place ≡ result.0) × IsLast (cells (N.rows nodes.now)) c t }
+    ensures { LastAt (cells (N.rows nodes.now)) top.0 result.0 }
 {
     let mut at = top;
     'down: while let Some(child) = nodes.last(at) {
@@ -41,7 +41,7 @@ fn before<N: NodeStore<Row>>(nodes: &N, place: Place) -> Option<Place>
     requires shape { Shaped (N.rows nodes.now) }
     requires nested { Nested (cells (N.rows nodes.now)) }
     requires there { IsSome (map.get (N.rows nodes.now) place.0) }
-    ensures { (h : Cell) → In h (cells (N.rows nodes.now)) → h.place ≡ place.0 → MatchOption result (num h ≡ 0) (λ p. (t : Cell) × In t (cells (N.rows nodes.now)) × (t.place ≡ p.0) × JustBefore (cells (N.rows nodes.now)) t h) }
+    ensures { BeforeAt (cells (N.rows nodes.now)) place.0 result }
 {
     match nodes.prev(place) {
         Some(sibling) => Some(tail(nodes, sibling)),
@@ -55,7 +55,7 @@ pub(crate) fn last_below<N: NodeStore<Row>>(nodes: &N, top: Place) -> Option<Pla
     requires shape { Shaped (N.rows nodes.now) }
     requires nested { Nested (cells (N.rows nodes.now)) }
     requires there { IsSome (map.get (N.rows nodes.now) top.0) }
-    ensures { (c : Cell) → In c (cells (N.rows nodes.now)) → c.place ≡ top.0 → MatchOption result ((x : Cell) → In x (cells (N.rows nodes.now)) → Inside (cells (N.rows nodes.now)) c x → ⊥) (λ p. (t : Cell) × In t (cells (N.rows nodes.now)) × (t.place ≡ p.0) × Inside (cells (N.rows nodes.now)) c t × ((x : Cell) → In x (cells (N.rows nodes.now)) → Inside (cells (N.rows nodes.now)) c x → num x ≤ num t)) }
+    ensures { LastBelow (cells (N.rows nodes.now)) top.0 result }
 {
     let last = tail(nodes, top);
     if is_same(last, top) { None } else { Some(last) }
@@ -67,7 +67,7 @@ pub(crate) fn before_below<N: NodeStore<Row>>(nodes: &N, top: Place, place: Plac
     requires shape { Shaped (N.rows nodes.now) }
     requires nested { Nested (cells (N.rows nodes.now)) }
     requires there { IsSome (map.get (N.rows nodes.now) place.0) }
-    ensures { (c h : Cell) → In c (cells (N.rows nodes.now)) → In h (cells (N.rows nodes.now)) → c.place ≡ top.0 → h.place ≡ place.0 → Inside (cells (N.rows nodes.now)) c h → BeforeIn (cells (N.rows nodes.now)) (Inside (cells (N.rows nodes.now)) c) (num h) (option_map (λ p. p.0) result) }
+    ensures { BeforeBelow (cells (N.rows nodes.now)) top.0 place.0 result }
 {
     match before(nodes, place) {
         Some(row) => { if is_same(row, top) { None } else { Some(row) } }
@@ -86,13 +86,13 @@ pub(crate) fn first_child<N: NodeStore<Row>>(
     requires shape { Shaped (N.rows nodes.now) }
     requires there { IsSome (map.get (N.rows nodes.now) top.0) }
     requires axis { step.now.axis ≡ Child }
-    ensures { (c : Cell) → In c (cells (N.rows nodes.now)) → c.place ≡ top.0 → MatchOption result (Unreached (cells (N.rows nodes.now)) c step.now bound) (λ p. FirstReached (cells (N.rows nodes.now)) c step.now bound p.0) }
+    ensures { FindsAbove (cells (N.rows nodes.now)) top.0 step.now bound result }
 {
     let mut found = None;
     let mut at = nodes.last(top);
     'back: while let Some(here) = at {
         let row = nodes.payload(here);
-        if row.serial <= bound {
+        if row.serial().0 <= bound {
             break;
         }
         found = pick(&step.test, row, here, found);
@@ -104,9 +104,10 @@ pub(crate) fn first_child<N: NodeStore<Row>>(
 /// This place where its row passes the test, else the one found before.
 #[inline(always)]
 fn pick(test: &Test, row: &Row, here: Place, found: Option<Place>) -> Option<Place>
-    ensures { option_map (λ p. p.0) result ≡ cond (passes test.now row.now.kind) (Some here.0) (option_map (λ p. p.0) found) }
+    ensures { option_map (λ p. p.0) result
+        ≡ cond (passes test.now row.now.kind) (Some here.0) (option_map (λ p. p.0) found) }
 {
-    if test.passes(&row.kind) {
+    if test.passes(row.kind()) {
         Some(here)
     } else {
         found
@@ -125,13 +126,13 @@ pub(crate) fn first_below<N: NodeStore<Row>>(
     requires nested { Nested (cells (N.rows nodes.now)) }
     requires there { IsSome (map.get (N.rows nodes.now) top.0) }
     requires axis { step.now.axis ≡ Descendant }
-    ensures { (c : Cell) → In c (cells (N.rows nodes.now)) → c.place ≡ top.0 → MatchOption result (Unreached (cells (N.rows nodes.now)) c step.now bound) (λ p. FirstReached (cells (N.rows nodes.now)) c step.now bound p.0) }
+    ensures { FindsAbove (cells (N.rows nodes.now)) top.0 step.now bound result }
 {
     let mut found = None;
     let mut at = last_below(nodes, top);
     'back: while let Some(here) = at {
         let row = nodes.payload(here);
-        if row.serial <= bound {
+        if row.serial().0 <= bound {
             break;
         }
         found = pick(&step.test, row, here, found);
@@ -147,9 +148,9 @@ fn behind<N: NodeStore<Row>>(nodes: &N, top: Place, place: Place) -> Option<Plac
     requires nested { Nested (cells (N.rows nodes.now)) }
     requires top { IsSome (map.get (N.rows nodes.now) top.0) }
     requires there { IsSome (map.get (N.rows nodes.now) place.0) }
-    requires within { (c h : Cell) → In c (cells (N.rows nodes.now)) → In h (cells (N.rows nodes.now)) → c.place ≡ top.0 → h.place ≡ place.0 → Within (cells (N.rows nodes.now)) c h }
+    requires within { AtPlaces (cells (N.rows nodes.now)) top.0 place.0 (Within (cells (N.rows nodes.now))) }
     requires leaf { head_of (children_in (map.get (N.rows nodes.now) place.0)) ≡ None }
-    ensures { (c h : Cell) → In c (cells (N.rows nodes.now)) → In h (cells (N.rows nodes.now)) → c.place ≡ top.0 → h.place ≡ place.0 → BehindIn (cells (N.rows nodes.now)) (Inside (cells (N.rows nodes.now)) c) (num h) (option_map (λ p. p.0) result) }
+    ensures { BehindBelow (cells (N.rows nodes.now)) top.0 place.0 result }
 {
     let mut at = place;
     'up: while !is_same(at, top) {
@@ -172,8 +173,8 @@ pub(crate) fn after<N: NodeStore<Row>>(nodes: &N, top: Place, place: Place) -> O
     requires nested { Nested (cells (N.rows nodes.now)) }
     requires top { IsSome (map.get (N.rows nodes.now) top.0) }
     requires there { IsSome (map.get (N.rows nodes.now) place.0) }
-    requires within { (c h : Cell) → In c (cells (N.rows nodes.now)) → In h (cells (N.rows nodes.now)) → c.place ≡ top.0 → h.place ≡ place.0 → Within (cells (N.rows nodes.now)) c h }
-    ensures { (c h : Cell) → In c (cells (N.rows nodes.now)) → In h (cells (N.rows nodes.now)) → c.place ≡ top.0 → h.place ≡ place.0 → BehindIn (cells (N.rows nodes.now)) (Inside (cells (N.rows nodes.now)) c) (num h) (option_map (λ p. p.0) result) }
+    requires within { AtPlaces (cells (N.rows nodes.now)) top.0 place.0 (Within (cells (N.rows nodes.now))) }
+    ensures { BehindBelow (cells (N.rows nodes.now)) top.0 place.0 result }
 {
     match nodes.first(place) {
         Some(child) => Some(child),
@@ -187,7 +188,7 @@ fn child_after<N: NodeStore<Row>>(nodes: &N, top: Place, from: Place) -> Option<
     requires shape { Shaped (N.rows nodes.now) }
     requires top { IsSome (map.get (N.rows nodes.now) top.0) }
     requires from { IsSome (map.get (N.rows nodes.now) from.0) }
-    ensures { (c h : Cell) → In c (cells (N.rows nodes.now)) → In h (cells (N.rows nodes.now)) → c.place ≡ top.0 → h.place ≡ from.0 → (c ≡ h) ⊎ IsChild c h → BehindIn (cells (N.rows nodes.now)) (IsChild c) (num h) (option_map (λ p. p.0) result) }
+    ensures { ChildBehind (cells (N.rows nodes.now)) top.0 from.0 result }
 {
     if is_same(from, top) {
         nodes.first(top)
@@ -208,12 +209,12 @@ pub(crate) fn next_child<N: NodeStore<Row>>(
     requires top { IsSome (map.get (N.rows nodes.now) top.0) }
     requires used { IsSome (map.get (N.rows nodes.now) from.0) }
     requires axis { step.now.axis ≡ Child }
-    requires from { (c h : Cell) → In c (cells (N.rows nodes.now)) → In h (cells (N.rows nodes.now)) → c.place ≡ top.0 → h.place ≡ from.0 → IsFrom (cells (N.rows nodes.now)) step.now.axis c h }
-    ensures { (c h : Cell) → In c (cells (N.rows nodes.now)) → In h (cells (N.rows nodes.now)) → c.place ≡ top.0 → h.place ≡ from.0 → MatchOption result (Unreached (cells (N.rows nodes.now)) c step.now (num h)) (λ p. FirstReached (cells (N.rows nodes.now)) c step.now (num h) p.0) }
+    requires from { AtPlaces (cells (N.rows nodes.now)) top.0 from.0 (IsFrom (cells (N.rows nodes.now)) step.now.axis) }
+    ensures { FindsBehind (cells (N.rows nodes.now)) top.0 from.0 step.now result }
 {
     let mut at = child_after(nodes, top, from);
     'on: while let Some(here) = at {
-        if step.test.passes(&nodes.payload(here).kind) {
+        if step.test.passes(nodes.payload(here).kind()) {
             return Some(here);
         }
         at = nodes.next(here);
@@ -233,12 +234,12 @@ pub(crate) fn next_below<N: NodeStore<Row>>(
     requires top { IsSome (map.get (N.rows nodes.now) top.0) }
     requires used { IsSome (map.get (N.rows nodes.now) from.0) }
     requires axis { step.now.axis ≡ Descendant }
-    requires from { (c h : Cell) → In c (cells (N.rows nodes.now)) → In h (cells (N.rows nodes.now)) → c.place ≡ top.0 → h.place ≡ from.0 → IsFrom (cells (N.rows nodes.now)) step.now.axis c h }
-    ensures { (c h : Cell) → In c (cells (N.rows nodes.now)) → In h (cells (N.rows nodes.now)) → c.place ≡ top.0 → h.place ≡ from.0 → MatchOption result (Unreached (cells (N.rows nodes.now)) c step.now (num h)) (λ p. FirstReached (cells (N.rows nodes.now)) c step.now (num h) p.0) }
+    requires from { AtPlaces (cells (N.rows nodes.now)) top.0 from.0 (IsFrom (cells (N.rows nodes.now)) step.now.axis) }
+    ensures { FindsBehind (cells (N.rows nodes.now)) top.0 from.0 step.now result }
 {
     let mut at = after(nodes, top, from);
     'on: while let Some(here) = at {
-        if step.test.passes(&nodes.payload(here).kind) {
+        if step.test.passes(nodes.payload(here).kind()) {
             return Some(here);
         }
         at = after(nodes, top, here);

@@ -1,18 +1,14 @@
 //! A statement at a base: whether another base may keep its role, and what takes the role from a row.
-ghost use Rattle.std.specs.Prelude.{◌≡◌, ◌==◌, ◌↔◌, ◌⊎◌, ◌+◌, ◌≤◌, ◌<◌, Bool, true, false, cond, length, vec_capacity, vec_len, Some, IsSome};
+ghost use Rattle.std.specs.Prelude.{◌≡◌, ◌==◌, ◌+◌, ◌≤◌, ◌<◌, true, cond, length, vec_capacity, vec_len, IsSome};
 ghost use Rattle.std.specs.FinMap as map;
 ghost use Rattle.std.specs.FinSet as set;
-ghost use Rattle.gcx_model.specs.Members.{In};
-ghost use Rattle.gcx_model.specs.Tree.{Tree, Node};
-ghost use Rattle.gcx_model.specs.Placed.{is_own};
-ghost use Rattle.gcx_model.specs.ItemView.{off_tree};
-ghost use Rattle.node_store.specs.Rows.{Entry, changed_at, paid_by};
 ghost use Rattle.buf_tree.specs.Purge.{Tidy};
-ghost use Rattle.buf_tree.specs.Rows.{serials, untaken};
-ghost use Rattle.buf_tree.specs.Sweep.{LosesBy, Shed, Swept};
-ghost use Rattle.buf_tree.specs.Shape.{Cell, cells, Shaped};
+ghost use Rattle.buf_tree.specs.Rows.{serials};
+ghost use Rattle.buf_tree.specs.Sweep.{taken_at, TakesAt, Shed, SweptBy};
+ghost use Rattle.buf_tree.specs.Shape.{cells, Shaped, AtEntry};
 ghost use Rattle.buf_tree.specs.Walk.{Nested};
-ghost use Rattle.buf_tree.specs.Ways.{NodeOf, TreeOf, IsKept, BaseAbove, BaseBelow};
+ghost use Rattle.buf_tree.specs.Trail.{HasTrailRoom};
+ghost use Rattle.buf_tree.specs.Ways.{BaseAbove, BaseBelow, TellsOf, TellsOthers};
 
 use crate::edits::{drop_row, is_spare, untake};
 use crate::row::Row;
@@ -29,7 +25,7 @@ fn has_base_above<N: NodeStore<Row>>(nodes: &N, off: &Off, place: Place) -> bool
     requires shape { Shaped (N.rows nodes.now) }
     requires nested { Nested (cells (N.rows nodes.now)) }
     requires there { IsSome (map.get (N.rows nodes.now) place.0) }
-    ensures { (c : Cell) → In c (cells (N.rows nodes.now)) → c.place ≡ place.0 → (result ≡ true) ↔ BaseAbove (cells (N.rows nodes.now)) off.now c }
+    ensures { TellsOf (cells (N.rows nodes.now)) place.0 (BaseAbove (cells (N.rows nodes.now)) off.now) result }
 {
     let mut at = nodes.parent(place);
     'up: while let Some(here) = at {
@@ -47,7 +43,7 @@ fn has_base_below<N: NodeStore<Row>>(nodes: &N, off: &Off, place: Place) -> bool
     requires shape { Shaped (N.rows nodes.now) }
     requires nested { Nested (cells (N.rows nodes.now)) }
     requires there { IsSome (map.get (N.rows nodes.now) place.0) }
-    ensures { (c : Cell) → In c (cells (N.rows nodes.now)) → c.place ≡ place.0 → (result ≡ true) ↔ BaseBelow (cells (N.rows nodes.now)) off.now c }
+    ensures { TellsOf (cells (N.rows nodes.now)) place.0 (BaseBelow (cells (N.rows nodes.now)) off.now) result }
 {
     let mut at = last_below(nodes, place);
     'back: while let Some(here) = at {
@@ -65,7 +61,7 @@ pub(crate) fn has_other_base<N: NodeStore<Row>>(nodes: &N, off: &Off, place: Pla
     requires shape { Shaped (N.rows nodes.now) }
     requires nested { Nested (cells (N.rows nodes.now)) }
     requires there { IsSome (map.get (N.rows nodes.now) place.0) }
-    ensures { (c : Cell) → In c (cells (N.rows nodes.now)) → c.place ≡ place.0 → (result ≡ true) ↔ ((is_own (off_tree off.now) ≡ false) × (BaseAbove (cells (N.rows nodes.now)) off.now c ⊎ BaseBelow (cells (N.rows nodes.now)) off.now c)) }
+    ensures { TellsOthers (cells (N.rows nodes.now)) place.0 off.now result }
 {
     if off.is_own() {
         return false;
@@ -89,10 +85,10 @@ fn withdraw<N: NodeStore<Row>>(
     requires shape { Shaped (N.rows nodes.old) }
     requires nested { Nested (cells (N.rows nodes.old)) }
     requires there { IsSome (map.get (N.rows nodes.old) place.0) }
-    requires room { others ≡ true → (length off.now.tail + 1 ≤ vec_capacity trail.old.tails) × (length off.now.rel + 1 ≤ vec_capacity trail.old.rels) × (length off.now.tail + 1 ≤ vec_capacity trail.old.again) }
+    requires room { others ≡ true → HasTrailRoom off.now trail.old }
     ensures few { result ≤ 1 }
-    ensures rows { N.rows nodes.new ≡ cond (result == 1) (changed_at (paid_by (untaken off.now.role.0)) place.0 (N.rows nodes.old)) (N.rows nodes.old) }
-    ensures taken { (T : Tree) (n : Node) (c : Cell) → TreeOf (cells (N.rows nodes.old)) T → NodeOf (cells (N.rows nodes.old)) place.0 n → In c (cells (N.rows nodes.old)) → c.place ≡ place.0 → (result ≡ 1) ↔ ((set.contains c.row.roles off.now.role.0 ≡ true) × (others ≡ true → IsKept (cells (N.rows nodes.old)) T off.now n → ⊥)) }
+    ensures rows { N.rows nodes.new ≡ taken_at off.now.role.0 place.0 (result == 1) (N.rows nodes.old) }
+    ensures taken { TakesAt (cells (N.rows nodes.old)) off.now others place.0 result }
     ensures most { N.most_held nodes.new ≡ N.most_held nodes.old }
     ensures root { N.root_of nodes.new ≡ N.root_of nodes.old }
     ensures loans { N.loans nodes.new ≡ N.loans nodes.old }
@@ -100,7 +96,7 @@ fn withdraw<N: NodeStore<Row>>(
     ensures rels { vec_capacity trail.old.rels ≤ vec_capacity trail.new.rels }
     ensures again { vec_capacity trail.old.again ≤ vec_capacity trail.new.again }
 {
-    if !nodes.payload(place).roles.has(off.role) {
+    if !nodes.payload(place).has(off.role) {
         return 0;
     }
     if others && is_kept(&*nodes, off, place, trail) {
@@ -115,7 +111,9 @@ fn withdraw<N: NodeStore<Row>>(
 fn drop_spare<N: NodeStore<Row>>(nodes: &mut N, gone: &mut Vec<Serial>, place: Place)
     requires there { IsSome (map.get (N.rows nodes.old) place.0) }
     requires room { vec_len gone.old < vec_capacity gone.old }
-    ensures dropped { (e : Entry Row) → map.get (N.rows nodes.old) place.0 ≡ Some e → Shed e (N.rows nodes.old) (N.rows nodes.new) place.0 (serials gone.old.items) (serials gone.new.items) (vec_len gone.old) (vec_len gone.new) }
+    ensures dropped { let old_gone = serials gone.old.items in let new_gone = serials gone.new.items in
+        AtEntry (N.rows nodes.old) place.0 (λ e.
+        Shed e (N.rows nodes.old) (N.rows nodes.new) place.0 old_gone new_gone (vec_len gone.old) (vec_len gone.new)) }
     ensures capacity { vec_capacity gone.old ≤ vec_capacity gone.new }
     ensures most { N.most_held nodes.new ≡ N.most_held nodes.old }
     ensures loans { N.loans nodes.new ≡ N.loans nodes.old }
@@ -141,9 +139,11 @@ pub(crate) fn sweep<N: NodeStore<Row>>(
     requires there { IsSome (map.get (N.rows nodes.old) place.0) }
     requires tidy { Tidy (cells (N.rows nodes.old)) }
     requires departures { vec_len gone.old + length (cells (N.rows nodes.old)) ≤ vec_capacity gone.old }
-    requires room { others ≡ true → (length off.now.tail + 1 ≤ vec_capacity trail.old.tails) × (length off.now.rel + 1 ≤ vec_capacity trail.old.rels) × (length off.now.tail + 1 ≤ vec_capacity trail.old.again) }
-    ensures swept { (T : Tree) (c : Cell) (loses : Cell → Bool) → TreeOf (cells (N.rows nodes.old)) T → In c (cells (N.rows nodes.old)) → c.place ≡ place.0 → LosesBy (cells (N.rows nodes.old)) T off.now others c loses → Swept (N.rows nodes.old) (N.rows nodes.new) place.0 loses off.now.role.0 (serials gone.old.items) (serials gone.new.items) result }
-    ensures count { vec_len gone.new + length (cells (N.rows nodes.new)) ≡ vec_len gone.old + length (cells (N.rows nodes.old)) }
+    requires room { others ≡ true → HasTrailRoom off.now trail.old }
+    ensures swept { let old_gone = serials gone.old.items in let new_gone = serials gone.new.items in
+        SweptBy (N.rows nodes.old) (N.rows nodes.new) off.now others place.0 old_gone new_gone result }
+    ensures count { vec_len gone.new + length (cells (N.rows nodes.new))
+        ≡ vec_len gone.old + length (cells (N.rows nodes.old)) }
     ensures capacity { vec_capacity gone.old ≤ vec_capacity gone.new }
     ensures few { result ≤ length (cells (N.rows nodes.old)) }
     ensures most { N.most_held nodes.new ≡ N.most_held nodes.old }
@@ -163,13 +163,15 @@ pub(crate) fn sweep<N: NodeStore<Row>>(
 #[inline(always)]
 pub(crate) fn take_own<N: NodeStore<Row>>(nodes: &mut N, off: &Off, place: Place) -> u64
     requires there { IsSome (map.get (N.rows nodes.old) place.0) }
-    ensures taken { (e : Entry Row) → map.get (N.rows nodes.old) place.0 ≡ Some e → result ≡ cond (set.contains e.payload.roles off.now.role.0) 1 0 }
-    ensures rows { (e : Entry Row) → map.get (N.rows nodes.old) place.0 ≡ Some e → N.rows nodes.new ≡ cond (set.contains e.payload.roles off.now.role.0) (changed_at (paid_by (untaken off.now.role.0)) place.0 (N.rows nodes.old)) (N.rows nodes.old) }
+    ensures taken { AtEntry (N.rows nodes.old) place.0 (λ e.
+        result ≡ cond (set.contains e.payload.roles off.now.role.0) 1 0) }
+    ensures rows { let k = off.now.role.0 in AtEntry (N.rows nodes.old) place.0 (λ e.
+        N.rows nodes.new ≡ taken_at k place.0 (set.contains e.payload.roles k) (N.rows nodes.old)) }
     ensures most { N.most_held nodes.new ≡ N.most_held nodes.old }
     ensures root { N.root_of nodes.new ≡ N.root_of nodes.old }
     ensures loans { N.loans nodes.new ≡ N.loans nodes.old }
 {
-    if nodes.payload(place).roles.has(off.role) {
+    if nodes.payload(place).has(off.role) {
         untake(nodes, place, off.role);
         return 1;
     }

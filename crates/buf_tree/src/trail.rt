@@ -1,11 +1,12 @@
 //! Room for the walks of statements.
-ghost use Rattle.std.specs.Prelude.{◌+◌, ◌≤◌, IfOk, OnOk, length, vec_capacity};
+ghost use Rattle.std.specs.Prelude.{◌≡◌, ◌+◌, ◌≤◌, true, OnOk, length, vec_capacity};
 
 use gcx_base::{Memory, Step};
 use gcx_model::Off;
 use std::alloc::Global;
 
-/// The flags of a walk: for the steps of a statement's tail, for those from the base, and for a tail once more.
+/// The flags of a walk: for the steps of a statement's tail, for those from the base, and for a tail once more. A
+/// buffer keeps them from statement to statement, so that most statements take no memory for their walks.
 #[derive(Drop)]
 pub(crate) struct Trail {
     pub(crate) tails: Vec<bool>,
@@ -14,7 +15,7 @@ pub(crate) struct Trail {
 }
 
 impl Trail {
-    /// No room yet.
+    /// No room yet. Takes no memory.
     pub(crate) fn new(alloc: Global) -> Trail {
         Trail {
             tails: Vec::new(alloc),
@@ -23,22 +24,16 @@ impl Trail {
         }
     }
 
-    /// Room for the walks of this statement.
-    pub(crate) fn with_room(alloc: Global, off: &Off) -> Result<Trail, Memory>
-        ensures tails { IfOk result (λ t. length off.now.tail + 1 ≤ vec_capacity t.tails) }
-        ensures rels { IfOk result (λ t. length off.now.rel + 1 ≤ vec_capacity t.rels) }
-        ensures again { IfOk result (λ t. length off.now.tail + 1 ≤ vec_capacity t.again) }
+    /// Room for the walks of this statement, where another base may keep its role: else it takes none.
+    #[inline(always)]
+    pub(crate) fn prepare(&mut self, off: &Off, others: bool) -> Result<(), Memory>
+        ensures tails { OnOk result (others ≡ true → length off.now.tail + 1 ≤ vec_capacity self.new.tails) }
+        ensures rels { OnOk result (others ≡ true → length off.now.rel + 1 ≤ vec_capacity self.new.rels) }
+        ensures again { OnOk result (others ≡ true → length off.now.tail + 1 ≤ vec_capacity self.new.again) }
     {
-        let mut trail = Trail::new(alloc);
-        trail.reserve(off)?;
-        Ok(trail)
-    }
-
-    fn reserve(&mut self, off: &Off) -> Result<(), Memory>
-        ensures tails { OnOk result (length off.now.tail + 1 ≤ vec_capacity self.new.tails) }
-        ensures rels { OnOk result (length off.now.rel + 1 ≤ vec_capacity self.new.rels) }
-        ensures again { OnOk result (length off.now.tail + 1 ≤ vec_capacity self.new.again) }
-    {
+        if !others {
+            return Ok(());
+        }
         make_room(&mut self.tails, off.tail.items())?;
         make_room(&mut self.again, off.tail.items())?;
         make_room(&mut self.rels, off.rel.items())

@@ -2,16 +2,13 @@
 //!
 //! For the steps of a path there is a flag each, and one more: at the node at hand, flag i says that the steps from i on
 //! lead from it to the node at which the walk began. The flags of a parent follow from those of its child on the way.
-ghost use Rattle.std.specs.Prelude.{◌≡◌, ◌+◌, ◌≤◌, ◌∷◌, ◌++◌, [], Bool, false, length, vec_capacity, vec_len, ℕ, true, IsSome, ◌↔◌};
+ghost use Rattle.std.specs.Prelude.{◌≡◌, ◌+◌, ◌≤◌, ◌∷◌, ◌++◌, [], false, length, vec_capacity, IsSome};
 ghost use Rattle.std.specs.FinMap as map;
 ghost use Rattle.std.proofs.Math.ListN.{replicate, set, get_or};
-ghost use Rattle.gcx_model.specs.Members.{In};
-ghost use Rattle.gcx_model.specs.Tree.{Tree, Node, Under, serial_of, above};
-ghost use Rattle.gcx_model.specs.Paths.{hits};
 ghost use Rattle.gcx_model.specs.ItemView.{off_tree, role_kind};
 ghost use Rattle.buf_tree.specs.Shape.{cells, Shaped};
 ghost use Rattle.buf_tree.specs.Walk.{Nested};
-ghost use Rattle.buf_tree.specs.Ways.{NodeOf, NoneBefore, TreeOf, IsKept, FlagsBut, is_waiting, is_whole, tail_steps, tail_ends, ends_at, Descends, Flags, flag_up, goes_on};
+ghost use Rattle.buf_tree.specs.Ways.{is_waiting, is_whole, tail_steps, flag_up, goes_on, GoesUp, GoesUpBut, LeadsBy, FirstBy, EndsHere, KeptBy};
 
 use crate::row::Row;
 use crate::search::{after, is_same};
@@ -34,6 +31,7 @@ fn begin(flags: &mut Vec<bool>, steps: usize, end: bool)
 }
 
 /// The flag of a step at the parent of a node of this kind, from this step's flag at the node and the next step's.
+#[inline(always)]
 fn flag_up(step: &Step, kind: &Kind, here: bool, next: bool) -> bool
     ensures { result ≡ flag_up step.now kind.now here next }
 {
@@ -41,6 +39,7 @@ fn flag_up(step: &Step, kind: &Kind, here: bool, next: bool) -> bool
 }
 
 /// Whether a step may also lead on from a node that it could lead to.
+#[inline(always)]
 fn goes_on(axis: Axis) -> bool
     ensures { result ≡ goes_on axis }
 {
@@ -54,8 +53,8 @@ fn goes_on(axis: Axis) -> bool
 fn go_up(flags: &mut [bool], steps: &[Step], kind: &Kind, end: bool)
     requires count { length flags.old ≡ length steps.now + 1 }
     ensures count { length flags.new ≡ length flags.old }
-    ensures flags { (ends : Node → Bool) (n p : Node) (s : ℕ) → Descends n → In (Under p s kind.now) (above n) → end ≡ ends p → Flags ends s steps.now n flags.old → Flags ends (serial_of p) steps.now n flags.new }
-    ensures but { (ends : Node → Bool) (n p : Node) (s : ℕ) → Descends n → In (Under p s kind.now) (above n) → Flags ends s steps.now n flags.old → FlagsBut ends (serial_of p) steps.now n flags.new }
+    ensures flags { GoesUp steps.now kind.now end flags.old flags.new }
+    ensures but { GoesUpBut steps.now kind.now flags.old flags.new }
 {
     let mut i = 0;
     'steps: while i < steps.len() {
@@ -76,7 +75,7 @@ pub(crate) fn leads<N: NodeStore<Row>>(
     requires shape { Shaped (N.rows nodes.now) }
     requires there { IsSome (map.get (N.rows nodes.now) place.0) }
     requires room { length steps.now + 1 ≤ vec_capacity flags.old }
-    ensures leads { (a n : Node) → NodeOf (cells (N.rows nodes.now)) from.0 a → NodeOf (cells (N.rows nodes.now)) place.0 n → result ≡ hits (serial_of a) steps.now n }
+    ensures leads { LeadsBy (cells (N.rows nodes.now)) from.0 steps.now place.0 result }
     ensures room { vec_capacity flags.old ≤ vec_capacity flags.new }
 {
     begin(flags, steps.len(), true);
@@ -85,7 +84,7 @@ pub(crate) fn leads<N: NodeStore<Row>>(
         if is_same(here, from) {
             return flags[0];
         }
-        go_up(flags, steps, &nodes.payload(here).kind, false);
+        go_up(flags, steps, nodes.payload(here).kind(), false);
         at = nodes.parent(here);
     }
     false
@@ -103,7 +102,7 @@ fn is_first<N: NodeStore<Row>>(
     requires nested { Nested (cells (N.rows nodes.now)) }
     requires from { IsSome (map.get (N.rows nodes.now) from.0) }
     requires room { length steps.now + 1 ≤ vec_capacity flags.old }
-    ensures first { (a n : Node) → NodeOf (cells (N.rows nodes.now)) from.0 a → NodeOf (cells (N.rows nodes.now)) place.0 n → In a (above n) → (result ≡ true) ↔ NoneBefore (cells (N.rows nodes.now)) a n steps.now }
+    ensures first { FirstBy (cells (N.rows nodes.now)) from.0 steps.now place.0 result }
     ensures room { vec_capacity flags.old ≤ vec_capacity flags.new }
 {
     let mut at = Some(from);
@@ -124,10 +123,11 @@ fn is_first<N: NodeStore<Row>>(
 pub(crate) fn is_waiting(row: &Row, off: &Off) -> bool
     ensures { result ≡ is_waiting row.now off.now }
 {
-    (row.roles.has(off.own) || row.signed.has(off.own)) && !row.signed.has(off.role)
+    (row.has(off.own) || row.is_signed(off.own)) && !row.is_signed(off.role)
 }
 
 /// The steps of the statement's tail. Where it is of the kind `Own` they don't count.
+#[inline(always)]
 fn tail_of(off: &Off) -> &[Step]
     ensures { result.now ≡ tail_steps (off_tree off.now).kind off.now.tail }
 {
@@ -138,6 +138,7 @@ fn tail_of(off: &Off) -> &[Step]
 }
 
 /// Whether the statement also reaches what stands below its matches.
+#[inline(always)]
 fn is_whole(kind: RoleKind) -> bool
     ensures { result ≡ is_whole (role_kind kind) }
 {
@@ -162,7 +163,7 @@ fn ends_here<N: NodeStore<Row>>(
     requires from { IsSome (map.get (N.rows nodes.now) from.0) }
     requires count { length trail.old.tails.items ≡ length (tail_steps (off_tree off.now).kind off.now.tail) + 1 }
     requires room { length off.now.tail + 1 ≤ vec_capacity trail.old.again }
-    ensures ends { (T : Tree) (a n : Node) → TreeOf (cells (N.rows nodes.now)) T → NodeOf (cells (N.rows nodes.now)) from.0 a → NodeOf (cells (N.rows nodes.now)) place.0 n → In a (above n) → Flags (tail_ends (off_tree off.now).kind n) (serial_of a) (tail_steps (off_tree off.now).kind off.now.tail) n trail.old.tails.items → result ≡ ends_at T (off_tree off.now).kind off.now.tail n a }
+    ensures ends { EndsHere (cells (N.rows nodes.now)) off.now from.0 place.0 trail.old.tails.items result }
     ensures room { vec_capacity trail.old.again ≤ vec_capacity trail.new.again }
     ensures tails { trail.new.tails ≡ trail.old.tails }
     ensures rels { trail.new.rels ≡ trail.old.rels }
@@ -178,6 +179,7 @@ fn ends_here<N: NodeStore<Row>>(
 }
 
 /// Sets the last flag, and answers the first one.
+#[inline(always)]
 fn set_last(flags: &mut [bool], last: usize, end: bool) -> bool
     requires { length flags.old ≡ last + 1 }
     ensures flags { flags.new ≡ set flags.old last end }
@@ -200,7 +202,7 @@ pub(crate) fn is_kept<N: NodeStore<Row>>(
     requires tails { length off.now.tail + 1 ≤ vec_capacity trail.old.tails }
     requires rels { length off.now.rel + 1 ≤ vec_capacity trail.old.rels }
     requires again { length off.now.tail + 1 ≤ vec_capacity trail.old.again }
-    ensures kept { (T : Tree) (n : Node) → TreeOf (cells (N.rows nodes.now)) T → NodeOf (cells (N.rows nodes.now)) place.0 n → (result ≡ true) ↔ IsKept (cells (N.rows nodes.now)) T off.now n }
+    ensures kept { KeptBy (cells (N.rows nodes.now)) off.now place.0 result }
     ensures tails { vec_capacity trail.old.tails ≤ vec_capacity trail.new.tails }
     ensures rels { vec_capacity trail.old.rels ≤ vec_capacity trail.new.rels }
     ensures again { vec_capacity trail.old.again ≤ vec_capacity trail.new.again }
@@ -216,8 +218,8 @@ pub(crate) fn is_kept<N: NodeStore<Row>>(
         if set_last(&mut trail.rels, rel.len(), end) && is_waiting(row, off) {
             return true;
         }
-        go_up(&mut trail.tails, tail, &row.kind, is_whole(off.kind));
-        go_up(&mut trail.rels, rel, &row.kind, false);
+        go_up(&mut trail.tails, tail, row.kind(), is_whole(off.kind));
+        go_up(&mut trail.rels, rel, row.kind(), false);
         at = nodes.parent(here);
     }
     false

@@ -176,7 +176,7 @@ module _ (plan : PlanTree) (r : ReaderView) (p : Projector) (v : View) (f : IsFe
   pub fed : (t : Given) (rest : List Given) → waiting r ≡ t ∷ rest → (r' : ReaderView) (p' : Projector) (v' w : View)
       → ((lim : Limits) (b : List ℕ) (over : Bool) (given : List Given) → Stands r lim b over given → Stands r' lim b over (given ++ t ∷ []))
       → ((past : Past) → StandsFor v past → Projects p past → may_come (said_of t) past.tree ≡ true → Projects p' (past_fed (said_of t) past) × StandsFor v' (past_fed (said_of t) past))
-      → KeepsPlace p'.at v'.rows → w ≡ record v' { gone = [] } → IsFed plan r' p' w
+      → Places p' v' → w ≡ record v' { gone = [] } → IsFed plan r' p' w
   fed t rest e r' p' v' w reads grows place same =
       let q = grows f.past f.stands f.projects (comes t rest e) in
       forgotten plan r' p' v' w same

@@ -1,3 +1,4 @@
 mod Feeds
 mod Offs
+mod Passed
 mod Places

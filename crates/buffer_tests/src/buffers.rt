@@ -16,6 +16,7 @@ ghost use Rattle.buffer_tests.specs.Buffers.{IsFed};
 mod given;
 mod large;
 mod matches;
+mod passed;
 mod statements;
 
 use buf_tree::{Buffer, Row};
@@ -215,7 +216,7 @@ fn carry_out<N: NodeStore<Row>>(
         return Err("not due")?;
     }
     if off.is_own() || buffer.is_closed(place) {
-        buffer.sign_off(alloc, place, off)?;
+        buffer.sign_off(place, off)?;
     } else {
         buffer.sign_ahead(alloc, place, off)?;
     }

@@ -25,7 +25,7 @@ use Rattle.placed_laws.proofs.FromPlans.{from_state}
 use Rattle.run_laws.proofs.Feeds.{nodes_grow, matches_grow}
 use Rattle.node_store.specs.declared.store.Place.{Place}
 use Rattle.buf_tree.specs.Shape.{Cell, num}
-use Rattle.pull_eval.specs.Asking.{PlacedAt}
+use Rattle.cond_eval.specs.Asking.{PlacedAt}
 use Rattle.pull_eval.specs.Position.{items, KnowsNext, IsUpTo, IsRound, SeenItem, SeenTo, AreFrames, none, alone, in_round, PresentAt, Copies, StandsAt}
 use Rattle.pull_eval.specs.declared.block.Next.{Next}
 use Rattle.pull_eval.specs.declared.block.Next.TheVariants.{Unsought, Found, NoneUpTo}

@@ -8,25 +8,23 @@ use Rattle.std.proofs.Math.Seq.{drop-append_seam}
 use Rattle.std.proofs.Math.Bool.{or-true}
 use Rattle.gcx_model.specs.Tree.{Node, serial_of, Token as Said, grow}
 use Rattle.gcx_model.specs.Members.{In}
-use Rattle.gcx_model.specs.Held.{held, is_held, has_serial, departed}
-use Rattle.gcx_model.specs.Nodes.{Rising as NodesRising}
+use Rattle.gcx_model.specs.Held.{held, has_serial, departed}
 use Rattle.gcx_model.specs.Past.{Past, past_fed, Opens}
 use Rattle.past_laws.proofs.Ahead.{new_node}
 use Rattle.past_laws.proofs.Bases.{is_grown}
-use Rattle.tree_laws.proofs.Lists.{filter_none}
-use Rattle.tree_laws.proofs.Matches.{Numbered-high, Rising-filter}
+use Rattle.tree_laws.proofs.Lists.{In-left, filter_none}
+use Rattle.tree_laws.proofs.Matches.{Numbered-high}
 use Rattle.past_laws.proofs.RowFacts.{open_behind}
 use Rattle.buf_tree.specs.Rows.{shut_row}
-use Rattle.buf_tree.specs.Shape.{Cell, Rising, num, with_at}
+use Rattle.buf_tree.specs.Shape.{Cell, num, with_at}
 use Rattle.buf_tree.specs.View.{View}
 use Rattle.buf_tree.specs.Calls.{gone_new, left_out, new_row, with_new}
-use Rattle.buf_tree.specs.Stands.{Seen, seen, told, StandsFor}
-use Rattle.buf_tree.proofs.Standing.{pair_left}
+use Rattle.buf_tree.specs.Stands.{Seen, StandsFor}
+use Rattle.buf_tree.proofs.Departed.{rows_rise, has_same, departed_rows}
 use Rattle.buf_tree.proofs.Withdrawing.{left_is}
 use Rattle.projector.specs.Projector.{Changes, DoesBy}
 use Rattle.projector.specs.declared.projector.Fed.{Fed}
 use Rattle.projector.specs.declared.projector.Fed.TheVariants.{Opened, Closed}
-use Rattle.pull_eval.proofs.SignedRows.{departed_rows}
 use Rattle.engine.proofs.RowsHeld.{row_node}
 
 unequal : (j k : ℕ) → j < k → (j == k) ≡ false
@@ -44,65 +42,8 @@ unlisted [] k h = refl
 unlisted (x ∷ now) k h = ap (λ b. b || list_any (λ (d : Cell). num d == k) now) (unequal (num x) k (h x (inl refl))) ∙ unlisted now k (λ d i. h d (inr i))
 
 -- what stays in front isn't left out
-in_front : (d : Cell) (xs ys : List Cell) → In d xs → In d (xs ++ ys)
-in_front d [] ys i = absurd i
-in_front d (x ∷ xs) ys (inl e) = inl e
-in_front d (x ∷ xs) ys (inr i) = inr (in_front d xs ys i)
-
 pub none_out : (xs ys : List Cell) → left_out xs (xs ++ ys) ≡ []
-none_out xs ys = ap (λ (z : List Cell). map num (reverse z)) (filter_none (λ (c : Cell). not (list_any (λ (d : Cell). num d == num c) (xs ++ ys))) xs (λ c i. ap not (listed (xs ++ ys) c (in_front c xs ys i))))
-
--- the rows have the numbers of the nodes
-has_same : (past : Past) (xs : List Cell) (ns : List Node) (k : ℕ) → map seen xs ≡ map (told past) ns → has_serial ns k ≡ list_any (λ (d : Cell). num d == k) xs
-has_same past [] [] k e = refl
-has_same past [] (n ∷ ns) k e = absurd (cc)
-has_same past (x ∷ xs) [] k e = absurd (cc)
-has_same past (x ∷ xs) (n ∷ ns) k e =
-    let first : seen x ≡ told past n = cc in
-    let rest : map seen xs ≡ map (told past) ns = cc in
-    let s : serial_of n ≡ num x = ap (λ (z : Seen). z.serial) (sym first) in
-    ap (λ z. (z == k) || has_serial ns k) s ∙ ap (λ b. (num x == k) || b) (has_same past xs ns k rest)
-
--- they rise as these do
-rising_rows : (past : Past) (xs : List Cell) (ns : List Node) → map seen xs ≡ map (told past) ns → NodesRising ns → Rising xs
-rising_rows past [] ns e r = tt
-rising_rows past (x ∷ xs) [] e r = absurd (cc)
-rising_rows past (x ∷ xs) (n ∷ ns) e r = (above_top, rising_rows past xs ns rest r.1)
-  where
-    top : seen x ≡ told past n
-    top = cc
-
-    rest : map seen xs ≡ map (told past) ns
-    rest = cc
-
-    above_top : (c : Cell) → In c xs → num x < num c
-    above_top c k =
-        let q = pair_left seen (told past) xs ns rest c k in
-        let l = r.0 q.0 q.1 in
-        let e1 : num x ≡ serial_of n = ap (λ (z : Seen). z.serial) top in
-        let e2 : num c ≡ serial_of q.0 = ap (λ (z : Seen). z.serial) q.2 in
-        omega arith
-
-rows_rise : (v : View) (past : Past) → StandsFor v past → Rising v.rows
-rows_rise v past h = rising_rows past v.rows (held past.plan past.tree past.acts) h.rows (Rising-filter 0 (is_held past.plan past.tree past.acts) past.tree.nodes (is_grown past h.is_past).numbered)
-
-mapped_from : (f : Cell → Cell) (y : Cell) (xs : List Cell) → In y (map f xs) → (z : Cell) × In z xs × (f z ≡ y)
-mapped_from f y [] i = absurd i
-mapped_from f y (x ∷ xs) (inl e) = (x, inl refl, e)
-mapped_from f y (x ∷ xs) (inr i) = let h = mapped_from f y xs i in (h.0, inr h.1, h.2)
-
-rising_map : (f : Cell → Cell) → ((c : Cell) → num (f c) ≡ num c) → (xs : List Cell) → Rising xs → Rising (map f xs)
-rising_map f same [] r = tt
-rising_map f same (x ∷ xs) r = (above, rising_map f same xs r.1)
-  where
-    above : (y : Cell) → In y (map f xs) → num (f x) < num y
-    above y i =
-        let z = mapped_from f y xs i in
-        let l = r.0 z.0 z.1 in
-        let a = same x in
-        let b = same z.0 in
-        let c = ap num z.2 in
-        omega arith
+none_out xs ys = ap (λ (z : List Cell). map num (reverse z)) (filter_none (λ (c : Cell). not (list_any (λ (d : Cell). num d == num c) (xs ++ ys))) xs (λ c i. ap not (listed (xs ++ ys) c (In-left c xs ys i))))
 
 same_shut : (p : ℕ) (c : Cell) → num (with_at shut_row p c) ≡ num c
 same_shut p c = go (c.place == p)
@@ -188,7 +129,7 @@ module _ (stood : Past → Type 0) (past : Past) (v w : View) (t : Said) (h : St
       let gone : w.gone ≡ l.left = l.gone ∙ ap (λ (z : List ℕ). z ++ l.left) none in
       let shut = with_at shut_row c.1.place in
       let r = rows_rise v past h in
-      let left : l.left ≡ left_out v.rows w.rows = left_is shut (same_shut c.1.place) v.rows w.rows l.left r (rising_map shut (same_shut c.1.place) v.rows r) l.purged in
+      let left : l.left ≡ left_out v.rows w.rows = left_is shut (same_shut c.1.place) v.rows w.rows l.left r l.purged in
       let same : (grow t past.tree).nodes ≡ past.tree.nodes = ap (λ (z : Said). (grow z past.tree).nodes) d.1 ∙ (open_behind past.tree d.0 d.2).2 in
       let empty : fresh ≡ [] = ap (drop (length past.tree.nodes)) (same ∙ sym (append-nil past.tree.nodes)) ∙ drop-append_seam past.tree.nodes [] in
       gone ∙ (left ∙ (departed_rows v w past (past_fed t past) h g ∙ ap (λ (z : List Node). departed z now) (sym (ap (λ (z : List Node). there ++ z) empty ∙ append-nil there))))

@@ -24,7 +24,7 @@ use Rattle.buf_tree.specs.View.{View, capped}
 use Rattle.buf_tree.specs.Calls.{numbers, new_row, with_new, most_new}
 use Rattle.buf_tree.specs.Stands.{StandsFor}
 use Rattle.buf_tree.proofs.Counts.{capped_twice}
-use Rattle.projector.specs.Projector.{Projects, KeepsPlace, Changes, DoesBy}
+use Rattle.projector.specs.Projector.{Projects, Places, Changes, DoesBy}
 use Rattle.projector.specs.declared.projector.Fed.{Fed}
 use Rattle.projector.specs.declared.projector.Fed.TheVariants.{Opened, Closed}
 use Rattle.projector.specs.declared.projector.Projector.{Projector}
@@ -131,7 +131,7 @@ module _ (plan : PlanTree) (P : Tree) (k fed : ℕ) (is : IsPast (past_at plan P
 
 -- behind a token they stand for the longer tree with the same actions
 pub stands_fed : (plan : PlanTree) (before : Tree → Type 0) (p q : Projector) (m : Position) (v w : View) (P : Tree) (k : ℕ) (t : Said) (f : Fed) (s : ActorsStand plan before p m v P k) → may_come t P ≡ true
-    → ((T : Tree) → Leads opening P → Leads P T → before T) → Projects q (past_fed t (past_at plan P k s.fed)) → StandsFor w (past_fed t (past_at plan P k s.fed)) → KeepsPlace q.at w.rows
+    → ((T : Tree) → Leads opening P → Leads P T → before T) → Projects q (past_fed t (past_at plan P k s.fed)) → StandsFor w (past_fed t (past_at plan P k s.fed)) → Places q w
     → Changes (Projects p) v w t f → DoesBy f t (past_at plan P k s.fed) → ActorsStand plan before q m (told_all w) (grow t P) k
 stands_fed plan before p q m v w P k t f s may on pr st keeps c d =
     let is = s.beside.buffer.is_past in

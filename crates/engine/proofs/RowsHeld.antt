@@ -1,5 +1,5 @@
 -- The rows of a buffer and the nodes that are held.
-use Rattle.std.proofs.Common.{◌≡◌, ℕ, ◌<◌, ◌≤◌, ◌||◌, ◌&&◌, Bool, true, false, not, List, [], ◌∷◌, length, map, sym, ◌∙◌, ap, subst, arith, inl, inr, Some, None, Option}
+use Rattle.std.proofs.Common.{◌≡◌, ℕ, ◌≤◌, ◌||◌, ◌&&◌, Bool, true, false, not, length, map, sym, ◌∙◌, ap, subst, arith, Some, None, Option}
 use Rattle.std.proofs.lemmas.List.{length-map}
 use Rattle.gcx_model.specs.Tree.{Node, serial_of, within, Tree, is_open_at}
 use Rattle.gcx_model.specs.Paths.{any}
@@ -7,9 +7,7 @@ use Rattle.gcx_model.specs.Members.{In}
 use Rattle.gcx_model.specs.Growth.{level}
 use Rattle.gcx_model.specs.Held.{is_live, is_held, held}
 use Rattle.gcx_model.specs.Past.{Past}
-use Rattle.past_laws.proofs.Bases.{is_grown}
 use Rattle.tree_laws.proofs.Lists.{In-filter, In-kept}
-use Rattle.tree_laws.proofs.Matches.{Rising, Rising-filter}
 use Rattle.tree_laws.proofs.Growing.{level_above}
 use Rattle.run_laws.proofs.Feeds.{open_chain}
 use Rattle.node_store.specs.declared.store.Place.{Place}
@@ -17,6 +15,7 @@ use Rattle.buf_tree.specs.Shape.{Cell, num}
 use Rattle.buf_tree.specs.View.{View}
 use Rattle.buf_tree.specs.Stands.{Seen, seen, told, StandsFor}
 use Rattle.buf_tree.proofs.Standing.{pair_left}
+use Rattle.buf_tree.proofs.Departed.{one_row}
 use Rattle.projector.specs.Projector.{KeepsPlace}
 use Rattle.pull_eval.specs.Acting.{SamePlaces}
 
@@ -56,35 +55,6 @@ pub held_row : (v : View) (past : Past) → StandsFor v past → (n : Node) → 
 held_row v past h n i k =
     let r = pair_left (told past) seen (held past.plan past.tree past.acts) v.rows (sym h.rows) n (In-kept (is_held past.plan past.tree past.acts) n past.tree.nodes i k) in
     (r.0, r.1, ap (λ (s : Seen). s.serial) (sym r.2))
-
--- rows rise as their nodes do, so no two have one number
-one_number : (past : Past) (xs : List Cell) (ns : List Node) → map seen xs ≡ map (told past) ns → Rising ns → (a b : Cell) → In a xs → In b xs → num a ≡ num b → a ≡ b
-one_number past [] ns e r a b i j s = absurd i
-one_number past (x ∷ xs) [] e r a b i j s = absurd (cc)
-one_number past (x ∷ xs) (n ∷ ns) e r a b i j s = both (λ p q. one_number past xs ns rest r.1 a b p q s) i j
-  where
-    top : seen x ≡ told past n
-    top = cc
-
-    rest : map seen xs ≡ map (told past) ns
-    rest = cc
-
-    above_top : (c : Cell) → In c xs → num x < num c
-    above_top c k =
-        let q = pair_left seen (told past) xs ns rest c k in
-        let l = r.0 q.0 q.1 in
-        let e1 : num x ≡ serial_of n = ap (λ (z : Seen). z.serial) top in
-        let e2 : num c ≡ serial_of q.0 = ap (λ (z : Seen). z.serial) q.2 in
-        omega arith
-
-    both : (In a xs → In b xs → a ≡ b) → In a (x ∷ xs) → In b (x ∷ xs) → a ≡ b
-    both f (inl p) (inl q) = sym p ∙ q
-    both f (inl p) (inr q) = let l = above_top b q in let m = ap num p in absurd (omega arith)
-    both f (inr p) (inl q) = let l = above_top a p in let m = ap num q in absurd (omega arith)
-    both f (inr p) (inr q) = f p q
-
-pub one_row : (v : View) (past : Past) → StandsFor v past → (a b : Cell) → In a v.rows → In b v.rows → num a ≡ num b → a ≡ b
-one_row v past h = one_number past v.rows (held past.plan past.tree past.acts) h.rows (Rising-filter 0 (is_held past.plan past.tree past.acts) past.tree.nodes (is_grown past h.is_past).numbered)
 
 -- What an action leaves of the rows keeps the place of the innermost open node.
 module _ (v w : View) (past next : Past) (h : StandsFor v past) (g : StandsFor w next) (tree : next.tree ≡ past.tree) (same : SamePlaces v.rows w.rows) where

@@ -14,7 +14,7 @@ use Rattle.run_laws.proofs.Summing.{taken_is_given}
 use Rattle.matcher.specs.Matcher.{Stands}
 use Rattle.buf_tree.specs.Shape.{Cell}
 use Rattle.buf_tree.specs.View.{View, capped}
-use Rattle.projector.specs.Projector.{Projects, KeepsPlace}
+use Rattle.projector.specs.Projector.{Projects, Places}
 use Rattle.projector.specs.declared.projector.Projector.{Projector}
 use Rattle.pull_eval.specs.Acting.{Beside, SamePlaces, Takes}
 use Rattle.pull_eval.specs.declared.machine.Acted.{Acted}
@@ -57,7 +57,7 @@ pub stands_acted : (plan : PlanTree) (before now : Tree → Type 0) (p : Project
     → IsNext plan P k a → SamePlaces v.rows u.rows → Beside m u (past_acted a (past_at plan P k s.fed)) (suc k) → now P → ActorsStand plan now p m (told_all u) P (suc k)
 stands_acted plan before now p w m v u P k s a n same b st =
     let e = acted_is plan p P k s.fed a n in
-    let keeps : KeepsPlace p.at u.rows = keeps_fewer v u (past_at plan P k s.fed) (past_acted a (past_at plan P k s.fed)) s.beside.buffer b.buffer refl same p.at s.keeps in
+    let keeps : Places p u = keeps_fewer v u (past_at plan P k s.fed) (past_acted a (past_at plan P k s.fed)) s.beside.buffer b.buffer refl same p.at s.keeps in
     record {
       fed = s.fed;
       projects = subst (λ (x : Past). Projects p x) e (heard_acted plan p P k s.fed a s.beside.buffer.is_past.within s.projects);
@@ -90,13 +90,13 @@ did plan before now p w m v u P k s out new (acted.SignedOff z r) t st =
 did plan before now p w m v u P k s out new acted.Blocked t st =
     (over_is plan P k false s.beside.state t.0, record { fed = s.fed; projects = s.projects; keeps = ap_rows s.keeps; gone = ap (λ (z : View). z.gone) t.2 ∙ s.gone; beside = t.3; stand = st }, t.1)
   where
-    ap_rows : KeepsPlace p.at v.rows → KeepsPlace p.at u.rows
-    ap_rows h = subst (λ (z : View). KeepsPlace p.at z.rows) (sym t.2) h
+    ap_rows : Places p v → Places p u
+    ap_rows h = subst (λ (z : View). Places p z) (sym t.2) h
 did plan before now p w m v u P k s out new acted.Finished t st =
     (over_is plan P k true s.beside.state t.0, record { fed = s.fed; projects = s.projects; keeps = ap_rows s.keeps; gone = ap (λ (z : View). z.gone) t.2 ∙ s.gone; beside = t.3; stand = st }, t.1)
   where
-    ap_rows : KeepsPlace p.at v.rows → KeepsPlace p.at u.rows
-    ap_rows h = subst (λ (z : View). KeepsPlace p.at z.rows) (sym t.2) h
+    ap_rows : Places p v → Places p u
+    ap_rows h = subst (λ (z : View). Places p z) (sym t.2) h
 
 -- never is more taken back than given
 pub taken_few : (plan : PlanTree) (now : Tree → Type 0) (p : Projector) (w : Position) (v : View) (P : Tree) (k : ℕ) → ActorsStand plan now p w v P k → v.taken ≤ capped (sum_given plan P)

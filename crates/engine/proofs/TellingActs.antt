@@ -27,7 +27,7 @@ use Rattle.engine.specs.Engine.{Actors, ActorsStand, past_at}
 use Rattle.engine.specs.Going.{ActsOne, Goes, all_of}
 use Rattle.engine.specs.Telling.{GrewPart, acted_lines, lines_to, next_lines}
 use Rattle.engine.proofs.Acting.{Reached, there}
-use Rattle.pull_eval.proofs.SignedRows.{departed_rows}
+use Rattle.buf_tree.proofs.Departed.{departed_rows}
 use Rattle.engine.proofs.Departing.{none_out}
 use Rattle.engine.proofs.Writing.{goes_none, goes_on}
 use Rattle.engine.proofs.Telling.{lines_behind, lines_first, lines_on, part_all}

@@ -15,7 +15,7 @@ use Rattle.gcx_model.specs.Seen.{SeenIs, seen_tree}
 use Rattle.doc_reader.specs.declared.token.Token.{Token}
 use Rattle.doc_reader.specs.Standing.{Stands, IsFault, waiting, said_of}
 use Rattle.buf_tree.specs.View.{View, capped}
-use Rattle.projector.specs.Projector.{Projects, KeepsPlace}
+use Rattle.projector.specs.Projector.{Projects, Places}
 use Rattle.projector.specs.declared.projector.Projector.{Projector}
 use Rattle.pull_eval.specs.Acting.{Beside}
 use Rattle.pull_eval.specs.declared.position.Position.{Position}
@@ -30,7 +30,7 @@ past_at plan P k fed = record { plan = plan; tree = P; acts = so_far plan P k; f
 pub record ActorsStand (plan : PlanTree) (stands : Tree → Type 0) (p : Projector) (w : Position) (v : View) (P : Tree) (k : ℕ) : Type 0 where
   pub fed : ℕ
   pub projects : Projects p (past_at plan P k fed)
-  pub keeps : KeepsPlace p.at v.rows
+  pub keeps : Places p v
   pub gone : v.gone ≡ []
   pub beside : Beside w v (past_at plan P k fed) k
   pub stand : stands P

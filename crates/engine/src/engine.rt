@@ -24,12 +24,13 @@ ghost use Rattle.engine.specs.Telling.{GrewPart, ToldOne, ToldSome, acted_lines,
 use crate::lines::{opening_trace, put_action, put_fed, put_gone, wanted_kind};
 use buf_trace::LineKind;
 use buf_tree::{Buffer, Row};
+use cond_eval::Conds;
 use doc_reader::{Reader, Token};
 use gcx_base::{Limits, Memory};
 use gcx_model::{DocFault, Plan};
 use node_store::NodeStore;
 use projector::{Fed, Projector};
-use pull_eval::{Acted, Conds, Machine};
+use pull_eval::{Acted, Machine};
 use std::alloc::Global;
 
 /// The most bytes of which the tokens wait at once.

@@ -10,10 +10,10 @@ ghost use Rattle.engine.specs.Runs.{Between, EndsWaiting, GoesOnFrom, Numbers, R
 use crate::engine::Engine;
 use crate::report::{Ended, Report, few_roles};
 use buf_tree::Row;
+use cond_eval::Conds;
 use gcx_io::{Failed, Sink, Source, write_all};
 use gcx_model::DocFault;
 use node_store::NodeStore;
-use pull_eval::Conds;
 use std::alloc::Global;
 
 /// The most bytes of one read.

@@ -15,12 +15,13 @@ ghost use Rattle.engine.specs.Turns.{Reaches, SomeTurns, Tells, TurnsOn, actions
 use crate::engine::roles_of;
 use crate::report::few_roles;
 use buf_tree::{Buffer, Row};
+use cond_eval::Conds;
 use doc_reader::Token;
 use gcx_base::Memory;
 use gcx_model::Plan;
 use node_store::NodeStore;
 use projector::Projector;
-use pull_eval::{Acted, Conds, Machine};
+use pull_eval::{Acted, Machine};
 use std::alloc::Global;
 use std::collections::VecDeque;
 

@@ -1,7 +1,7 @@
 //! The nodes of variables.
+use cond_eval::Env;
 use gcx_base::{Serial, VarId};
 use node_store::Place;
-use pull_eval::Env;
 use std::alloc::Global;
 use std::test::Fail;
 

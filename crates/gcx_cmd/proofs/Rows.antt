@@ -10,7 +10,7 @@ use Rattle.node_store.specs.Rows.{Entry}
 use Rattle.tree_laws.proofs.Lists.{In, In-filter}
 use Rattle.gcx_model.specs.Tree.{Node, Tree}
 use Rattle.gcx_model.specs.Past.{Past}
-use Rattle.buf_tree.specs.declared.row.Row.{Row}
+use Rattle.buf_tree.specs.Row.{Row}
 use Rattle.buf_tree.specs.Shape.{Store, Cell, num, Rising, at_serial, place_for, is_under, entry_in, Shape}
 use Rattle.buf_tree.specs.Stands.{Seen, seen, told, parent_seen}
 use Rattle.buf_tree.proofs.Shaping.{at_place_is, at_serial_is, held_in, rows_number}

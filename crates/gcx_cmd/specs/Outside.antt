@@ -2,7 +2,7 @@
 use Rattle.std.specs.Prelude.{◌≡◌, ℕ}
 use Rattle.gcx_io.specs.Views.{ShelfView, SinkView}
 use Rattle.node_store.specs.Rows.{Rows}
-use Rattle.buf_tree.specs.declared.row.Row.{Row}
+use Rattle.buf_tree.specs.Row.{Row}
 use Rattle.run_words.specs.Writing.{Sinks}
 
 -- the lent store: its rows, and the most that it ever had

@@ -16,7 +16,7 @@ use Rattle.gcx_model.specs.Demand.{peak_of}
 use Rattle.gcx_model.specs.Seen.{SeenIs, seen_tree}
 use Rattle.node_store.specs.Rows.{Entry, Rows}
 use Rattle.buf_tree.specs.Stands.{Seen, seen}
-use Rattle.buf_tree.specs.declared.row.Row.{Row}
+use Rattle.buf_tree.specs.Row.{Row}
 use Rattle.gcx_cmd.specs.declared.status.Status.{Status}
 use Rattle.gcx_cmd.specs.declared.status.Status.TheVariants.{Memory}
 

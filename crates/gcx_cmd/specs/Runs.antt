@@ -15,7 +15,7 @@ use Rattle.gcx_model.specs.Query.{ExprTree}
 use Rattle.gcx_model.specs.Seen.{SeenIs, seen_tree}
 use Rattle.gcx_model.specs.Tree.{Token}
 use Rattle.node_store.specs.Rows.{Rows}
-use Rattle.buf_tree.specs.declared.row.Row.{Row}
+use Rattle.buf_tree.specs.Row.{Row}
 use Rattle.run_words.specs.Reading.{SourceGave, ReadsOn}
 use Rattle.run_words.specs.Stops.{Stop, IsCalm}
 use Rattle.engine.specs.Runs.{sinks}

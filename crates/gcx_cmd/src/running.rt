@@ -16,12 +16,12 @@ ghost use Rattle.gcx_cmd.specs.Status.{ended_status};
 use crate::Status;
 use crate::query::read_query;
 use buf_tree::Row;
+use cond_memo::Marked;
 use engine::{Ended, Engine, Report, run_query};
 use gcx_base::{Limits, Text};
 use gcx_io::{AttachFault, Opened, Shelf, Sink, Source};
 use gcx_model::Plan;
 use node_store::NodeStore;
-use pull_eval::Marked;
 use std::alloc::Global;
 
 /// The status of a run's end.

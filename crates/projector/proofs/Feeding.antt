@@ -1,6 +1,6 @@
 -- What feeding a token makes of a projector.
 use Rattle.std.proofs.Common.{◌≡◌, ◌≤◌, ℕ, Bool, true, false, not, ◌&&◌, List, length, take, refl, sym, ◌∙◌, ap, subst, inl, inr, Some, None, Option, ◌==◌}
-use Rattle.std.specs.Prelude.{option_map, is_some, IsSome, Result, Ok, Err, OnOk, IfOk}
+use Rattle.std.specs.Prelude.{option_map, is_some, IsSome, Result, Ok, Err, IfOk}
 use Rattle.gcx_base.specs.declared.memory.Memory.{Memory}
 use Rattle.projector.specs.declared.projector.Fed.{Fed}
 use Rattle.projector.specs.declared.projector.Fed.TheVariants.{Opened, Closed}
@@ -23,26 +23,24 @@ use Rattle.buf_tree.specs.Shape.{Cell}
 use Rattle.buf_tree.specs.View.{View}
 use Rattle.buf_tree.specs.Calls.{numbers, new_row, new_roles, stays, with_new}
 use Rattle.buf_tree.specs.Stands.{StandsFor}
-use Rattle.projector.specs.declared.projector.Projector.{Projector}
-use Rattle.projector.specs.Signing.{AreDue, carried, with_more}
-use Rattle.projector.specs.Projector.{ahead_in, Projects, HasHeard, KeepsPlace, OpenedAlone, DoesBy, Changes}
+use Rattle.projector.specs.View.{ProjectorView}
+use Rattle.projector.specs.Signing.{HearsOf}
+use Rattle.projector.specs.Projector.{ahead_in, Projects, KeepsPlace, OpenedAlone, Changes}
+use Rattle.projector.specs.Calls.{Feeds}
+use Rattle.projector.specs.Opening.{HasHeard, LeavesBelow}
 use Rattle.projector.proofs.Pasts.{is_open, reopened_same}
 use Rattle.projector.proofs.Waiting.{all_heard}
 use Rattle.projector.proofs.Grown.{behind, added_then, opens, heard_here, projects_fed, projects_ended}
 use Rattle.projector.proofs.Places.{Up, below_nodes, element_place, text_place}
 
--- what telling the matcher of these statements makes
-abbrev pub Told : Matcher → Matcher → List Ahead → Type 0
-Told m0 m ws = (past : Past) (ns : List Node) → Stands m0 past false → AreDue past.plan past.tree ws ns → Stands m (with_more (carried ws ns) past) false
-
 -- the matcher hears of all that waits
-pub hears : (p : Projector) (m : Matcher) (v : View) (ws : List Ahead) → ws ≡ v.waiting → Told p.matcher m ws → (past : Past) → StandsFor v past → Projects p past → (t : Token) → may_come t past.tree ≡ true → HasHeard m past
+hears : (p : ProjectorView) (m : Matcher) (v : View) (ws : List Ahead) → ws ≡ v.waiting → HearsOf p.matcher m ws → (past : Past) → StandsFor v past → Projects p past → (t : Token) → may_come t past.tree ≡ true → HasHeard m past
 hears p m v ws e told past h q t c =
     let a = is_open past.tree t c in
     let r = reopened_same past.tree a.0 a.1 in
     let s : Stands p.matcher (ahead_in past.tree (take past.fed past.acts) past) false = subst (λ (T : Tree). Stands p.matcher (ahead_in T (take past.fed past.acts) past) false) r q.matcher in
     let x = all_heard past h.is_past v.waiting h.waiting in
-    let told' : Told p.matcher m v.waiting = subst (λ (z : List Ahead). Told p.matcher m z) e told in
+    let told' : HearsOf p.matcher m v.waiting = subst (λ (z : List Ahead). HearsOf p.matcher m z) e told in
     let s' = told' (ahead_in past.tree (take past.fed past.acts) past) x.0 s x.1 in
     record {
       matcher = subst (λ (T : Tree). Stands m (ahead_in T past.acts past) false) (sym r) (subst (λ (A : List Action). Stands m (record { plan = past.plan; tree = past.tree; acts = A; fed = 0 }) false) x.2 s');
@@ -62,7 +60,7 @@ module _ (past : Past) (is : IsPast past) (kind : Kind) (k : IsNode kind) (may :
   open_then (Element v) k n e = (Under n (length past.tree.nodes) (Element v), ap (λ z. (grow_at z (Start v) past.tree).at) e)
   open_then (Text v) k n e = (n, ap (λ z. (grow_at z (Chars v) past.tree).at) e)
 
-  pub projects_node : (p : Projector) (m : Matcher) → HasHeard m past → (m' : Matcher) → ((n : Node) → past.tree.at ≡ Some n → level n ≤ 1000) → ((q : Past) → Stands m q false → may_come (token_for kind) q.tree ≡ true → ((n : Node) → q.tree.at ≡ Some n → level n ≤ 1000) → Stands m' (past_grown (token_for kind) q) (is_text kind))
+  pub projects_node : (p : ProjectorView) (m : Matcher) → HasHeard m past → (m' : Matcher) → ((n : Node) → past.tree.at ≡ Some n → level n ≤ 1000) → ((q : Past) → Stands m q false → may_come (token_for kind) q.tree ≡ true → ((n : Node) → q.tree.at ≡ Some n → level n ≤ 1000) → Stands m' (past_grown (token_for kind) q) (is_text kind))
       → (is_text kind ≡ true → (q : Past) → Stands m' q true → Stands p.matcher q false) → (is_text kind ≡ false → p.matcher ≡ m') → Projects p (past_fed (token_for kind) past)
   projects_node p m h m' low enters leaves stays =
       let s = enters (ahead_in past.tree past.acts past) (heard_here m past a.0 a.1 h) may low in
@@ -99,8 +97,8 @@ node_place kept place now v u q past h kind given stood o k text element = go (i
     go true e = subst (λ (z : Option Place). KeepsPlace z u.rows) (sym (text e)) (subst (λ (z : List Cell). KeepsPlace kept z) (sym rows) (text_place kept v q (option_map (λ (p : Place). p.0) place) kind given o.ahead e k))
     go false e = subst (λ (z : Option Place). KeepsPlace z u.rows) (sym (element e)) (subst (λ (z : List Cell). KeepsPlace place z) (sym rows) (at_place place (held e) e))
 
-pub projects_end : (p : Projector) (m : Matcher) (v : View) (past : Past) (h : StandsFor v past) → may_come End past.tree ≡ true → (o : Option Place) → Up v past h (option_map (λ (p : Place). p.0) o)
-    → (IsSome o → (q : Past) (n : Node) (s : ℕ) (k : Kind) → Stands m q false → q.tree.at ≡ Some (Under n s k) → Stands p.matcher (past_grown End q) false) → (o ≡ None → p.matcher ≡ m) → HasHeard m past → Projects p (past_fed End past)
+pub projects_end : (p : ProjectorView) (m : Matcher) (v : View) (past : Past) (h : StandsFor v past) → may_come End past.tree ≡ true → (o : Option Place) → Up v past h (option_map (λ (p : Place). p.0) o)
+    → (IsSome o → LeavesBelow m p.matcher) → (o ≡ None → p.matcher ≡ m) → HasHeard m past → Projects p (past_fed End past)
 projects_end p m v past h c None (inl t) up stays heard = projects_ended p past t.0 (subst (λ (z : Matcher). HasHeard z past) (sym (stays refl)) heard)
 projects_end p m v past h c (Some pl) (inl t) up stays heard = let e = t.1 in absurd (cc)
 projects_end p m v past h c None (inr (n, s, k, e, d, i, f, g)) up stays heard = absurd (cc)
@@ -108,42 +106,39 @@ projects_end p m v past h c (Some pl) (inr (n, s, k, e, d, i, f, g)) up stays he
     projects_fed p past h.is_past End c n (ap (λ z. (grow_at z End past.tree).at) e)
     (up refl (ahead_in past.tree past.acts past) n s k (heard_here m past (Under n s k) e heard) e)
 
--- the matcher has heard of all statements of each past for which the projector and the buffer stand
-abbrev pub Hears : Projector → Matcher → View → Token → Type 0
-Hears p m v t = (past : Past) → StandsFor v past → Projects p past → may_come t past.tree ≡ true → HasHeard m past
+module _ (stood now : Past → Type 0) (v w : View) (t : Token) (are : (past : Past) → StandsFor v past → now past → may_come t past.tree ≡ true → stood past) where
+  changed_alike : (fed : Fed) → Changes stood v w t fed → Changes now v w t fed
+  changed_alike (Opened s given) c = record {
+    parent = c.parent;
+    below = c.below;
+    kind = c.kind;
+    is_node = c.is_node;
+    token = c.token;
+    at = c.at;
+    opened = record {
+      ahead = c.opened.ahead;
+      between = c.opened.between;
+      opened = c.opened.opened;
+      cleared = c.opened.cleared;
+      taken = λ past n h q may o. c.opened.taken past n h (are past h q (subst (λ (z : Token). may_come z past.tree ≡ true) c.token may)) may o;
+    };
+    serial = c.serial;
+  }
+  changed_alike (Closed s) c = c
 
--- so what holds where it has heard of them holds of the projector
-pub stands_by : (p p' : Projector) (m : Matcher) (v u : View) (t : Token) (r : Result Fed Memory) → Hears p m v t
-    → OnOk r ((past : Past) → StandsFor v past → HasHeard m past → may_come t past.tree ≡ true → Projects p' (past_fed t past) × StandsFor u (past_fed t past))
-    → OnOk r ((past : Past) → StandsFor v past → Projects p past → may_come t past.tree ≡ true → Projects p' (past_fed t past) × StandsFor u (past_fed t past))
-stands_by p p' m v u t (Ok x) a f = λ past h q c. f past h (a past h q c) c
-stands_by p p' m v u t (Err x) a f = f
+  -- what holds of pasts holds of those that are among them
+  fed_alike : (p : ProjectorView) (fed : Fed) → Feeds stood p v w t fed → Feeds now p v w t fed
+  fed_alike p fed f = record {
+    stands = λ past h q may. f.stands past h (are past h q may) may;
+    place = f.place;
+    fed = λ past h q may. f.fed past h (are past h q may) may;
+    changes = changed_alike fed f.changes;
+  }
 
-pub does_by : (p : Projector) (m : Matcher) (v : View) (t : Token) (r : Result Fed Memory) → Hears p m v t
-    → IfOk r (λ fed. (past : Past) → StandsFor v past → HasHeard m past → may_come t past.tree ≡ true → DoesBy fed t past)
-    → IfOk r (λ fed. (past : Past) → StandsFor v past → Projects p past → may_come t past.tree ≡ true → DoesBy fed t past)
-does_by p m v t (Ok x) a f = λ past h q c. f past h (a past h q c) c
-does_by p m v t (Err x) a f = f
-
-pub changes_by : (p : Projector) (m : Matcher) (v u : View) (t : Token) (fed : Fed) → Hears p m v t → Changes (HasHeard m) v u t fed → Changes (Projects p) v u t fed
-changes_by p m v u t (Opened s given) a c = record {
-  parent = c.parent;
-  below = c.below;
-  kind = c.kind;
-  is_node = c.is_node;
-  token = c.token;
-  at = c.at;
-  opened = record {
-    ahead = c.opened.ahead;
-    between = c.opened.between;
-    opened = c.opened.opened;
-    cleared = c.opened.cleared;
-    taken = λ past n h q may o. c.opened.taken past n h (a past h q (subst (λ (z : Token). may_come z past.tree ≡ true) c.token may)) may o;
-  };
-  serial = c.serial;
-}
-changes_by p m v u t (Closed s) a c = c
-
-pub changed_by : (p : Projector) (m : Matcher) (v u : View) (t : Token) (r : Result Fed Memory) → Hears p m v t → IfOk r (λ fed. Changes (HasHeard m) v u t fed) → IfOk r (λ fed. Changes (Projects p) v u t fed)
-changed_by p m v u t (Ok x) a f = changes_by p m v u t x a f
-changed_by p m v u t (Err x) a f = f
+-- where the matcher hears of all that waits, what holds of the pasts of which it has heard holds of those for which the projector stood
+pub feeds_heard : (p q : ProjectorView) (m0 m : Matcher) (v w : View) (ws : List Ahead) (t : Token) (r : Result Fed Memory) → m0 ≡ p.matcher → ws ≡ v.waiting → HearsOf m0 m ws
+    → IfOk r (λ fed. Feeds (HasHeard m) q v w t fed) → IfOk r (λ fed. Feeds (Projects p) q v w t fed)
+feeds_heard p q m0 m v w ws t (Ok fed) is e told f =
+    let told' : HearsOf p.matcher m ws = subst (λ (z : Matcher). HearsOf z m ws) is told in
+    fed_alike (HasHeard m) (Projects p) v w t (λ past h s may. hears p m v ws e told' past h s t may) q fed f
+feeds_heard p q m0 m v w ws t (Err x) is e told f = f

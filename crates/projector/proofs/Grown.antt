@@ -22,9 +22,10 @@ use Rattle.gcx_base.specs.Kinds.{is_text}
 use Rattle.matcher.specs.Matcher.{Stands}
 use Rattle.matcher.specs.declared.matcher.Matcher.{Matcher}
 use Rattle.buf_tree.specs.Stands.{GivenTo}
-use Rattle.projector.specs.declared.projector.Projector.{Projector}
 use Rattle.buf_tree.specs.Calls.{numbers}
-use Rattle.projector.specs.Projector.{ahead_in, heard, Projects, HasHeard}
+use Rattle.projector.specs.View.{ProjectorView}
+use Rattle.projector.specs.Projector.{ahead_in, heard, Projects}
+use Rattle.projector.specs.Opening.{HasHeard}
 use Rattle.projector.proofs.Pasts.{is_open, reopened_same, fewer}
 use Rattle.projector.proofs.Moving.{moved, signed_behind}
 
@@ -113,7 +114,7 @@ pub heard_fed : (past : Past) (t : Token) → heard (past_fed t past) ≡ ahead_
 heard_fed past t = ap (λ A. ahead_in (reopened (grow t past.tree)) A past) (take-length past.acts)
 
 -- Where a node is open then, the matcher that stands for the new tree with all that was in advance before the token stands for what is in advance behind it.
-pub projects_fed : (p : Projector) (past : Past) → IsPast past → (t : Token) → may_come t past.tree ≡ true → (a : Node) → (grow t past.tree).at ≡ Some a
+pub projects_fed : (p : ProjectorView) (past : Past) → IsPast past → (t : Token) → may_come t past.tree ≡ true → (a : Node) → (grow t past.tree).at ≡ Some a
     → Stands p.matcher (past_grown t (ahead_in past.tree past.acts past)) false → Projects p (past_fed t past)
 projects_fed p past is t m a e s = record {
   matcher = subst (λ (z : Past). Stands p.matcher z false) (sym (heard_fed past t ∙ ap (λ T. ahead_in T past.acts past) (reopened_same (grow t past.tree) a e)))
@@ -121,7 +122,7 @@ projects_fed p past is t m a e s = record {
 }
 
 -- at the document's end the matcher stays
-pub projects_ended : (p : Projector) (past : Past) → past.tree.at ≡ Some Root → HasHeard p.matcher past → Projects p (past_fed End past)
+pub projects_ended : (p : ProjectorView) (past : Past) → past.tree.at ≡ Some Root → HasHeard p.matcher past → Projects p (past_fed End past)
 projects_ended p past e h = record {
   matcher = subst (λ (z : Past). Stands p.matcher z false) (ap (λ T. ahead_in T past.acts past) same ∙ sym (heard_fed past End)) h.matcher;
 }

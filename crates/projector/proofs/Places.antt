@@ -19,7 +19,7 @@ use Rattle.past_laws.proofs.Bases.{is_grown}
 use Rattle.past_laws.proofs.Awaited.{within_low}
 use Rattle.node_store.specs.declared.store.Place.{Place}
 use Rattle.node_store.specs.Rows.{Entry, parent_of}
-use Rattle.buf_tree.specs.declared.row.Row.{Row}
+use Rattle.buf_tree.specs.Row.{Row}
 use Rattle.gcx_base.specs.Kinds.{is_text}
 use Rattle.base_laws.proofs.Members.{from_map}
 use Rattle.buf_tree.specs.Rows.{shut_row}

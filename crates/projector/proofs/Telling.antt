@@ -13,7 +13,7 @@ use Rattle.gcx_model.specs.Past.{Past, open_nodes, past_acted}
 use Rattle.matcher.specs.Matcher.{Stands}
 use Rattle.matcher.specs.declared.matcher.Matcher.{Matcher}
 use Rattle.buf_tree.specs.declared.ahead.Ahead.{Ahead}
-use Rattle.projector.specs.Signing.{AreDue, carried, with_more}
+use Rattle.projector.specs.Signing.{AreDue, carried, with_more, HearsOf}
 
 -- the matcher has heard of some of the statements, and these are left
 pub record Tells (m0 m : Matcher) (ws rest : List Ahead) : Type 0 where
@@ -47,5 +47,5 @@ tells_more m0 m m' ws rest w t s = record {
       append_assoc A (Offed (off_tree w.off) (serial_of n) ∷ []) (carried rest ms) ∙ e,
     )
 
-pub tells_all : (m0 m : Matcher) (ws : List Ahead) → Tells m0 m ws [] → (past : Past) (ns : List Node) → Stands m0 past false → AreDue past.plan past.tree ws ns → Stands m (with_more (carried ws ns) past) false
+pub tells_all : (m0 m : Matcher) (ws : List Ahead) → Tells m0 m ws [] → HearsOf m0 m ws
 tells_all m0 m ws t past ns h d = let r = t.told past ns h d in subst (λ (A : List Action). Stands m (with_more A past) false) (sym (append-nil r.0) ∙ r.4) r.2

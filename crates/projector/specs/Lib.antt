@@ -1,2 +1,5 @@
-pub mod Signing
+pub mod View
 pub mod Projector
+pub mod Calls
+pub mod Opening
+pub mod Signing

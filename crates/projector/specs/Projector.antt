@@ -10,14 +10,13 @@ use Rattle.gcx_model.specs.Run.{Action}
 use Rattle.gcx_model.specs.Past.{Past, is_ahead, reopened, Opens, IsNode, token_for}
 use Rattle.node_store.specs.declared.store.Place.{Place}
 use Rattle.matcher.specs.Matcher.{Stands}
-use Rattle.matcher.specs.declared.matcher.Matcher.{Matcher}
 use Rattle.buf_tree.specs.Shape.{Cell, num}
 use Rattle.buf_tree.specs.View.{View, Innermost, serial_at}
 use Rattle.buf_tree.specs.Calls.{Opened as OpenedBelow, Closed as ClosedAt, numbers}
 use Rattle.buf_tree.specs.Stands.{StandsFor}
 use Rattle.projector.specs.declared.projector.Fed.{Fed}
 use Rattle.projector.specs.declared.projector.Fed.TheVariants.{Opened, Closed}
-use Rattle.projector.specs.declared.projector.Projector.{Projector}
+use Rattle.projector.specs.View.{ProjectorView}
 
 -- the plan over this tree, with those of the actions that are in advance there
 abbrev pub ahead_in : Tree → List Action → Past → Past
@@ -28,7 +27,7 @@ abbrev pub heard : Past → Past
 heard past = ahead_in (reopened past.tree) (take past.fed past.acts) past
 
 -- The projector has fed the tokens of the past.
-pub record Projects (p : Projector) (past : Past) : Type 0 where
+pub record Projects (p : ProjectorView) (past : Past) : Type 0 where
   pub matcher : Stands p.matcher (heard past) false
 
 -- The place kept is that of the innermost open node. Where none is kept no other node than the document node is open.
@@ -37,7 +36,7 @@ KeepsPlace (Some p) xs = Innermost xs p.0
 KeepsPlace None xs = (c : Cell) → In c xs → c.row.is_open ≡ true → num c ≡ 0
 
 -- the same of a projector beside a buffer
-abbrev pub Places : Projector → View → Type 0
+abbrev pub Places : ProjectorView → View → Type 0
 Places p v = KeepsPlace p.at v.rows
 
 -- the token may come behind a past for which the buffer stands
@@ -83,9 +82,3 @@ pub record ClosedOne (v w : View) (s : ℕ) : Type 0 where
 abbrev pub Changes : (Past → Type 0) → View → View → Token → Fed → Type 0
 Changes stood v w t (Opened s given) = OpenedOne stood v w t s.0 given
 Changes stood v w t (Closed s) = (t ≡ End) × ClosedOne v w s.0
-
--- The rest is said of private functions.
-
--- the same where the matcher has heard of all actions
-pub record HasHeard (m : Matcher) (past : Past) : Type 0 where
-  pub matcher : Stands m (ahead_in (reopened past.tree) past.acts past) false

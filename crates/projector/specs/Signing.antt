@@ -1,5 +1,5 @@
 -- The statements that waited, as actions of which the matcher hears (this project's). This follows the code: private functions alone speak of it.
-use Rattle.std.specs.Prelude.{◌≡◌, List, [], ◌∷◌, ◌++◌}
+use Rattle.std.specs.Prelude.{◌≡◌, false, List, [], ◌∷◌, ◌++◌}
 use Rattle.gcx_model.specs.Tree.{Tree, Node, serial_of}
 use Rattle.gcx_model.specs.Paths.{matches}
 use Rattle.gcx_model.specs.Members.{In}
@@ -10,6 +10,8 @@ use Rattle.gcx_model.specs.Placed.{offs_in}
 use Rattle.gcx_model.specs.Growth.{level}
 use Rattle.gcx_model.specs.Held.{path_of}
 use Rattle.gcx_model.specs.Past.{Past, open_nodes}
+use Rattle.matcher.specs.Matcher.{Stands}
+use Rattle.matcher.specs.declared.matcher.Matcher.{Matcher}
 use Rattle.buf_tree.specs.declared.ahead.Ahead.{Ahead}
 
 -- a statement of the plan, carried out at this open node, which is a match of its base's path
@@ -34,3 +36,8 @@ carried (a ∷ rest) (n ∷ ns) = Offed (off_tree a.off) (serial_of n) ∷ carri
 
 abbrev pub with_more : List Action → Past → Past
 with_more A past = record past { acts = past.acts ++ A }
+
+-- telling a matcher of these statements made this of it
+abbrev pub HearsOf : (m n : Matcher) → List Ahead → Type 0
+HearsOf m n waiting = (past : Past) (ns : List Node) → Stands m past false → AreDue past.plan past.tree waiting ns
+    → Stands n (with_more (carried waiting ns) past) false

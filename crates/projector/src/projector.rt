@@ -1,29 +1,20 @@
 //! The projector.
-ghost use Rattle.std.specs.Prelude.{◌≡◌, ◌+◌, ◌<◌, ◌≤◌, ◌^◌, ℕ, Bool, List, length, true, false, Some, None, IfOk, OnOk, OnErr, IfSome, IsSome, option_map};
-ghost use Rattle.gcx_model.specs.Tree.{Root, Node, Under, End, grow};
-ghost use Rattle.gcx_model.specs.Growth.{may_come, level};
+ghost use Rattle.std.specs.Prelude.{◌≡◌, ◌+◌, ◌<◌, ◌≤◌, ◌^◌, length, true, false, None, IfOk, OnErr, IfSome, IsSome, option_map};
+ghost use Rattle.gcx_base.specs.Kinds.{is_text};
+ghost use Rattle.gcx_model.specs.Tree.{Node, End};
 ghost use Rattle.gcx_model.specs.Members.{In};
 ghost use Rattle.gcx_model.specs.Paths.{head};
-ghost use Rattle.gcx_model.specs.Core.{BodyTree};
-ghost use Rattle.gcx_model.specs.Cores.{Good};
-ghost use Rattle.gcx_model.specs.Placed.{Placed};
 ghost use Rattle.gcx_model.specs.PlanView.{plan_tree};
-ghost use Rattle.gcx_model.specs.Held.{roles_given, roles_taken};
-ghost use Rattle.gcx_model.specs.Past.{Past, opening_past, past_fed};
-ghost use Rattle.gcx_model.specs.Past.{Opens};
+ghost use Rattle.gcx_model.specs.Past.{Past, IsNode, token_for};
 ghost use Rattle.doc_reader.specs.Standing.{said_of};
-ghost use Rattle.gcx_base.specs.declared.kind.Kind.{Kind};
-ghost use Rattle.gcx_base.specs.Kinds.{is_text};
-ghost use Rattle.gcx_model.specs.Past.{IsLast as MatchersInnermost, past_grown, token_for};
 ghost use Rattle.matcher.specs.Matcher.{Stands};
-ghost use Rattle.gcx_model.specs.Past.{IsNode};
 ghost use Rattle.node_store.specs.Rows.{parent_of};
 ghost use Rattle.buf_tree.specs.Shape.{Cell, Shape, at_place};
-ghost use Rattle.buf_tree.specs.View.{View, Innermost, level_in};
-ghost use Rattle.buf_tree.specs.Calls.{Started, numbers};
-ghost use Rattle.gcx_base.specs.declared.ids.Role.{Role};
+ghost use Rattle.buf_tree.specs.View.{Innermost, level_in};
 ghost use Rattle.buf_tree.specs.Stands.{StandsFor};
-ghost use Rattle.projector.specs.Projector.{Projects, HasHeard, KeepsPlace, Places, MayBeFed, DoesBy, OpenedAlone, Changes};
+ghost use Rattle.projector.specs.Projector.{Projects, KeepsPlace, Places, MayBeFed};
+ghost use Rattle.projector.specs.Calls.{BeginsFor, GivesDocument, Feeds};
+ghost use Rattle.projector.specs.Opening.{HasHeard, LeavesBelow, TellsTaken, OpensBelow};
 
 use crate::signing::sign_all;
 use buf_tree::{Buffer, Row};
@@ -33,6 +24,7 @@ use gcx_model::{Given, Plan};
 use matcher::Matcher;
 use node_store::{At, NodeStore, Place};
 use std::alloc::Global;
+use std::marker::Model;
 
 /// What a token did, with the node's number in document order.
 #[derive(Drop, Debug)]
@@ -52,11 +44,18 @@ pub struct Projector {
     at: Option<Place>,
 }
 
+impl Model for Projector {
+    ghost use Rattle.projector.specs.View.{ProjectorView};
+
+    ghost Value = { ProjectorView };
+
+    ghost view = { λ p. record { matcher = p.matcher; at = p.at } };
+}
+
 impl Projector {
     /// A projector for the plan, at the open document node.
     pub fn new(alloc: Global, plan: &Plan) -> Result<Projector, Memory>
-        ensures stands { IfOk result (λ p. (core : BodyTree) → Good core → Placed core (plan_tree plan.now) → Projects p (opening_past (plan_tree plan.now))) }
-        ensures place { IfOk result (λ p. (v : View) (given : List Role) → Started v given → Places p v) }
+        ensures { IfOk result (λ p. BeginsFor (plan_tree plan.now) p) }
     {
         let matcher = Matcher::new(alloc, plan)?;
         Ok(Projector { matcher, at: None })
@@ -64,7 +63,7 @@ impl Projector {
 
     /// The roles of the document node, by rising number.
     pub fn document(&self, alloc: Global) -> Result<Given, Memory>
-        ensures { (past : Past) → Projects self.now past → IfOk result (λ given. numbers given ≡ roles_given past.plan past.tree Root) }
+        ensures { IfOk result (λ given. GivesDocument self.now given) }
     {
         let given = self.matcher.document(alloc)?;
         Ok(given)
@@ -84,11 +83,8 @@ impl Projector {
         requires may { MayBeFed buffer.old (said_of token) }
         requires nodes { buffer.old.nodes ≤ 2 ^ 40 + 1 }
         requires depth { (c : Cell) → In c buffer.old.rows → c.row.is_open ≡ true → c.row.level ≤ 1000 }
-        ensures stands { OnOk result ((past : Past) → StandsFor buffer.old past → Projects self.old past → may_come (said_of token) past.tree ≡ true → Projects self.new (past_fed (said_of token) past) × StandsFor buffer.new (past_fed (said_of token) past)) }
-        ensures place { OnOk result (Places self.new buffer.new) }
-        ensures fed { IfOk result (λ fed. (past : Past) → StandsFor buffer.old past → Projects self.old past → may_come (said_of token) past.tree ≡ true → DoesBy fed (said_of token) past) }
+        ensures feeds { IfOk result (λ fed. Feeds (Projects self.old) self.new buffer.old buffer.new (said_of token) fed) }
         ensures err { OnErr result (buffer.new ≡ buffer.old) }
-        ensures changes { IfOk result (λ fed. Changes (Projects self.old) buffer.old buffer.new (said_of token) fed) }
         ensures taken { buffer.new.taken ≤ buffer.old.taken + 2 ^ 64 }
         ensures loans { buffer.new.loans ≡ buffer.old.loans }
     {
@@ -107,16 +103,13 @@ impl Projector {
         buffer: &mut Buffer<N>,
         kind: Kind,
     ) -> Result<Fed, Memory>
-        requires place { KeepsPlace self.old.at buffer.old.rows }
+        requires place { Places self.old buffer.old }
         requires may { MayBeFed buffer.old (token_for kind) }
         requires kind { IsNode kind }
         requires nodes { buffer.old.nodes ≤ 2 ^ 40 + 1 }
         requires depth { (c : Cell) → In c buffer.old.rows → c.row.is_open ≡ true → c.row.level ≤ 1000 }
-        ensures stands { OnOk result ((past : Past) → StandsFor buffer.old past → HasHeard self.old.matcher past → may_come (token_for kind) past.tree ≡ true → Projects self.new (past_fed (token_for kind) past) × StandsFor buffer.new (past_fed (token_for kind) past)) }
-        ensures place { OnOk result (KeepsPlace self.new.at buffer.new.rows) }
-        ensures fed { IfOk result (λ fed. (past : Past) → StandsFor buffer.old past → HasHeard self.old.matcher past → may_come (token_for kind) past.tree ≡ true → DoesBy fed (token_for kind) past) }
+        ensures feeds { IfOk result (λ f. Feeds (HasHeard self.old.matcher) self.new buffer.old buffer.new (token_for kind) f) }
         ensures err { OnErr result (buffer.new ≡ buffer.old) }
-        ensures changes { IfOk result (λ fed. Changes (HasHeard self.old.matcher) buffer.old buffer.new (token_for kind) fed) }
         ensures taken { buffer.new.taken ≤ buffer.old.taken + 2 ^ 64 }
         ensures loans { buffer.new.loans ≡ buffer.old.loans }
     {
@@ -124,33 +117,16 @@ impl Projector {
         let serial = Serial(buffer.nodes());
         let parent = innermost(buffer, self.at).place;
         let (place, given) = open_below(&mut self.matcher, alloc, buffer, parent, kind)?;
-        self.go_to(text, place);
+        go_to(&mut self.matcher, &mut self.at, text, place);
         Ok(Fed::Opened(serial, given))
-    }
-
-    /// Goes to the new node, which has this place. A text is left at once.
-    fn go_to(&mut self, text: bool, place: Option<Place>)
-        ensures text { text ≡ true → (past : Past) → Stands self.old.matcher past true → Stands self.new.matcher past false }
-        ensures text_place { text ≡ true → self.new.at ≡ self.old.at }
-        ensures element { text ≡ false → self.new.matcher ≡ self.old.matcher }
-        ensures element_place { text ≡ false → self.new.at ≡ place }
-    {
-        if text {
-            self.matcher.leave();
-        } else {
-            self.at = place;
-        }
     }
 
     /// Closes the innermost open node, where the matcher has heard of all statements.
     #[inline(always)]
     fn feed_end<N: NodeStore<Row>>(&mut self, buffer: &mut Buffer<N>) -> Fed
-        requires place { KeepsPlace self.old.at buffer.old.rows }
+        requires place { Places self.old buffer.old }
         requires may { MayBeFed buffer.old End }
-        ensures stands { (past : Past) → StandsFor buffer.old past → HasHeard self.old.matcher past → may_come End past.tree ≡ true → Projects self.new (past_fed End past) × StandsFor buffer.new (past_fed End past) }
-        ensures place { KeepsPlace self.new.at buffer.new.rows }
-        ensures fed { (past : Past) → StandsFor buffer.old past → DoesBy result End past }
-        ensures changes { Changes (HasHeard self.old.matcher) buffer.old buffer.new End result }
+        ensures feeds { Feeds (HasHeard self.old.matcher) self.new buffer.old buffer.new End result }
         ensures taken { buffer.new.taken ≡ buffer.old.taken }
         ensures loans { buffer.new.loans ≡ buffer.old.loans }
     {
@@ -160,23 +136,38 @@ impl Projector {
         let above = above(&here);
         buffer.clear_waiting();
         buffer.close_node(place);
-        self.go_up(above);
+        go_up(&mut self.matcher, &mut self.at, above);
         Fed::Closed(serial)
     }
+}
 
-    /// Leaves the innermost open node, to its parent at this place. The document node, which has none, stays open in the
-    /// matcher.
-    #[inline(always)]
-    fn go_up(&mut self, above: Option<Place>)
-        ensures node { IsSome above → (past : Past) (p : Node) (s : ℕ) (k : Kind) → Stands self.old.matcher past false → past.tree.at ≡ Some (Under p s k) → Stands self.new.matcher (past_grown End past) false }
-        ensures document { above ≡ None → self.new.matcher ≡ self.old.matcher }
-        ensures place { self.new.at ≡ above }
-    {
-        if above.is_some() {
-            self.matcher.leave();
-        }
-        self.at = above;
+/// Goes to the new node, which has this place. A text is left at once.
+#[inline(always)]
+fn go_to(matcher: &mut Matcher, at: &mut Option<Place>, text: bool, place: Option<Place>)
+    ensures text { text ≡ true → (past : Past) → Stands matcher.old past true → Stands matcher.new past false }
+    ensures text_place { text ≡ true → at.new ≡ at.old }
+    ensures element { text ≡ false → matcher.new ≡ matcher.old }
+    ensures element_place { text ≡ false → at.new ≡ place }
+{
+    if text {
+        matcher.leave();
+    } else {
+        *at = place;
     }
+}
+
+/// Leaves the innermost open node, to its parent at this place. The document node, which has none, stays open in the
+/// matcher.
+#[inline(always)]
+fn go_up(matcher: &mut Matcher, at: &mut Option<Place>, above: Option<Place>)
+    ensures node { IsSome above → LeavesBelow matcher.old matcher.new }
+    ensures document { above ≡ None → matcher.new ≡ matcher.old }
+    ensures place { at.new ≡ above }
+{
+    if above.is_some() {
+        matcher.leave();
+    }
+    *at = above;
 }
 
 /// Opens the node in the matcher and below this place in the buffer, where nothing waits then. Answers its place, if it
@@ -193,10 +184,7 @@ fn open_below<N: NodeStore<Row>>(
     requires nodes { buffer.old.nodes ≤ 2 ^ 40 + 1 }
     requires depth { level_in (at_place parent.0 buffer.old.rows) ≤ 1000 }
     requires levels { (c : Cell) → In c buffer.old.rows → c.row.is_open ≡ true → c.row.level ≤ 1000 }
-    ensures matcher { OnOk result ((past : Past) → Stands matcher.old past false → may_come (token_for kind) past.tree ≡ true → ((p : Node) → past.tree.at ≡ Some p → level p ≤ 1000) → Stands matcher.new (past_grown (token_for kind) past) (is_text kind)) }
-    ensures given { IfOk result (λ x. (past : Past) (n : Node) → Stands matcher.old past false → may_come (token_for kind) past.tree ≡ true → Opens past.tree (token_for kind) n → numbers x.1 ≡ roles_given past.plan (grow (token_for kind) past.tree) n) }
-    ensures opened { IfOk result (λ x. OpenedAlone (HasHeard matcher.old) buffer.old buffer.new parent.0 (option_map (λ p. p.0) x.0) kind x.1) }
-    ensures stands { OnOk result ((past : Past) → StandsFor buffer.old past → HasHeard matcher.old past → may_come (token_for kind) past.tree ≡ true → StandsFor buffer.new (past_fed (token_for kind) past)) }
+    ensures opens { IfOk result (λ x. OpensBelow matcher.old matcher.new buffer.old buffer.new parent.0 kind x) }
     ensures err { OnErr result (buffer.new ≡ buffer.old) }
     ensures taken { buffer.new.taken ≤ buffer.old.taken + 2 ^ 64 }
     ensures loans { buffer.new.loans ≡ buffer.old.loans }
@@ -212,7 +200,7 @@ fn open_below<N: NodeStore<Row>>(
 /// The roles of the matcher's innermost node that are taken back already. A `usize` counts them.
 #[inline(always)]
 fn roles_ahead(matcher: &Matcher, alloc: Global) -> Result<Given, Memory>
-    ensures roles { IfOk result (λ given. (past : Past) (text : Bool) (n : Node) → Stands matcher.now past text → MatchersInnermost past.tree text n → numbers given ≡ roles_taken past.plan past.tree past.acts n) }
+    ensures roles { IfOk result (λ given. TellsTaken matcher.now given) }
     ensures few { IfOk result (λ given. length given < 2 ^ 64) }
 {
     let given = matcher.ahead(alloc)?;

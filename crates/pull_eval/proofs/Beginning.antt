@@ -1,35 +1,34 @@
 -- A position before its first move, and to what variable 0 is bound then.
-use Rattle.std.proofs.Common.{◌≡◌, ◌<◌, ℕ, Bool, true, false, cond, List, [], ◌∷◌, reverse, Option, Some, None, refl, sym, ◌∙◌, ap, subst, inl, inr, ◌⊎◌, arith}
+use Rattle.std.proofs.Common.{◌≡◌, ℕ, Bool, true, false, cond, List, [], ◌∷◌, reverse, Option, Some, None, refl, sym, ◌∙◌, ap, subst, inl, inr, arith}
 use Rattle.std.specs.Prelude.{option_map}
 use Rattle.std.specs.FinMap as map
 use Rattle.std.specs.Cmp.{nat_cmp_total, unsigned_tied}
 use Rattle.std.proofs.lemmas.Bool.{true≢false}
-use Rattle.gcx_model.specs.Tree.{Node, Root, serial_of, Tree, opening}
+use Rattle.gcx_model.specs.Tree.{Node, Root, serial_of, opening}
 use Rattle.gcx_model.specs.Paths.{head}
 use Rattle.gcx_model.specs.Members.{In}
 use Rattle.gcx_model.specs.Core.{BodyTree, PlanTree}
 use Rattle.gcx_model.specs.Run.{Action, env0}
-use Rattle.gcx_model.specs.Held.{held, sum_taken}
-use Rattle.gcx_model.specs.Growth.{Leads, stays}
-use Rattle.gcx_model.specs.Points.{so_far, here, Frame, Rest, PointAt, Bound_in}
+use Rattle.gcx_model.specs.Held.{held}
+use Rattle.gcx_model.specs.Growth.{stays}
+use Rattle.gcx_model.specs.Points.{here, Frame, Rest, PointAt, Bound_in}
 use Rattle.gcx_model.specs.Copying.{CopyFrame, FinePoint}
 use Rattle.gcx_model.specs.Past.{Past, opening_past}
 use Rattle.move_laws.proofs.Moving.{opening_point}
 use Rattle.tree_laws.proofs.Lists.{In-filter}
 use Rattle.run_laws.proofs.Free.{plan_acts}
-use Rattle.node_store.specs.declared.store.Place.{Place}
 use Rattle.buf_tree.specs.Shape.{Cell, num}
 use Rattle.buf_tree.specs.Shape as shape
 use Rattle.buf_tree.specs.View.{View, capped}
 use Rattle.buf_tree.specs.Stands.{StandsFor}
-use Rattle.pull_eval.specs.Bindings.{Bindings}
-use Rattle.pull_eval.specs.Asking.{PlacedAt, IsBound}
+use Rattle.cond_eval.specs.Bindings.{Bindings}
+use Rattle.cond_eval.specs.Asking.{PlacedAt, IsBound}
 use Rattle.pull_eval.specs.Position.{items, AreFrames, none, alone, Copies, StandsAt}
 use Rattle.pull_eval.specs.Acting.{Beside}
 use Rattle.pull_eval.specs.declared.block.Block.{Block}
 use Rattle.pull_eval.specs.declared.block.Copying.{Copying}
 use Rattle.pull_eval.specs.declared.position.Position.{Position}
-use Rattle.pull_eval.proofs.Rows.{rows_rise, row_for}
+use Rattle.cond_eval.proofs.Rows.{rows_rise, row_for}
 use Rattle.pull_eval.proofs.HeldRows.{holds, held_rows}
 use Rattle.pull_eval.proofs.Frames.{begins_anew}
 use Rattle.pull_eval.proofs.OpeningTaken.{sum_starts}

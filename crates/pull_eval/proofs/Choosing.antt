@@ -8,7 +8,7 @@ use Rattle.gcx_model.specs.declared.truth.Truth.TheVariants.{True, False, Unknow
 use Rattle.move_laws.specs.Moves.{NoneLeft}
 use Rattle.move_laws.proofs.Moving.{branch_waits}
 use Rattle.buf_tree.specs.View.{View}
-use Rattle.pull_eval.specs.Asking.{Asked}
+use Rattle.cond_eval.specs.Asking.{Asked}
 use Rattle.pull_eval.specs.Acting.{Beside, IsNextItem, Chosen}
 use Rattle.pull_eval.specs.declared.position.Position.{Position}
 use Rattle.pull_eval.proofs.Frames.{at_item}

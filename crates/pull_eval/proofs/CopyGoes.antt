@@ -1,10 +1,10 @@
 -- How a copy goes on and ends.
-use Rattle.std.proofs.Common.{◌≡◌, ◌<◌, ◌+◌, ℕ, suc, true, false, List, [], ◌∷◌, ◌++◌, reverse, Option, Some, None, refl, sym, ◌∙◌, ap, subst, inl, inr, ◌⊎◌, arith}
+use Rattle.std.proofs.Common.{◌≡◌, ◌<◌, ℕ, suc, true, false, List, [], ◌∷◌, ◌++◌, reverse, Option, Some, None, refl, sym, ◌∙◌, ap, subst, inl, inr, ◌⊎◌, arith}
 use Rattle.std.proofs.lemmas.Bool.{false≢true, and_parts}
 use Rattle.gcx_base.specs.declared.kind.Kind.{Kind}
 use Rattle.gcx_base.specs.declared.kind.Kind.TheVariants.{Document, Element, Text}
 use Rattle.gcx_base.specs.declared.steps.Axis.TheVariants.{Child}
-use Rattle.gcx_model.specs.Tree.{Node, serial_of, kind_of, Tree, is_closed}
+use Rattle.gcx_model.specs.Tree.{Node, serial_of, kind_of, is_closed}
 use Rattle.gcx_model.specs.Members.{In}
 use Rattle.gcx_base.specs.Tests.{passes}
 use Rattle.gcx_model.specs.Paths.{lies}
@@ -20,11 +20,11 @@ use Rattle.buf_tree.specs.Shape.{Cell, num}
 use Rattle.buf_tree.specs.View.{View}
 use Rattle.buf_tree.specs.Match.{IsChild}
 use Rattle.node_store.specs.declared.store.Place.{Place}
-use Rattle.pull_eval.specs.Bindings.{Bindings}
-use Rattle.pull_eval.specs.Asking.{PlacedAt, IsBound}
-use Rattle.pull_eval.specs.Reads.{NodeAt}
+use Rattle.cond_eval.specs.Bindings.{Bindings}
+use Rattle.cond_eval.specs.Asking.{PlacedAt, IsBound}
+use Rattle.cond_eval.specs.Reads.{NodeAt}
 use Rattle.pull_eval.specs.Copies.{first_bytes, last_bytes, come_to, risen}
-use Rattle.pull_eval.specs.Position.{items, AreFrames, Copies, IsCopy, StandsAt}
+use Rattle.pull_eval.specs.Position.{AreFrames, Copies, IsCopy, StandsAt}
 use Rattle.pull_eval.specs.Weight.{weigh_block, weigh_blocks, weigh_copying}
 use Rattle.pull_eval.specs.Acting.{Beside, Moves, NextIs}
 use Rattle.pull_eval.specs.declared.machine.Acted.{Acted}
@@ -33,8 +33,8 @@ use Rattle.pull_eval.specs.declared.block.Copying.{Copying}
 use Rattle.pull_eval.specs.declared.position.Position.{Position}
 use Rattle.pull_eval.proofs.Frames.{stands_within}
 use Rattle.pull_eval.proofs.Writing.{beside_wrote, beside_still}
-use Rattle.pull_eval.proofs.Rows.{row_for, placed_row, at_node, kind_told, serial_told, kept_at}
-use Rattle.pull_eval.proofs.RowSteps.{lies_from}
+use Rattle.cond_eval.proofs.Rows.{row_for, placed_row, at_node, kind_told, serial_told, kept_at}
+use Rattle.cond_eval.proofs.RowSteps.{lies_from}
 use Rattle.pull_eval.proofs.HeldRows.{holds}
 use Rattle.pull_eval.proofs.Copying.{next_in, no_document, child_reached, Outer, outer_of, outer_swap, outer_push, outer_pop, outer_alone, copy_at, deeper}
 use Rattle.pull_eval.proofs.Inside.{beside_rows, inside_kept, the_copy, fine, at_fine, node_row, child_row}

@@ -1,5 +1,5 @@
 -- How a copy begins, goes on and ends.
-use Rattle.std.proofs.Common.{◌≡◌, ◌+◌, ℕ, suc, true, List, [], ◌∷◌, ◌++◌, reverse, Option, Some, None, refl, sym, ◌∙◌, ap, subst, arith}
+use Rattle.std.proofs.Common.{◌≡◌, ℕ, suc, true, List, [], ◌∷◌, ◌++◌, reverse, Option, Some, None, refl, sym, ◌∙◌, ap, subst, arith}
 use Rattle.std.specs.FinMap.{get}
 use Rattle.std.proofs.lemmas.Bool.{eq-eqb}
 use Rattle.gcx_base.specs.declared.kind.Kind.{Kind}
@@ -16,9 +16,9 @@ use Rattle.tree_laws.proofs.Freeze.{within_self}
 use Rattle.buf_tree.specs.Shape.{Cell}
 use Rattle.buf_tree.specs.View.{View, InUse}
 use Rattle.node_store.specs.declared.store.Place.{Place}
-use Rattle.pull_eval.specs.Bindings.{Bindings}
-use Rattle.pull_eval.specs.Asking.{PlacedAt, IsBound}
-use Rattle.pull_eval.specs.Reads.{NodeAt}
+use Rattle.cond_eval.specs.Bindings.{Bindings}
+use Rattle.cond_eval.specs.Asking.{PlacedAt, IsBound}
+use Rattle.cond_eval.specs.Reads.{NodeAt}
 use Rattle.pull_eval.specs.Copies.{first_bytes, begun_at}
 use Rattle.pull_eval.specs.Position.{items, AreFrames, Copies, IsCopy, StandsAt}
 use Rattle.pull_eval.specs.Weight.{weigh_blocks, weigh_copying}
@@ -30,7 +30,7 @@ use Rattle.pull_eval.specs.declared.position.Position.{Position}
 use Rattle.pull_eval.proofs.Frames.{at_item, goes_on, stands_within}
 use Rattle.pull_eval.proofs.Weighing.{weigh_on}
 use Rattle.pull_eval.proofs.Writing.{beside_wrote, beside_still}
-use Rattle.pull_eval.proofs.Rows.{at_node, kind_told, kept_at}
+use Rattle.cond_eval.proofs.Rows.{at_node, kind_told, kept_at}
 use Rattle.pull_eval.proofs.HeldRows.{holds}
 use Rattle.pull_eval.proofs.Needing.{used_in, used_bound, item_held}
 use Rattle.pull_eval.proofs.Copying.{copy_at}

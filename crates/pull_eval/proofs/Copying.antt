@@ -1,5 +1,5 @@
 -- Where a copy goes on among the rows.
-use Rattle.std.proofs.Common.{◌≡◌, ◌<◌, ℕ, true, false, List, [], ◌∷◌, ◌++◌, Option, Some, None, refl, sym, ◌∙◌, ap, subst, inl, inr, ◌⊎◌, arith, append_assoc}
+use Rattle.std.proofs.Common.{◌≡◌, ◌<◌, ℕ, true, List, [], ◌∷◌, ◌++◌, Option, Some, None, refl, sym, ◌∙◌, ap, subst, inl, inr, ◌⊎◌, arith, append_assoc}
 use Rattle.std.specs.Prelude.{nat_lt}
 use Rattle.std.proofs.lemmas.Bool.{false≢true, and_parts, eqb-true}
 use Rattle.gcx_base.specs.declared.kind.Kind.{Kind}
@@ -19,10 +19,9 @@ use Rattle.tree_laws.proofs.Matches.{Matches-in}
 use Rattle.tree_laws.proofs.Chains.{hits_one}
 use Rattle.move_laws.proofs.CopyMoves.{copy_frames_stand}
 use Rattle.buf_tree.specs.Shape.{Cell}
-use Rattle.pull_eval.specs.Asking.{PlacedAt}
+use Rattle.cond_eval.specs.Asking.{PlacedAt}
 use Rattle.pull_eval.specs.Position.{IsCopy, PresentAt}
 use Rattle.pull_eval.specs.declared.block.Copying.{Copying}
-use Rattle.pull_eval.proofs.Rows.{at_node}
 
 -- ---- children
 

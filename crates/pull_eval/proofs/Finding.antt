@@ -1,20 +1,13 @@
 -- What the searches of a buffer tell of a loop's matches.
-use Rattle.std.proofs.Common.{◌≡◌, zero, suc, ℕ, List, Option, Some, None, Result, Ok, Err, inr, refl, sym, subst}
-use Rattle.std.specs.Prelude.{MatchOption, IfSome, IfOk}
+use Rattle.std.proofs.Common.{◌≡◌, zero, suc, ℕ, List, Option, None, Result, Ok, Err, inr, refl, sym, subst}
+use Rattle.std.specs.Prelude.{IfOk}
 use Rattle.gcx_base.specs.declared.steps.Step.{Step}
-use Rattle.gcx_model.specs.Members.{In}
 use Rattle.node_store.specs.declared.store.Place.{Place}
 use Rattle.buf_tree.specs.Shape.{Cell, num}
-use Rattle.buf_tree.specs.Match.{Unreached, FirstReached, GoesFrom}
-use Rattle.buf_tree.specs.View.{InUse, serial_at}
-use Rattle.pull_eval.specs.Rounds.{IsFirst, Finds, from_seen}
-
-abbrev SerialTold : List Cell → Option Place → Type 0
-SerialTold rows found = IfSome found (λ p. (c : Cell) → In c rows → c.place ≡ p.0 → serial_at p.0 rows ≡ num c)
-
-pub finds : (rows : List Cell) (c : Cell) (s : Step) (after : ℕ) (found : Option Place) → MatchOption found (Unreached rows c s after) (λ p. FirstReached rows c s after p.0) → SerialTold rows found → Finds rows c s after found
-finds rows c s after None m t = m
-finds rows c s after (Some p) m t = record { first = m; serial = t m.cell m.reached.among m.place }
+use Rattle.buf_tree.specs.Match.{GoesFrom}
+use Rattle.buf_tree.specs.View.{InUse}
+use Rattle.cond_eval.specs.Searches.{IsFirst, Finds}
+use Rattle.pull_eval.specs.Rounds.{from_seen}
 
 -- where nothing is known the search begins at the row itself
 pub finds_seen : (rows : List Cell) (c : Cell) (s : Step) (seen : ℕ) (found : Option Place) → seen ≡ 0 → Finds rows c s (num c) found → Finds rows c s (from_seen c seen) found

@@ -1,5 +1,5 @@
 -- How the frames change that the blocks of a machine stand for.
-use Rattle.std.proofs.Common.{◌≡◌, ◌<◌, ℕ, true, false, List, [], ◌∷◌, ◌++◌, reverse, Option, Some, None, refl, sym, ◌∙◌, ap, subst, inl, arith, rules}
+use Rattle.std.proofs.Common.{◌≡◌, ◌<◌, ℕ, true, List, [], ◌∷◌, ◌++◌, reverse, Option, Some, None, refl, sym, ◌∙◌, ap, subst, inl, arith, rules}
 use Rattle.std.proofs.lemmas.Bool.{true≢false, false≢true}
 use Rattle.std.proofs.lemmas.List.{reverse-append}
 use Rattle.gcx_base.specs.declared.steps.Step.{Step}
@@ -30,7 +30,7 @@ use Rattle.tree_laws.proofs.Chains.{hits_one}
 use Rattle.tree_laws.proofs.Matches.{Matches-in}
 use Rattle.buf_tree.specs.Shape.{Cell}
 use Rattle.buf_tree.specs.View.{View}
-use Rattle.pull_eval.specs.Asking.{IsBound}
+use Rattle.cond_eval.specs.Asking.{IsBound}
 use Rattle.pull_eval.specs.Position.{items, EndsWithOff, LooksInTime, SeenTo, AreFrames, alone, in_round, Copies, StandsAt}
 use Rattle.pull_eval.specs.Acting.{Beside, IsNextItem}
 use Rattle.pull_eval.specs.declared.block.Next.{Next}

@@ -1,15 +1,15 @@
 -- Beside a past the rows are those of the nodes that are held.
-use Rattle.std.proofs.Common.{◌≡◌, Bool, true, List, [], ◌∷◌, map, refl, sym, ◌∙◌, ap}
-use Rattle.gcx_model.specs.Tree.{Node, above}
+use Rattle.std.proofs.Common.{◌≡◌, Bool, List, [], ◌∷◌, map, refl, sym, ◌∙◌, ap}
+use Rattle.gcx_model.specs.Tree.{Node}
 use Rattle.gcx_model.specs.Held.{held, is_held}
 use Rattle.gcx_model.specs.Past.{Past}
 use Rattle.base_laws.proofs.Lists.{cons_head, cons_tail, nil_cons}
-use Rattle.tree_laws.proofs.Lists.{In, In-filter, In-kept}
+use Rattle.tree_laws.proofs.Lists.{In-filter, In-kept}
 use Rattle.past_laws.proofs.RowFacts.{held_above}
 use Rattle.buf_tree.specs.Shape.{Cell}
 use Rattle.buf_tree.specs.View.{View}
 use Rattle.buf_tree.specs.Stands.{Seen, seen, told, StandsFor}
-use Rattle.pull_eval.specs.Asking.{Facts, facts, node_facts, RowsOf}
+use Rattle.cond_eval.specs.Asking.{Facts, facts, node_facts, RowsOf}
 
 abbrev pub holds : Past → Node → Bool
 holds past n = is_held past.plan past.tree past.acts n

@@ -18,15 +18,15 @@ use Rattle.buf_tree.specs.Shape.{Cell, num}
 use Rattle.buf_tree.specs.View.{View, InUse}
 use Rattle.buf_tree.specs.Match.{Unreached, FirstReached, GoesFrom}
 use Rattle.node_store.specs.declared.store.Place.{Place}
-use Rattle.pull_eval.specs.Asking.{RowsOf, PlacedAt}
-use Rattle.pull_eval.specs.Reads.{NodeAt}
+use Rattle.cond_eval.specs.Asking.{RowsOf, PlacedAt}
+use Rattle.cond_eval.specs.Reads.{NodeAt}
 use Rattle.pull_eval.specs.Copies.{present_place}
 use Rattle.pull_eval.specs.Position.{Copies, IsCopy, PresentAt}
 use Rattle.pull_eval.specs.Acting.{Beside, NextIs, NoNext}
 use Rattle.pull_eval.specs.declared.block.Copying.{Copying}
 use Rattle.pull_eval.specs.declared.position.Position.{Position}
-use Rattle.pull_eval.proofs.Rows.{kept_at, at_node, at_placed, serial_told, closed_told}
-use Rattle.pull_eval.proofs.RowSteps.{first_found, none_found, later_found, none_later, from_match}
+use Rattle.cond_eval.proofs.Rows.{kept_at, at_node, at_placed, serial_told, closed_told}
+use Rattle.cond_eval.proofs.RowSteps.{first_found, none_found, later_found, none_later, from_match}
 use Rattle.pull_eval.proofs.HeldRows.{holds, held_rows}
 use Rattle.pull_eval.proofs.Needing.{held_now}
 use Rattle.pull_eval.proofs.Copying.{child_reached}

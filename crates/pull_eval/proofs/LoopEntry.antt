@@ -14,19 +14,20 @@ use Rattle.move_laws.proofs.Moving.{first_round, no_round, loop_waits}
 use Rattle.run_laws.proofs.Free.{loop_variable_free}
 use Rattle.buf_tree.specs.Shape.{Cell}
 use Rattle.buf_tree.specs.View.{View, serial_at}
-use Rattle.pull_eval.specs.Asking.{IsBound}
-use Rattle.pull_eval.specs.Bindings.{Bindings}
-use Rattle.pull_eval.specs.Reads.{NodeAt}
+use Rattle.cond_eval.specs.Asking.{IsBound}
+use Rattle.cond_eval.specs.Bindings.{Bindings}
+use Rattle.cond_eval.specs.Reads.{NodeAt}
 use Rattle.pull_eval.specs.Position.{items, SeenTo, AreFrames}
 use Rattle.pull_eval.specs.Weight.{weigh_block, weigh_blocks, weigh_copying, weight}
 use Rattle.pull_eval.specs.Acting.{Beside, IsNextItem, Moves}
-use Rattle.pull_eval.specs.Rounds.{Finds, from_seen, Began}
+use Rattle.cond_eval.specs.Searches.{Finds}
+use Rattle.pull_eval.specs.Rounds.{from_seen, Began}
 use Rattle.pull_eval.specs.declared.block.Round.{Round as CodeRound}
 use Rattle.pull_eval.specs.declared.block.Block.{Block}
 use Rattle.node_store.specs.declared.store.Place.{Place}
 use Rattle.pull_eval.specs.declared.position.Position.{Position}
 use Rattle.pull_eval.specs.declared.machine.Acted.TheVariants.{Blocked}
-use Rattle.pull_eval.proofs.Rows.{at_node, at_placed, closed_told}
+use Rattle.cond_eval.proofs.Rows.{at_node, at_placed, closed_told}
 use Rattle.pull_eval.proofs.HeldRows.{holds, held_rows}
 use Rattle.pull_eval.proofs.Frames.{LooksOn, at_item, goes_on, stands_plainly, below_pushed}
 use Rattle.pull_eval.proofs.Weighing.{weigh_pushed, weigh_on}

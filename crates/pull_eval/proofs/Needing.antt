@@ -12,7 +12,7 @@ use Rattle.tree_laws.proofs.Lists.{In-filter}
 use Rattle.tree_laws.proofs.Matches.{Matches-in}
 use Rattle.placed_laws.proofs.PointNeeds.{need_law, bound_law}
 use Rattle.buf_tree.specs.View.{View}
-use Rattle.pull_eval.specs.Asking.{IsBound}
+use Rattle.cond_eval.specs.Asking.{IsBound}
 use Rattle.pull_eval.specs.Acting.{Beside, IsNextItem}
 use Rattle.pull_eval.specs.declared.position.Position.{Position}
 use Rattle.pull_eval.proofs.HeldRows.{holds}

@@ -16,13 +16,13 @@ use Rattle.buf_tree.specs.Shape.{Cell, num}
 use Rattle.buf_tree.specs.Match.{Unreached, FirstReached}
 use Rattle.buf_tree.specs.View.{View}
 use Rattle.buf_tree.specs.Stands.{StandsFor}
-use Rattle.pull_eval.specs.Reads.{NodeAt}
+use Rattle.cond_eval.specs.Reads.{NodeAt}
 use Rattle.pull_eval.specs.Position.{KnowsNext, IsUpTo}
 use Rattle.pull_eval.specs.Rounds.{from_seen, Learnt}
 use Rattle.pull_eval.specs.declared.block.Next.{Next}
 use Rattle.pull_eval.specs.declared.block.Next.TheVariants.{Unsought, Found, NoneUpTo}
-use Rattle.pull_eval.proofs.Rows.{OfNode, node_for, serial_told, at_placed}
-use Rattle.pull_eval.proofs.RowSteps.{beyond, kept_matches, found, not_found, first_found, none_found, later_found, none_later}
+use Rattle.cond_eval.proofs.Rows.{OfNode, node_for, serial_told, at_placed}
+use Rattle.cond_eval.proofs.RowSteps.{beyond, kept_matches, found, not_found, first_found, none_found, later_found, none_later}
 use Rattle.pull_eval.proofs.HeldRows.{holds, held_rows}
 
 module _ (v : View) (past : Past) (s : StandsFor v past) where

@@ -1,5 +1,5 @@
 -- At the opening tree no role is taken before the first action.
-use Rattle.std.proofs.Common.{◌≡◌, ℕ, Bool, true, false, ◌&&◌, ◌+◌, List, [], length, ◌∙◌, ap, inl, inr}
+use Rattle.std.proofs.Common.{◌≡◌, ℕ, false, ◌&&◌, ◌+◌, List, [], length, ◌∙◌, ap, inl, inr}
 use Rattle.std.proofs.lemmas.Bool.{cases_Bool}
 use Rattle.gcx_model.specs.Tree.{Root, opening}
 use Rattle.gcx_model.specs.Members.{count}

@@ -24,10 +24,10 @@ use Rattle.node_store.specs.declared.store.Place.{Place}
 use Rattle.buf_tree.specs.Shape.{Cell, num}
 use Rattle.buf_tree.specs.Match.{GoesFrom}
 use Rattle.buf_tree.specs.View.{View, InUse, serial_at}
-use Rattle.gcx_base.specs.declared.ids.Serial.{Serial}
-use Rattle.pull_eval.specs.Asking.{PlacedAt, IsBound}
-use Rattle.pull_eval.specs.Bindings.{Bindings}
-use Rattle.pull_eval.specs.Reads.{NodeAt}
+use Rattle.cond_eval.specs.declared.watermark.Watermark.{Watermark}
+use Rattle.cond_eval.specs.Asking.{PlacedAt, IsBound}
+use Rattle.cond_eval.specs.Bindings.{Bindings}
+use Rattle.cond_eval.specs.Reads.{NodeAt}
 use Rattle.pull_eval.specs.Position.{items, KnowsNext, IsUpTo, LooksInTime, AreFrames, alone, in_round, none}
 use Rattle.pull_eval.specs.Weight.{weigh_body, weigh_round, weigh_block, weigh_blocks, weigh_copying, weight, rounds_left, rows_behind}
 use Rattle.pull_eval.specs.Acting.{Beside, Moves, IsOver, IsLast}
@@ -38,8 +38,8 @@ use Rattle.pull_eval.specs.declared.block.Round.{Round as CodeRound}
 use Rattle.pull_eval.specs.declared.block.Block.{Block}
 use Rattle.pull_eval.specs.declared.position.Position.{Position}
 use Rattle.pull_eval.specs.declared.machine.Acted.TheVariants.{Blocked}
-use Rattle.pull_eval.proofs.Rows.{kept_at, at_node, at_placed, closed_told}
-use Rattle.pull_eval.proofs.RowSteps.{seen_found, none_seen, from_match}
+use Rattle.cond_eval.proofs.Rows.{kept_at, at_node, at_placed, closed_told}
+use Rattle.cond_eval.proofs.RowSteps.{seen_found, none_seen, from_match}
 use Rattle.pull_eval.proofs.HeldRows.{holds, held_rows}
 use Rattle.pull_eval.proofs.Frames.{stands_plainly}
 use Rattle.pull_eval.proofs.Needing.{needed_held}
@@ -247,7 +247,7 @@ module _ (w : Position) (v : View) (past : Past) (k : ℕ) (b : Beside w v past 
     ends_there closed told row is = is_last (no_match (told_next None told)) (closed_is closed row ∙ is)
 
     -- the loop waits for its next match
-    round_waits_now : (n : Position) (u : Serial) → n.top ≡ record w.top { round = Some (record r { next = NoneUpTo u }) } → suc u.0 ≡ v.nodes → n.below.items ≡ w.below.items → n.env ≡ w.env → n.copying ≡ w.copying → n.is_begun ≡ w.is_begun
+    round_waits_now : (n : Position) (u : Watermark) → n.top ≡ record w.top { round = Some (record r { next = NoneUpTo u }) } → suc u.0 ≡ v.nodes → n.below.items ≡ w.below.items → n.env ≡ w.env → n.copying ≡ w.copying → n.is_begun ≡ w.is_begun
         → ms ≡ [] → is_closed P (t.env t.from) ≡ false → (out : List ℕ) → Moves past k w n v v out out (Some Blocked)
     round_waits_now n u top upto blocks env_is copying is_begun none_left open_still out =
         let fs = rest ∷ frame ∷ t.below in
@@ -263,7 +263,7 @@ module _ (w : Position) (v : View) (past : Past) (k : ℕ) (b : Beside w v past 
         let stands = stands_plainly n v.rows past.plan P k fs (copying ∙ no_copy) (is_begun ∙ begun) at.point.point frames bound in
         (round_waits past.plan P k (bind_var t.env x t.node) x t.from s e t.env t.node t.below over_point none_left open_still, refl, refl, beside_still w n v past k b stands)
 
-    pub waits_there : (n : Position) (u : Serial) → n.top ≡ record w.top { round = Some (record r { next = NoneUpTo u }) } → suc u.0 ≡ v.nodes → n.below.items ≡ w.below.items → n.env ≡ w.env → n.copying ≡ w.copying → n.is_begun ≡ w.is_begun
+    pub waits_there : (n : Position) (u : Watermark) → n.top ≡ record w.top { round = Some (record r { next = NoneUpTo u }) } → suc u.0 ≡ v.nodes → n.below.items ≡ w.below.items → n.env ≡ w.env → n.copying ≡ w.copying → n.is_begun ≡ w.is_begun
         → (closed : Bool) → NextTold None → ClosedTold closed → closed ≡ false → (out : List ℕ) → Moves past k w n v v out out (Some Blocked)
     waits_there n u top upto blocks env_is copying is_begun closed told row is out = round_waits_now n u top upto blocks env_is copying is_begun (no_match (told_next None told)) (closed_is closed row ∙ is) out
 

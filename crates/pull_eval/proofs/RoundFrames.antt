@@ -19,8 +19,8 @@ use Rattle.need_laws.proofs.Evaluator as over
 use Rattle.placed_laws.proofs.FromPlans.{from_state}
 use Rattle.buf_tree.specs.Shape.{Cell}
 use Rattle.buf_tree.specs.View.{View}
-use Rattle.pull_eval.specs.Asking.{PlacedAt, IsBound}
-use Rattle.pull_eval.specs.Bindings.{Bindings}
+use Rattle.cond_eval.specs.Asking.{PlacedAt, IsBound}
+use Rattle.cond_eval.specs.Bindings.{Bindings}
 use Rattle.pull_eval.specs.Position.{items, KnowsNext, LooksInTime, SeenTo, IsRound, AreFrames, alone, in_round}
 use Rattle.pull_eval.specs.Acting.{Beside}
 use Rattle.pull_eval.specs.declared.block.Round.{Round as CodeRound}

@@ -1,5 +1,5 @@
 -- A loop looks for its next match while a statement is still to come in its body.
-use Rattle.std.proofs.Common.{◌≡◌, ℕ, Bool, true, false, List, [], ◌∷◌, ◌++◌, reverse, Some, None, refl, sym, ◌∙◌, ap, subst, inl, inr}
+use Rattle.std.proofs.Common.{◌≡◌, ℕ, true, List, [], ◌∷◌, ◌++◌, reverse, Some, None, refl, sym, ◌∙◌, subst, inl, inr}
 use Rattle.gcx_model.specs.declared.item.Item.{Item}
 use Rattle.gcx_model.specs.declared.item.Item.TheVariants as item
 use Rattle.gcx_model.specs.declared.item.Off.{Off}
@@ -19,9 +19,9 @@ use Rattle.need_laws.proofs.Waits.{Has}
 use Rattle.buf_tree.specs.Shape.{Cell, num}
 use Rattle.buf_tree.specs.Match.{GoesFrom}
 use Rattle.buf_tree.specs.View.{View}
-use Rattle.pull_eval.specs.Asking.{IsBound}
-use Rattle.pull_eval.specs.Bindings.{Bindings}
-use Rattle.pull_eval.specs.Reads.{NodeAt}
+use Rattle.cond_eval.specs.Asking.{IsBound}
+use Rattle.cond_eval.specs.Bindings.{Bindings}
+use Rattle.cond_eval.specs.Reads.{NodeAt}
 use Rattle.pull_eval.specs.Position.{items, EndsWithOff, LooksInTime, AreFrames, in_round}
 use Rattle.pull_eval.specs.Acting.{Beside}
 use Rattle.pull_eval.specs.Rounds.{Learnt}
@@ -30,8 +30,8 @@ use Rattle.pull_eval.specs.declared.block.Next.TheVariants.{Unsought, Found, Non
 use Rattle.pull_eval.specs.declared.block.Round.{Round as CodeRound}
 use Rattle.pull_eval.specs.declared.block.Block.{Block}
 use Rattle.pull_eval.specs.declared.position.Position.{Position}
-use Rattle.pull_eval.proofs.Rows.{kept_at, at_node}
-use Rattle.pull_eval.proofs.RowSteps.{from_match}
+use Rattle.cond_eval.proofs.Rows.{kept_at, at_node}
+use Rattle.cond_eval.proofs.RowSteps.{from_match}
 use Rattle.pull_eval.proofs.HeldRows.{holds, held_rows}
 use Rattle.pull_eval.proofs.Frames.{fold_Off, stands_plainly}
 use Rattle.pull_eval.proofs.Needing.{needed_held}

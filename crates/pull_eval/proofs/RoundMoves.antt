@@ -15,8 +15,8 @@ use Rattle.tree_laws.proofs.Matches.{Matches-in}
 use Rattle.buf_tree.specs.Shape.{num}
 use Rattle.buf_tree.specs.Match.{Unreached, FirstReached}
 use Rattle.buf_tree.specs.View.{View, InUse}
-use Rattle.pull_eval.specs.Asking.{PlacedAt, IsBound}
-use Rattle.pull_eval.specs.Reads.{NodeAt}
+use Rattle.cond_eval.specs.Asking.{PlacedAt, IsBound}
+use Rattle.cond_eval.specs.Reads.{NodeAt}
 use Rattle.pull_eval.specs.Position.{items, AreFrames, in_round}
 use Rattle.pull_eval.specs.Weight.{weigh_body, weigh_block, rounds_left, rows_behind}
 use Rattle.pull_eval.specs.Acting.{Beside, IsNextItem}
@@ -25,7 +25,7 @@ use Rattle.pull_eval.specs.declared.block.Next.{Next}
 use Rattle.pull_eval.specs.declared.block.Round.{Round as CodeRound}
 use Rattle.pull_eval.specs.declared.block.Block.{Block}
 use Rattle.pull_eval.specs.declared.position.Position.{Position}
-use Rattle.pull_eval.proofs.Rows.{kept_at, at_node, at_placed}
+use Rattle.cond_eval.proofs.Rows.{kept_at, at_node, at_placed}
 use Rattle.pull_eval.proofs.HeldRows.{holds, held_rows}
 use Rattle.pull_eval.proofs.Frames.{at_item, begins_anew}
 use Rattle.pull_eval.proofs.Needing.{needed_held, used_in, used_bound, item_held}

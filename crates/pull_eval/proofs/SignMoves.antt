@@ -34,21 +34,23 @@ use Rattle.buf_tree.specs.Calls.{Signed, role_count}
 use Rattle.buf_tree.specs.Stands.{Seen, seen, told, StandsFor, Due}
 use Rattle.buf_tree.proofs.Bridging.{cell_node}
 use Rattle.buf_tree.proofs.Counts.{capped_twice}
-use Rattle.pull_eval.specs.Asking.{PlacedAt, IsBound}
-use Rattle.pull_eval.specs.Bindings.{Bindings}
-use Rattle.pull_eval.specs.Reads.{NodeAt}
+use Rattle.buf_tree.proofs.Signing.{has_live, has_signed}
+use Rattle.buf_tree.proofs.Departed.{departed_rows}
+use Rattle.cond_eval.specs.Asking.{PlacedAt, IsBound}
+use Rattle.cond_eval.specs.Bindings.{Bindings}
+use Rattle.cond_eval.specs.Reads.{NodeAt}
 use Rattle.pull_eval.specs.Position.{items, AreFrames}
 use Rattle.pull_eval.specs.Acting.{Beside, IsNextItem, Takes, SoughtRound, SamePlaces, leaving}
 use Rattle.pull_eval.specs.declared.block.Round.{Round as CodeRound}
 use Rattle.pull_eval.specs.declared.block.Block.{Block}
 use Rattle.pull_eval.specs.declared.position.Position.{Position}
 use Rattle.pull_eval.specs.declared.machine.Acted.TheVariants.{SignedOff}
-use Rattle.pull_eval.proofs.Rows.{kept_at, rows_rise}
+use Rattle.cond_eval.proofs.Rows.{kept_at, rows_rise}
 use Rattle.pull_eval.proofs.HeldRows.{holds, held_rows}
 use Rattle.pull_eval.proofs.Frames.{LooksOn, at_item, begins_anew, stands_plainly}
 use Rattle.pull_eval.proofs.Needing.{used_in, used_bound, item_held}
 use Rattle.pull_eval.proofs.RoundLooks.{sought_looks}
-use Rattle.pull_eval.proofs.SignedRows.{bound_fewer, frames_fewer, has_live, has_signed, roles_counted, departed_rows}
+use Rattle.pull_eval.proofs.SignedRows.{bound_fewer, frames_fewer, roles_counted}
 
 -- where the loop has looked for its next match, it looks in time at all that is left
 sought_on : (m : Option CodeRound) (is js : List Item) → SoughtRound m → LooksOn m is js

@@ -1,6 +1,6 @@
--- What a statement that is carried out leaves of the rows: their places, how many have a role, and which are gone.
-use Rattle.std.proofs.Common.{◌≡◌, ◌==◌, ◌||◌, ℕ, suc, Bool, true, false, not, cond, List, [], ◌∷◌, length, map, reverse, refl, sym, ◌∙◌, ap}
-use Rattle.std.specs.List.{filter, list_any}
+-- What a statement that is carried out leaves of the rows: their places, and how many have a role.
+use Rattle.std.proofs.Common.{◌≡◌, ℕ, suc, Bool, true, false, cond, List, [], ◌∷◌, length, map, refl, sym, ◌∙◌, ap}
+use Rattle.std.specs.List.{filter}
 use Rattle.std.specs.FinSet as set
 use Rattle.std.proofs.lemmas.Bool.{true≢false, false≢true}
 use Rattle.gcx_base.specs.declared.steps.Step.{Step}
@@ -8,19 +8,17 @@ use Rattle.gcx_model.specs.Tree.{Node, serial_of, Tree}
 use Rattle.gcx_model.specs.Paths.{matches}
 use Rattle.gcx_model.specs.Core.{BodyTree}
 use Rattle.gcx_model.specs.Truth.{Env}
-use Rattle.gcx_model.specs.Held.{held, live, roles_live, has_serial, departed}
-use Rattle.gcx_model.specs.Past.{Past, IsPast, is_signed, roles_signed}
+use Rattle.gcx_model.specs.Held.{held, live}
+use Rattle.gcx_model.specs.Past.{Past, IsPast}
 use Rattle.gcx_model.specs.Points.{Frame, later}
-use Rattle.base_laws.proofs.Lists.{map_reverse}
-use Rattle.past_laws.proofs.RowFacts.{row_tells}
-use Rattle.buf_tree.specs.Shape.{Cell, num}
-use Rattle.buf_tree.specs.Calls.{role_count, left_out}
+use Rattle.buf_tree.specs.Shape.{Cell}
+use Rattle.buf_tree.specs.Calls.{role_count}
 use Rattle.buf_tree.specs.Stands.{Seen, seen, told, StandsFor}
 use Rattle.buf_tree.specs.View.{View}
-use Rattle.buf_tree.proofs.Signing.{has_listed}
+use Rattle.buf_tree.proofs.Signing.{has_live}
 use Rattle.run_laws.specs.Sums.{live_at}
-use Rattle.pull_eval.specs.Asking.{PlacedAt, IsBound}
-use Rattle.pull_eval.specs.Bindings.{Bindings}
+use Rattle.cond_eval.specs.Asking.{PlacedAt, IsBound}
+use Rattle.cond_eval.specs.Bindings.{Bindings}
 use Rattle.pull_eval.specs.Position.{KnowsNext, IsRound, AreFrames, none, alone, in_round}
 use Rattle.pull_eval.specs.Acting.{SamePlaces}
 use Rattle.pull_eval.specs.declared.block.Next.{Next}
@@ -61,14 +59,6 @@ module _ (before now : List Cell) (same : SamePlaces before now) where
 
 -- ---- how many rows have a role
 
--- the roles of a row as a set are those live at its node, and the roles signed at it those signed
-
-pub has_live : (past : Past) → IsPast past → (n : Node) (r : ℕ) → set.contains (told past n).roles r ≡ live past.plan past.tree past.acts n r
-has_live past is n r = has_listed (roles_live past.plan past.tree past.acts n) r (live past.plan past.tree past.acts n r) (row_tells past is n r).0.0 (row_tells past is n r).0.1
-
-pub has_signed : (past : Past) → IsPast past → (n : Node) (r : ℕ) → set.contains (told past n).signed r ≡ is_signed past.plan past.acts n r
-has_signed past is n r = has_listed (roles_signed past.plan past.acts n) r (is_signed past.plan past.acts n r) (row_tells past is n r).1.0 (row_tells past is n r).1.1
-
 counted : (past : Past) (r : ℕ) (xs : List Cell) (ns : List Node) → IsPast past → map seen xs ≡ map (told past) ns → role_count r xs ≡ length (filter (λ n. live past.plan past.tree past.acts n r) ns)
 counted past r [] [] is e = refl
 counted past r [] (n ∷ ns) is e = absurd (cc)
@@ -93,52 +83,3 @@ counted past r (x ∷ xs) (n ∷ ns) is e = go (set.contains x.row.roles r) (liv
 
 pub roles_counted : (v : View) (past : Past) (r : ℕ) → StandsFor v past → role_count r v.rows ≡ length (live_at past.plan past.tree past.acts r)
 roles_counted v past r s = counted past r v.rows (held past.plan past.tree past.acts) s.is_past s.rows
-
--- ---- which rows are gone
-
--- a number is one of these
-abbrev is_one : ℕ → List ℕ → Bool
-is_one k ks = list_any (λ j. j == k) ks
-
-rows_one : (xs : List Cell) (k : ℕ) → list_any (λ d. num d == k) xs ≡ is_one k (map num xs)
-rows_one [] k = refl
-rows_one (x ∷ xs) k = ap (λ b. (num x == k) || b) (rows_one xs k)
-
-nodes_one : (ns : List Node) (k : ℕ) → has_serial ns k ≡ is_one k (map serial_of ns)
-nodes_one [] k = refl
-nodes_one (n ∷ ns) k = ap (λ b. (serial_of n == k) || b) (nodes_one ns k)
-
--- the numbers of what isn't among some
-module _ {X : Type 0} (f : X → ℕ) (stays : X → Bool) (ks : List ℕ) (same : (x : X) → stays x ≡ is_one (f x) ks) where
-  left : (xs : List X) → map f (filter (λ x. not (stays x)) xs) ≡ filter (λ k. not (is_one k ks)) (map f xs)
-  left [] = refl
-  left (x ∷ xs) = go (not (stays x)) (not (is_one (f x) ks)) (ap not (same x)) (left xs)
-    where
-      go : (a b : Bool) → a ≡ b → map f (filter (λ x. not (stays x)) xs) ≡ filter (λ k. not (is_one k ks)) (map f xs)
-          → map f (cond a (x ∷ filter (λ x. not (stays x)) xs) (filter (λ x. not (stays x)) xs)) ≡ cond b (f x ∷ filter (λ k. not (is_one k ks)) (map f xs)) (filter (λ k. not (is_one k ks)) (map f xs))
-      go true true e h = ap (λ (z : List ℕ). f x ∷ z) h
-      go true false e h = absurd (true≢false e)
-      go false true e h = absurd (false≢true e)
-      go false false e h = h
-
-  left_turned : (xs : List X) → map f (reverse (filter (λ x. not (stays x)) xs)) ≡ reverse (filter (λ k. not (is_one k ks)) (map f xs))
-  left_turned xs = map_reverse f (filter (λ x. not (stays x)) xs) ∙ ap reverse (left xs)
-
-numbers_same : (past : Past) (xs : List Cell) (ns : List Node) → map seen xs ≡ map (told past) ns → map num xs ≡ map serial_of ns
-numbers_same past [] [] e = refl
-numbers_same past [] (n ∷ ns) e = absurd (cc)
-numbers_same past (x ∷ xs) [] e = absurd (cc)
-numbers_same past (x ∷ xs) (n ∷ ns) e =
-    let first : seen x ≡ told past n = cc in
-    let more : map seen xs ≡ map (told past) ns = cc in
-    ap (λ (z : ℕ). z ∷ map num xs) (ap (λ (z : Seen). z.serial) first) ∙ ap (λ (z : List ℕ). serial_of n ∷ z) (numbers_same past xs ns more)
-
-pub departed_rows : (v w : View) (past next : Past) → StandsFor v past → StandsFor w next → left_out v.rows w.rows ≡ departed (held past.plan past.tree past.acts) (held next.plan next.tree next.acts)
-departed_rows v w past next s t =
-    let ns = held next.plan next.tree next.acts in
-    let was = numbers_same past v.rows (held past.plan past.tree past.acts) s.rows in
-    let now = numbers_same next w.rows ns t.rows in
-    left_turned num (λ c. list_any (λ d. num d == num c) w.rows) (map num w.rows) (λ c. rows_one w.rows (num c)) v.rows
-    ∙ (ap (λ (z : List ℕ). reverse (filter (λ k. not (is_one k (map num w.rows))) z)) was
-    ∙ (ap (λ (z : List ℕ). reverse (filter (λ k. not (is_one k z)) (map serial_of (held past.plan past.tree past.acts)))) now
-    ∙ sym (left_turned serial_of (λ n. has_serial ns (serial_of n)) (map serial_of ns) (λ n. nodes_one ns (serial_of n)) (held past.plan past.tree past.acts))))

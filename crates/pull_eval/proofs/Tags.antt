@@ -6,7 +6,7 @@ use Rattle.gcx_base.specs.declared.kind.Kind.{Kind}
 use Rattle.gcx_model.specs.Members.{In}
 use Rattle.node_store.specs.Rows.{Entry, parent_of}
 use Rattle.node_store.specs.declared.store.Place.{Place}
-use Rattle.buf_tree.specs.declared.row.Row.{Row}
+use Rattle.buf_tree.specs.Row.{Row}
 use Rattle.buf_tree.specs.Shape.{Store, Cell, num, Shape}
 use Rattle.buf_tree.specs.Match.{IsChild}
 use Rattle.buf_tree.proofs.Shaping.{get_of, rising_same}

@@ -1,5 +1,5 @@
 -- How a position goes on behind a write, up into a branch, and down to the block below.
-use Rattle.std.proofs.Common.{◌≡◌, ◌<◌, ◌+◌, suc, ℕ, true, List, [], ◌∷◌, ◌++◌, length, reverse, Option, None, refl, sym, ◌∙◌, ap, subst, inl, inr, arith}
+use Rattle.std.proofs.Common.{◌≡◌, ◌<◌, suc, ℕ, true, List, [], ◌∷◌, ◌++◌, length, reverse, Option, None, refl, sym, ◌∙◌, ap, subst, inl, inr, arith}
 use Rattle.gcx_model.specs.Tree.{Node, Tree, opening}
 use Rattle.gcx_model.specs.Core.{CondTree, BodyTree, Nil, Then, Write, If, PlanTree}
 use Rattle.gcx_model.specs.Truth.{Env, bind_var}
@@ -11,8 +11,8 @@ use Rattle.move_laws.specs.Moves.{AtPoint, IsNext, NoneLeft}
 use Rattle.move_laws.proofs.Moving.{write_move, branch_move, empty_rest, last_round, run_is_done}
 use Rattle.buf_tree.specs.Shape.{Cell}
 use Rattle.buf_tree.specs.View.{View}
-use Rattle.pull_eval.specs.Asking.{IsBound}
-use Rattle.pull_eval.specs.Bindings.{Bindings}
+use Rattle.cond_eval.specs.Asking.{IsBound}
+use Rattle.cond_eval.specs.Bindings.{Bindings}
 use Rattle.pull_eval.specs.Position.{items, AreFrames, none, alone, in_round, Copies}
 use Rattle.pull_eval.specs.Weight.{weigh_body, weigh_item, weigh_round, weigh_blocks, weigh_copying, weight}
 use Rattle.pull_eval.specs.Acting.{Beside, IsNextItem, Chosen, IsOver}

@@ -16,7 +16,7 @@ use Rattle.move_laws.specs.Moves.{IsNext, NoneLeft}
 use Rattle.buf_tree.specs.Shape.{Cell, num}
 use Rattle.buf_tree.specs.View.{View, capped}
 use Rattle.buf_tree.specs.Stands.{StandsFor}
-use Rattle.pull_eval.specs.Asking.{PlacedAt}
+use Rattle.cond_eval.specs.Asking.{PlacedAt}
 use Rattle.pull_eval.specs.Position.{StandsAt, items}
 use Rattle.pull_eval.specs.Weight.{weight}
 use Rattle.pull_eval.specs.declared.position.Position.{Position}

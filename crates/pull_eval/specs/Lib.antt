@@ -1,12 +1,6 @@
-pub mod Bindings
-pub mod Asking
 pub mod Position
 pub mod Weight
 pub mod Acting
+pub mod Calls
 pub mod Rounds
-pub mod Literals
-pub mod Marks
-pub mod Reads
 pub mod Copies
-pub mod MarkStays
-pub mod Comparing

@@ -16,7 +16,7 @@ use Rattle.gcx_model.specs.declared.item.Item.TheVariants as item
 use Rattle.gcx_model.specs.declared.item.Off.{Off}
 use Rattle.node_store.specs.declared.store.Place.{Place}
 use Rattle.buf_tree.specs.Shape.{Cell}
-use Rattle.pull_eval.specs.Asking.{PlacedAt, IsBound}
+use Rattle.cond_eval.specs.Asking.{PlacedAt, IsBound}
 use Rattle.pull_eval.specs.declared.block.Next.{Next}
 use Rattle.pull_eval.specs.declared.block.Next.TheVariants.{Unsought, Found, NoneUpTo}
 use Rattle.pull_eval.specs.declared.block.Round.{Round as CodeRound}

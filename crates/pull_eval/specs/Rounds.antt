@@ -1,27 +1,18 @@
 -- What a loop finds of its matches among the rows, and how its body begins. Private functions alone speak of it.
-use Rattle.std.specs.Prelude.{◌≡◌, ℕ, zero, suc, List, Option, Some, None}
+use Rattle.std.specs.Prelude.{◌≡◌, ℕ, zero, suc, List, Option, Some}
 use Rattle.std.specs.FinMap as map
 use Rattle.gcx_base.specs.declared.steps.Step.{Step}
 use Rattle.gcx_model.specs.Members.{In}
 use Rattle.node_store.specs.declared.store.Place.{Place}
 use Rattle.buf_tree.specs.Shape.{Cell, num}
-use Rattle.buf_tree.specs.Match.{Unreached, FirstReached}
+use Rattle.buf_tree.specs.Match.{Unreached}
 use Rattle.buf_tree.specs.View.{View, serial_at}
+use Rattle.cond_eval.specs.Searches.{IsFirst, Finds}
 use Rattle.pull_eval.specs.Position.{LooksInTime}
 use Rattle.pull_eval.specs.declared.block.Next.{Next}
 use Rattle.pull_eval.specs.declared.block.Next.TheVariants.{Unsought, Found, NoneUpTo}
 use Rattle.pull_eval.specs.declared.block.Round.{Round}
 use Rattle.pull_eval.specs.declared.position.Position.{Position}
-
--- the place of the first row that the step reaches from the row c, of those with a serial above `after`; it is the only row there
-pub record IsFirst (rows : List Cell) (c : Cell) (s : Step) (after p : ℕ) : Type 0 where
-  pub first : FirstReached rows c s after p
-  pub serial : serial_at p rows ≡ num first.cell
-
--- it is found, or there is none
-abbrev pub Finds : List Cell → Cell → Step → (after : ℕ) → Option Place → Type 0
-Finds rows c s after None = Unreached rows c s after
-Finds rows c s after (Some p) = IsFirst rows c s after p.0
 
 -- from where a loop looks for its first match: from the row itself, where nothing is known
 abbrev pub from_seen : Cell → (seen : ℕ) → ℕ

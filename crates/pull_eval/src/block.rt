@@ -2,7 +2,8 @@
 ghost use Rattle.std.specs.Prelude.{◌≡◌, true, false, None};
 ghost use Rattle.pull_eval.specs.Position.{EndsWithOff};
 
-use gcx_base::{Serial, Step, VarId};
+use cond_eval::Watermark;
+use gcx_base::{Step, VarId};
 use gcx_model::Item;
 use node_store::Place;
 
@@ -13,8 +14,8 @@ pub(crate) enum Next {
     Unsought,
     /// The match, which is held until its own round is over.
     Found(Place),
-    /// There is none with a serial up to this one.
-    NoneUpTo(Serial),
+    /// There is none up to here.
+    NoneUpTo(Watermark),
 }
 
 /// A loop at one of its matches.

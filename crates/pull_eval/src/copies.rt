@@ -1,5 +1,5 @@
 //! Copies of nodes, tag by tag.
-ghost use Rattle.std.specs.Prelude.{◌≡◌, ◌≤◌, ◌<◌, ◌-◌, ◌++◌, ℕ, true, [], length, Some, None, IfOk, OnOk, OnErr, MatchOption};
+ghost use Rattle.std.specs.Prelude.{◌≡◌, ◌≤◌, ◌<◌, ◌-◌, ◌++◌, ℕ, true, length, Some, None, IfOk, OnOk, OnErr};
 ghost use Rattle.gcx_model.specs.Core.{Copy};
 ghost use Rattle.gcx_model.specs.Members.{In};
 ghost use Rattle.gcx_model.specs.Past.{Past};
@@ -7,17 +7,18 @@ ghost use Rattle.gcx_model.specs.Answer.{child_step};
 ghost use Rattle.buf_tree.specs.Shape.{Cell, num};
 ghost use Rattle.buf_tree.specs.View.{InUse};
 ghost use Rattle.gcx_base.specs.Kinds.{is_text};
-ghost use Rattle.buf_tree.specs.Match.{Unreached, FirstReached, IsChild, GoesFrom};
+ghost use Rattle.buf_tree.specs.Match.{IsChild, GoesFrom};
 ghost use Rattle.pull_eval.specs.Position.{items};
 ghost use Rattle.pull_eval.specs.Copies.{first_bytes, last_bytes, present_place, begun_at, come_to, risen};
-ghost use Rattle.pull_eval.specs.Acting.{Beside, Moves, IsNextItem, NextIs, NoNext};
+ghost use Rattle.pull_eval.specs.Acting.{Beside, IsNextItem, NextIs, NoNext};
+ghost use Rattle.pull_eval.specs.Calls.{MovesTo, FindsChild};
 ghost use Rattle.pull_eval.specs.declared.machine.Acted.TheVariants.{Wrote};
 
 use crate::block::Copying;
-use crate::env::place_of;
 use crate::machine::Acted;
 use crate::position::Position;
 use buf_tree::{Buffer, Row};
+use cond_eval::place_of;
 use doc_write::{put_end, put_start, put_text};
 use gcx_base::{Axis, Kind, Memory, Step, Test, VarId};
 use gcx_model::Item;
@@ -46,7 +47,7 @@ fn behind(copying: &Copying) -> Place
 /// The next child behind the one that is present.
 fn next_child<N: NodeStore<Row>>(buffer: &Buffer<N>, copying: &Copying) -> Option<Place>
     requires { GoesFrom buffer.now.rows copying.now.node.0 child_step.axis (present_place copying.now).0 }
-    ensures { (c d : Cell) → In c buffer.now.rows → In d buffer.now.rows → c.place ≡ copying.now.node.0 → d.place ≡ (present_place copying.now).0 → MatchOption result (Unreached buffer.now.rows c child_step (num d)) (λ p. FirstReached buffer.now.rows c child_step (num d) p.0) }
+    ensures { FindsChild buffer.now.rows copying.now.node.0 (present_place copying.now).0 result }
 {
     buffer.match_behind(copying.node, &to_children(), behind(copying))
 }
@@ -66,7 +67,8 @@ fn put_begin<N: NodeStore<Row>>(
     out: &mut Vec<u8>,
 ) -> Result<(), Memory>
     requires { InUse buffer.now.rows place.0 }
-    ensures ok { OnOk result ((c : Cell) → In c buffer.now.rows → c.place ≡ place.0 → out.new.items ≡ out.old.items ++ first_bytes c.row.kind) }
+    ensures ok { OnOk result ((c : Cell) → In c buffer.now.rows → c.place ≡ place.0
+        → out.new.items ≡ out.old.items ++ first_bytes c.row.kind) }
     ensures err { OnErr result (out.new.items ≡ out.old.items) }
 {
     match kind_at(buffer, place) {
@@ -83,7 +85,8 @@ fn put_ending<N: NodeStore<Row>>(
     out: &mut Vec<u8>,
 ) -> Result<(), Memory>
     requires { InUse buffer.now.rows place.0 }
-    ensures ok { OnOk result ((c : Cell) → In c buffer.now.rows → c.place ≡ place.0 → out.new.items ≡ out.old.items ++ last_bytes c.row.kind) }
+    ensures ok { OnOk result ((c : Cell) → In c buffer.now.rows → c.place ≡ place.0
+        → out.new.items ≡ out.old.items ++ last_bytes c.row.kind) }
     ensures err { OnErr result (out.new.items ≡ out.old.items) }
 {
     match kind_at(buffer, place) {
@@ -150,7 +153,7 @@ impl<'p> Position<'p> {
         requires next { IsNextItem self.old (Copy var.0) (items rest.now) }
         requires begun { self.old.is_begun ≡ true }
         requires beside { (past : Past) × (k : ℕ) × Beside self.old buffer.now past k }
-        ensures moved { IfOk result (λ a. (past : Past) (k : ℕ) → Beside self.old buffer.now past k → Moves past k self.old self.new buffer.now buffer.now out.old.items out.new.items a) }
+        ensures moved { IfOk result (λ a. MovesTo self.old self.new buffer.now buffer.now out.old.items out.new.items a) }
         ensures begun { self.new.is_begun ≡ true }
         ensures err { OnErr result (out.new.items ≡ out.old.items) }
     {
@@ -172,7 +175,7 @@ impl<'p> Position<'p> {
         requires copying { self.old.copying ≡ Some copying }
         requires begun { self.old.is_begun ≡ true }
         requires beside { (past : Past) × (k : ℕ) × Beside self.old buffer.now past k }
-        ensures moved { IfOk result (λ a. (past : Past) (k : ℕ) → Beside self.old buffer.now past k → Moves past k self.old self.new buffer.now buffer.now out.old.items out.new.items a) }
+        ensures moved { IfOk result (λ a. MovesTo self.old self.new buffer.now buffer.now out.old.items out.new.items a) }
         ensures begun { self.new.is_begun ≡ true }
         ensures err { OnErr result (out.new.items ≡ out.old.items) }
     {
@@ -198,8 +201,9 @@ impl<'p> Position<'p> {
         requires copying { self.old.copying ≡ Some copying }
         requires begun { self.old.is_begun ≡ true }
         requires used { InUse buffer.now.rows child.0 }
-        requires next { (past : Past) (k : ℕ) → (b : Beside self.old buffer.now past k) → NextIs buffer.now.rows past.tree b.position.inner child.0 }
-        ensures moved { IfOk result (λ a. (past : Past) (k : ℕ) → Beside self.old buffer.now past k → Moves past k self.old self.new buffer.now buffer.now out.old.items out.new.items a) }
+        requires next { (past : Past) (k : ℕ) → (b : Beside self.old buffer.now past k)
+            → NextIs buffer.now.rows past.tree b.position.inner child.0 }
+        ensures moved { IfOk result (λ a. MovesTo self.old self.new buffer.now buffer.now out.old.items out.new.items a) }
         ensures begun { self.new.is_begun ≡ true }
         ensures err { OnErr result (out.new.items ≡ out.old.items) }
     {
@@ -219,8 +223,9 @@ impl<'p> Position<'p> {
         requires copying { self.old.copying ≡ Some copying }
         requires begun { self.old.is_begun ≡ true }
         requires used { InUse buffer.now.rows copying.node.0 }
-        requires over { (past : Past) (k : ℕ) → (b : Beside self.old buffer.now past k) → NoNext past.tree b.position.inner }
-        ensures moved { IfOk result (λ a. (past : Past) (k : ℕ) → Beside self.old buffer.now past k → Moves past k self.old self.new buffer.now buffer.now out.old.items out.new.items a) }
+        requires over { (past : Past) (k : ℕ) → (b : Beside self.old buffer.now past k)
+            → NoNext past.tree b.position.inner }
+        ensures moved { IfOk result (λ a. MovesTo self.old self.new buffer.now buffer.now out.old.items out.new.items a) }
         ensures begun { self.new.is_begun ≡ true }
         ensures err { OnErr result (out.new.items ≡ out.old.items) }
     {
@@ -235,7 +240,9 @@ impl<'p> Position<'p> {
 fn above<N: NodeStore<Row>>(buffer: &Buffer<N>, copying: &Copying) -> Option<Copying>
     requires { InUse buffer.now.rows copying.now.node.0 }
     ensures top { copying.now.node.0 ≡ copying.now.top.0 → result ≡ None }
-    ensures below { (c d t : Cell) → In c buffer.now.rows → In d buffer.now.rows → In t buffer.now.rows → c.place ≡ copying.now.node.0 → t.place ≡ copying.now.top.0 → num t < num c → IsChild d c → result ≡ Some (risen copying.now d.place) }
+    ensures below { (c d t : Cell) → In c buffer.now.rows → In d buffer.now.rows → In t buffer.now.rows
+        → c.place ≡ copying.now.node.0 → t.place ≡ copying.now.top.0 → num t < num c → IsChild d c
+        → result ≡ Some (risen copying.now d.place) }
 {
     let node = buffer.at(copying.node);
     if copying.node.0 == copying.top.0 {

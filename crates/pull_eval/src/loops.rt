@@ -1,5 +1,5 @@
 //! Loops: from match to match.
-ghost use Rattle.std.specs.Prelude.{◌≡◌, ◌<◌, suc, ℕ, true, [], List, Some, None, IfOk};
+ghost use Rattle.std.specs.Prelude.{◌≡◌, ◌<◌, ℕ, true, [], Some, None, IfOk};
 ghost use Rattle.gcx_model.specs.Members.{In};
 ghost use Rattle.gcx_model.specs.Core.{For};
 ghost use Rattle.gcx_model.specs.Past.{Past};
@@ -7,27 +7,20 @@ ghost use Rattle.buf_tree.specs.Shape.{Cell, num};
 ghost use Rattle.buf_tree.specs.View.{InUse};
 ghost use Rattle.buf_tree.specs.Match.{GoesFrom};
 ghost use Rattle.pull_eval.specs.Position.{items};
-ghost use Rattle.pull_eval.specs.Acting.{Beside, Moves, IsNextItem, IsSought};
-ghost use Rattle.pull_eval.specs.Rounds.{Finds, from_seen, Learnt, GoesOnAt, Began};
+ghost use Rattle.pull_eval.specs.Acting.{Beside, IsNextItem, IsSought};
+ghost use Rattle.pull_eval.specs.Calls.{MovesSilently};
+ghost use Rattle.cond_eval.specs.Searches.{Finds};
+ghost use Rattle.pull_eval.specs.Rounds.{from_seen, Learnt, GoesOnAt, Began};
 ghost use Rattle.pull_eval.specs.declared.block.Next.TheVariants.{Unsought};
 
 use crate::block::{Block, Next, Round, ends_with_off};
-use crate::env::place_of;
 use crate::machine::Acted;
 use crate::position::Position;
 use buf_tree::{Buffer, Row};
-use gcx_base::{Memory, Serial, Step, VarId};
+use cond_eval::{Watermark, place_of};
+use gcx_base::{Memory, Step, VarId};
 use gcx_model::Item;
 use node_store::{NodeStore, Place};
-
-/// The serial of the newest node.
-#[inline(always)]
-fn newest<N: NodeStore<Row>>(buffer: &Buffer<N>) -> u64
-    requires { 0 < buffer.now.nodes }
-    ensures { suc result ≡ buffer.now.nodes }
-{
-    buffer.nodes() - 1
-}
 
 /// The first match with a serial above `seen`, up to which there is none. 0: nothing is known.
 #[inline(always)]
@@ -39,31 +32,13 @@ fn first_match<N: NodeStore<Row>>(
 ) -> Option<Place>
     requires used { InUse buffer.now.rows context.0 }
     requires below { (c : Cell) → In c buffer.now.rows → num c < buffer.now.nodes }
-    ensures { (c : Cell) → In c buffer.now.rows → c.place ≡ context.0 → Finds buffer.now.rows c step.now (from_seen c seen) result }
+    ensures { (c : Cell) → In c buffer.now.rows → c.place ≡ context.0
+        → Finds buffer.now.rows c step.now (from_seen c seen) result }
 {
     if seen == 0 {
         buffer.match_behind(context, step, context)
     } else {
-        new_match(buffer, context, step, seen)
-    }
-}
-
-/// The first match among the nodes behind this serial.
-#[inline(always)]
-fn new_match<N: NodeStore<Row>>(
-    buffer: &Buffer<N>,
-    context: Place,
-    step: &Step,
-    after: u64,
-) -> Option<Place>
-    requires used { InUse buffer.now.rows context.0 }
-    requires below { (c : Cell) → In c buffer.now.rows → num c < buffer.now.nodes }
-    ensures { (c : Cell) → In c buffer.now.rows → c.place ≡ context.0 → Finds buffer.now.rows c step.now after result }
-{
-    if after < newest(buffer) {
-        buffer.next_match(context, step, Serial(after))
-    } else {
-        None
+        Watermark(seen).new_match(buffer, context, step)
     }
 }
 
@@ -77,12 +52,13 @@ fn match_behind<N: NodeStore<Row>>(
 ) -> Next
     requires goes { GoesFrom buffer.now.rows context.0 step.now.axis from.0 }
     requires some { 0 < buffer.now.nodes }
-    ensures learnt { (c d : Cell) → In c buffer.now.rows → In d buffer.now.rows → c.place ≡ context.0 → d.place ≡ from.0 → Learnt buffer.now c step.now (num d) result }
+    ensures learnt { (c d : Cell) → In c buffer.now.rows → In d buffer.now.rows → c.place ≡ context.0 → d.place ≡ from.0
+        → Learnt buffer.now c step.now (num d) result }
     ensures sought { result ≡ Unsought → ⊥ }
 {
     match buffer.match_behind(context, step, from) {
         Some(place) => Next::Found(place),
-        None => Next::NoneUpTo(Serial(newest(buffer))),
+        None => Next::NoneUpTo(Watermark::newest(buffer)),
     }
 }
 
@@ -97,11 +73,12 @@ fn next_of<N: NodeStore<Row>>(
     requires used { InUse buffer.now.rows context.0 }
     requires below { (c : Cell) → In c buffer.now.rows → num c < buffer.now.nodes }
     requires sought { next ≡ Unsought → ⊥ }
-    ensures { (c : Cell) → In c buffer.now.rows → c.place ≡ context.0 → GoesOnAt buffer.now.rows c step.now next result }
+    ensures { (c : Cell) → In c buffer.now.rows → c.place ≡ context.0
+        → GoesOnAt buffer.now.rows c step.now next result }
 {
     match next {
         Next::Found(place) => Some(place),
-        Next::NoneUpTo(seen) => new_match(buffer, context, step, seen.0),
+        Next::NoneUpTo(mark) => mark.new_match(buffer, context, step),
         Next::Unsought => unreachable!(),
     }
 }
@@ -121,7 +98,7 @@ impl<'p> Position<'p> {
         requires begun { self.old.is_begun ≡ true }
         requires beside { (past : Past) × (k : ℕ) × Beside self.old buffer.now past k }
         ensures begun { IfOk result (λ _. self.new.is_begun ≡ true) }
-        ensures moved { IfOk result (λ a. (past : Past) (k : ℕ) (out : List ℕ) → Beside self.old buffer.now past k → Moves past k self.old self.new buffer.now buffer.now out out a) }
+        ensures moved { IfOk result (λ a. MovesSilently self.old self.new buffer.now buffer.now a) }
     {
         let (var, from) = vars;
         let context = place_of(&self.env, from);
@@ -144,7 +121,8 @@ impl<'p> Position<'p> {
                     self.top.go_on(rest);
                     return Ok(None);
                 }
-                self.top.seen = newest(buffer);
+                let seen = Watermark::newest(buffer);
+                self.top.seen = seen.0;
                 Ok(Some(Acted::Blocked))
             }
         }
@@ -209,7 +187,7 @@ impl<'p> Position<'p> {
         requires begun { self.old.is_begun ≡ true }
         requires beside { (past : Past) × (k : ℕ) × Beside self.old buffer.now past k }
         ensures begun { IfOk result (λ _. self.new.is_begun ≡ true) }
-        ensures moved { IfOk result (λ a. (past : Past) (k : ℕ) (out : List ℕ) → Beside self.old buffer.now past k → Moves past k self.old self.new buffer.now buffer.now out out a) }
+        ensures moved { IfOk result (λ a. MovesSilently self.old self.new buffer.now buffer.now a) }
     {
         match self.top.round {
             Some(round) => self.next_round(round, buffer),
@@ -230,7 +208,7 @@ impl<'p> Position<'p> {
         requires begun { self.old.is_begun ≡ true }
         requires beside { (past : Past) × (k : ℕ) × Beside self.old buffer.now past k }
         ensures begun { IfOk result (λ _. self.new.is_begun ≡ true) }
-        ensures moved { IfOk result (λ a. (past : Past) (k : ℕ) (out : List ℕ) → Beside self.old buffer.now past k → Moves past k self.old self.new buffer.now buffer.now out out a) }
+        ensures moved { IfOk result (λ a. MovesSilently self.old self.new buffer.now buffer.now a) }
     {
         match next_of(buffer, round.context, round.step, round.next) {
             Some(present) => self.begin_round(Round { present, ..round }, buffer),
@@ -238,7 +216,7 @@ impl<'p> Position<'p> {
                 if buffer.is_closed(round.context) {
                     return Ok(self.go_below());
                 }
-                let next = Next::NoneUpTo(Serial(newest(buffer)));
+                let next = Next::NoneUpTo(Watermark::newest(buffer));
                 self.top.round = Some(Round { next, ..round });
                 Ok(Some(Acted::Blocked))
             }

@@ -1,17 +1,18 @@
 //! The evaluator.
-ghost use Rattle.std.specs.Prelude.{◌≡◌, ℕ, true, List, None, IfOk, OnErr};
+ghost use Rattle.std.specs.Prelude.{◌≡◌, true, None, IfOk, OnErr};
 ghost use Rattle.gcx_model.specs.Core.{If};
 ghost use Rattle.gcx_model.specs.CondView.{core_cond_tree};
 ghost use Rattle.gcx_model.specs.PlanView.{plan_tree};
-ghost use Rattle.gcx_model.specs.Past.{Past, opening_past};
+ghost use Rattle.gcx_model.specs.Past.{opening_past};
 ghost use Rattle.buf_tree.specs.View.{View};
 ghost use Rattle.buf_tree.specs.Stands.{StandsFor};
 ghost use Rattle.pull_eval.specs.Position.{items};
-ghost use Rattle.pull_eval.specs.Acting.{Beside, MayAct, Acts, Moves, MovesOn, IsNextItem};
+ghost use Rattle.pull_eval.specs.Acting.{Beside, MayAct, Acts, MovesOn, IsNextItem};
+ghost use Rattle.pull_eval.specs.Calls.{MovesAsking};
 
-use crate::conds::Conds;
 use crate::position::Position;
 use buf_tree::{Buffer, Row};
+use cond_eval::Conds;
 use gcx_base::{Memory, Role, Serial};
 use gcx_model::{Cond, Item, Plan, Truth};
 use node_store::NodeStore;
@@ -40,7 +41,8 @@ pub struct Machine<'p, C> {
 impl<'p, C: Conds> Machine<'p, C> {
     /// A machine before the first action of the plan.
     pub fn new(alloc: Global, plan: &'p Plan, conds: C) -> Result<Machine<'p, C>, Memory>
-        ensures stands { IfOk result (λ m. (v : View) → StandsFor v (opening_past (plan_tree plan.now)) → v.taken ≡ 0 → Beside m.position v (opening_past (plan_tree plan.now)) 0) }
+        ensures stands { IfOk result (λ m. (v : View) → StandsFor v (opening_past (plan_tree plan.now)) → v.taken ≡ 0
+            → Beside m.position v (opening_past (plan_tree plan.now)) 0) }
         ensures conds { IfOk result (λ m. m.conds ≡ conds) }
     {
         Ok(Machine {
@@ -60,6 +62,7 @@ impl<'p, C: Conds> Machine<'p, C> {
     /// out in the buffer.
     ///
     /// After `Memory` the output is as before, and no further call may be made.
+    #[inline(always)]
     pub fn act<N: NodeStore<Row>>(
         &mut self,
         alloc: Global,
@@ -67,7 +70,8 @@ impl<'p, C: Conds> Machine<'p, C> {
         out: &mut Vec<u8>,
     ) -> Result<Acted, Memory>
         requires { MayAct (C.stands self.old.conds) self.old.position buffer.old }
-        ensures acts { IfOk result (λ a. Acts (C.stands self.old.conds) (C.stands self.new.conds) self.old.position self.new.position buffer.old buffer.new out.old.items out.new.items a) }
+        ensures acts { IfOk result (λ a. Acts (C.stands self.old.conds) (C.stands self.new.conds)
+            self.old.position self.new.position buffer.old buffer.new out.old.items out.new.items a) }
         ensures err { OnErr result (out.new.items ≡ out.old.items) }
         ensures kept { OnErr result (buffer.new ≡ buffer.old) }
         ensures most { buffer.new.most ≡ buffer.old.most }
@@ -91,7 +95,8 @@ impl<'p, C: Conds> Machine<'p, C> {
     ) -> Result<Option<Acted>, Memory>
         requires may { MayAct (C.stands self.old.conds) self.old.position buffer.old }
         requires begun { self.old.position.is_begun ≡ true }
-        ensures moves { IfOk result (λ a. MovesOn (C.stands self.old.conds) (C.stands self.new.conds) self.old.position self.new.position buffer.old buffer.new out.old.items out.new.items a) }
+        ensures moves { IfOk result (λ a. MovesOn (C.stands self.old.conds) (C.stands self.new.conds)
+            self.old.position self.new.position buffer.old buffer.new out.old.items out.new.items a) }
         ensures begun { IfOk result (λ _. self.new.position.is_begun ≡ true) }
         ensures err { OnErr result (out.new.items ≡ out.old.items) }
         ensures kept { OnErr result (buffer.new ≡ buffer.old) }
@@ -115,7 +120,8 @@ impl<'p, C: Conds> Machine<'p, C> {
         requires may { MayAct (C.stands self.old.conds) self.old.position buffer.old }
         requires begun { self.old.position.is_begun ≡ true }
         requires no_copy { self.old.position.copying ≡ None }
-        ensures moves { IfOk result (λ a. MovesOn (C.stands self.old.conds) (C.stands self.new.conds) self.old.position self.new.position buffer.old buffer.new out.old.items out.new.items a) }
+        ensures moves { IfOk result (λ a. MovesOn (C.stands self.old.conds) (C.stands self.new.conds)
+            self.old.position self.new.position buffer.old buffer.new out.old.items out.new.items a) }
         ensures begun { IfOk result (λ _. self.new.position.is_begun ≡ true) }
         ensures err { OnErr result (out.new.items ≡ out.old.items) }
         ensures kept { OnErr result (buffer.new ≡ buffer.old) }
@@ -152,10 +158,12 @@ impl<'p, C: Conds> Machine<'p, C> {
         rest: &'p [Item],
         buffer: &Buffer<N>,
     ) -> Result<Option<Acted>, Memory>
-        requires next { IsNextItem self.old.position (If (core_cond_tree cond.now) (items branches.0.now) (items branches.1.now)) (items rest.now) }
+        requires next { IsNextItem self.old.position
+            (If (core_cond_tree cond.now) (items branches.0.now) (items branches.1.now)) (items rest.now) }
         requires begun { self.old.position.is_begun ≡ true }
         requires may { MayAct (C.stands self.old.conds) self.old.position buffer.now }
-        ensures moved { IfOk result (λ a. (past : Past) (k : ℕ) (out : List ℕ) → Beside self.old.position buffer.now past k → C.stands self.old.conds past.tree → Moves past k self.old.position self.new.position buffer.now buffer.now out out a × C.stands self.new.conds past.tree) }
+        ensures moved { IfOk result (λ a. MovesAsking (C.stands self.old.conds) (C.stands self.new.conds)
+            self.old.position self.new.position buffer.now a) }
         ensures begun { IfOk result (λ _. self.new.position.is_begun ≡ true) }
     {
         let (then, other) = branches;

@@ -1,7 +1,7 @@
 //! Where a machine stands, and its moves but for those that ask conditions.
-ghost use Rattle.std.specs.Prelude.{◌≡◌, ℕ, true, false, [], List, None, IfOk, OnOk, OnErr};
+ghost use Rattle.std.specs.Prelude.{◌≡◌, ℕ, true, false, [], None, IfOk, OnOk, OnErr};
 ghost use Rattle.gcx_model.specs.Core as tree;
-ghost use Rattle.gcx_model.specs.Core.{Write, If, CondTree, BodyTree};
+ghost use Rattle.gcx_model.specs.Core.{Write};
 ghost use Rattle.gcx_model.specs.Members.{In};
 ghost use Rattle.gcx_model.specs.Placed.{offs_in};
 ghost use Rattle.gcx_model.specs.Run.{Offed};
@@ -11,12 +11,13 @@ ghost use Rattle.buf_tree.specs.Stands.{StandsFor, Due};
 ghost use Rattle.gcx_model.specs.ItemView.{off_tree};
 ghost use Rattle.gcx_model.specs.Past.{Past, past_acted};
 ghost use Rattle.pull_eval.specs.Position.{items};
-ghost use Rattle.pull_eval.specs.Acting.{Beside, Moves, IsNextItem, Chosen, IsOver};
+ghost use Rattle.pull_eval.specs.Acting.{Beside, IsNextItem};
+ghost use Rattle.pull_eval.specs.Calls.{MovesTo, MovesSilently, MovesInto, MovesBehind};
 
 use crate::block::{Block, Copying};
-use crate::env::{Env, place_of};
 use crate::machine::Acted;
 use buf_tree::{Buffer, Row};
+use cond_eval::{Env, place_of};
 use gcx_base::{Memory, Serial, Text, VarId};
 use gcx_model::{Item, Off};
 use node_store::{NodeStore, Place};
@@ -55,7 +56,8 @@ impl<'p> Position<'p> {
     /// Binds variable 0 to the document node, before the first move.
     pub fn begin<N: NodeStore<Row>>(&mut self, buffer: &Buffer<N>) -> Result<(), Memory>
         requires { (past : Past) × (k : ℕ) × Beside self.old buffer.now past k }
-        ensures stays { IfOk result (λ _. (past : Past) (k : ℕ) → Beside self.old buffer.now past k → Beside self.new buffer.now past k) }
+        ensures stays { IfOk result (λ _. (past : Past) (k : ℕ) → Beside self.old buffer.now past k
+            → Beside self.new buffer.now past k) }
         ensures begun { IfOk result (λ _. self.new.is_begun ≡ true) }
     {
         if self.is_begun {
@@ -79,7 +81,7 @@ impl<'p> Position<'p> {
     ) -> Result<Option<Acted>, Memory>
         requires next { IsNextItem self.old (Write text.now) (items rest.now) }
         requires begun { self.old.is_begun ≡ true }
-        ensures moved { IfOk result (λ a. (v : View) (past : Past) (k : ℕ) → Beside self.old v past k → Moves past k self.old self.new v v out.old.items out.new.items a) }
+        ensures moved { IfOk result (λ a. (v : View) → MovesTo self.old self.new v v out.old.items out.new.items a) }
         ensures begun { self.new.is_begun ≡ true }
         ensures err { OnErr result (out.new.items ≡ out.old.items) }
     {
@@ -97,7 +99,7 @@ impl<'p> Position<'p> {
         rest: &'p [Item],
     ) -> Result<Option<Acted>, Memory>
         requires begun { self.old.is_begun ≡ true }
-        ensures moved { IfOk result (λ a. (c : CondTree) (this other : BodyTree) (v : View) (past : Past) (k : ℕ) (out : List ℕ) → IsNextItem self.old (If c this other) (items rest.now) → (b : Beside self.old v past k) → Chosen past.tree b.position.fs c this other (items branch.now) → Moves past k self.old self.new v v out out a) }
+        ensures moved { IfOk result (λ a. MovesInto self.old self.new (items branch.now) (items rest.now) a) }
         ensures begun { self.new.is_begun ≡ true }
     {
         self.top.go_on(rest);
@@ -118,7 +120,7 @@ impl<'p> Position<'p> {
         requires next { IsNextItem self.old (tree.Off (off_tree off.now)) (items rest.now) }
         requires begun { self.old.is_begun ≡ true }
         requires beside { (past : Past) × (k : ℕ) × Beside self.old buffer.old past k }
-        ensures moved { IfOk result (λ a. (past : Past) (k : ℕ) (out : List ℕ) → Beside self.old buffer.old past k → Moves past k self.old self.new buffer.old buffer.new out out a) }
+        ensures moved { IfOk result (λ a. MovesSilently self.old self.new buffer.old buffer.new a) }
         ensures begun { self.new.is_begun ≡ true }
         ensures kept { OnErr result (buffer.new ≡ buffer.old) }
         ensures most { buffer.new.most ≡ buffer.old.most }
@@ -138,7 +140,7 @@ impl<'p> Position<'p> {
         requires over { self.old.top.rest.now ≡ [] }
         requires no_copy { self.old.copying ≡ None }
         requires begun { self.old.is_begun ≡ true }
-        ensures moved { (v : View) (past : Past) (k : ℕ) (out : List ℕ) → (b : Beside self.old v past k) → IsOver past.tree b.position.fs → Moves past k self.old self.new v v out out result }
+        ensures moved { MovesBehind self.old self.new result }
         ensures begun { self.new.is_begun ≡ true }
     {
         match self.below.pop() {
@@ -160,13 +162,14 @@ fn carry_out<N: NodeStore<Row>>(
     off: &Off,
 ) -> Result<(), Memory>
     requires due { Due buffer.old place.0 off.now }
-    ensures stands { OnOk result ((past : Past) → StandsFor buffer.old past → In (off_tree off.now) (offs_in past.plan.body) → StandsFor buffer.new (past_acted (Offed (off_tree off.now) (serial_at place.0 buffer.old.rows)) past)) }
+    ensures stands { OnOk result ((past : Past) → StandsFor buffer.old past → In (off_tree off.now) (offs_in past.plan.body)
+        → StandsFor buffer.new (past_acted (Offed (off_tree off.now) (serial_at place.0 buffer.old.rows)) past)) }
     ensures signed { OnOk result (Signed buffer.old buffer.new off.now.role.0) }
     ensures kept { OnErr result (buffer.new ≡ buffer.old) }
     ensures loans { buffer.new.loans ≡ buffer.old.loans }
 {
     if buffer.is_closed(place) || off.is_own() {
-        buffer.sign_off(alloc, place, off)
+        buffer.sign_off(place, off)
     } else {
         buffer.sign_ahead(alloc, place, off)
     }

@@ -1,5 +1,5 @@
 //! The roles from 64 on.
-ghost use Rattle.std.specs.Prelude.{◌≡◌, ◌==◌, ◌<◌, ◌++◌, [], ◌∷◌, ◌↔◌, OnOk, OnErr, IfOk, IsOk, IsTrue, true, filter, not};
+ghost use Rattle.std.specs.Prelude.{◌≡◌, ◌==◌, ◌<◌, ◌++◌, [], ◌∷◌, ◌↔◌, OnOk, OnErr, IfOk, IsOk, IsTrue, true, filter, not, length};
 ghost use Rattle.std.specs.List.{list_any};
 ghost use Rattle.role_set.specs.Words.{high_numbers, IsHigh};
 
@@ -77,7 +77,17 @@ impl HighRoles {
     }
 }
 
-fn two(alloc: Global, first: u32, second: u32) -> Result<HighRoles, Memory>
+/// These numbers, of which there is one at least.
+pub(crate) fn many(alloc: Global, numbers: &[u32]) -> Result<HighRoles, Memory>
+    requires { 0 < length numbers.now }
+    ensures { IfOk result (λ roles. (high_numbers roles ≡ numbers.now) × IsHigh roles) }
+{
+    let mut copy = Vec::new(alloc);
+    copy.extend_from_slice(numbers)?;
+    Ok(HighRoles::Many(Box::new(alloc, copy)?))
+}
+
+pub(crate) fn two(alloc: Global, first: u32, second: u32) -> Result<HighRoles, Memory>
     ensures { IfOk result (λ roles. (high_numbers roles ≡ first ∷ second ∷ []) × IsHigh roles) }
 {
     let mut numbers = Vec::new(alloc);

@@ -6,11 +6,14 @@ ghost use Rattle.std.specs.Ordering.{nat_cmp};
 ghost use Rattle.std.specs.FinSet as set;
 
 mod high;
+mod high_pair;
+mod node_roles;
 mod word;
 
 use crate::high::HighRoles;
 use crate::word::{WORD_BITS, has_bit, with_bit, without_bit};
 use gcx_base::{Memory, Role};
+pub use node_roles::NodeRoles;
 use std::alloc::Global;
 use std::marker::Model;
 

@@ -14,13 +14,14 @@ ghost use Rattle.gcx_model.specs.Seen.{AreWithin};
 
 use super::{marked, plan_of};
 use buf_tree::{Buffer, Row};
+use cond_eval::Plain;
 use doc_reader::{Reader, Token};
 use engine::{Reached, Turn, interleave};
 use gcx_base::Limits;
 use gcx_model::Plan;
 use node_store::SlabNodes;
 use projector::Projector;
-use pull_eval::{Acted, Machine, Plain};
+use pull_eval::{Acted, Machine};
 use raw_nodes::RawNodes;
 use std::alloc::Global;
 use std::collections::VecDeque;

@@ -2,7 +2,7 @@ use Rattle.std.proofs.Common.{arith, sym, ◌∙◌, ap, subst, cond, Some, ◌�
 use Rattle.std.specs.Prelude.{option_map}
 use Rattle.gcx_base.specs.Tests.{passes}
 use Rattle.node_store.specs.declared.store.Place.{Place}
-use Rattle.buf_tree.specs.declared.row.Row.{Row}
+use Rattle.buf_tree.specs.Row.{Row}
 use Rattle.buf_tree.specs.Shape.{num, cells}
 use Rattle.buf_tree.specs.Walk.{Back}
 use Rattle.buf_tree.specs.Match.{IsChild}
@@ -32,19 +32,19 @@ pub back-preserved : goal.back-preserved
 back-preserved g c d i e =
     let v = rw c.in-Some.is at (c.back.invariant d i e) in
     let r = cell_row _ c.requires.shape v.1.0 v.1.1 _ v.1.2 _ c.payload-row.ensures in
-    let low = ap (λ (x : Row). x.serial) r in
-    let high : c.args.bound < num v.1.0 = omega (arith, low, c.if-row-bound.false) in
+    let low = ap (λ (x : Row). x.serial) r ∙ sym c.serial.ensures in
+    let high : c.args.bound < num v.1.0 = omega (arith, low, c.if-serial-bound.false) in
     let next = prev_child _ c.requires.shape d v.1.0 i v.1.1 v.1.3 _ v.1.2 _ c.prev-at.ensures.value in
     subst (λ f. Back (cells (g.N.NodeStore.rows c.args.nodes.now)) (IsChild d) c.args.step.now.test c.args.bound (option_map (λ (p : Place). p.0) c.prev-at.result) f)
     (ap (λ (x : Row). cond (passes c.args.step.now.test x.kind) (Some c.in-Some.here.0) (option_map (λ (p : Place). p.0) c.back.found)) r ∙ sym c.pick-found.ensures)
     (back_on _ (IsChild d) c.args.step.now.test c.args.bound (rising_same _ c.requires.shape.rising) _ _ v high _ next)
 
-pub returns-then-row-bound : goal.returns-then-row-bound
-returns-then-row-bound g c d i e =
+pub returns-then-serial-bound : goal.returns-then-serial-bound
+returns-then-serial-bound g c d i e =
     let v = rw c.in-Some.is at (c.back.invariant d i e) in
     let r = cell_row _ c.requires.shape v.1.0 v.1.1 _ v.1.2 _ c.payload-row.ensures in
-    let low = ap (λ (x : Row). x.serial) r in
-    let under : num v.1.0 ≤ c.args.bound = omega (arith, low, c.if-row-bound.true) in
+    let low = ap (λ (x : Row). x.serial) r ∙ sym c.serial.ensures in
+    let under : num v.1.0 ≤ c.args.bound = omega (arith, low, c.if-serial-bound.true) in
     answered _ d c.args.step.now c.args.bound (IsChild d) (λ x j k. lies_child _ _ d x c.requires.axis k) (λ x j k. child_lies _ _ d x c.requires.axis k) _
     (back_stop _ (IsChild d) c.args.step.now.test c.args.bound _ _ v under)
 

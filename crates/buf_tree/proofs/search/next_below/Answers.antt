@@ -1,6 +1,6 @@
 use Rattle.std.proofs.Common.{sym, ◌∙◌, ap, Some, None}
 use Rattle.gcx_base.specs.Tests.{passes}
-use Rattle.buf_tree.specs.declared.row.Row.{Row}
+use Rattle.buf_tree.specs.Row.{Row}
 use Rattle.buf_tree.specs.Shape.{num, cells}
 use Rattle.buf_tree.specs.Walk.{Inside}
 use Rattle.buf_tree.proofs.Shaping.{rising_same}
@@ -31,14 +31,14 @@ on-preserved g c d h i j e f =
     let v = rw c.in-Some.is at (c.on.invariant d h i j e f) in
     let r = cell_row _ c.requires.shape v.2.0 v.2.1 _ v.2.2 _ c.payload.ensures in
     let next = c.after-at-in-Some.ensures d v.2.0 i v.2.1 e v.2.2 in
-    on_next _ (Inside (cells (g.N.NodeStore.rows c.args.nodes.now)) d) c.args.step.now.test (num h) (rising_same _ c.requires.shape.rising) _ v (ap (λ (x : Row). passes c.args.step.now.test x.kind) r ∙ sym c.passes.ensures ∙ c.if-passes.false) _ next
+    on_next _ (Inside (cells (g.N.NodeStore.rows c.args.nodes.now)) d) c.args.step.now.test (num h) (rising_same _ c.requires.shape.rising) _ v (ap (λ (x : Row). passes c.args.step.now.test x.kind) r ∙ sym (c.passes.ensures ∙ ap (passes c.args.step.now.test) c.kind.ensures) ∙ c.if-passes.false) _ next
 
 pub returns-then-passes : goal.returns-then-passes
 returns-then-passes g c d h i j e f =
     let v = rw c.in-Some.is at (c.on.invariant d h i j e f) in
     let r = cell_row _ c.requires.shape v.2.0 v.2.1 _ v.2.2 _ c.payload.ensures in
     answered (cells (g.N.NodeStore.rows c.args.nodes.now)) d c.args.step.now (num h) (Inside (cells (g.N.NodeStore.rows c.args.nodes.now)) d) (λ x q k. lies_below _ c.requires.shape c.requires.nested _ d x c.requires.axis i q k) (λ x q k. below_lies _ c.requires.shape c.requires.nested _ d x c.requires.axis i q k) (Some c.in-Some.here)
-    (on_found _ (Inside (cells (g.N.NodeStore.rows c.args.nodes.now)) d) c.args.step.now.test (num h) (rising_same _ c.requires.shape.rising) _ v (ap (λ (x : Row). passes c.args.step.now.test x.kind) r ∙ sym c.passes.ensures ∙ c.if-passes.true))
+    (on_found _ (Inside (cells (g.N.NodeStore.rows c.args.nodes.now)) d) c.args.step.now.test (num h) (rising_same _ c.requires.shape.rising) _ v (ap (λ (x : Row). passes c.args.step.now.test x.kind) r ∙ sym (c.passes.ensures ∙ ap (passes c.args.step.now.test) c.kind.ensures) ∙ c.if-passes.true))
 
 pub returns : goal.returns
 returns g c d h i j e f =

@@ -1,7 +1,7 @@
 use Rattle.std.proofs.Common.{sym, ◌∙◌, ap, cond, ◌≡◌, true, false}
 use Rattle.std.specs.FinSet.{contains}
 use Rattle.node_store.specs.Rows.{changed_at, paid_by}
-use Rattle.buf_tree.specs.declared.row.Row.{Row}
+use Rattle.buf_tree.specs.Row.{Row}
 use Rattle.buf_tree.specs.Rows.{untaken}
 use Rattle.buf_tree.proofs.OtherBases.{paid_is, has_paid}
 use Rattle.buf_tree.proofs.sweep.take_own.Goals as goal

@@ -1,7 +1,7 @@
 use Rattle.std.proofs.Common.{arith, sym, ◌∙◌, ap, refl}
 use Rattle.std.specs.FinSet.{contains}
 use Rattle.std.proofs.lemmas.Bool.{false≢true}
-use Rattle.buf_tree.specs.declared.row.Row.{Row}
+use Rattle.buf_tree.specs.Row.{Row}
 use Rattle.buf_tree.proofs.Seeking.{cell_row}
 use Rattle.buf_tree.proofs.OtherBases.{has_paid}
 use Rattle.buf_tree.proofs.sweep.withdraw.Goals as goal

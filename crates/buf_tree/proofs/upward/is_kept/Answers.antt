@@ -60,8 +60,8 @@ up-preserved g c =
       | else-set_last-via-then-set_last+else-is_waiting w ↦ and_right _ _ (sym w.is_waiting.ensures ∙ w.if-is_waiting.false)
       | else-set_last-via-else-set_last w ↦ ap (λ z. z && is_waiting c.payload-row.result.now c.args.off.now) w.if-set_last.false
     ] in
-    let up_tails = rw c.tail_of-tail.ensures at c.go_up.ensures.flags in
-    let up_rels = rw c.items-rel.ensures at c.go_up-in-Some.ensures.but in
+    let up_tails = rw (c.tail_of-tail.ensures, c.kind.ensures) at c.go_up.ensures.flags in
+    let up_rels = rw (c.items-rel.ensures, c.kind-in-Some.ensures) at c.go_up-in-Some.ensures.but in
     record {
       used = used_on _ c.parent-at.result c.parent-at.ensures.in_use;
       tails_count = rw e (one ∙ ap length tails ∙ c.up.invariant.tails_count);

@@ -26,6 +26,7 @@ pub up-preserved : goal.up-preserved
 up-preserved g c =
     let same = c.go_up.ensures.count ∙ c.deref_mut.ensures.len ∙ c.up.flags.ok.0 in
     let e = refilled c.up.flags.items c.go_up.new.flags c.up.flags.len c.up.flags.ok.0 same in
+    let up = rw c.kind.ensures at c.go_up.ensures.flags in
     record {
       used = used_on _ c.parent-at.result c.parent-at.ensures.in_use;
       count = rw e (same ∙ c.up.invariant.count);
@@ -33,7 +34,7 @@ up-preserved g c =
       walk = λ a n u v.
           let l = rw c.in-Some.is at (c.up.invariant.walk a n u v) in
           rw e (leading_on _ c.requires.shape a n c.args.steps.now _ c.args.from.0 c.up.flags.items c.go_up.new.flags u (tells_descends _ v.cell n v.tells) (sym c.is_same.ensures ∙ c.if-is_same.false) l _ c.parent-at.ensures.value _ c.payload.ensures
-          (λ ends k p s d j f w. c.go_up.ensures.flags ends k p s d j f (subst (λ (z : List Bool). Flags ends s c.args.steps.now k z) (sym c.deref_mut.ensures.value) w)));
+          (λ ends k p s d j f w. up ends k p s d j f (subst (λ (z : List Bool). Flags ends s c.args.steps.now k z) (sym c.deref_mut.ensures.value) w)));
     }
 
 pub returns-clause-leads : goal.returns-clause-leads

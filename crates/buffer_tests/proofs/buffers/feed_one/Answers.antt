@@ -12,5 +12,5 @@ feed_token-requires-clause-depth g c = depth_low _ _ _ _ c.requires.1
 pub returns : goal.returns
 returns g c =
     on_ok_weaker c.put_changes.result
-    (λ same plan f. fed plan _ _ _ f c.in-Some.token (waiting c.next.new.self) c.in-Some.ensures.takes _ _ _ _ c.in-Some.ensures.stands c.in_ok-fed.ensures.stands c.in_ok-fed.ensures.place same)
+    (λ same plan f. fed plan _ _ _ f c.in-Some.token (waiting c.next.new.self) c.in-Some.ensures.takes _ _ _ _ c.in-Some.ensures.stands c.in_ok-fed.ensures.feeds.stands c.in_ok-fed.ensures.feeds.place same)
     c.put_changes.ensures

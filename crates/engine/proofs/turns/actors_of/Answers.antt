@@ -6,8 +6,10 @@ use Rattle.gcx_model.specs.Past.{opening_past}
 use Rattle.doc_reader.specs.Standing.{said_of}
 use Rattle.buf_tree.specs.Calls.{numbers}
 use Rattle.buf_tree.specs.View.{capped}
+use Rattle.projector.specs.View.{ProjectorView}
 use Rattle.projector.specs.Projector.{Projects}
 use Rattle.engine.specs.Engine.{ActorsStand}
+use Rattle.engine.specs.Turns.{Reaches}
 use Rattle.engine.specs.declared.turns.Actors.{Actors}
 use Rattle.engine.proofs.Making.{actors_begin, given_begin}
 use Rattle.engine.proofs.TurnsFed.{reaches_none}
@@ -30,5 +32,7 @@ returns-clause-reaches g c =
     = actors_begin pl (g.C.Conds.stands m.conds) p m.position v given projects (c.in_ok-projector.ensures.place v given started) started stands (c.in_ok-new-2.ensures.stands v stands) on in
     let few : length given < 2 ^ 64 = search rules in
     let count : length c.items.result.now ≡ capped (sum_given pl opening) = ap length c.items.ensures.same ∙ given_begin pl given few roles in
-    let a : Actors g.row.N.Denot g.row.C.Denot = record { projector = p; buffer = v; machine = m; tokens = c.args.tokens; fed = 0; acted = 0; given = length c.items.result.now } in
-    reaches_none g.C.Conds.stands pl (map said_of c.args.tokens.items) a c.requires.tokens c.requires.within actors refl refl refl count
+    let made : ProjectorView → Actors g.row.N.Denot g.row.C.Denot
+    = λ z. record { projector = z; buffer = v; machine = m; tokens = c.args.tokens; fed = 0; acted = 0; given = length c.items.result.now } in
+    subst (λ (z : ProjectorView). Reaches g.C.Conds.stands pl (map said_of c.args.tokens.items) (record { fed = 0; acted = 0 }) (made z)) (sym c.projector.view_is)
+    (reaches_none g.C.Conds.stands pl (map said_of c.args.tokens.items) (made p) c.requires.tokens c.requires.within actors refl refl refl count)

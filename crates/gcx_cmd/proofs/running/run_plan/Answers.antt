@@ -6,7 +6,7 @@ use Rattle.gcx_io.specs.Causes.{Rose}
 use Rattle.gcx_io.specs.Views.{SinkView, SourceView}
 use Rattle.gcx_model.specs.PlanView.{plan_tree}
 use Rattle.gcx_model.specs.Tree.{opening}
-use Rattle.pull_eval.specs.Marks.{AreMarks}
+use Rattle.cond_memo.specs.Marks.{AreMarks}
 use Rattle.engine.specs.Engine.{MostIs, Starts}
 use Rattle.engine.specs.Runs.{TellsBy}
 use Rattle.gcx_cmd.specs.Running.{IsPlanOf, IsPlaced}

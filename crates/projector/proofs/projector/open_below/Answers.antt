@@ -9,7 +9,8 @@ use Rattle.gcx_model.specs.Past.{token_for, past_grown}
 use Rattle.buf_tree.specs.View.{View}
 use Rattle.buf_tree.specs.Calls.{Opened, numbers}
 use Rattle.buf_tree.specs.Stands.{StandsFor, GivenTo}
-use Rattle.projector.specs.Projector.{ahead_in, HasHeard}
+use Rattle.projector.specs.Projector.{ahead_in}
+use Rattle.projector.specs.Opening.{HasHeard}
 use Rattle.projector.proofs.Pasts.{is_open}
 use Rattle.projector.proofs.Places.{shallow}
 use Rattle.projector.proofs.Feeding.{shallow_one}
@@ -29,17 +30,19 @@ gives g c past h heard may =
     (λ n o. ap numbers c.in_ok-copy.ensures ∙ c.in_ok-given.ensures.given q n s may o)
     (λ n i. c.in_ok-ahead.ensures.roles (past_grown t q) (is_text c.args.kind) n st i)
 
-pub returns-clause-opened : goal.returns-clause-opened
-returns-clause-opened g c = record {
-  ahead = c.in_ok-ahead.ahead;
-  between = c.open_node.new.self;
-  opened = subst (λ (z : List Role). Opened c.args.buffer.now c.open_node.new.self c.args.parent.0 (option_map (λ (p : Place). p.0) c.in_ok-place.place) c.args.kind z c.in_ok-ahead.ahead) c.in_ok-copy.ensures c.in_ok-place.ensures.opened;
-  cleared = c.clear_waiting.ensures.cleared;
-  taken = λ past n h heard may o. (gives g c past h heard may n (opened_node past h.is_past c.args.kind c.requires.kind may n o)).1;
+pub returns-clause-opens : goal.returns-clause-opens
+returns-clause-opens g c = record {
+  matcher = c.in_ok-given.ensures.stands;
+  given = c.in_ok-given.ensures.given;
+  opened = record {
+    ahead = c.in_ok-ahead.ahead;
+    between = c.open_node.new.self;
+    opened = subst (λ (z : List Role). Opened c.args.buffer.now c.open_node.new.self c.args.parent.0 (option_map (λ (p : Place). p.0) c.in_ok-place.place) c.args.kind z c.in_ok-ahead.ahead) c.in_ok-copy.ensures c.in_ok-place.ensures.opened;
+    cleared = c.clear_waiting.ensures.cleared;
+    taken = λ past n h heard may o. (gives g c past h heard may n (opened_node past h.is_past c.args.kind c.requires.kind may n o)).1;
+  };
+  stands = λ past h heard may. c.clear_waiting.ensures.stands (past_grown (token_for c.args.kind) past) (c.in_ok-place.ensures.stands past h may (gives g c past h heard may));
 }
-
-pub returns-clause-stands : goal.returns-clause-stands
-returns-clause-stands g c = λ past h heard may. c.clear_waiting.ensures.stands (past_grown (token_for c.args.kind) past) (c.in_ok-place.ensures.stands past h may (gives g c past h heard may))
 
 pub returns-clause-taken : goal.returns-clause-taken
 returns-clause-taken g c =

@@ -1,6 +1,7 @@
 use Rattle.std.proofs.Common.{inl, refl}
 use Rattle.buf_tree.specs.Shape.{num}
-use Rattle.pull_eval.proofs.Finding.{finds, finds_seen, finds_behind}
+use Rattle.cond_eval.proofs.Finding.{finds}
+use Rattle.pull_eval.proofs.Finding.{finds_seen, finds_behind}
 use Rattle.pull_eval.proofs.loops.first_match.Goals as goal
 
 pub match_behind-requires : goal.match_behind-requires

@@ -1,6 +1,6 @@
 use Rattle.std.proofs.Common.{Some}
 use Rattle.buf_tree.specs.Shape.{num}
-use Rattle.pull_eval.proofs.Finding.{finds}
+use Rattle.cond_eval.proofs.Finding.{finds}
 use Rattle.pull_eval.proofs.loops.match_behind.Goals as goal
 
 pub returns-in-Some-clause-learnt : goal.returns-in-Some-clause-learnt

@@ -1,5 +1,5 @@
 use Rattle.std.proofs.Common.{◌∙◌, ap, sym}
-use Rattle.buf_tree.specs.declared.row.Row.{Row}
+use Rattle.buf_tree.specs.Row.{Row}
 use Rattle.buf_tree.specs.Ways.{is_waiting}
 use Rattle.buf_tree.specs.View.{View}
 use Rattle.buf_tree.proofs.Reading.{used, row_at}

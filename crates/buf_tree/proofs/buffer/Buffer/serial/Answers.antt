@@ -1,5 +1,5 @@
 use Rattle.std.proofs.Common.{◌∙◌, ap, sym}
-use Rattle.buf_tree.specs.declared.row.Row.{Row}
+use Rattle.buf_tree.specs.Row.{Row}
 use Rattle.buf_tree.specs.View.{View}
 use Rattle.buf_tree.proofs.Reading.{used, serial_is, row_at}
 use Rattle.buf_tree.proofs.buffer.Buffer.serial.Goals as goal

@@ -40,7 +40,7 @@ returns-in_err-tell-clause-balance g c =
     let old = c.args.self.now in
     let w = c.feed_token.new.buffer in
     let f = c.in_ok-fed.fed in
-    let o = c.in_ok-fed.ensures in
+    let o = c.in_ok-fed.ensures.feeds in
     let is : c.count-self.result ≡ counted old.counts f (length w.rows) = c.count-self.ensures ∙ ap (counted old.counts f) c.held.ensures in
     let h : (P : Tree) (k : ℕ) → Actors g.C.Conds.stands old P k → ComesWithin (said_of c.args.token) P → old.counts.given ≡ capped (sum_given (plan_tree old.plan.now) P) → Balanced c.tell.new.self = λ P k a m y.
     subst (λ (z : Engine g.row.N.Denot g.row.C.Denot). Balanced z) (sym c.tell.ensures.rest)
@@ -53,7 +53,7 @@ returns-clause-feeds g c =
     let w = c.feed_token.new.buffer in
     let q = c.feed_token.new.self in
     let f = c.in_ok-fed.fed in
-    let o = c.in_ok-fed.ensures in
+    let o = c.in_ok-fed.ensures.feeds in
     let t = c.tell.new.self in
     let is : c.count-self.result ≡ counted old.counts f (length w.rows) = c.count-self.ensures ∙ ap (counted old.counts f) c.held.ensures in
     let e : Engine g.row.N.Denot g.row.C.Denot = record old { projector = q; buffer = w; counts = c.count-self.result } in
@@ -65,7 +65,7 @@ returns-clause-feeds g c =
 
 pub returns-clause-quiet : goal.returns-clause-quiet
 returns-clause-quiet g c =
-    let o = c.in_ok-fed.ensures in
+    let o = c.in_ok-fed.ensures.feeds in
     λ y P a m. feeds_quietly g.C.Conds.stands g.met.C.Conds.stands_on c.args.self.now (said_of c.args.token) c.feed_token.new.self c.feed_token.new.buffer c.in_ok-fed.fed o.stands o.place o.fed o.changes (sym c.is_quiet-quiet.ensures ∙ y) P a m
 
 pub returns-in_err-kind-clause-part : goal.returns-in_err-kind-clause-part
@@ -87,7 +87,7 @@ returns-in_err-tell-clause-part g c =
     let old = c.args.self.now in
     let w = c.feed_token.new.buffer in
     let f = c.in_ok-fed.fed in
-    let o = c.in_ok-fed.ensures in
+    let o = c.in_ok-fed.ensures.feeds in
     let h : old.tracing ≡ true → (P : Tree) (k : ℕ) → Actors g.C.Conds.stands old P k → ComesWithin (said_of c.args.token) P → GrewPart old.trace.items c.tell.new.self.trace.items (text_of_lines (fed_lines (plan_tree old.plan.now) (said_of c.args.token) P (so_far (plan_tree old.plan.now) P k)))
     = λ tr P k a m. subst (λ (z : List Line). GrewPart old.trace.items c.tell.new.self.trace.items (text_of_lines z))
     (one_told g.C.Conds.stands old (said_of c.args.token) c.feed_token.new.self w f c.in_ok-kind.kind (c.in_ok-kind.ensures.wanted tr) o.stands o.fed o.changes P k a m) c.in_err-tell.ensures.part in
@@ -98,6 +98,6 @@ returns-clause-told g c = λ tr P k a m.
     let old = c.args.self.now in
     let w = c.feed_token.new.buffer in
     let f = c.in_ok-fed.fed in
-    let o = c.in_ok-fed.ensures in
+    let o = c.in_ok-fed.ensures.feeds in
     c.in_ok-tell.ensures.told ∙ ap (λ (z : List Line). old.trace.items ++ text_of_lines z)
     (one_told g.C.Conds.stands old (said_of c.args.token) c.feed_token.new.self w f c.in_ok-kind.kind (c.in_ok-kind.ensures.wanted tr) o.stands o.fed o.changes P k a m)

@@ -31,6 +31,7 @@ returns-clause-fed g c = λ plan ts s h.
     let a = c.args.self.now in
     let d : Actors g.row.N.Denot g.row.C.Denot
     = record { projector = c.feed_token.new.self; buffer = c.clear_gone.new.self; machine = a.machine; tokens = c.pop_front.new.self; fed = a.fed + 1; acted = a.acted; given = c.saturating_add-self.result } in
+    let o = c.in_ok-fed.ensures.feeds in
     let given : c.saturating_add-self.result ≡ capped (a.given + roles_in c.in_ok-fed.fed) = omega arith in
     feeds g.C.Conds.stands plan ts s a h c.in-Some.token c.pop_front.new.self.items c.in-Some.ensures.items g.met.C.Conds.stands_on c.feed_token.new.self c.feed_token.new.buffer c.in_ok-fed.fed
-    c.in_ok-fed.ensures.stands c.in_ok-fed.ensures.place c.in_ok-fed.ensures.fed c.in_ok-fed.ensures.changes d refl c.clear_gone.ensures refl refl refl refl given
+    o.stands o.place o.fed o.changes d refl c.clear_gone.ensures refl refl refl refl given

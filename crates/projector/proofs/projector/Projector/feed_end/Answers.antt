@@ -3,18 +3,27 @@ use Rattle.std.specs.Prelude.{option_map}
 use Rattle.node_store.specs.declared.store.Place.{Place}
 use Rattle.node_store.specs.Rows.{Entry, parent_of}
 use Rattle.std.specs.FinMap.{get}
+use Rattle.gcx_model.specs.Tree.{End}
 use Rattle.gcx_model.specs.Past.{Past}
-use Rattle.buf_tree.specs.declared.row.Row.{Row}
+use Rattle.buf_tree.specs.Row.{Row}
 use Rattle.buf_tree.specs.View.{View}
 use Rattle.buf_tree.specs.Shape.{num}
-use Rattle.buf_tree.specs.Calls.{Closed}
+use Rattle.buf_tree.specs.Calls.{Closed as ClosedAt}
 use Rattle.buf_tree.specs.Stands.{StandsFor, past_told}
 use Rattle.buf_tree.proofs.Feeding.{top_is}
-use Rattle.projector.specs.Projector.{KeepsPlace}
+use Rattle.matcher.specs.declared.matcher.Matcher.{Matcher}
+use Rattle.projector.specs.declared.projector.Fed.TheVariants.{Closed}
+use Rattle.projector.specs.View.{ProjectorView}
+use Rattle.projector.specs.Projector.{KeepsPlace, Places}
+use Rattle.projector.specs.Calls.{Feeds}
+use Rattle.projector.specs.Opening.{HasHeard}
 use Rattle.projector.proofs.Places.{Up, up_from, up_place, parent_is, payload_is, serial_is}
 use Rattle.projector.proofs.Feeding.{projects_end}
 use Rattle.projector.proofs.projector.Projector.feed_end.Given.{Over}
 use Rattle.projector.proofs.projector.Projector.feed_end.Goals as goal
+
+pub innermost-here-requires-clause-place : goal.innermost-here-requires-clause-place
+innermost-here-requires-clause-place g c = subst (λ (p : ProjectorView). Places p c.args.buffer.now) (sym c.self.view_is) c.requires.place
 
 -- the parent's place, in any past for which the buffer stands
 goes_up : (g : Over) (c : goal.After-go_up g) (past : Past) (h : StandsFor c.args.buffer.now past) → Up c.args.buffer.now past h (option_map (λ (p : Place). p.0) c.above-above.result)
@@ -24,38 +33,36 @@ goes_up g c past h =
     (sym (c.above-above.ensures ∙ (ap (λ p. parent_of (g.N.NodeStore.rows c.innermost-here.result.store.now) p) (sym i.place) ∙ parent_is _ c.args.buffer.now.rows c.innermost-here.ensures.store i.cell i.among)))
     (up_from c.args.buffer.now past h c.innermost-here.result.place.0 i)
 
-pub returns-clause-stands : goal.returns-clause-stands
-returns-clause-stands g c = λ past h heard may. (
-  projects_end c.go_up.new.self c.args.self.now.matcher c.args.buffer.now past h may c.above-above.result (goes_up g c past h) c.go_up.ensures.node c.go_up.ensures.document heard,
-  c.close_node.ensures.stands (past_told past) (c.clear_waiting.ensures.stands past h) may,
-)
-
-pub returns-clause-place : goal.returns-clause-place
-returns-clause-place g c =
-    let m = c.requires.may in
-    let s = c.close_node.ensures.stands (past_told m.past) (c.clear_waiting.ensures.stands m.past m.stands) m.may in
-    subst (λ (o : Option Place). KeepsPlace o c.close_node.new.self.rows) (sym c.go_up.ensures.place)
-    (up_place c.args.buffer.now c.clear_waiting.new.self c.close_node.new.self c.innermost-here.result.place.0 (ap (λ (v : View). v.rows) c.clear_waiting.ensures.cleared) c.close_node.ensures.closed m.past m.stands s c.above-above.result (goes_up g c m.past m.stands))
-
 -- the serial told is that of the innermost open row
 told_is : (g : Over) (c : goal.After-go_up g) → c.serial-serial.result.0 ≡ num c.innermost-here.ensures.innermost.cell
 told_is g c =
     let i = c.innermost-here.ensures.innermost in
     c.serial-serial.ensures ∙ ap (λ (z : Row). z.serial) (payload_is _ c.args.buffer.now.rows c.innermost-here.ensures.store i.cell i.among c.payload.result.now (ap (λ p. option_map (λ (e : Entry Row). e.payload) (get (g.N.NodeStore.rows c.innermost-here.result.store.now) p)) i.place ∙ c.payload.ensures))
 
-pub returns-clause-fed : goal.returns-clause-fed
-returns-clause-fed g c = λ past h.
-    let t = top_is c.args.buffer.now past c.innermost-here.result.place.0 h c.innermost-here.ensures.innermost in
-    (t.0, refl, t.1, t.2 ∙ sym (told_is g c))
-
-pub returns-clause-changes : goal.returns-clause-changes
-returns-clause-changes g c =
-    let i = c.innermost-here.ensures.innermost in (
-      refl,
-      record {
-        place = c.innermost-here.result.place.0;
-        innermost = i;
-        closed = subst (λ (v : View). Closed v c.close_node.new.self c.innermost-here.result.place.0) c.clear_waiting.ensures.cleared c.close_node.ensures.closed;
-        serial = told_is g c ∙ sym (serial_is _ c.args.buffer.now.rows c.innermost-here.ensures.store i.cell i.among c.innermost-here.result.place.0 i.place);
-      },
-    )
+pub returns-clause-feeds : goal.returns-clause-feeds
+returns-clause-feeds g c =
+    let m = c.requires.may in
+    let i = c.innermost-here.ensures.innermost in
+    subst (λ (z : Matcher). Feeds (HasHeard z) (record { matcher = c.go_up.new.matcher; at = c.go_up.new.at }) c.args.buffer.now c.close_node.new.self End (Closed c.serial-serial.result))
+    (ap (λ (p : ProjectorView). p.matcher) c.self.view_is)
+    (record {
+      stands = λ past h heard may. (
+        projects_end (record { matcher = c.go_up.new.matcher; at = c.go_up.new.at }) c.self.inside.matcher c.args.buffer.now past h may c.above-above.result (goes_up g c past h) c.go_up.ensures.node c.go_up.ensures.document heard,
+        c.close_node.ensures.stands (past_told past) (c.clear_waiting.ensures.stands past h) may,
+      );
+      place = (let s = c.close_node.ensures.stands (past_told m.past) (c.clear_waiting.ensures.stands m.past m.stands) m.may in
+          subst (λ (o : Option Place). KeepsPlace o c.close_node.new.self.rows) (sym c.go_up.ensures.place)
+          (up_place c.args.buffer.now c.clear_waiting.new.self c.close_node.new.self c.innermost-here.result.place.0 (ap (λ (v : View). v.rows) c.clear_waiting.ensures.cleared) c.close_node.ensures.closed m.past m.stands s c.above-above.result (goes_up g c m.past m.stands)));
+      fed = λ past h heard may.
+          let t = top_is c.args.buffer.now past c.innermost-here.result.place.0 h i in
+          (t.0, refl, t.1, t.2 ∙ sym (told_is g c));
+      changes = (
+        refl,
+        record {
+          place = c.innermost-here.result.place.0;
+          innermost = i;
+          closed = subst (λ (v : View). ClosedAt v c.close_node.new.self c.innermost-here.result.place.0) c.clear_waiting.ensures.cleared c.close_node.ensures.closed;
+          serial = told_is g c ∙ sym (serial_is _ c.args.buffer.now.rows c.innermost-here.ensures.store i.cell i.among c.innermost-here.result.place.0 i.place);
+        },
+      );
+    })

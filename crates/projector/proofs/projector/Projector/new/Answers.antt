@@ -1,5 +1,8 @@
 use Rattle.projector.proofs.Places.{started_place}
 use Rattle.projector.proofs.projector.Projector.new.Goals as goal
 
-pub returns-clause-place : goal.returns-clause-place
-returns-clause-place c = λ v given s. started_place v given s
+pub returns : goal.returns
+returns c = record {
+  stands = λ core good placed. record { matcher = c.in_ok-matcher.ensures core good placed };
+  place = λ v given s. started_place v given s;
+}

@@ -1,4 +1,4 @@
-use Rattle.std.proofs.Common.{◌≡◌, length, arith, refl, sym, ◌∙◌, ap, subst}
+use Rattle.std.proofs.Common.{◌≡◌, length, arith, refl, sym, subst}
 use Rattle.gcx_model.specs.Core.{Copy}
 use Rattle.gcx_model.specs.Tree.{serial_of}
 use Rattle.pull_eval.specs.Position.{items}

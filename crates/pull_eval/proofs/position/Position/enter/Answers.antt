@@ -75,8 +75,8 @@ returns-then-is_closed-clause-moved g c = λ past k out b.
     passes w c.args.buffer.now past k b c.requires.begun r c.args.vars.1.0 after next n refl c.go_on-then-is_closed.ensures.round c.go_on-then-is_closed.ensures.seen refl refl refl refl
     c.place_of-context.result.0 c.is_closed.result c.place_of-context.ensures c.in-None.ensures c.is_closed.ensures c.if-is_closed.true out)
 
-pub newest-self-requires : goal.newest-self-requires
-newest-self-requires g c =
+pub newest-seen-requires : goal.newest-seen-requires
+newest-seen-requires g c =
     let q = c.requires.beside in
     let u = context_used c.args.self.now c.args.buffer.now q.0 q.1 q.2 c.requires.begun c.args.vars.0.0 c.args.vars.1.0 c.args.step.now (items c.args.body.now) (items c.args.rest.now) c.requires.next
     c.place_of-context.result.0 c.place_of-context.ensures in
@@ -87,7 +87,7 @@ pub returns-else-is_closed-clause-moved : goal.returns-else-is_closed-clause-mov
 returns-else-is_closed-clause-moved g c = λ past k out b.
     (let w = c.args.self.now in
     let after : Block = record { rest = c.args.rest; round = None; seen = 0 } in
-    let n : Position = record c.args.self.now { top = record c.args.self.now.top { seen = c.newest-self.result } } in
+    let n : Position = record c.args.self.now { top = record c.args.self.now.top { seen = c.newest-seen.result.0 } } in
     let r : Round = record { var = c.args.vars.0; step = c.args.step; body = c.args.body; context = c.place_of-context.result; present = c.place_of-context.result; next = Unsought } in
-    waits_there w c.args.buffer.now past k b c.requires.begun r c.args.vars.1.0 after c.requires.next n c.newest-self.result refl c.newest-self.ensures refl refl refl refl
+    waits_there w c.args.buffer.now past k b c.requires.begun r c.args.vars.1.0 after c.requires.next n c.newest-seen.result.0 refl c.newest-seen.ensures refl refl refl refl
     c.place_of-context.result.0 c.is_closed.result c.place_of-context.ensures c.in-None.ensures c.is_closed.ensures c.if-is_closed.false out)

@@ -1,6 +1,6 @@
 use Rattle.std.proofs.Common.{ℕ, List, Option, Some, refl, arith}
-use Rattle.gcx_base.specs.declared.ids.Serial.{Serial}
 use Rattle.gcx_model.specs.Past.{Past}
+use Rattle.cond_eval.specs.declared.watermark.Watermark.{Watermark}
 use Rattle.pull_eval.specs.Acting.{Beside, Moves}
 use Rattle.pull_eval.specs.Rounds.{Began}
 use Rattle.pull_eval.specs.declared.block.Next.TheVariants.{NoneUpTo}
@@ -58,7 +58,7 @@ newest-requires g c =
 
 pub returns-else-is_closed-clause-moved : goal.returns-else-is_closed-clause-moved
 returns-else-is_closed-clause-moved g c = λ past k out b.
-    (let u : Serial = record { 0 = c.newest.result } in
+    (let u : Watermark = c.newest.result in
     let n : Position = record c.args.self.now { top = record c.args.self.now.top { round = Some (record c.args.round { next = NoneUpTo u }) } } in
     waits_there c.args.self.now c.args.buffer.now past k b c.requires.begun c.requires.no_copy c.args.round c.requires.round c.requires.over n u refl c.newest.ensures refl refl refl refl
     c.is_closed.result c.in-None.ensures c.is_closed.ensures c.if-is_closed.false out)

@@ -1,0 +1,83 @@
+-- The rows of passed elements as lists.
+use Rattle.std.proofs.Common.{◌≡◌, ℕ, suc, ◌+◌, cond, List, [], ◌∷◌, ◌++◌, length, map, refl, sym, ◌∙◌, ap, arith, Some, None, Option}
+use Rattle.std.proofs.lemmas.List.{append-nil, append_assoc, length-append, length-map, map-append}
+use Rattle.buf_tree.specs.Shape.{Cell}
+use Rattle.buf_tree.specs.View.{num_in, level_in}
+use Rattle.buf_tree.specs.Stands.{seen}
+use Rattle.buf_tree.specs.Loose.{Passed, open_among, last_open, passed_cell, passed_cells, cells_passed, SettlesOne, SettlesNone, OneRowMore}
+
+less_one : (a b : ℕ) → suc a ≡ suc b → a ≡ b
+less_one a b e = omega arith
+
+no_length : (b : ℕ) → 0 ≡ suc b → ⊥
+no_length b e = omega arith
+
+-- what is seen of them doesn't depend on the places
+pub seen_same : (a l : ℕ) (ps qs : List ℕ) (xs : List Passed) → length ps ≡ length xs → length qs ≡ length xs → map seen (passed_cells a l ps xs) ≡ map seen (passed_cells a l qs xs)
+seen_same a l ps qs [] e f = refl
+seen_same a l [] qs (x ∷ xs) e f = absurd (no_length _ e)
+seen_same a l (p ∷ ps) [] (x ∷ xs) e f = absurd (no_length _ f)
+seen_same a l (p ∷ ps) (q ∷ qs) (x ∷ xs) e f = ap (λ z. seen (passed_cell a l p x) ∷ z) (seen_same x.serial (l + 1) ps qs xs (less_one _ _ e) (less_one _ _ f))
+
+-- the rows with other places
+pub rows_same : (rows : List Cell) (ps qs : List ℕ) (xs : List Passed) → length ps ≡ length xs → length qs ≡ length xs → map seen (rows ++ cells_passed ps xs rows) ≡ map seen (rows ++ cells_passed qs xs rows)
+rows_same rows ps qs xs e f =
+    map-append seen rows (cells_passed ps xs rows)
+    ∙ ap (λ z. map seen rows ++ z) (seen_same (num_in (last_open rows)) (level_in (last_open rows)) ps qs xs e f)
+    ∙ sym (map-append seen rows (cells_passed qs xs rows))
+
+pub open_append : (o : Option Cell) (cs ds : List Cell) → open_among o (cs ++ ds) ≡ open_among (open_among o cs) ds
+open_append o [] ds = refl
+open_append o (c ∷ cs) ds = open_append (cond c.row.is_open (Some c) o) cs ds
+
+-- the last of them lies below the last open row before it
+pub passed_push : (o : Option Cell) (ps : List ℕ) (xs : List Passed) (p : ℕ) (x : Passed) → length ps ≡ length xs
+    → passed_cells (num_in o) (level_in o) (ps ++ p ∷ []) (xs ++ x ∷ [])
+    ≡ passed_cells (num_in o) (level_in o) ps xs ++ passed_cell (num_in (open_among o (passed_cells (num_in o) (level_in o) ps xs))) (level_in (open_among o (passed_cells (num_in o) (level_in o) ps xs))) p x ∷ []
+passed_push o [] [] p x e = refl
+passed_push o [] (y ∷ xs) p x e = absurd (no_length _ e)
+passed_push o (q ∷ ps) [] p x e = absurd (no_length _ (sym e))
+passed_push o (q ∷ ps) (y ∷ xs) p x e =
+    ap (λ z. passed_cell (num_in o) (level_in o) q y ∷ z) (passed_push (Some (passed_cell (num_in o) (level_in o) q y)) ps xs p x (less_one _ _ e))
+
+-- some places
+abbrev pub places_of : List Passed → List ℕ
+places_of xs = map (λ (x : Passed). x.serial) xs
+
+pub places_length : (xs : List Passed) → length (places_of xs) ≡ length xs
+places_length xs = length-map xs (λ (x : Passed). x.serial)
+
+pub places_push : (xs : List Passed) (p : ℕ) (x : Passed) → length (places_of xs ++ p ∷ []) ≡ length (xs ++ x ∷ [])
+places_push xs p x = length-append (places_of xs) (p ∷ []) ∙ ap (λ k. k + 1) (places_length xs) ∙ sym (length-append xs (x ∷ []))
+
+-- with one passed element more there is one row more
+pub rows_push : (rows : List Cell) (xs : List Passed) (p : ℕ) (x : Passed)
+    → rows ++ cells_passed (places_of xs ++ p ∷ []) (xs ++ x ∷ []) rows
+    ≡ (rows ++ cells_passed (places_of xs) xs rows) ++ passed_cell (num_in (last_open (rows ++ cells_passed (places_of xs) xs rows))) (level_in (last_open (rows ++ cells_passed (places_of xs) xs rows))) p x ∷ []
+rows_push rows xs p x =
+    ap (λ z. rows ++ z) (passed_push (last_open rows) (places_of xs) xs p x (places_length xs))
+    ∙ sym (append_assoc rows (cells_passed (places_of xs) xs rows) _)
+    ∙ ap (λ o. (rows ++ cells_passed (places_of xs) xs rows) ++ passed_cell (num_in o) (level_in o) p x ∷ []) (sym (open_append None rows (cells_passed (places_of xs) xs rows)))
+
+pub one_row_more : OneRowMore
+one_row_more v xs x ps p e =
+    let o = open_among (last_open v.rows) (cells_passed ps xs v.rows) in (
+      passed_cell (num_in o) (level_in o) p x,
+      refl,
+      refl,
+      ap (λ z. v.rows ++ z) (passed_push (last_open v.rows) ps xs p x e) ∙ sym (append_assoc v.rows (cells_passed ps xs v.rows) _),
+    )
+
+pub settles_one : SettlesOne
+settles_one v x xs p ps = λ t. record v { rows = same t }
+  where
+    c : Cell
+    c = passed_cell (num_in (last_open v.rows)) (level_in (last_open v.rows)) p x
+
+    same : v.rows ++ cells_passed (p ∷ ps) (x ∷ xs) v.rows ≡ (v.rows ++ c ∷ []) ++ cells_passed ps xs (v.rows ++ c ∷ [])
+    same =
+        sym (append_assoc v.rows (c ∷ []) (passed_cells x.serial (level_in (last_open v.rows) + 1) ps xs))
+        ∙ ap (λ o. (v.rows ++ c ∷ []) ++ passed_cells (num_in o) (level_in o) ps xs) (sym (open_append None v.rows (c ∷ [])))
+
+pub settles_none : SettlesNone
+settles_none v ps = λ t. record v { rows = append-nil v.rows t }

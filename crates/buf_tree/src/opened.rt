@@ -1,0 +1,78 @@
+//! Nodes that are opened with their roles as a set.
+ghost use Rattle.std.specs.Prelude.{◌≡◌, ◌+◌, ◌≤◌, ◌^◌, IfOk, OnOk, OnErr, option_map};
+ghost use Rattle.std.specs.FinSet as set;
+ghost use Rattle.gcx_model.specs.Past.{IsNode};
+ghost use Rattle.buf_tree.specs.PassedCalls.{OpenedWith, StandsWith};
+ghost use Rattle.buf_tree.specs.Shape.{at_place};
+ghost use Rattle.buf_tree.specs.View.{Innermost, level_in};
+
+use crate::buffer::Buffer;
+use crate::edits::add_row;
+use crate::row::{Row, is_bare};
+use gcx_base::{Kind, Memory, Serial};
+use node_store::{NodeStore, Place};
+use role_set::{NodeRoles, RoleSet};
+use std::alloc::Global;
+
+impl<N: NodeStore<Row>> Buffer<N> {
+    /// A new element or text as last child of the innermost open node, with these roles, of which none is taken in
+    /// advance. A text is closed at once, and one without a role is gone at once. Answers the node's place, or None
+    /// where it is gone.
+    ///
+    /// There is room for one more departure afterwards. After `Memory` the buffer is unchanged.
+    pub fn open_with(
+        &mut self,
+        alloc: Global,
+        parent: Place,
+        kind: Kind,
+        given: &RoleSet,
+    ) -> Result<Option<Place>, Memory>
+        requires parent { Innermost self.old.rows parent.0 }
+        requires kind { IsNode kind }
+        requires nodes { self.old.nodes ≤ 2 ^ 40 + 1 }
+        requires depth { level_in (at_place parent.0 self.old.rows) ≤ 1000 }
+        ensures opened { IfOk result (λ p. OpenedWith self.old self.new parent.0 (option_map (λ q. q.0) p) kind given.now 0) }
+        ensures stands { OnOk result (StandsWith self.old self.new kind given.now) }
+        ensures err { OnErr result (self.new ≡ self.old) }
+        ensures loans { self.new.loans ≡ self.old.loans }
+    {
+        let roles = NodeRoles::of(alloc, given)?;
+        let place = self.open_row(parent, kind, roles, 0)?;
+        Ok(place)
+    }
+
+    /// The same, where the roles are the row's own, and so many others that the node is given are taken in advance.
+    #[inline(always)]
+    pub(crate) fn open_row(
+        &mut self,
+        parent: Place,
+        kind: Kind,
+        roles: NodeRoles,
+        ahead: u128,
+    ) -> Result<Option<Place>, Memory>
+        requires parent { Innermost self.old.rows parent.0 }
+        requires kind { IsNode kind }
+        requires nodes { self.old.nodes ≤ 2 ^ 40 + 1 }
+        requires depth { level_in (at_place parent.0 self.old.rows) ≤ 1000 }
+        requires signed { roles.signed ≡ set.empty }
+        ensures ok { IfOk result (λ p. OpenedWith self.old self.new parent.0 (option_map (λ q. q.0) p) kind roles.held ahead) }
+        ensures stands { OnOk result (StandsWith self.old self.new kind roles.held) }
+        ensures err { OnErr result (self.new ≡ self.old) }
+        ensures loans { self.new.loans ≡ self.old.loans }
+    {
+        self.gone.reserve(self.held + 1)?;
+        if is_bare(&kind, &roles) {
+            self.gone.push_reserved(Serial(self.count));
+            self.count += 1;
+            self.taken = self.taken.saturating_add(ahead);
+            return Ok(None);
+        }
+        let above = self.nodes.payload(parent);
+        let row = above.new_child(self.count, kind, roles);
+        let place = add_row(&mut self.nodes, parent, row)?;
+        self.held += 1;
+        self.count += 1;
+        self.taken = self.taken.saturating_add(ahead);
+        Ok(Some(place))
+    }
+}

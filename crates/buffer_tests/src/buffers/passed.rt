@@ -1,0 +1,323 @@
+//! Elements that are passed and get their rows late, beside a buffer in which each node opens at once.
+ghost use Rattle.std.specs.Prelude.{◌≡◌, ◌<◌, ◌≤◌, ℕ, true, IfOk, OnOk};
+ghost use Rattle.std.specs.FinMap as map;
+ghost use Rattle.gcx_model.specs.Past.{IsNode};
+ghost use Rattle.buf_tree.specs.View.{InUse};
+ghost use Rattle.buffer_tests.specs.Passed.{IsTop};
+
+use super::{MANY, first_row, row_behind};
+use buf_tree::{Buffer, Row};
+use gcx_base::{Kind, Name, Role, Serial, Text};
+use gcx_model::Given;
+use node_store::{NodeStore, Place, SlabNodes};
+use raw_nodes::RawNodes;
+use role_set::RoleSet;
+use std::alloc::Global;
+use std::fmt::Write;
+use std::process::Abort;
+use std::test::Fail;
+
+/// More elements than are open at once.
+const DEEP: u64 = 1_000;
+
+/// A document, and what is told of the rows.
+///
+/// A letter is an element below the one before it; all of them stay open. `.` and `:` are texts. A capital letter and `:`
+/// are given a role, the others none. Each row is told by its name, its serial, `+` where it is open, and behind `^` its
+/// parent's serial; then the numbers of rows and of nodes, and the greatest number of rows so far.
+type Case = (&'static str, &'static str);
+
+const CASES: [Case; 7] = [
+    ("", " /0+^0 h1 n1 most 1"),
+    // nothing needs a row before the end
+    ("abc", " /0+^0 a1+^0 b2+^1 c3+^2 h4 n4 most 4"),
+    // texts are counted, and have no row
+    ("a.b.", " /0+^0 a1+^0 b3+^1 h3 n5 most 3"),
+    // an element that is given a role needs the rows of those above it
+    ("ab.C", " /0+^0 a1+^0 b2+^1 C4+^2 h4 n5 most 4"),
+    // so does a text
+    ("ab:c", " /0+^0 a1+^0 b2+^1 :3^2 c4+^2 h5 n5 most 5"),
+    // elements are passed below a row again
+    ("aB.cd:", " /0+^0 a1+^0 B2+^1 c4+^2 d5+^4 :6^5 h6 n7 most 6"),
+    ("A:b.cD", " /0+^0 A1+^0 :2^1 b3+^1 c5+^3 D6+^5 h6 n7 most 6"),
+];
+
+/// The innermost open row, and the serial above which there is no row.
+#[derive(Clone, Copy)]
+struct Top {
+    place: Place,
+    last: u64,
+}
+
+fn is_text(letter: u8) -> bool {
+    letter == b'.' || letter == b':'
+}
+
+fn has_role(letter: u8) -> bool {
+    letter == b':' || (letter >= b'A' && letter <= b'Z')
+}
+
+fn name_of(alloc: Global, letter: u8) -> Result<Name, Fail> {
+    Ok(Name::from_bytes(alloc, &[letter])?.ok_or("no name")?)
+}
+
+fn kind_of(alloc: Global, letter: u8) -> Result<Kind, Fail>
+    ensures { IfOk result (λ kind. IsNode kind) }
+{
+    if is_text(letter) {
+        let text = Text::from_bytes(alloc, &[letter])?.ok_or("no text")?;
+        Ok(Kind::Text(text))
+    } else {
+        let name = name_of(alloc, letter)?;
+        Ok(Kind::Element(name))
+    }
+}
+
+fn roles_of(alloc: Global, letter: u8) -> Result<RoleSet, Fail> {
+    let mut roles = RoleSet::new(alloc);
+    if has_role(letter) {
+        roles.give(Role(0))?;
+    }
+    Ok(roles)
+}
+
+/// Whether a row with this serial may come behind the others, of so many nodes.
+fn may_follow(top: Top, serial: u64, nodes: u64) -> bool
+    ensures { result ≡ true → (top.last < serial) × (serial < nodes) × (serial ≤ 1000) }
+{
+    top.last < serial && serial < nodes && serial <= DEEP
+}
+
+/// A buffer that has the document node.
+fn begun<N: NodeStore<Row> + Drop>(alloc: Global, nodes: N) -> Result<(Buffer<N>, Top), Fail>
+    requires { N.rows nodes ≡ map.empty }
+    ensures { IfOk result (λ x. IsTop x.0.rows x.1.place.0 x.1.last) }
+{
+    let mut given = Given::new(alloc);
+    given.push(Role(0))?;
+    let buffer = Buffer::new(alloc, nodes, given)?;
+    let Some(place) = buffer.root() else {
+        return Err("no root")?;
+    };
+    Ok((buffer, Top { place, last: 0 }))
+}
+
+/// Opens the node of the letter with its roles.
+fn open_now<N: NodeStore<Row>>(
+    alloc: Global,
+    buffer: &mut Buffer<N>,
+    top: Top,
+    letter: u8,
+) -> Result<Top, Fail>
+    requires { IsTop buffer.old.rows top.place.0 top.last }
+    ensures { IfOk result (λ t. IsTop buffer.new.rows t.place.0 t.last) }
+{
+    let serial = buffer.nodes();
+    if !may_follow(top, serial, MANY) {
+        return Err("too many nodes")?;
+    }
+    let kind = kind_of(alloc, letter)?;
+    let text = kind.is_text();
+    let roles = roles_of(alloc, letter)?;
+    let opened = buffer.open_with(alloc, top.place, kind, &roles)?;
+    match opened {
+        Some(place) => {
+            if text {
+                Ok(Top {
+                    place: top.place,
+                    last: serial,
+                })
+            } else {
+                Ok(Top {
+                    place,
+                    last: serial,
+                })
+            }
+        }
+        None => Ok(top),
+    }
+}
+
+/// Makes the row of the passed element of the letter.
+fn open_late<N: NodeStore<Row>>(
+    alloc: Global,
+    buffer: &mut Buffer<N>,
+    top: Top,
+    letter: u8,
+    serial: u64,
+) -> Result<Top, Fail>
+    requires { IsTop buffer.old.rows top.place.0 top.last }
+    ensures { IfOk result (λ t. IsTop buffer.new.rows t.place.0 t.last) }
+{
+    if !may_follow(top, serial, buffer.nodes()) {
+        return Err("not passed")?;
+    }
+    let name = name_of(alloc, letter)?;
+    let place = buffer.open_passed(alloc, top.place, name, Serial(serial))?;
+    Ok(Top {
+        place,
+        last: serial,
+    })
+}
+
+/// Makes the rows of the elements that were passed.
+fn settle<N: NodeStore<Row>>(
+    alloc: Global,
+    buffer: &mut Buffer<N>,
+    top: Top,
+    passed: &[(u8, u64)],
+) -> Result<Top, Fail>
+    requires { IsTop buffer.old.rows top.place.0 top.last }
+    ensures { IfOk result (λ t. IsTop buffer.new.rows t.place.0 t.last) }
+{
+    let mut top = top;
+    for element in passed {
+        top = open_late(alloc, buffer, top, element.0, element.1)?;
+    }
+    Ok(top)
+}
+
+/// Passes the node of the letter, which is given no role.
+fn pass<N: NodeStore<Row>>(
+    buffer: &mut Buffer<N>,
+    passed: &mut Vec<(u8, u64)>,
+    letter: u8,
+) -> Result<(), Fail>
+    ensures { OnOk result ((p last : ℕ) → IsTop buffer.old.rows p last → IsTop buffer.new.rows p last) }
+{
+    let serial = buffer.nodes();
+    if serial > MANY {
+        return Err("too many nodes")?;
+    }
+    buffer.pass();
+    if !is_text(letter) {
+        passed.push((letter, serial))?;
+    }
+    Ok(())
+}
+
+/// Passes the node of the letter or, where it is given a role, opens it below the rows of those that were passed.
+fn take_letter<N: NodeStore<Row>>(
+    alloc: Global,
+    buffer: &mut Buffer<N>,
+    top: Top,
+    passed: &mut Vec<(u8, u64)>,
+    letter: u8,
+) -> Result<Top, Fail>
+    requires { IsTop buffer.old.rows top.place.0 top.last }
+    ensures { IfOk result (λ t. IsTop buffer.new.rows t.place.0 t.last) }
+{
+    if !has_role(letter) {
+        pass(buffer, passed, letter)?;
+        return Ok(top);
+    }
+    let below = settle(alloc, buffer, top, &*passed)?;
+    passed.clear();
+    let opened = open_now(alloc, buffer, below, letter)?;
+    Ok(opened)
+}
+
+/// A row's name, serial, openness and parent's serial.
+fn put_node<N: NodeStore<Row>>(
+    out: &mut String,
+    buffer: &Buffer<N>,
+    place: Place,
+) -> Result<(), Fail>
+    requires { InUse buffer.now.rows place.0 }
+{
+    let at = buffer.at(place);
+    let above = match at.parent() {
+        Some(parent) => parent.payload().serial().0,
+        None => 0,
+    };
+    match at.payload().kind() {
+        Kind::Document => out.push_str(" /")?,
+        Kind::Element(name) => write!(out, " {}", name.as_str())?,
+        Kind::Text(text) => write!(out, " {}", text.as_str())?,
+    }
+    let mark = if buffer.is_closed(place) { "" } else { "+" };
+    write!(out, "{}{mark}^{above}", buffer.serial(place).0)?;
+    Ok(())
+}
+
+fn told<N: NodeStore<Row>>(alloc: Global, buffer: &Buffer<N>) -> Result<String, Fail> {
+    let mut out = String::new(alloc);
+    let mut at = first_row(buffer);
+    for _ in 0..buffer.held() {
+        let Some(place) = at else {
+            return Err("no row")?;
+        };
+        put_node(&mut out, buffer, place)?;
+        at = row_behind(buffer, buffer.serial(place).0);
+    }
+    write!(out, " h{} n{}", buffer.held(), buffer.nodes())?;
+    write!(out, " most {}", buffer.most())?;
+    Ok(out)
+}
+
+/// What is told where each node opens at once.
+fn told_at_once<N: NodeStore<Row> + Drop>(
+    alloc: Global,
+    nodes: N,
+    document: &str,
+) -> Result<String, Fail>
+    requires { N.rows nodes ≡ map.empty }
+{
+    let (mut buffer, mut top) = begun(alloc, nodes)?;
+    for letter in document.as_bytes() {
+        top = open_now(alloc, &mut buffer, top, *letter)?;
+    }
+    told(alloc, &buffer)
+}
+
+/// What is told where rows are made late.
+fn told_late<N: NodeStore<Row> + Drop>(
+    alloc: Global,
+    nodes: N,
+    document: &str,
+) -> Result<String, Fail>
+    requires { N.rows nodes ≡ map.empty }
+{
+    let (mut buffer, mut top) = begun(alloc, nodes)?;
+    let mut passed = Vec::new(alloc);
+    for letter in document.as_bytes() {
+        top = take_letter(alloc, &mut buffer, top, &mut passed, *letter)?;
+    }
+    settle(alloc, &mut buffer, top, &passed)?;
+    told(alloc, &buffer)
+}
+
+/// Both are told so, over these two stores.
+fn are_told<N: NodeStore<Row> + Drop>(
+    rt: &impl Abort,
+    alloc: Global,
+    one: N,
+    other: N,
+    case: Case,
+) -> Result<(), Fail>
+    requires one { N.rows one ≡ map.empty }
+    requires other { N.rows other ≡ map.empty }
+{
+    let (document, want) = case;
+    let late = told_late(alloc, one, document)?;
+    assert_eq!(rt; late.as_str(), want, "late: {document}");
+    let at_once = told_at_once(alloc, other, document)?;
+    assert_eq!(rt; at_once.as_str(), want, "at once: {document}");
+    Ok(())
+}
+
+#[test]
+fn rows_made_late_are_those_of_nodes_opened_at_once(rt: HostRuntime) -> Result<(), Fail> {
+    let alloc = rt.alloc();
+    for case in CASES {
+        are_told(
+            &rt,
+            alloc,
+            SlabNodes::new(alloc),
+            SlabNodes::new(alloc),
+            case,
+        )?;
+        are_told(&rt, alloc, RawNodes::new(alloc), RawNodes::new(alloc), case)?;
+    }
+    Ok(())
+}

@@ -1,0 +1,14 @@
+pub mod Rows
+pub mod RowSteps
+pub mod Finding
+pub mod Cursors
+pub mod Below
+mod Variables
+pub mod Parts
+mod Flipping
+mod Comparisons
+pub mod Telling
+mod Searches
+mod Texts
+mod Counts
+mod Nexts

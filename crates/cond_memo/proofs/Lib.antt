@@ -1,0 +1,9 @@
+mod MarkTrees
+mod MarkSearch
+mod MarkRows
+mod MarkLooks
+mod MarkTold
+mod MarkAsks
+mod MarkBack
+mod MarkList
+mod Descending

@@ -1,0 +1,15 @@
+use Rattle.std.proofs.Common.{sym, ◌∙◌, ap}
+use Rattle.node_store.specs.Rows.{parent_of}
+use Rattle.node_store.specs.declared.store.Place.{Place}
+use Rattle.cond_memo.proofs.MarkRows.{no_parent_row, parent_row_at}
+use Rattle.cond_memo.proofs.mark.parent_at.Goals as goal
+
+pub returns-in-Some-clause-parent : goal.returns-in-Some-clause-parent
+returns-in-Some-clause-parent g c =
+    let m = g.N.NodeStore.rows c.at.result.store.now in
+    parent_row_at m c.args.buffer.now.rows c.at.ensures.store c.args.place.0 c.in-Some.row.place.0 c.requires (ap (λ (q : Place). parent_of m q.0) (sym c.at.ensures.place) ∙ sym c.in-Some.ensures.place)
+
+pub returns-in-None-clause-parent : goal.returns-in-None-clause-parent
+returns-in-None-clause-parent g c =
+    let m = g.N.NodeStore.rows c.at.result.store.now in
+    no_parent_row m c.args.buffer.now.rows c.at.ensures.store c.args.place.0 (ap (λ (q : Place). parent_of m q.0) (sym c.at.ensures.place) ∙ sym c.in-None.ensures.place)

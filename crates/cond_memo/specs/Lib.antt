@@ -1,0 +1,4 @@
+pub mod Marks
+pub mod Calls
+pub mod Reaching
+pub mod MarkStays

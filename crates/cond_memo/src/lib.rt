@@ -1,0 +1,8 @@
+//! The truth of conditions, with what is kept of the answers: at each question only what is new is looked at.
+#![tactic(auto)]
+
+mod mark;
+mod marked;
+mod reaching;
+
+pub use marked::Marked;

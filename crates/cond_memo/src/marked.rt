@@ -1,0 +1,276 @@
+//! Conditions with a mark for each `exists` and each comparison with a literal.
+ghost use Rattle.std.specs.Prelude.{◌≡◌, ◌<◌, true, IfOk, option_map, vec_len, slice_index_or};
+ghost use Rattle.gcx_base.specs.declared.steps.Step.{Step};
+ghost use Rattle.gcx_model.specs.Tree.{Tree};
+ghost use Rattle.gcx_model.specs.declared.cond.Operand.TheVariants as operand;
+ghost use Rattle.cond_eval.specs.Asking.{MayAskOver, AnswersOver};
+ghost use Rattle.cond_eval.specs.Comparing.{comparison};
+ghost use Rattle.cond_eval.specs.Literals.{IsLiteral};
+ghost use Rattle.cond_memo.specs.Marks.{AsksLiteral, known as told, ask_of, IsAbout, AreMarks, MayFind};
+ghost use Rattle.cond_memo.specs.Calls.{AnswersAsked};
+ghost use Rattle.cond_memo.specs.declared.mark.Mark.{Mark as KeptMark};
+
+use crate::mark::{Ask, Mark, Room};
+use buf_tree::{Buffer, Row};
+use cond_eval::{Conds, Env, Leaves, compare_truth, flipped, truth_of};
+use gcx_base::{Memory, Rel, Step, Steps, VarId};
+use gcx_model::{Cond, Operand, Truth};
+use node_store::NodeStore;
+use std::alloc::Global;
+
+/// Finds the truth of a condition by looking at the rows alone that are new since it was asked for the same node. Of a
+/// comparison of two paths it keeps nothing.
+#[derive(Drop, Debug)]
+pub struct Marked {
+    marks: Vec<Mark>,
+    room: Room,
+}
+
+impl Marked {
+    /// Nothing was asked.
+    pub fn new(alloc: Global) -> Marked
+        ensures { (P : Tree) → AreMarks result P }
+    {
+        Marked {
+            marks: Vec::new(alloc),
+            room: Room {
+                flags: Vec::new(alloc),
+                text: Vec::new(alloc),
+            },
+        }
+    }
+
+    /// The number of the mark of this path and this question, which is made where there is none.
+    #[inline(always)]
+    fn mark_of(
+        &mut self,
+        alloc: Global,
+        var: VarId,
+        steps: &Steps,
+        ask: Option<(Rel, &Operand)>,
+    ) -> Result<usize, Memory>
+        requires { AsksLiteral (option_map (λ q. ask_of q.0 q.1.now) ask) }
+        ensures index { IfOk result (λ i. i < vec_len self.new.marks) }
+        ensures mark { IfOk result (λ i. (m : KeptMark) × (m ≡ slice_index_or self.new.marks.items i m)
+            × IsAbout m var steps.now (option_map (λ q. ask_of q.0 q.1.now) ask.entry)) }
+        ensures stays { IfOk result (λ _. (P : Tree) → AreMarks self.old P → AreMarks self.new P) }
+    {
+        let mut index = 0;
+        'marks: while index < self.marks.len() {
+            if is_of(&self.marks[index], var, steps, ask) {
+                return Ok(index);
+            }
+            index += 1;
+        }
+        let ask = own_ask(alloc, ask)?;
+        let mark = Mark::new(alloc, var, steps, ask)?;
+        self.marks.push(mark)?;
+        Ok(index)
+    }
+
+    /// The truth of the question about the path.
+    #[inline(always)]
+    fn asked<N: NodeStore<Row>>(
+        &mut self,
+        alloc: Global,
+        env: &Env,
+        buffer: &Buffer<N>,
+        var: VarId,
+        steps: &Steps,
+        ask: Option<(Rel, &Operand)>,
+    ) -> Result<Truth, Memory>
+        requires { MayFind self.old buffer.now.rows buffer.now.nodes env.now var.0 steps.now
+            (option_map (λ q. ask_of q.0 q.1.now) ask) }
+        ensures { IfOk result (λ t. AnswersAsked buffer.now self.old self.new env.now var.0 steps.now
+            (option_map (λ q. ask_of q.0 q.1.now) ask.entry) t) }
+    {
+        let Some((node, of)) = env.get(var) else {
+            return Ok(Truth::Unknown);
+        };
+        let index = self.mark_of(alloc, var, steps, ask)?;
+        let known = self.marks[index].ask(buffer, node, of, &mut self.room)?;
+        Ok(truth_of_known(known))
+    }
+
+    /// The truth of a comparison: of a path and a literal by a mark.
+    #[inline(always)]
+    fn compared<N: NodeStore<Row>>(
+        &mut self,
+        alloc: Global,
+        env: &Env,
+        buffer: &Buffer<N>,
+        left: &Operand,
+        rel: Rel,
+        right: &Operand,
+    ) -> Result<Truth, Memory>
+        requires { MayAskOver buffer.now (AreMarks self.old) env.now (comparison left.now rel right.now) }
+        ensures { IfOk result (λ t. AnswersOver buffer.now (AreMarks self.old) (AreMarks self.new)
+            env.now (comparison left.now rel right.now) t) }
+    {
+        match left {
+            Operand::Path { var, steps } => {
+                self.compared_path(alloc, env, buffer, *var, steps, rel, left, right)
+            }
+            _ => self.compared_literal(alloc, env, buffer, left, rel, right),
+        }
+    }
+
+    /// The same with a path on the left.
+    #[inline(always)]
+    fn compared_path<N: NodeStore<Row>>(
+        &mut self,
+        alloc: Global,
+        env: &Env,
+        buffer: &Buffer<N>,
+        var: VarId,
+        steps: &Steps,
+        rel: Rel,
+        left: &Operand,
+        right: &Operand,
+    ) -> Result<Truth, Memory>
+        requires path { left.now ≡ operand.Path var steps.now }
+        requires may { MayAskOver buffer.now (AreMarks self.old) env.now (comparison left.now rel right.now) }
+        ensures { IfOk result (λ t. AnswersOver buffer.now (AreMarks self.old) (AreMarks self.new)
+            env.now (comparison left.now rel right.now) t) }
+    {
+        match right {
+            Operand::Path { .. } => compare_truth(alloc, env, buffer, left, rel, right),
+            _ => self.asked(alloc, env, buffer, var, steps, Some((rel, right))),
+        }
+    }
+
+    /// The same with a literal on the left.
+    fn compared_literal<N: NodeStore<Row>>(
+        &mut self,
+        alloc: Global,
+        env: &Env,
+        buffer: &Buffer<N>,
+        left: &Operand,
+        rel: Rel,
+        right: &Operand,
+    ) -> Result<Truth, Memory>
+        requires literal { IsLiteral left.now }
+        requires may { MayAskOver buffer.now (AreMarks self.old) env.now (comparison left.now rel right.now) }
+        ensures { IfOk result (λ t. AnswersOver buffer.now (AreMarks self.old) (AreMarks self.new)
+            env.now (comparison left.now rel right.now) t) }
+    {
+        match right {
+            Operand::Path { var, steps } => {
+                self.asked(alloc, env, buffer, *var, steps, Some((flipped(rel), left)))
+            }
+            _ => compare_truth(alloc, env, buffer, left, rel, right),
+        }
+    }
+}
+
+impl Conds for Marked {
+    ghost use Rattle.cond_memo.specs.Marks.{AreMarks};
+    ghost use Rattle.cond_memo.specs.MarkStays.{mark_stays};
+
+    ghost stands = { AreMarks };
+
+    ghost stands_on = { λ s P Q a b k m i. mark_stays P Q a b m (k m i) };
+
+    fn truth<N: NodeStore<Row>>(
+        &mut self,
+        alloc: Global,
+        cond: &Cond,
+        env: &Env,
+        buffer: &Buffer<N>,
+    ) -> Result<Truth, Memory> {
+        truth_of(self, alloc, cond, env, buffer)
+    }
+}
+
+impl Leaves for Marked {
+    ghost use Rattle.cond_memo.specs.Marks.{AreMarks};
+
+    ghost holds_of = { AreMarks };
+
+    fn leaf<N: NodeStore<Row>>(
+        &mut self,
+        alloc: Global,
+        cond: &Cond,
+        env: &Env,
+        buffer: &Buffer<N>,
+    ) -> Result<Truth, Memory> {
+        match cond {
+            Cond::Exists { var, steps } => self.asked(alloc, env, buffer, *var, steps, None),
+            Cond::Compare { left, rel, right } => self.compared(
+                alloc, env, buffer, left, *rel, right,
+            ),
+            _ => Ok(Truth::Unknown),
+        }
+    }
+}
+
+/// The question with a literal of its own.
+fn own_ask(alloc: Global, ask: Option<(Rel, &Operand)>) -> Result<Option<Ask>, Memory>
+    ensures { IfOk result (λ a. a ≡ option_map (λ q. ask_of q.0 q.1.now) ask.entry) }
+{
+    match ask {
+        Some((rel, literal)) => {
+            let literal = literal.copy(alloc)?;
+            Ok(Some(Ask { rel, literal }))
+        }
+        None => Ok(None),
+    }
+}
+
+fn truth_of_known(known: Option<bool>) -> Truth
+    ensures { result ≡ told known }
+{
+    match known {
+        Some(true) => Truth::True,
+        Some(false) => Truth::False,
+        None => Truth::Unknown,
+    }
+}
+
+/// Whether the mark is that of this path and this question.
+#[inline(always)]
+fn is_of(mark: &Mark, var: VarId, steps: &Steps, ask: Option<(Rel, &Operand)>) -> bool
+    ensures { result ≡ true → IsAbout mark.now var steps.now (option_map (λ q. ask_of q.0 q.1.now) ask.entry) }
+{
+    mark.var == var && is_asked(&mark.ask, ask) && are_same(mark.steps.items(), steps.items())
+}
+
+#[inline(always)]
+fn is_asked(kept: &Option<Ask>, ask: Option<(Rel, &Operand)>) -> bool
+    ensures { result ≡ true → kept.now ≡ option_map (λ q. ask_of q.0 q.1.now) ask.entry }
+{
+    match (kept, ask) {
+        (None, None) => true,
+        (Some(kept), Some((rel, literal))) => kept.rel == rel && is_literal(&kept.literal, literal),
+        _ => false,
+    }
+}
+
+#[inline(always)]
+fn is_literal(kept: &Operand, literal: &Operand) -> bool
+    ensures { result ≡ true → kept.now ≡ literal.now }
+{
+    match (kept, literal) {
+        (Operand::Str(kept), Operand::Str(text)) => *kept == *text,
+        (Operand::Num(kept), Operand::Num(units)) => kept == units,
+        _ => false,
+    }
+}
+
+// Step by step, which takes fewer instructions than the comparison of the two slices.
+#[inline(always)]
+fn are_same(kept: &[Step], steps: &[Step]) -> bool
+    ensures { result ≡ true → kept.now ≡ steps.now }
+{
+    if kept.len() != steps.len() {
+        return false;
+    }
+    let mut i = 0;
+    'steps: while i < steps.len() {
+        if kept[i] != steps[i] {
+            return false;
+        }
+        i += 1;
+    }
+    true
+}

@@ -1,8 +1,0 @@
-use Rattle.std.proofs.Common.{◌≤◌, ◌-◌, vec_len}
-use Rattle.pull_eval.proofs.marked.Marked.mark_of.Given as goal
-
-abbrev pub invariant-marks : goal.invariant-marks
-invariant-marks l = l.index ≤ vec_len l.self.marks
-
-abbrev pub decreases-marks : goal.decreases-marks
-decreases-marks l = vec_len l.self.marks - l.index

@@ -1,9 +1,0 @@
-use Rattle.std.proofs.Common.{◌∷◌, []}
-use Rattle.gcx_model.specs.Paths.{any}
-use Rattle.gcx_model.specs.Values.{compare}
-use Rattle.pull_eval.specs.Literals.{literal_value}
-use Rattle.pull_eval.proofs.Comparisons.{PassesOn, Alone}
-use Rattle.pull_eval.proofs.pairs.some_satisfies.Given as goal
-
-abbrev pub invariant-loop-member : goal.invariant-loop-member
-invariant-loop-member g l = PassesOn l.buffer.rows Alone (λ P os v. any (compare l.rel v) (literal_value l.literal ∷ [])) l.set l.member-index

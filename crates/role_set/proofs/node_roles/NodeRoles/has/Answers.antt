@@ -1,0 +1,18 @@
+use Rattle.std.proofs.Common.{ap, sym, ◌∙◌}
+use Rattle.std.specs.FinSet.{contains}
+use Rattle.role_set.specs.NodeRoles.{NodeSets}
+use Rattle.role_set.specs.Pairs.{held_numbers}
+use Rattle.role_set.proofs.Roles.{low_bit, high_member}
+use Rattle.role_set.proofs.node_roles.NodeRoles.has.Goals as goal
+
+pub returns-then-role-lt-WORD_BITS : goal.returns-then-role-lt-WORD_BITS
+returns-then-role-lt-WORD_BITS c =
+    c.has_bit.ensures
+    ∙ sym (low_bit c.self.inside.held (held_numbers c.self.inside.high) c.args.role.0 c.self.invariant.held c.if-role-lt-WORD_BITS.true)
+    ∙ ap (λ (v : NodeSets). contains v.held c.args.role.0) c.self.view_is
+
+pub returns-else-role-lt-WORD_BITS : goal.returns-else-role-lt-WORD_BITS
+returns-else-role-lt-WORD_BITS c =
+    c.has.ensures
+    ∙ sym (high_member c.self.inside.held (held_numbers c.self.inside.high) c.args.role.0 c.if-role-lt-WORD_BITS.false)
+    ∙ ap (λ (v : NodeSets). contains v.held c.args.role.0) c.self.view_is

@@ -1,0 +1,3 @@
+-- The definitions compute on rows worked out by hand.
+
+pub mod SpreadRows
