@@ -8,13 +8,17 @@ use gcx_model::{
     Body, Flags, Given, Off, Plan, RoleKind, RoleRow, RoleRows, VarIds, VarRow, VarRows,
 };
 use matcher::Matcher;
+use path_states::Bound;
 use std::alloc::Global;
 use std::fmt::Write;
 use std::process::Abort;
 use std::test::Fail;
 
+/// A small letter is a name; a capital is one of 1,024 bytes that ends with it.
 fn name(alloc: Global, letter: u8) -> Result<Name, Fail> {
-    Ok(Name::from_bytes(alloc, &[letter])?.ok_or("not a name")?)
+    let front = if letter < b'a' { 1_023 } else { 0 };
+    let bytes = joined(alloc, &[&repeated(alloc, b"x", front)?, &[letter]])?;
+    Ok(Name::from_bytes(alloc, &bytes)?.ok_or("not a name")?)
 }
 
 /// `t` is a text, `n` any node, `e` any element, another letter an element of that name.
@@ -156,6 +160,26 @@ fn node(alloc: Global, letter: u8) -> Result<Kind, Fail>
     }
 }
 
+/// The number of the name, or of texts.
+fn number_of(alloc: Global, matcher: &Matcher, letter: u8) -> Result<usize, Fail> {
+    match letter {
+        b'.' => Ok(matcher.text_number()),
+        _ => Ok(matcher.number_of(name(alloc, letter)?.as_bytes())),
+    }
+}
+
+/// Enters a node by the number of its name, and puts its roles.
+fn enter_number(
+    alloc: Global,
+    out: &mut String,
+    matcher: &mut Matcher,
+    letter: u8,
+) -> Result<(), Fail> {
+    let number = number_of(alloc, matcher, letter)?;
+    let given = matcher.enter_number(alloc, number)?;
+    put(out, &given)
+}
+
 /// Puts the roles that are taken back.
 fn put_ahead(alloc: Global, out: &mut String, matcher: &Matcher) -> Result<(), Fail> {
     out.push('?')?;
@@ -187,6 +211,10 @@ fn follow<'a>(
             matcher.sign(number(*level), &off)?;
             Ok(rest)
         }
+        [b'#', letter, rest @ ..] => {
+            enter_number(alloc, out, matcher, *letter)?;
+            Ok(rest)
+        }
         [letter, rest @ ..] => {
             step_on(alloc, out, matcher, *letter)?;
             Ok(rest)
@@ -196,9 +224,16 @@ fn follow<'a>(
 }
 
 /// What the matcher answers: `.` is a text, `)` the end of the innermost node, `!rl` signs role r's statement at
-/// level l, `?` asks what is taken back, another letter is the start of an element.
-fn answers(alloc: Global, plan: &Plan, rel: &[u8], document: &[u8]) -> Result<String, Fail> {
-    let mut matcher = Matcher::new(alloc, plan)?;
+/// level l, `?` asks what is taken back, another letter is the start of an element, `#` before it, or before `.`, enters
+/// it by the number of its name.
+fn answers(
+    alloc: Global,
+    plan: &Plan,
+    bound: Bound,
+    rel: &[u8],
+    document: &[u8],
+) -> Result<String, Fail> {
+    let mut matcher = Matcher::bounded(alloc, plan, bound)?;
     let mut out = String::new(alloc);
     put(&mut out, &matcher.document(alloc)?)?;
     let mut rest = document;
@@ -211,13 +246,22 @@ fn answers(alloc: Global, plan: &Plan, rel: &[u8], document: &[u8]) -> Result<St
 /// The same by variables and roles in words.
 fn answers_by(
     alloc: Global,
-    vars: &str,
-    roles: &str,
+    (vars, roles): (&str, &str),
+    bound: Bound,
     rel: &[u8],
     document: &[u8],
 ) -> Result<String, Fail> {
     let plan = plan(alloc, vars, roles)?;
-    answers(alloc, &plan, rel, document)
+    answers(alloc, &plan, bound, rel, document)
+}
+
+/// The usual bound, and one within which two states and few moves are remembered.
+fn bounds() -> [Bound; 2] {
+    let narrow = Bound {
+        states: 2,
+        bytes: 1_000,
+    };
+    [Bound::usual(), narrow]
 }
 
 /// Variables, roles, the steps of a statement that is signed, a document, and the roles given.
@@ -232,6 +276,8 @@ type Case = (
 const CASES: &[Case] = &[
     // child steps
     ("0r 1a", "o0 o1 o2", "", "raa))b)a.)", "0 1 2   2  "),
+    // long names that differ in their last byte
+    ("0R 1A", "o0 o1 o2", "", "RAA))B)A.)", "0 1 2   2  "),
     // nested matches of a descendant step
     ("0/a", "o0 o1", "", "abaa)c.)a", "0 1  1 1   1 "),
     // a descendant step behind another, and behind a child step
@@ -295,6 +341,22 @@ const CASES: &[Case] = &[
         "a!21!31b?)c?))ab?",
         "0 1 2 ?2 3 ?3 1 2 ? ",
     ),
+    // by the numbers of names, one of which is none of the plan's
+    (
+        "0r 1a",
+        "o0 o1 o2 w2",
+        "",
+        "#r#a#.)#b.))#b))#b)#z#a",
+        "0 1 23 3 3 3 3    ",
+    ),
+    // signed while a text is the innermost node
+    (
+        "0/a",
+        "o0 o1 w1/n",
+        "",
+        "a.!21?)b?.?",
+        "0 1 2 ?2 2 ?2 2 ?2 ",
+    ),
     // the innermost node once more, after others inside it
     (
         "0r",
@@ -307,8 +369,16 @@ const CASES: &[Case] = &[
 
 fn is_answered(rt: &impl Abort, alloc: Global, case: Case) -> Result<(), Fail> {
     let (vars, roles, rel, document, want) = case;
-    let got = answers_by(alloc, vars, roles, rel.as_bytes(), document.as_bytes())?;
-    assert_eq!(rt; got.as_str(), want, "{vars} | {roles} | {document}");
+    for bound in &bounds() {
+        let got = answers_by(
+            alloc,
+            (vars, roles),
+            *bound,
+            rel.as_bytes(),
+            document.as_bytes(),
+        )?;
+        assert_eq!(rt; got.as_str(), want, "{vars} | {roles} | {document}");
+    }
     Ok(())
 }
 
@@ -336,7 +406,42 @@ fn a_thousand_levels(rt: HostRuntime) -> Result<(), Fail> {
     let document = many_levels(alloc)?;
     let ones = repeated(alloc, b"1 ", 999)?;
     let want = joined(alloc, &[b"0 ", &ones, b"23 ? 3 3 3 ?3 "])?;
-    let got = answers_by(alloc, "0/a", "o0 o1 f1/b w1/b", b"", &document)?;
-    assert_eq!(rt; got.as_str().as_bytes(), want.as_slice());
+    for bound in &bounds() {
+        let got = answers_by(alloc, ("0/a", "o0 o1 f1/b w1/b"), *bound, b"", &document)?;
+        assert_eq!(rt; got.as_str().as_bytes(), want.as_slice());
+    }
+    Ok(())
+}
+
+/// The numbers below this one, without spaces between them.
+fn numbers_below(alloc: Global, end: u32) -> Result<String, Fail> {
+    let mut out = String::new(alloc);
+    for number in 0..end {
+        write!(out, "{number}")?;
+    }
+    Ok(out)
+}
+
+/// So many copies of a word.
+fn words(alloc: Global, word: &str, count: usize) -> Result<String, Fail> {
+    let mut out = String::new(alloc);
+    for _ in 0..count {
+        write!(out, "{word}")?;
+    }
+    Ok(out)
+}
+
+/// Each of two thousand roles is given at each match.
+#[test]
+fn two_thousand_roles(rt: HostRuntime) -> Result<(), Fail> {
+    let alloc = rt.alloc();
+    let roles = words(alloc, "o1 ", 2_000)?;
+    let all = numbers_below(alloc, 2_000)?;
+    let all = all.as_str().as_bytes();
+    let want = joined(alloc, &[b" ", all, b" ", all, b"  "])?;
+    for bound in &bounds() {
+        let got = answers_by(alloc, ("0/a", roles.as_str()), *bound, b"", b"aab")?;
+        assert_eq!(rt; got.as_str().as_bytes(), want.as_slice());
+    }
     Ok(())
 }

@@ -1,5 +1,5 @@
--- From which nodes a statement reaches the innermost node, by the rows.
-use Rattle.std.proofs.Common.{◌≡◌, ℕ, zero, suc, ◌+◌, ◌-◌, ◌<◌, ◌≤◌, Bool, true, false, List, [], ◌∷◌, ◌++◌, length, refl, sym, ◌∙◌, ap, subst, inl, inr, arith, ◌⊎◌, Some}
+-- From which nodes a statement reaches the innermost node, by the frames.
+use Rattle.std.proofs.Common.{◌≡◌, ℕ, zero, suc, ◌-◌, ◌<◌, ◌≤◌, Bool, true, false, List, [], ◌∷◌, ◌++◌, length, refl, sym, ◌∙◌, ap, subst, inl, inr, arith, ◌⊎◌, Some}
 use Rattle.std.specs.Prelude.{slice_get}
 use Rattle.std.proofs.lemmas.Bool.{false≢true}
 use Rattle.std.proofs.lemmas.List.{append-nil}
@@ -21,22 +21,19 @@ use Rattle.tree_laws.proofs.Chains.{above_in, above_trans, above_self, hits_abov
 use Rattle.need_laws.proofs.Frames.{hits-append}
 use Rattle.tree_laws.proofs.Fed.{grown_from}
 use Rattle.placed_laws.proofs.Told.{Told}
-use Rattle.matcher.specs.Lists.{Holds}
-use Rattle.matcher.specs.Spots.{IsWay, kind_with, tail_with}
-use Rattle.matcher.specs.Rows.{Hit}
-use Rattle.matcher.specs.Row.{IsRow}
+use Rattle.path_states.specs.Lists.{Holds}
+use Rattle.path_states.specs.PathTree.{IsWay, kind_with, tail_with}
+use Rattle.matcher.specs.Frames.{Hit}
+use Rattle.matcher.specs.Frame.{IsFrame}
 use Rattle.matcher.specs.Matcher.{Stands}
-use Rattle.matcher.specs.Stacks.{innermost_row}
 use Rattle.matcher.specs.Ahead.{Target, AreVars, AreBases}
-use Rattle.matcher.specs.Parts.{hits_at}
-use Rattle.matcher.specs.declared.matcher.Matcher.{Matcher}
-use Rattle.matcher.specs.declared.row.Found.{Found}
-use Rattle.matcher.specs.declared.row.Row.{Row}
-use Rattle.matcher.specs.declared.spots.Way.{Way}
-use Rattle.matcher.proofs.Looking.{some_at}
+use Rattle.matcher.specs.View.{FrameView, MatcherView, innermost_frame}
+use Rattle.matcher.specs.declared.frames.Found.{Found}
+use Rattle.path_states.specs.declared.paths.Way.{Way}
+use Rattle.path_states.proofs.Looking.{some_at}
 use Rattle.matcher.proofs.Upwards.{level_same, lower_above}
 use Rattle.matcher.proofs.Origins.{node_at, origins_are, Origin}
-use Rattle.matcher.proofs.NewRow.{whole_tail}
+use Rattle.matcher.proofs.NewFrame.{whole_tail}
 use Rattle.matcher.proofs.GivenRoles.{kind_whole}
 use Rattle.matcher.proofs.Reaching.{Ends, gives_to, gives_from}
 
@@ -90,7 +87,7 @@ pub record IsBase (plan : PlanTree) (P : Tree) (n : Node) (o : OffTree) (l : ℕ
   pub hit : hits 0 (path_of plan o.base) node ≡ true
   pub reached : reaches P o node n ≡ true
 
-module _ (m : Matcher) (past : Past) (text : Bool) (s : Stands m past text) where
+module _ (m : MatcherView) (past : Past) (text : Bool) (s : Stands m past text) where
   abbrev P : Tree
   P = past.tree
 
@@ -98,7 +95,7 @@ module _ (m : Matcher) (past : Past) (text : Bool) (s : Stands m past text) wher
   n = s.here
 
   abbrev path : ℕ → List Step
-  path = s.spots.path
+  path = s.tree.path
 
   w : Grown past.tree
   w = grown_from past.tree s.is_past.grown
@@ -106,65 +103,65 @@ module _ (m : Matcher) (past : Past) (text : Bool) (s : Stands m past text) wher
   i : In s.here past.tree.nodes
   i = innermost_in past.tree w text s.here s.innermost
 
-  -- the innermost row, and its node
-  last_row : (row : Row) × (innermost_row m.rows ≡ Some row)
-  last_row = let l = s.some in some_at m.rows.rows.items (length m.rows.rows.items - 1) (omega arith)
+  -- the innermost frame, and its node
+  last_frame : (frame : FrameView) × (innermost_frame m.frames ≡ Some frame)
+  last_frame = let l = s.some in some_at m.frames (length m.frames - 1) (omega arith)
 
-  pub row_node : (row : Row) → innermost_row m.rows ≡ Some row → (a : Node) × In a (above s.here) × (suc (level a) ≡ length m.rows.rows.items) × IsRow past.plan past.tree m.spots.spots.items s.spots.path m.rows row a
-  row_node row e =
+  pub frame_node : (frame : FrameView) → innermost_frame m.frames ≡ Some frame → (a : Node) × In a (above s.here) × (suc (level a) ≡ length m.frames) × IsFrame past.plan past.tree m.tree.states.items s.tree.path frame a
+  frame_node frame e =
       let l = s.some in
       let k = s.levels in
-      let o : length m.rows.rows.items - 1 ≤ level s.here = omega arith in
-      let a = node_at s.here (length m.rows.rows.items - 1) o in
+      let o : length m.frames - 1 ≤ level s.here = omega arith in
+      let a = node_at s.here (length m.frames - 1) o in
       let at = a.2 in
-      (a.0, a.1, omega arith, s.rows a.0 row a.1 (subst (λ (z : ℕ). slice_get m.rows.rows.items z ≡ Some row) (sym at) e))
+      (a.0, a.1, omega arith, s.frames a.0 frame a.1 (subst (λ (z : ℕ). slice_get m.frames z ≡ Some frame) (sym at) e))
 
   -- without idle nodes it is that of the innermost node
-  here_row : (row : Row) → innermost_row m.rows ≡ Some row → m.idle ≡ 0 → IsRow past.plan past.tree m.spots.spots.items s.spots.path m.rows row s.here
-  here_row row e z =
-      let r = row_node row e in
+  pub here_frame : (frame : FrameView) → innermost_frame m.frames ≡ Some frame → m.idle ≡ 0 → IsFrame past.plan past.tree m.tree.states.items s.tree.path frame s.here
+  here_frame frame e z =
+      let r = frame_node frame e in
       let l = r.2 in
       let k = s.levels in
       let d : level r.0 ≡ level s.here = omega arith in
       let same = level_same s.here r.0 s.here r.1 (above_self s.here) d in
-      subst (λ (b : Node). IsRow past.plan past.tree m.spots.spots.items s.spots.path m.rows row b) same r.3
+      subst (λ (b : Node). IsFrame past.plan past.tree m.tree.states.items s.tree.path frame b) same r.3
 
-  told_hit : (a : Node) (row : Row) → In a (above s.here) → slice_get m.rows.rows.items (level a) ≡ Some row → (c : ℕ) → In c (hits_at m.rows row) → hits 0 (s.spots.path c) a ≡ true
-  told_hit a row o e c j = (((s.rows a row o e).hits c).0 j).1
+  told_hit : (a : Node) (frame : FrameView) → In a (above s.here) → slice_get m.frames (level a) ≡ Some frame → (c : ℕ) → In c frame.active → hits 0 (s.tree.path c) a ≡ true
+  told_hit a frame o e c j = (((s.frames a frame o e).active c).0 j).1
 
-  -- a node to which a path leads has a row
-  has_row : (a : Node) → In a (above s.here) → (c : ℕ) → c < length m.spots.spots.items → hits 0 (s.spots.path c) a ≡ true → level a < length m.rows.rows.items
-  has_row a o c l h = elim (le_or (length m.rows.rows.items) (level a)) [
+  -- a node to which a path leads has a frame
+  has_frame : (a : Node) → In a (above s.here) → (c : ℕ) → c < length m.tree.states.items → hits 0 (s.tree.path c) a ≡ true → level a < length m.frames
+  has_frame a o c l h = elim (le_or (length m.frames) (level a)) [
     | inl j ↦ absurd (false≢true (sym (s.idle a o j c l) ∙ h))
     | inr j ↦ j
   ]
 
-  kept_hit : (a : Node) → In a (above s.here) → (c : ℕ) → c < length m.spots.spots.items → hits 0 (s.spots.path c) a ≡ true → Hit m.rows c (level a)
+  kept_hit : (a : Node) → In a (above s.here) → (c : ℕ) → c < length m.tree.states.items → hits 0 (s.tree.path c) a ≡ true → Hit m.frames c (level a)
   kept_hit a o c l h =
-      let r = some_at m.rows.rows.items (level a) (has_row a o c l h) in
-      record { row = r.0; at = r.1; member = ((s.rows a r.0 o r.1).hits c).1 (l, h) }
+      let r = some_at m.frames (level a) (has_frame a o c l h) in
+      record { frame = r.0; at = r.1; member = ((s.frames a r.0 o r.1).active c).1 (l, h) }
 
-  few : length m.rows.rows.items ≤ suc (level s.here)
+  few : length m.frames ≤ suc (level s.here)
   few = let k = s.levels in omega arith
 
   -- no path leads to an idle node
-  not_idle : (c : ℕ) → c < length m.spots.spots.items → hits 0 (s.spots.path c) s.here ≡ true → m.idle ≡ 0
-  not_idle c l h = let r = has_row s.here (above_self s.here) c l h in let k = s.levels in omega arith
+  not_idle : (c : ℕ) → c < length m.tree.states.items → hits 0 (s.tree.path c) s.here ≡ true → m.idle ≡ 0
+  not_idle c l h = let r = has_frame s.here (above_self s.here) c l h in let k = s.levels in omega arith
 
-  hit_node : (c v : ℕ) → Hit m.rows c v → (a : Node) × In a (above s.here) × (level a ≡ v) × (hits 0 (s.spots.path c) a ≡ true)
+  hit_node : (c v : ℕ) → Hit m.frames c v → (a : Node) × In a (above s.here) × (level a ≡ v) × (hits 0 (s.tree.path c) a ≡ true)
   hit_node c v h =
-      let l = slice_get_within m.rows.rows.items v h.row h.at in
+      let l = slice_get_within m.frames v h.frame h.at in
       let f = few in
       let o : v ≤ level s.here = omega arith in
       let a = node_at s.here v o in
-      (a.0, a.1, a.2, told_hit a.0 h.row a.1 (subst (λ (z : ℕ). slice_get m.rows.rows.items z ≡ Some h.row) (sym a.2) h.at) c h.member)
+      (a.0, a.1, a.2, told_hit a.0 h.frame a.1 (subst (λ (z : ℕ). slice_get m.frames z ≡ Some h.frame) (sym a.2) h.at) c h.member)
 
   -- a role and its way
-  module _ (r : ℕ) (rw : RoleRowTree) (at : row_at past.plan.roles r ≡ Some rw) (wy : Way) (is : IsWay past.plan s.spots.path (length m.spots.spots.items) wy rw) where
+  module _ (r : ℕ) (rw : RoleRowTree) (at : row_at past.plan.roles r ≡ Some rw) (wy : Way) (is : IsWay past.plan s.tree.path (length m.tree.states.items) wy rw) where
     abbrev Var : RoleKind → ℕ → Type 0
     Var k u = IsVar past.tree s.here (path_of past.plan rw.var) rw.tail k u
 
-    own_path : kind_with rw.kind rw.tail ≡ Own → s.spots.path wy.end ≡ path_of past.plan rw.var
+    own_path : kind_with rw.kind rw.tail ≡ Own → s.tree.path wy.end ≡ path_of past.plan rw.var
     own_path e = is.end ∙ (ap (λ (z : List Step). path_of past.plan rw.var ++ z) (own_tail rw.kind rw.tail e) ∙ append-nil (path_of past.plan rw.var))
 
     own_var : kind_with rw.kind rw.tail ≡ Own → (u : ℕ) → Target Own m r wy.end u → Var Own u
@@ -181,15 +178,15 @@ module _ (m : Matcher) (past : Past) (text : Bool) (s : Stands m past text) wher
 
     var_own : kind_with rw.kind rw.tail ≡ Own → (u : ℕ) → Var Own u → Target Own m r wy.end u
     var_own e u v =
-        let h : hits 0 (s.spots.path wy.end) v.node ≡ true = subst (λ (z : List Step). hits 0 z v.node ≡ true) (sym (own_path e)) v.hit in
-        let z = not_idle wy.end is.end_known (subst (λ (z : Node). hits 0 (s.spots.path wy.end) z ≡ true) v.ends h) in
+        let h : hits 0 (s.tree.path wy.end) v.node ≡ true = subst (λ (z : List Step). hits 0 z v.node ≡ true) (sym (own_path e)) v.hit in
+        let z = not_idle wy.end is.end_known (subst (λ (z : Node). hits 0 (s.tree.path wy.end) z ≡ true) v.ends h) in
         let k = s.levels in
         let a : level s.here ≡ u = sym (ap level v.ends) ∙ v.at in
-        record { here = z; at = omega arith; hit = subst (λ (z : ℕ). Hit m.rows wy.end z) v.at (kept_hit v.node v.over wy.end is.end_known h) }
+        record { here = z; at = omega arith; hit = subst (λ (z : ℕ). Hit m.frames wy.end z) v.at (kept_hit v.node v.over wy.end is.end_known h) }
 
     first_var : (u : ℕ) → Target First m r wy.end u → Var First u
     first_var u t =
-        let R = here_row t.row t.last t.here in
+        let R = here_frame t.frame t.last t.here in
         let f = (R.found t.from.of).0 t.from.member in
         let q = f.is in
         let same : q.row ≡ rw = row_same q.row (subst (λ (z : ℕ). row_at past.plan.roles z ≡ Some q.row) t.from.is.0 q.role.at) in
@@ -208,34 +205,34 @@ module _ (m : Matcher) (past : Past) (text : Bool) (s : Stands m past text) wher
     var_first e u v =
         let hit = hits-append past.tree w 0 (path_of past.plan rw.var) rw.tail v.node s.here (above_in past.tree w s.here v.node i v.over) i v.hit (Matches-in past.tree (serial_of v.node) rw.tail s.here (head_in (matches past.tree (serial_of v.node) rw.tail) s.here v.ends)).1 in
         let z = not_idle wy.end is.end_known (subst (λ (z : List Step). hits 0 z s.here ≡ true) (sym (is.end ∙ ap (λ (z : List Step). path_of past.plan rw.var ++ z) (first_tail rw.kind rw.tail e))) hit) in
-        let q = last_row in
+        let q = last_frame in
         let f : Found = record { role = r; level = u } in
         record {
-          row = q.0;
+          frame = q.0;
           last = q.1;
           here = z;
-          from = record { of = f; member = ((here_row q.0 q.1 z).found f).1 (record { context = v.node; over = v.over; at = v.at; is = record { row = rw; role = record { at = at; same = e }; hit = v.hit; is = v.ends } }); is = (refl, refl) };
+          from = record { of = f; member = ((here_frame q.0 q.1 z).found f).1 (record { context = v.node; over = v.over; at = v.at; is = record { row = rw; role = record { at = at; same = e }; hit = v.hit; is = v.ends } }); is = (refl, refl) };
         }
 
-    whole_path : kind_with rw.kind rw.tail ≡ Whole → s.spots.path wy.end ≡ path_of past.plan rw.var ++ rw.tail
+    whole_path : kind_with rw.kind rw.tail ≡ Whole → s.tree.path wy.end ≡ path_of past.plan rw.var ++ rw.tail
     whole_path e = is.end ∙ ap (λ (z : List Step). path_of past.plan rw.var ++ z) (whole_tail rw.kind rw.tail e)
 
     -- a node above the innermost one to which the path of the role leads
     whole_target : kind_with rw.kind rw.tail ≡ Whole → (j : Node) → In j (above s.here) → hits 0 (path_of past.plan rw.var ++ rw.tail) j ≡ true → Target Whole m r wy.end (level j)
     whole_target e j o h =
-        let g : hits 0 (s.spots.path wy.end) j ≡ true = subst (λ (z : List Step). hits 0 z j ≡ true) (sym (whole_path e)) h in
-        let b = has_row j o wy.end is.end_known g in
-        let q = last_row in
-        let a = row_node q.0 q.1 in
+        let g : hits 0 (s.tree.path wy.end) j ≡ true = subst (λ (z : List Step). hits 0 z j ≡ true) (sym (whole_path e)) h in
+        let b = has_frame j o wy.end is.end_known g in
+        let q = last_frame in
+        let a = frame_node q.0 q.1 in
         let c = a.2 in
         let d : level j ≤ level a.0 = omega arith in
         let up : In j (above a.0) = lower_above s.here j a.0 o a.1 d in (
-          record { row = q.0; last = q.1; member = (a.3.whole r).1 (record { row = rw; role = record { at = at; same = e }; hit = any_from (hits 0 (path_of past.plan rw.var ++ rw.tail)) j (above a.0) up h }) },
+          record { frame = q.0; last = q.1; member = (a.3.whole r).1 (record { row = rw; role = record { at = at; same = e }; hit = any_from (hits 0 (path_of past.plan rw.var ++ rw.tail)) j (above a.0) up h }) },
           kept_hit j o wy.end is.end_known g,
         )
 
     -- The levels of the variable, from which the innermost node has the role.
-    pub vars_are : (k : RoleKind) → kind_with rw.kind rw.tail ≡ k → (T V : List ℕ) → Holds T (Target k m r wy.end) → AreVars k m.spots.spots.items m.rows wy T V → ((u : ℕ) → In u V → Var k u) × ((u : ℕ) → Var k u → In u V)
+    pub vars_are : (k : RoleKind) → kind_with rw.kind rw.tail ≡ k → (T V : List ℕ) → Holds T (Target k m r wy.end) → AreVars k m wy T V → ((u : ℕ) → In u V → Var k u) × ((u : ℕ) → Var k u → In u V)
     vars_are Own e T V h x = (
       (λ u j. own_var e u ((h.has u).0 (subst (λ (z : List ℕ). In u z) x j))),
       (λ u v. subst (λ (z : List ℕ). In u z) (sym x) ((h.has u).1 (var_own e u v))),
@@ -248,7 +245,7 @@ module _ (m : Matcher) (past : Past) (text : Bool) (s : Stands m past text) wher
         let X : List Step = path_of past.plan rw.var in
         let tl = ap length (whole_tail rw.kind rw.tail e) in
         let ln = is.steps in
-        let o = origins_are past.plan m.spots s.spots past.tree w s.here i m.rows few told_hit (λ a q l c b g. kept_hit a q c b g)
+        let o = origins_are past.plan m.tree s.tree past.tree w s.here i m.frames few told_hit (λ a q l c b g. kept_hit a q c b g)
         wy.steps wy.end T V x X rw.tail (omega arith) is.end_known (whole_path e) (λ u j. let t = hit_node wy.end u ((h.has u).0 j).1 in record { node = t.0; over = t.1; at = t.2; hit = t.3 }) in (
           (λ u j. (let q = o.0 u j in record { node = q.node; over = q.over; at = q.at; hit = q.hit; ends = (q.target, q.below, q.leads) })),
           (λ u v. (let j = v.ends in
@@ -288,14 +285,14 @@ module _ (m : Matcher) (past : Past) (text : Bool) (s : Stands m past text) wher
             (any_from (hits 0 (path_of past.plan rw.var ++ rw.tail)) a.0 (above s.here) a.1 (subst (λ (z : List Step). hits 0 z a.0 ≡ true) (whole_path e) a.3))
 
     -- The levels of the bases, from which the statement of the role reaches the innermost node.
-    module _ (o : OffTree) (told_o : Told past.plan o) (row : told_o.row ≡ rw) (T L : List ℕ) (h : Holds T (Target (role_kind wy.kind) m r wy.end)) (b : AreBases m.spots.spots.items m.rows wy (length o.rel) T L) where
+    module _ (o : OffTree) (told_o : Told past.plan o) (row : told_o.row ≡ rw) (T L : List ℕ) (h : Holds T (Target (role_kind wy.kind) m r wy.end)) (b : AreBases m wy (length o.rel) T L) where
       abbrev kind : RoleKind
       kind = role_kind wy.kind
 
       k_is : kind_with rw.kind rw.tail ≡ role_kind wy.kind
       k_is = sym is.kind
 
-      var_path : s.spots.path wy.var ≡ path_of past.plan o.base ++ o.rel
+      var_path : s.tree.path wy.var ≡ path_of past.plan o.base ++ o.rel
       var_path = is.var ∙ (ap (λ (z : RoleRowTree). path_of past.plan z.var) (sym row) ∙ told_o.path)
 
       reach_by : (k : Node) → reaches past.tree o k s.here ≡ gives past.tree (serial_of k) o.rel rw.tail rw.kind s.here
@@ -306,7 +303,7 @@ module _ (m : Matcher) (past : Past) (text : Bool) (s : Stands m past text) wher
 
       from_base : ((l : ℕ) → In l L → Origin (path_of past.plan o.base) o.rel s.here b.vars l) × ((l : ℕ) → Origin (path_of past.plan o.base) o.rel s.here b.vars l → In l L)
       from_base =
-          origins_are past.plan m.spots s.spots past.tree w s.here i m.rows few told_hit (λ a q l c d g. kept_hit a q c d g)
+          origins_are past.plan m.tree s.tree past.tree w s.here i m.frames few told_hit (λ a q l c d g. kept_hit a q c d g)
           (length o.rel) wy.var b.vars L b.up (path_of past.plan o.base) o.rel refl is.var_known var_path
           (λ u j. let v = vars.0 u j in record { node = v.node; over = v.over; at = v.at; hit = subst (λ (z : List Step). hits 0 z v.node ≡ true) (sym is.var) v.hit })
 

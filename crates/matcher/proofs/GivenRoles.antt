@@ -1,5 +1,5 @@
--- The roles that a row tells are those given to its node.
-use Rattle.std.proofs.Common.{◌≡◌, ◌↔◌, ℕ, zero, suc, ◌+◌, ◌<◌, ◌≤◌, Bool, true, false, cond, List, [], ◌∷◌, ◌++◌, length, refl, sym, ◌∙◌, ap, subst, inl, inr, arith, eqb, Some}
+-- The roles that a frame tells are those given to its node.
+use Rattle.std.proofs.Common.{◌≡◌, ◌↔◌, ℕ, zero, suc, ◌+◌, ◌<◌, ◌≤◌, Bool, true, false, cond, List, [], ◌∷◌, ◌++◌, length, refl, sym, ◌∙◌, ap, subst, inl, inr, ◌⊎◌, arith, eqb, Some}
 use Rattle.std.specs.List.{filter}
 use Rattle.std.proofs.lemmas.Bool.{false≢true, eqb-true, eq-eqb}
 use Rattle.std.proofs.lemmas.List.{append-nil}
@@ -19,17 +19,16 @@ use Rattle.tree_laws.proofs.Lists.{In, In-filter, In-kept, any_in, any_from}
 use Rattle.tree_laws.proofs.Matches.{Numbered-same, Matches-in, Matches-from}
 use Rattle.tree_laws.proofs.Chains.{above_in, hits_above}
 use Rattle.past_laws.proofs.Bases.{node_is}
-use Rattle.matcher.specs.Lists.{Holds, Climbs}
-use Rattle.matcher.specs.Spots.{AreSpots, kind_with, tail_with}
-use Rattle.matcher.specs.Rows.{HasRole}
-use Rattle.matcher.specs.Row.{IsFound, IsInside, IsRow}
-use Rattle.matcher.specs.declared.spots.Spots.{Spots}
-use Rattle.matcher.specs.declared.row.Row.{Row}
-use Rattle.matcher.specs.declared.row.Rows.{Rows}
-use Rattle.matcher.specs.Parts.{whole_at, hits_at, found_at}
-use Rattle.matcher.specs.declared.row.Found.{Found}
-use Rattle.matcher.proofs.Looking.{some_at}
-use Rattle.matcher.proofs.NewRow.{ended, end_of}
+use Rattle.path_states.specs.Lists.{Climbs, From, Gains, Holds}
+use Rattle.path_states.specs.State.{GivenBy}
+use Rattle.path_states.specs.declared.paths.PathState.{PathState}
+use Rattle.path_states.specs.PathTree.{IsPathTree, kind_with, tail_with}
+use Rattle.matcher.specs.Frames.{AreBoth, AreRoles, HasRole, IsRoleOf}
+use Rattle.matcher.specs.Frame.{IsFound, IsInside}
+use Rattle.path_states.specs.declared.paths.PathTree.{PathTree}
+use Rattle.matcher.specs.declared.frames.Found.{Found}
+use Rattle.path_states.proofs.Looking.{some_at}
+use Rattle.matcher.proofs.NewFrame.{ended, end_of}
 
 -- rising lists with the same members are one
 
@@ -104,8 +103,8 @@ self_first (n ∷ ns) a i = go (eqb (serial_of n) (serial_of a)) refl (λ j. sel
     go false e ih (inl f) = absurd (false≢true (sym e ∙ eq-eqb (serial_of n) (serial_of a) (ap serial_of f)))
     go false e ih (inr j) = ih j
 
-module _ (plan : PlanTree) (t : Spots) (A : AreSpots plan t) (P : Tree) (w : Grown P) (a : Node) (i : In a P.nodes) (whole leading : List ℕ) (firsts : List Found)
-    (hits_are : (c : ℕ) → In c leading ↔ ((c < length t.spots.items) × (hits 0 (A.path c) a ≡ true)))
+module _ (plan : PlanTree) (t : PathTree) (A : IsPathTree plan t) (P : Tree) (w : Grown P) (a : Node) (i : In a P.nodes) (whole leading : List ℕ) (firsts : List Found)
+    (hits_are : (c : ℕ) → In c leading ↔ ((c < length t.states.items) × (hits 0 (A.path c) a ≡ true)))
     (whole_are : (r : ℕ) → In r whole ↔ IsInside plan a r)
     (found_are : (f : Found) → In f firsts ↔ IsFound plan P a f) where
   -- what a role with this row is given by
@@ -152,13 +151,13 @@ module _ (plan : PlanTree) (t : Spots) (A : AreSpots plan t) (P : Tree) (w : Gro
   gives_as : (r : ℕ) (rw : RoleRowTree) (k : RoleKind) → row_at plan.roles r ≡ Some rw → rw.kind ≡ k → gives P 0 (path_of plan rw.var) rw.tail k a ≡ true → given plan P a r ≡ true
   gives_as r rw k e f h = by_row r rw e ∙ subst (λ (z : RoleKind). gives P 0 (path_of plan rw.var) rw.tail z a ≡ true) (sym f) h
 
-  role_to : (r : ℕ) → HasRole t.spots.items whole leading firsts r → (r < length plan.roles) × (given plan P a r ≡ true)
+  role_to : (r : ℕ) → HasRole t.states.items whole leading firsts r → (r < length plan.roles) × (given plan P a r ≡ true)
   role_to r (inl h) =
       let d = (whole_are r).0 h in
       (row_below plan.roles r d.row d.role.at, gives_as r d.row Whole d.role.at (kind_whole d.row.kind d.row.tail d.role.same) d.hit)
   role_to r (inr (inl f)) =
       let u = f.is in
-      let e = ended plan t A r f.of Own (((A.linked f.of u.spot u.at).own r).0 u.member) in
+      let e = ended plan t A r f.of Own (((A.linked f.of u.state u.at).own r).0 u.member) in
       let h : hits 0 (path_of plan e.0.var ++ tail_with e.0.kind e.0.tail) a ≡ true = subst (λ (z : List Step). hits 0 z a ≡ true) e.2 ((hits_are f.of).0 f.member).1 in
       (row_below plan.roles r e.0 e.1.at, by_row r e.0 e.1.at ∙ own_to e.0.kind (path_of plan e.0.var) e.0.tail e.1.same h)
   role_to r (inr (inr f)) =
@@ -167,12 +166,12 @@ module _ (plan : PlanTree) (t : Spots) (A : AreSpots plan t) (P : Tree) (w : Gro
       let at : row_at plan.roles r ≡ Some q.row = subst (λ (z : ℕ). row_at plan.roles z ≡ Some q.row) f.is q.role.at in
       (row_below plan.roles r q.row at, gives_as r q.row First at (kind_first q.row.kind q.row.tail q.role.same) (first_to (path_of plan q.row.var) q.row.tail d.context d.over q.hit q.is))
 
-  by_kind : (r : ℕ) (rw : RoleRowTree) → row_at plan.roles r ≡ Some rw → (k : RoleKind) → kind_with rw.kind rw.tail ≡ k → given plan P a r ≡ true → HasRole t.spots.items whole leading firsts r
+  by_kind : (r : ℕ) (rw : RoleRowTree) → row_at plan.roles r ≡ Some rw → (k : RoleKind) → kind_with rw.kind rw.tail ≡ k → given plan P a r ≡ true → HasRole t.states.items whole leading firsts r
   by_kind r rw e Own s h =
       let v = end_of plan t A r Own rw (record { at = e; same = s }) in
-      let q = some_at t.spots.items v.0 v.1 in
+      let q = some_at t.states.items v.0 v.1 in
       let g = own_from rw.kind (path_of plan rw.var) rw.tail s (sym (by_row r rw e) ∙ h) in
-      inr (inl (record { of = v.0; member = (hits_are v.0).1 (v.1, subst (λ (z : List Step). hits 0 z a ≡ true) (sym v.3) g); is = record { spot = q.0; at = q.1; member = ((A.linked v.0 q.0 q.1).own r).1 v.2 } }))
+      inr (inl (record { of = v.0; member = (hits_are v.0).1 (v.1, subst (λ (z : List Step). hits 0 z a ≡ true) (sym v.3) g); is = record { state = q.0; at = q.1; member = ((A.linked v.0 q.0 q.1).own r).1 v.2 } }))
   by_kind r rw e First s h =
       let g = first_from (path_of plan rw.var) rw.tail (subst (λ (z : RoleKind). gives P 0 (path_of plan rw.var) rw.tail z a ≡ true) (kind_first rw.kind rw.tail s) (sym (by_row r rw e) ∙ h)) in
       let f : Found = record { role = r; level = level g.0 } in
@@ -180,14 +179,38 @@ module _ (plan : PlanTree) (t : Spots) (A : AreSpots plan t) (P : Tree) (w : Gro
   by_kind r rw e Whole s h =
       inl ((whole_are r).1 (record { row = rw; role = record { at = e; same = s }; hit = subst (λ (z : RoleKind). gives P 0 (path_of plan rw.var) rw.tail z a ≡ true) (kind_whole rw.kind rw.tail s) (sym (by_row r rw e) ∙ h) }))
 
-  role_from : (r : ℕ) → r < length plan.roles → given plan P a r ≡ true → HasRole t.spots.items whole leading firsts r
+  role_from : (r : ℕ) → r < length plan.roles → given plan P a r ≡ true → HasRole t.states.items whole leading firsts r
   role_from r l h = let q = row_there plan.roles r l in by_kind r q.0 q.1 (kind_with q.0.kind q.0.tail) refl h
 
   -- the roles that these tell, as a rising list
-  pub roles_told : (rs : List ℕ) → Climbs rs → Holds rs (HasRole t.spots.items whole leading firsts) → rs ≡ roles_given plan P a
+  pub roles_told : (rs : List ℕ) → Climbs rs → Holds rs (HasRole t.states.items whole leading firsts) → rs ≡ roles_given plan P a
   roles_told rs c h = climbs_filtered (given plan P a) (length plan.roles) rs c (λ y j. role_to y ((h.has y).0 j)) (λ y l g. (h.has y).1 (role_from y l g))
 
--- the roles that the row tells
-pub roles_are : (plan : PlanTree) (t : Spots) (A : AreSpots plan t) (P : Tree) (w : Grown P) (a : Node) (i : In a P.nodes) (rows : Rows) (row : Row) (R : IsRow plan P t.spots.items A.path rows row a) (rs : List ℕ) → Climbs rs
-    → Holds rs (HasRole t.spots.items (whole_at rows row) (hits_at rows row) (found_at rows row)) → rs ≡ roles_given plan P a
-roles_are plan t A P w a i rows row R rs c h = roles_told plan t A P w a i (whole_at rows row) (hits_at rows row) (found_at rows row) R.hits R.whole R.found rs c h
+-- ---- roles of the one list and of the other
+
+-- those of the one alone, where there is no other
+pub both_alone : (roles : List ℕ) (found : List Found) (rs : List ℕ) → found ≡ [] → Climbs roles → rs ≡ roles → AreBoth roles found rs
+both_alone roles found rs none c e = record {
+  climbs = subst Climbs (sym e) c;
+  holds = record {
+    has = λ r. (
+      (λ i. inl (subst (λ (z : List ℕ). In r z) e i)),
+      (λ s. elim s [ inl i ↦ subst (λ (z : List ℕ). In r z) (sym e) i | inr f ↦ absurd (subst (λ (z : List Found). In f.of z) none f.member) ]),
+    );
+  };
+}
+
+pub both_by : (roles : List ℕ) (found : List Found) (all rs : List ℕ) → rs ≡ all → Climbs all → Gains roles all (From found IsRoleOf) → AreBoth roles found rs
+both_by roles found all rs e c g = record { climbs = subst Climbs (sym e) c; holds = subst (λ (z : List ℕ). Holds z (λ r. In r roles ⊎ From found IsRoleOf r)) (sym e) (record { has = g.has }) }
+
+-- those that a state gives, and those of first matches
+pub roles_of_both : (tree : List PathState) (whole active given : List ℕ) (found : List Found) (rs : List ℕ) → Holds given (GivenBy tree whole active) → AreBoth given found rs → AreRoles tree whole active found rs
+roles_of_both tree whole active given found rs g b = record {
+  climbs = b.climbs;
+  holds = record {
+    has = λ r. (
+      (λ i. elim ((b.holds.has r).0 i) [ inl j ↦ elim ((g.has r).0 j) [ inl w ↦ inl w | inr o ↦ inr (inl o) ] | inr f ↦ inr (inr f) ]),
+      (λ s. (b.holds.has r).1 (elim s [ inl w ↦ inl ((g.has r).1 (inl w)) | inr t ↦ elim t [ inl o ↦ inl ((g.has r).1 (inr o)) | inr f ↦ inr f ] ])),
+    );
+  };
+}

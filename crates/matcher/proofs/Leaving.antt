@@ -1,10 +1,9 @@
 -- What a matcher stands for when its innermost node is left.
-use Rattle.std.proofs.Common.{◌≡◌, ℕ, suc, ◌+◌, ◌<◌, ◌≤◌, Bool, true, false, not, cond, None, List, [], ◌∷◌, length, refl, sym, ◌∙◌, ap, subst, inl, inr, ◌⊎◌, ◌↔◌, arith, eqb, Some, Option, Vec, Global}
+use Rattle.std.proofs.Common.{◌≡◌, ℕ, suc, ◌+◌, ◌-◌, ◌<◌, ◌≤◌, Bool, true, false, not, cond, None, max, take, List, [], ◌∷◌, length, refl, sym, ◌∙◌, ap, subst, inl, inr, ◌⊎◌, ◌↔◌, arith, eqb, Some, Option}
 use Rattle.std.specs.Prelude.{slice_get}
 use Rattle.std.specs.List.{filter}
 use Rattle.std.proofs.lemmas.Bool.{false≢true, eqb-true, eq-eqb}
-use Rattle.std.proofs.lemmas.List.{length-append}
-use Rattle.std.proofs.lemmas.Option.{slice_get_within}
+use Rattle.std.proofs.lemmas.List.{length-take-le}
 use Rattle.gcx_base.specs.declared.kind.Kind.{Kind}
 use Rattle.gcx_base.specs.declared.kind.Kind.TheVariants.{Text}
 use Rattle.gcx_base.specs.declared.steps.Step.{Step}
@@ -19,25 +18,20 @@ use Rattle.tree_laws.proofs.Chains.{above_self}
 use Rattle.past_laws.proofs.PastForms.{past_feeds}
 use Rattle.tree_laws.proofs.Fed.{grown_from}
 use Rattle.tree_laws.proofs.Growing.{level_above}
-use Rattle.matcher.specs.Row.{IsFirst, IsFound, IsRow}
-use Rattle.matcher.specs.Stacks.{AreStacked, IsTaken}
+use Rattle.path_states.specs.declared.paths.PathState.{PathState}
+use Rattle.matcher.specs.Frame.{IsFirst, IsFound, IsFrame}
 use Rattle.matcher.specs.Matcher.{IsSign, Stands}
 use Rattle.matcher.specs.Signs.{InTurn}
-use Rattle.matcher.specs.declared.matcher.Matcher.{Matcher}
-use Rattle.matcher.specs.declared.row.Found.{Found}
-use Rattle.matcher.specs.declared.row.Row.{Row}
-use Rattle.matcher.specs.declared.row.Rows.{Rows}
+use Rattle.matcher.specs.View.{FrameView, MatcherView, innermost_frame}
+use Rattle.matcher.specs.declared.frames.Found.{Found}
 use Rattle.matcher.specs.declared.signs.Sign.{Sign}
-use Rattle.matcher.specs.declared.spots.Spot.{Spot}
 use Rattle.matcher.proofs.Bases.{signed_hit}
-use Rattle.matcher.proofs.Looking.{in_at}
-use Rattle.matcher.proofs.SameStands.{same_row}
-use Rattle.matcher.proofs.Stacking.{at_end, at_front}
+use Rattle.matcher.proofs.Places.{take_at}
 
--- A row tells of the nodes alone, and not of which of them is open.
-row_by_nodes : (plan : PlanTree) (P Q : Tree) (spots : List Spot) (path : ℕ → List Step) (rows : Rows) (row : Row) (a : Node) → Q.nodes ≡ P.nodes → IsRow plan P spots path rows row a → IsRow plan Q spots path rows row a
-row_by_nodes plan P Q spots path rows row a e R = record {
-  hits = R.hits;
+-- A frame tells of the nodes alone, and not of which of them is open.
+frame_by_nodes : (plan : PlanTree) (P Q : Tree) (tree : List PathState) (path : ℕ → List Step) (frame : FrameView) (a : Node) → Q.nodes ≡ P.nodes → IsFrame plan P tree path frame a → IsFrame plan Q tree path frame a
+frame_by_nodes plan P Q tree path frame a e R = record {
+  active = R.active;
   pending = R.pending;
   whole = R.whole;
   climbs = R.climbs;
@@ -70,11 +64,11 @@ level_not l k h = go (eqb l k) refl
     go true e = absurd (h (eqb-true l k e))
     go false e = refl
 
--- the signs of other levels than that of the row that was taken: where it tells of none, they are all
-abbrev pub Dropped : Row → ℕ → (before now : List Sign) → Type 0
-Dropped row l before now = ((row.signed ≡ true) × (now ≡ filter (λ s. not (eqb s.level l)) before)) ⊎ ((row.signed ≡ false) × (now ≡ before))
+-- the signs of other levels than that of the frame that was taken: where it tells of none, they are all
+abbrev pub Dropped : FrameView → ℕ → (before now : List Sign) → Type 0
+Dropped frame l before now = ((frame.signed ≡ true) × (now ≡ filter (λ s. not (eqb s.level l)) before)) ⊎ ((frame.signed ≡ false) × (now ≡ before))
 
-module _ (m : Matcher) (past : Past) (text : Bool) (S : Stands m past text) (Q : Tree) (p : Node) (s : ℕ) (k : Kind) (here : S.here ≡ Under p s k) (nodes : Q.nodes ≡ past.tree.nodes) (at : Q.at ≡ Some p) (is_past : IsPast (record past { tree = Q })) where
+module _ (m : MatcherView) (past : Past) (text : Bool) (S : Stands m past text) (Q : Tree) (p : Node) (s : ℕ) (k : Kind) (here : S.here ≡ Under p s k) (nodes : Q.nodes ≡ past.tree.nodes) (at : Q.at ≡ Some p) (is_past : IsPast (record past { tree = Q })) where
   up : (a : Node) → In a (above p) → In a (above S.here)
   up a i = subst (λ (z : Node). In a (above z)) (sym here) (inr i)
 
@@ -86,7 +80,7 @@ module _ (m : Matcher) (past : Past) (text : Bool) (S : Stands m past text) (Q :
   here_or a i = elim (subst (λ (z : Node). In a (above z)) here i) [ inl e ↦ inl (here ∙ e) | inr j ↦ inr j ]
 
   -- where the signs are those of other levels, they are those of the nodes above
-  signs_left : (signs : List Sign) → ((x : Sign) → In x signs ↔ (In x m.signs.items × (x.level ≡ level S.here → ⊥))) → (x : Sign) → In x signs ↔ IsSign (record past { tree = Q }) p x
+  signs_left : (signs : List Sign) → ((x : Sign) → In x signs ↔ (In x m.signs × (x.level ≡ level S.here → ⊥))) → (x : Sign) → In x signs ↔ IsSign (record past { tree = Q }) p x
   signs_left signs is x = (
     (λ j. (let q = (is x).0 j in
         let g = (S.signs x).0 q.0 in
@@ -100,27 +94,26 @@ module _ (m : Matcher) (past : Past) (text : Bool) (S : Stands m past text) (Q :
     )),
   )
 
-  -- the innermost node has no row
+  -- the innermost node has no frame
   left_idle : (idle : ℕ) → idle + 1 ≡ m.idle → ((o : OffTree) → signed past.acts o S.here ≡ false) → Stands (record m { idle = idle; text = false }) (record past { tree = Q }) false
   left_idle idle fewer unsigned = record {
     is_past = is_past;
-    spots = S.spots;
+    tree = S.tree;
     flag = refl;
     here = p;
     innermost = at;
     some = S.some;
     levels = let l = S.levels in let d = deeper in omega arith;
-    rows = λ a row i e. row_by_nodes past.plan past.tree Q m.spots.spots.items S.spots.path m.rows row a nodes (S.rows a row (up a i) e);
-    ends = S.ends;
+    frames = λ a frame i e. frame_by_nodes past.plan past.tree Q m.tree.states.items S.tree.path frame a nodes (S.frames a frame (up a i) e);
     idle = λ a i l c h. S.idle a (up a i) l c h;
-    over = λ row e l. elim (S.over row e (omega arith)) [ inl x ↦ inl x | inr y ↦ (let z = y.1 in absurd (omega arith)) ];
-    signs = signs_left m.signs.items (λ x. ((λ j. (j, off_here x j)), (λ q. q.0)));
+    over = λ frame e l. elim (S.over frame e (omega arith)) [ inl x ↦ inl x | inr y ↦ (let z = y.1 in absurd (omega arith)) ];
+    signs = signs_left m.signs (λ x. ((λ j. (j, off_here x j)), (λ q. q.0)));
     marked = S.marked;
     turn = S.turn;
     fresh = λ e o. absurd (false≢true e);
   }
     where
-      off_here : (x : Sign) → In x m.signs.items → x.level ≡ level S.here → ⊥
+      off_here : (x : Sign) → In x m.signs → x.level ≡ level S.here → ⊥
       off_here x j e =
           let g = (S.signs x).0 j in
           elim (here_or g.node g.among) [
@@ -128,71 +121,70 @@ module _ (m : Matcher) (past : Past) (text : Bool) (S : Stands m past text) (Q :
             | inr i ↦ (let l = level_above p g.node i in let h = g.at in let d = deeper in absurd (omega arith))
           ]
 
-  -- its row is taken away
-  left_row : (rows : Rows) (row : Row) (signs : Vec Sign Global) → m.idle ≡ 0 → (AreStacked m.rows → IsTaken m.rows rows row) → Dropped row (length rows.rows.items) m.signs.items signs.items → Stands (record m { rows = rows; text = false; signs = signs }) (record past { tree = Q }) false
-  left_row rows row signs none take dropped = record {
+  -- its frame is taken away
+  left_frame : (frames : List FrameView) (frame : FrameView) (signs : List Sign) → m.idle ≡ 0 → frames ≡ take (max 1 (length m.frames - 1)) m.frames → innermost_frame m.frames ≡ Some frame → Dropped frame (length m.frames - 1) m.signs signs
+      → Stands (record m { frames = frames; text = false; signs = signs }) (record past { tree = Q }) false
+  left_frame frames frame signs none taken last dropped = record {
     is_past = is_past;
-    spots = S.spots;
+    tree = S.tree;
     flag = refl;
     here = p;
     innermost = at;
-    some = let l = left in let d = deeper in omega arith;
-    levels = let l = left in let d = deeper in omega arith;
-    rows = λ a r i e.
-        row_by_nodes past.plan past.tree Q m.spots.spots.items S.spots.path rows r a nodes
-        (same_row past.plan past.tree m.spots.spots.items S.spots.path m.rows rows r a (t.same r (in_at rows.rows.items (level a) r e)) (S.rows a r (up a i) (old (level a) r e)));
-    ends = t.stacked;
-    idle = λ a i l c h. (let f = level_above p a i in let g = left in let d = deeper in absurd (omega arith));
-    over = λ r e l. absurd (omega arith);
-    signs = signs_left signs.items members;
-    marked = λ x r j e. S.marked x r ((members x).0 j).0 (old x.level r e);
+    some = let l = left in let c = count in let d = deeper in omega arith;
+    levels = let l = left in let c = count in let d = deeper in omega arith;
+    frames = λ a f i e. frame_by_nodes past.plan past.tree Q m.tree.states.items S.tree.path f a nodes (S.frames a f (up a i) (old (level a) f e));
+    idle = λ a i l c h. (let f = level_above p a i in let g = left in let b = count in let d = deeper in absurd (omega arith));
+    over = λ f e l. absurd (omega arith);
+    signs = signs_left signs members;
+    marked = λ x f j e. S.marked x f ((members x).0 j).0 (old x.level f e);
     turn = elim dropped [
-      | inl d ↦ subst InTurn (sym d.1) (turn_filter (λ (z : Sign). not (eqb z.level (length rows.rows.items))) m.signs.items S.turn)
+      | inl d ↦ subst InTurn (sym d.1) (turn_filter (λ (z : Sign). not (eqb z.level (length m.frames - 1))) m.signs S.turn)
       | inr d ↦ subst InTurn (sym d.1) S.turn
     ];
     fresh = λ e o. absurd (false≢true e);
   }
     where
-      t : IsTaken m.rows rows row
-      t = take S.ends
+      left : length m.frames - 1 ≡ level S.here
+      left = let l = S.levels in omega arith
 
-      left : length rows.rows.items ≡ level S.here
-      left = let l = S.levels in let e = ap length t.rows in let f = length-append rows.rows.items (row ∷ []) in omega arith
+      taken_is : frames ≡ take (length m.frames - 1) m.frames
+      taken_is = let l = S.levels in let d = deeper in let k : max 1 (length m.frames - 1) ≡ length m.frames - 1 = omega arith in taken ∙ ap (λ (z : ℕ). take z m.frames) k
 
-      old : (i : ℕ) (r : Row) → slice_get rows.rows.items i ≡ Some r → slice_get m.rows.rows.items i ≡ Some r
-      old i r e = ap (λ (z : List Row). slice_get z i) t.rows ∙ (at_front rows.rows.items (row ∷ []) i (slice_get_within rows.rows.items i r e) ∙ e)
+      count : length frames ≡ length m.frames - 1
+      count = ap (λ (z : List FrameView). length z) taken_is ∙ length-take-le (length m.frames - 1) m.frames (omega arith)
 
-      last : slice_get m.rows.rows.items (length rows.rows.items) ≡ Some row
-      last = ap (λ (z : List Row). slice_get z (length rows.rows.items)) t.rows ∙ at_end rows.rows.items row
+      old : (i : ℕ) (f : FrameView) → slice_get frames i ≡ Some f → slice_get m.frames i ≡ Some f
+      old i f e = (take_at m.frames (length m.frames - 1) i f (subst (λ (z : List FrameView). slice_get z i ≡ Some f) taken_is e)).1
 
-      members : (x : Sign) → In x signs.items ↔ (In x m.signs.items × (x.level ≡ level S.here → ⊥))
+      members : (x : Sign) → In x signs ↔ (In x m.signs × (x.level ≡ level S.here → ⊥))
       members x = elim dropped [
         | inl d ↦ (
-          (λ j. (let q = In-filter (λ (z : Sign). not (eqb z.level (length rows.rows.items))) x m.signs.items (subst (λ (z : List Sign). In x z) d.1 j) in
-              (q.0, λ e. not_level x.level (length rows.rows.items) q.1 (e ∙ sym left)))),
-          (λ q. subst (λ (z : List Sign). In x z) (sym d.1) (In-kept (λ (z : Sign). not (eqb z.level (length rows.rows.items))) x m.signs.items q.0 (level_not x.level (length rows.rows.items) (λ e. q.1 (e ∙ left))))),
+          (λ j. (let q = In-filter (λ (z : Sign). not (eqb z.level (length m.frames - 1))) x m.signs (subst (λ (z : List Sign). In x z) d.1 j) in
+              (q.0, λ e. not_level x.level (length m.frames - 1) q.1 (e ∙ sym left)))),
+          (λ q. subst (λ (z : List Sign). In x z) (sym d.1) (In-kept (λ (z : Sign). not (eqb z.level (length m.frames - 1))) x m.signs q.0 (level_not x.level (length m.frames - 1) (λ e. q.1 (e ∙ left))))),
         )
         | inr d ↦ (
           (λ j. (let i = subst (λ (z : List Sign). In x z) d.1 j in
-              (i, λ e. false≢true (sym d.0 ∙ S.marked x row i (ap (slice_get m.rows.rows.items) (e ∙ sym left) ∙ last))))),
+              (i, λ e. false≢true (sym d.0 ∙ S.marked x frame i (ap (slice_get m.frames) (e ∙ sym left) ∙ last))))),
           (λ q. subst (λ (z : List Sign). In x z) (sym d.1) q.0),
         )
       ]
 
 -- a text
-module _ (m : Matcher) (past : Past) (S : Stands m past true) where
+module _ (m : MatcherView) (past : Past) (S : Stands m past true) where
   pub idle_text : (idle : ℕ) → idle + 1 ≡ m.idle → Stands (record m { idle = idle; text = false }) past false
   idle_text idle fewer =
       let q = S.innermost in
       left_idle m past true S past.tree q.0 q.1 (Text q.2) q.4 refl q.5 S.is_past idle fewer (S.fresh refl)
 
-  pub row_text : (rows : Rows) (row : Row) (signs : Vec Sign Global) → m.idle ≡ 0 → (AreStacked m.rows → IsTaken m.rows rows row) → Dropped row (length rows.rows.items) m.signs.items signs.items → Stands (record m { rows = rows; text = false; signs = signs }) past false
-  row_text rows row signs none take dropped =
+  pub frame_text : (frames : List FrameView) (frame : FrameView) (signs : List Sign) → m.idle ≡ 0 → frames ≡ take (max 1 (length m.frames - 1)) m.frames → innermost_frame m.frames ≡ Some frame → Dropped frame (length m.frames - 1) m.signs signs
+      → Stands (record m { frames = frames; text = false; signs = signs }) past false
+  frame_text frames frame signs none taken last dropped =
       let q = S.innermost in
-      left_row m past true S past.tree q.0 q.1 (Text q.2) q.4 refl q.5 S.is_past rows row signs none take dropped
+      left_frame m past true S past.tree q.0 q.1 (Text q.2) q.4 refl q.5 S.is_past frames frame signs none taken last dropped
 
 -- an element
-module _ (m : Matcher) (past : Past) (p : Node) (s : ℕ) (k : Kind) (S : Stands m past false) (at : past.tree.at ≡ Some (Under p s k)) where
+module _ (m : MatcherView) (past : Past) (p : Node) (s : ℕ) (k : Kind) (S : Stands m past false) (at : past.tree.at ≡ Some (Under p s k)) where
   here : S.here ≡ Under p s k
   here = let e : Some S.here ≡ Some (Under p s k) = sym S.innermost ∙ at in cc
 
@@ -207,7 +199,7 @@ module _ (m : Matcher) (past : Past) (p : Node) (s : ℕ) (k : Kind) (S : Stands
       let f = past_feeds past S.is_past End (ap (λ (o : Option Node). may_come_at o End past.tree.nodes) at) in
       record { core = f.core; good = f.good; placed = f.placed; grown = f.grown; stated = f.stated; within = S.is_past.within }
 
-  -- a statement is signed at nodes with rows alone
+  -- a statement is signed at nodes with frames alone
   unsigned : 0 < m.idle → (o : OffTree) → signed past.acts o S.here ≡ false
   unsigned some o = go (signed past.acts o S.here) refl
     where
@@ -215,12 +207,13 @@ module _ (m : Matcher) (past : Past) (p : Node) (s : ℕ) (k : Kind) (S : Stands
       go false e = e
       go true e =
           let i = (grown_from past.tree S.is_past.grown).at_in S.here S.innermost in
-          let h = signed_hit past.plan m.spots S.spots past S.is_past refl o S.here i e in
-          let l : length m.rows.rows.items ≤ level S.here = (let z = S.levels in omega arith) in
+          let h = signed_hit past.plan m.tree S.tree past S.is_past refl o S.here i e in
+          let l : length m.frames ≤ level S.here = (let z = S.levels in omega arith) in
           absurd (false≢true (sym (S.idle S.here (above_self S.here) l h.0 h.1) ∙ h.2))
 
   pub idle_element : (idle : ℕ) → idle + 1 ≡ m.idle → Stands (record m { idle = idle; text = false }) (past_grown End past) false
   idle_element idle fewer = left_idle m past false S (grow End past.tree) p s k here nodes at_parent grown idle fewer (unsigned (omega arith))
 
-  pub row_element : (rows : Rows) (row : Row) (signs : Vec Sign Global) → m.idle ≡ 0 → (AreStacked m.rows → IsTaken m.rows rows row) → Dropped row (length rows.rows.items) m.signs.items signs.items → Stands (record m { rows = rows; text = false; signs = signs }) (past_grown End past) false
-  row_element rows row signs none take dropped = left_row m past false S (grow End past.tree) p s k here nodes at_parent grown rows row signs none take dropped
+  pub frame_element : (frames : List FrameView) (frame : FrameView) (signs : List Sign) → m.idle ≡ 0 → frames ≡ take (max 1 (length m.frames - 1)) m.frames → innermost_frame m.frames ≡ Some frame → Dropped frame (length m.frames - 1) m.signs signs
+      → Stands (record m { frames = frames; text = false; signs = signs }) (past_grown End past) false
+  frame_element frames frame signs none taken last dropped = left_frame m past false S (grow End past.tree) p s k here nodes at_parent grown frames frame signs none taken last dropped

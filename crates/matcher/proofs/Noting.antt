@@ -4,11 +4,11 @@ use Rattle.std.specs.Prelude.{slice_get}
 use Rattle.std.proofs.lemmas.List.{take_more}
 use Rattle.std.proofs.Math.ListN.{length-set}
 use Rattle.tree_laws.proofs.Lists.{In, In-left, In-right, In-append}
-use Rattle.matcher.specs.Lists.{From}
-use Rattle.matcher.specs.Rows.{IsOpen}
-use Rattle.matcher.specs.Entering.{Noted, OpenAt}
-use Rattle.matcher.specs.declared.row.Context.{Context}
-use Rattle.matcher.proofs.Looking.{one_at}
+use Rattle.path_states.specs.Lists.{From}
+use Rattle.matcher.specs.Parts.{IsOpen}
+use Rattle.matcher.specs.Stacks.{Noted, OpenAt}
+use Rattle.matcher.specs.declared.frames.Context.{Context}
+use Rattle.path_states.proofs.Looking.{one_at}
 
 module _ {X : Type 0} where
   set_at : (xs : List X) (i c : ℕ) (x y : X) → slice_get (set xs i x) c ≡ Some y → ((c ≡ i) × (y ≡ x)) ⊎ ((c ≡ i → ⊥) × (slice_get xs c ≡ Some y))

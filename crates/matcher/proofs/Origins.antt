@@ -18,16 +18,14 @@ use Rattle.tree_laws.proofs.Matches.{Numbered-same}
 use Rattle.tree_laws.proofs.Chains.{above_in, above_trans, hits_one, hits_one_from}
 use Rattle.tree_laws.proofs.Growing.{level_above}
 use Rattle.need_laws.proofs.Frames.{hits-append}
-use Rattle.matcher.specs.Lists.{Holds}
-use Rattle.matcher.specs.Spots.{AreSpots}
-use Rattle.matcher.specs.Rows.{Hit, Over, StepsUp, Up, arrived, stepped, nowhere}
-use Rattle.matcher.specs.declared.spots.Spot.{Spot}
-use Rattle.matcher.specs.declared.spots.Spots.{Spots}
-use Rattle.matcher.specs.declared.row.Row.{Row}
-use Rattle.matcher.specs.declared.row.Rows.{Rows}
-use Rattle.matcher.specs.Parts.{hits_at}
+use Rattle.path_states.specs.Lists.{Holds}
+use Rattle.path_states.specs.PathTree.{IsPathTree}
+use Rattle.matcher.specs.Frames.{Hit, Over, StepsUp, Up, arrived, stepped, nowhere}
+use Rattle.matcher.specs.View.{FrameView}
+use Rattle.path_states.specs.declared.paths.PathState.{PathState}
+use Rattle.path_states.specs.declared.paths.PathTree.{PathTree}
 use Rattle.matcher.proofs.Leading.{split}
-use Rattle.matcher.proofs.Looking.{some_at}
+use Rattle.path_states.proofs.Looking.{some_at}
 use Rattle.matcher.proofs.Upwards.{level_same, child_from, child_to, below_from, below_to}
 
 -- a list with one more at its end, seen as two parts the second of which isn't empty
@@ -60,7 +58,7 @@ node_at (Under p s k) l h = elim (le_cases l (suc (level p)) h) [
   | inr j ↦ let m : l ≤ level p = omega arith in let r = node_at p l m in (r.0, inr r.1, r.2)
 ]
 
--- a node of this level above n that the path of the spot leads to
+-- a node of this level above n that the path of the state leads to
 pub record Target (path : ℕ → List Step) (n : Node) (e t : ℕ) : Type 0 where
   pub node : Node
   pub over : In node (above n)
@@ -78,11 +76,11 @@ pub record Origin (base ss : List Step) (n : Node) (T : List ℕ) (l : ℕ) : Ty
   pub reached : In (level target) T
   pub leads : hits (serial_of node) ss target ≡ true
 
-module _ (plan : PlanTree) (t : Spots) (A : AreSpots plan t) (P : Tree) (w : Grown P) (n : Node) (i : In n P.nodes) (rows : Rows)
-    (few : length rows.rows.items ≤ suc (level n))
-    (told : (a : Node) (row : Row) → In a (above n) → slice_get rows.rows.items (level a) ≡ Some row → (c : ℕ) → In c (hits_at rows row) → hits 0 (A.path c) a ≡ true)
-    (kept : (a : Node) → In a (above n) → level a < level n → (c : ℕ) → c < length t.spots.items → hits 0 (A.path c) a ≡ true → Hit rows c (level a)) where
-  passed : (e : ℕ) (s : Spot) (m : Node) → In m (above n) → A.path e ≡ A.path s.parent ++ s.step ∷ [] → hits 0 (A.path e) m ≡ true → passes s.step.test (kind_of m) ≡ true
+module _ (plan : PlanTree) (t : PathTree) (A : IsPathTree plan t) (P : Tree) (w : Grown P) (n : Node) (i : In n P.nodes) (frames : List FrameView)
+    (few : length frames ≤ suc (level n))
+    (told : (a : Node) (frame : FrameView) → In a (above n) → slice_get frames (level a) ≡ Some frame → (c : ℕ) → In c frame.active → hits 0 (A.path c) a ≡ true)
+    (kept : (a : Node) → In a (above n) → level a < level n → (c : ℕ) → c < length t.states.items → hits 0 (A.path c) a ≡ true → Hit frames c (level a)) where
+  passed : (e : ℕ) (s : PathState) (m : Node) → In m (above n) → A.path e ≡ A.path s.parent ++ s.step ∷ [] → hits 0 (A.path e) m ≡ true → passes s.step.test (kind_of m) ≡ true
   passed e s m o x h =
       let im = above_in P w n m i o in
       let r = split P w 0 (A.path s.parent) (s.step ∷ []) m im (subst (λ (z : List Step). hits 0 z m ≡ true) x h) in
@@ -96,7 +94,7 @@ module _ (plan : PlanTree) (t : Spots) (A : AreSpots plan t) (P : Tree) (w : Gro
   over_from Child T a m o q j l = let e = child_to P w n i a m o q l in (subst (λ (z : ℕ). In z T) e j, omega arith)
   over_from Descendant T a m o q j l = let e = below_to P w n i a m o q l in (record { of = level m; member = j; is = e }, e)
 
-  pub origins_are : (k e : ℕ) (T L : List ℕ) → Up t.spots.items rows k e T L → (base ss : List Step) → length ss ≡ k → e < length t.spots.items → A.path e ≡ base ++ ss → ((u : ℕ) → In u T → Target A.path n e u)
+  pub origins_are : (k e : ℕ) (T L : List ℕ) → Up t.states.items frames k e T L → (base ss : List Step) → length ss ≡ k → e < length t.states.items → A.path e ≡ base ++ ss → ((u : ℕ) → In u T → Target A.path n e u)
       → ((l : ℕ) → In l L → Origin base ss n T l) × ((l : ℕ) → Origin base ss n T l → In l L)
   origins_are zero e T L arrived base [] x c p ts = (
     (λ l j. (let r = ts l j in record { node = r.node; over = r.over; at = r.at; hit = subst (λ (z : List Step). hits 0 z r.node ≡ true) (p ∙ append-nil base) r.hit; target = r.node; below = r.over; reached = subst (λ (z : ℕ). In z T) (sym r.at) j; leads = eq-eqb (serial_of r.node) (serial_of r.node) refl })),
@@ -108,7 +106,7 @@ module _ (plan : PlanTree) (t : Spots) (A : AreSpots plan t) (P : Tree) (w : Gro
       let le = behind e p in
       let y = A.step e s at le in
       let d = last_part base ss (A.path s.parent) s.step k (sym y.1 ∙ p) x in
-      let lp : s.parent < length t.spots.items = (let a = y.0 in omega arith) in
+      let lp : s.parent < length t.states.items = (let a = y.0 in omega arith) in
       let targets : (u : ℕ) → In u B → Target A.path n s.parent u = (λ v j. let z = step_to s at y.1 h v j in record { node = z.0; over = z.1; at = z.2; hit = z.3.0 }) in
       let r = origins_are k s.parent B L u base d.0 d.3 lp d.2 targets in (
         (λ l j. (let o = r.0 l j in
@@ -142,21 +140,21 @@ module _ (plan : PlanTree) (t : Spots) (A : AreSpots plan t) (P : Tree) (w : Gro
       behind zero p = let f = ap length (sym A.top ∙ p) in let m = length-append base ss in absurd (omega arith)
       behind (suc e) p = omega arith
 
-      step_to : (s : Spot) → slice_get t.spots.items e ≡ Some s → A.path e ≡ A.path s.parent ++ s.step ∷ [] → Holds B (StepsUp rows s T) → (v : ℕ) → In v B
+      step_to : (s : PathState) → slice_get t.states.items e ≡ Some s → A.path e ≡ A.path s.parent ++ s.step ∷ [] → Holds B (StepsUp frames s T) → (v : ℕ) → In v B
           → (a : Node) × In a (above n) × (level a ≡ v) × ((hits 0 (A.path s.parent) a ≡ true) × ((m : Node) × In m (above n) × In (level m) T × (reach (serial_of a) s.step m ≡ true)))
       step_to s at y h v j =
           let su = (h.has v).0 j in
           let hi = su.hit in
-          let lv = slice_get_within rows.rows.items v hi.row hi.at in
+          let lv = slice_get_within frames v hi.frame hi.at in
           let lo : v ≤ level n = omega arith in
           let na = node_at n v lo in
-          let ha = told na.0 hi.row na.1 (subst (λ (z : ℕ). slice_get rows.rows.items z ≡ Some hi.row) (sym na.2) hi.at) s.parent hi.member in
+          let ha = told na.0 hi.frame na.1 (subst (λ (z : ℕ). slice_get frames z ≡ Some hi.frame) (sym na.2) hi.at) s.parent hi.member in
           let ov = over_to s.step.axis T na.0 na.1 (λ b q. let r = ts b q in (r.node, r.over, r.at)) (subst (λ (z : ℕ). Over s.step.axis T z) (sym na.2) su.over) in
           let rr = ts (level ov.0) ov.2 in
           let same : rr.node ≡ ov.0 = level_same n rr.node ov.0 rr.over ov.1 rr.at in
           let hm : hits 0 (A.path e) ov.0 ≡ true = subst (λ (z : Node). hits 0 (A.path e) z ≡ true) same rr.hit in
           (na.0, na.1, na.2, (ha, (ov.0, ov.1, ov.2, and_from (passes s.step.test (kind_of ov.0)) (lies s.step.axis (serial_of na.0) ov.0) (passed e s ov.0 ov.1 y hm) ov.3)))
-  origins_are (suc k) e T L (nowhere f) base ss x c p ts = let r = some_at t.spots.items e c in absurd (none_here r.0 r.1)
+  origins_are (suc k) e T L (nowhere f) base ss x c p ts = let r = some_at t.states.items e c in absurd (none_here r.0 r.1)
     where
-      none_here : (s : Spot) → slice_get t.spots.items e ≡ Some s → ⊥
+      none_here : (s : PathState) → slice_get t.states.items e ≡ Some s → ⊥
       none_here s g = let h : None ≡ Some s = sym f ∙ g in cc

@@ -13,7 +13,7 @@ use Rattle.tree_laws.proofs.Matches.{Numbered-same, Matches-in, Matches-from}
 use Rattle.tree_laws.proofs.Chains.{above_in, above_trans, above_self, hits_above}
 use Rattle.need_laws.proofs.Frames.{hits-append}
 use Rattle.past_laws.proofs.Bases.{node_is}
-use Rattle.matcher.specs.Spots.{kind_with}
+use Rattle.path_states.specs.PathTree.{kind_with}
 use Rattle.matcher.proofs.Leading.{split}
 use Rattle.matcher.proofs.GivenRoles.{self_first}
 

@@ -22,22 +22,22 @@ use Rattle.tree_laws.proofs.Fed.{grown_from}
 use Rattle.placed_laws.proofs.Told.{Told, told, given_told, taken_told}
 use Rattle.placed_laws.proofs.Unique.{row_below}
 use Rattle.placed_laws.proofs.PlanStatements.{one_statement_law}
-use Rattle.matcher.specs.Lists.{Climbs, Holds}
-use Rattle.matcher.specs.Spots.{IsWay}
+use Rattle.path_states.specs.Lists.{Climbs, Holds}
+use Rattle.path_states.specs.PathTree.{IsWay}
 use Rattle.matcher.specs.Matcher.{Stands, IsSign}
 use Rattle.matcher.specs.Signs.{SignAt}
 use Rattle.matcher.specs.Ahead.{Target, AreBases, HasSign, AreTaken}
-use Rattle.matcher.specs.declared.matcher.Matcher.{Matcher}
+use Rattle.matcher.specs.View.{MatcherView}
 use Rattle.matcher.specs.declared.signs.Sign.{Sign}
-use Rattle.matcher.specs.declared.spots.Way.{Way}
+use Rattle.path_states.specs.declared.paths.Way.{Way}
 use Rattle.matcher.proofs.Leading.{split}
-use Rattle.matcher.proofs.Looking.{in_some, one_at}
+use Rattle.path_states.proofs.Looking.{in_some, one_at}
 use Rattle.matcher.proofs.Upwards.{level_same}
 use Rattle.matcher.proofs.GivenRoles.{climbs_filtered}
 use Rattle.matcher.proofs.Reaching.{gives_to, gives_from}
 use Rattle.matcher.proofs.Aheads.{innermost_in, given_target, target_given, base_of, of_base}
 
-module _ (m : Matcher) (past : Past) (text : Bool) (s : Stands m past text) where
+module _ (m : MatcherView) (past : Past) (text : Bool) (s : Stands m past text) where
   w : Grown past.tree
   w = grown_from past.tree s.is_past.grown
 
@@ -54,12 +54,12 @@ module _ (m : Matcher) (past : Past) (text : Bool) (s : Stands m past text) wher
       cc
 
   -- a statement is signed at a node above the innermost one where there is a sign at its level
-  sign_of : (o : OffTree) → In o (offs_in past.plan.body) → (k : Node) → In k (above s.here) → signed past.acts o k ≡ true → SignAt m.signs.items o.role (level k)
+  sign_of : (o : OffTree) → In o (offs_in past.plan.body) → (k : Node) → In k (above s.here) → signed past.acts o k ≡ true → SignAt m.signs o.role (level k)
   sign_of o j k u h =
       let x : Sign = record { role = o.role; level = level k; steps = length o.rel } in
       record { sign = x; member = (s.signs x).1 (record { off = o; of = j; role = refl; steps = refl; node = k; among = u; at = refl; is = h }); of = refl; at = refl }
 
-  of_sign : (o : OffTree) → In o (offs_in past.plan.body) → (k : Node) → In k (above s.here) → SignAt m.signs.items o.role (level k) → signed past.acts o k ≡ true
+  of_sign : (o : OffTree) → In o (offs_in past.plan.body) → (k : Node) → In k (above s.here) → SignAt m.signs o.role (level k) → signed past.acts o k ≡ true
   of_sign o j k u a =
       let g = (s.signs a.sign).0 a.member in
       let same = same_off o g.off j g.of (g.role ∙ a.of) in
@@ -69,7 +69,7 @@ module _ (m : Matcher) (past : Past) (text : Bool) (s : Stands m past text) wher
   taken_is : (o : OffTree) → In o (offs_in past.plan.body) → (r : ℕ) → o.role ≡ r → taken past.plan past.tree past.acts s.here r ≡ (given past.plan past.tree s.here r && all_signed (path_of past.plan) past.tree past.acts s.here o)
   taken_is o j r e = subst (λ (z : ℕ). taken past.plan past.tree past.acts s.here z ≡ (given past.plan past.tree s.here z && all_signed (path_of past.plan) past.tree past.acts s.here o)) e (taken_told past.plan o (told_of o j) past.tree past.acts s.here)
 
-  module _ (x : Sign) (there : In x m.signs.items) where
+  module _ (x : Sign) (there : In x m.signs) where
     pub g : IsSign past s.here x
     g = (s.signs x).0 there
 
@@ -80,36 +80,36 @@ module _ (m : Matcher) (past : Past) (text : Bool) (s : Stands m past text) wher
     row_here = subst (λ (z : ℕ). row_at past.plan.roles z ≡ Some t.row) g.role t.at
 
     -- its role has a way
-    pub way_of : (wy : Way) × (slice_get m.spots.ways.items x.role ≡ Some wy) × IsWay past.plan s.spots.path (length m.spots.spots.items) wy (Told.row t)
-    way_of = s.spots.ways x.role t.row row_here
+    pub way_of : (wy : Way) × (slice_get m.tree.ways.items x.role ≡ Some wy) × IsWay past.plan s.tree.path (length m.tree.states.items) wy (Told.row t)
+    way_of = s.tree.ways x.role t.row row_here
 
-    module _ (wy : Way) (at : slice_get m.spots.ways.items x.role ≡ Some wy) (T : List ℕ) (h : Holds T (Target (role_kind wy.kind) m x.role wy.end)) where
-      is : IsWay past.plan s.spots.path (length m.spots.spots.items) wy (Told.row t)
-      is = let q = way_of in subst (λ (z : Way). IsWay past.plan s.spots.path (length m.spots.spots.items) z t.row) (one_at m.spots.ways.items x.role q.0 wy q.1 at) q.2
+    module _ (wy : Way) (at : slice_get m.tree.ways.items x.role ≡ Some wy) (T : List ℕ) (h : Holds T (Target (role_kind wy.kind) m x.role wy.end)) where
+      is : IsWay past.plan s.tree.path (length m.tree.states.items) wy (Told.row t)
+      is = let q = way_of in subst (λ (z : Way). IsWay past.plan s.tree.path (length m.tree.states.items) z t.row) (one_at m.tree.ways.items x.role q.0 wy q.1 at) q.2
 
       -- without a target the innermost node doesn't have it
       pub not_ahead : T ≡ [] → false ≡ taken past.plan past.tree past.acts s.here x.role
       not_ahead none = sym (false_from_ne_true (taken past.plan past.tree past.acts s.here x.role) (λ k.
           given_target m past text s x.role t.row row_here wy is (role_kind wy.kind) (sym is.kind) T h (and_parts (given past.plan past.tree s.here x.role) _ (sym (taken_is g.off g.of x.role g.role) ∙ k)).0 none))
 
-      pub ahead_is : (T ≡ [] → ⊥) → (L : List ℕ) → AreBases m.spots.spots.items m.rows wy x.steps T L → (b : Bool) → (b ≡ true → (l : ℕ) → In l L → SignAt m.signs.items x.role l) → (b ≡ false → ((l : ℕ) → In l L → SignAt m.signs.items x.role l) → ⊥)
+      pub ahead_is : (T ≡ [] → ⊥) → (L : List ℕ) → AreBases m wy x.steps T L → (b : Bool) → (b ≡ true → (l : ℕ) → In l L → SignAt m.signs x.role l) → (b ≡ false → ((l : ℕ) → In l L → SignAt m.signs x.role l) → ⊥)
           → b ≡ taken past.plan past.tree past.acts s.here x.role
       ahead_is some L bases b if_so if_not = go b if_so if_not
         where
-          are : AreBases m.spots.spots.items m.rows wy (length g.off.rel) T L
-          are = subst (λ (z : ℕ). AreBases m.spots.spots.items m.rows wy z T L) (sym g.steps) bases
+          are : AreBases m wy (length g.off.rel) T L
+          are = subst (λ (z : ℕ). AreBases m wy z T L) (sym g.steps) bases
 
           it_is : given past.plan past.tree s.here x.role ≡ true
           it_is = let q = in_some T some in target_given m past text s x.role t.row row_here wy is (role_kind wy.kind) (sym is.kind) q.0 ((h.has q.0).0 q.1)
 
-          go : (b : Bool) → (b ≡ true → (l : ℕ) → In l L → SignAt m.signs.items x.role l) → (b ≡ false → ((l : ℕ) → In l L → SignAt m.signs.items x.role l) → ⊥) → b ≡ taken past.plan past.tree past.acts s.here x.role
+          go : (b : Bool) → (b ≡ true → (l : ℕ) → In l L → SignAt m.signs x.role l) → (b ≡ false → ((l : ℕ) → In l L → SignAt m.signs x.role l) → ⊥) → b ≡ taken past.plan past.tree past.acts s.here x.role
           go true if_so if_not = sym (taken_is g.off g.of x.role g.role ∙ and_from _ _ it_is (all_from (λ (k : Node). not (reaches past.tree g.off k s.here) || signed past.acts g.off k) (matches past.tree 0 (path_of past.plan g.off.base)) (λ k j. by_reach k (Matches-in past.tree 0 (path_of past.plan g.off.base) k j) (reaches past.tree g.off k s.here) refl)))
             where
               by_reach : (k : Node) → In k past.tree.nodes × (hits 0 (path_of past.plan g.off.base) k ≡ true) → (c : Bool) → reaches past.tree g.off k s.here ≡ c → (not (reaches past.tree g.off k s.here) || signed past.acts g.off k) ≡ true
               by_reach k q false e = or_left _ _ (ap not e)
               by_reach k q true e =
                   let v = of_base m past text s x.role t.row row_here wy is g.off t refl T L h are k q.0 q.1 e in
-                  let z = of_sign g.off g.of k v.0 (subst (λ (z : ℕ). SignAt m.signs.items z (level k)) (sym g.role) (if_so refl (level k) v.1)) in
+                  let z = of_sign g.off g.of k v.0 (subst (λ (z : ℕ). SignAt m.signs z (level k)) (sym g.role) (if_so refl (level k) v.1)) in
                   rw (e, z) refl
           go false if_so if_not = sym (false_from_ne_true (taken past.plan past.tree past.acts s.here x.role) (λ k.
               if_not refl (λ l j.
@@ -117,15 +117,15 @@ module _ (m : Matcher) (past : Past) (text : Bool) (s : Stands m past text) wher
               let v = base_of m past text s x.role t.row row_here wy is g.off t refl T L h are l j in
               let y = all_in (λ (k : Node). not (reaches past.tree g.off k s.here) || signed past.acts g.off k) (matches past.tree 0 (path_of past.plan g.off.base)) a.1 v.node (Matches-from past.tree 0 (path_of past.plan g.off.base) v.node (above_in past.tree w s.here v.node i v.over) v.hit) in
               let z = sign_of g.off g.of v.node v.over (or_not (reaches past.tree g.off v.node s.here) (signed past.acts g.off v.node) y v.reached) in
-              subst (λ (u : ℕ). SignAt m.signs.items x.role u) v.at (subst (λ (u : ℕ). SignAt m.signs.items u (level v.node)) g.role z))))
+              subst (λ (u : ℕ). SignAt m.signs x.role u) v.at (subst (λ (u : ℕ). SignAt m.signs u (level v.node)) g.role z))))
 
   -- a role that is taken has a sign
-  pub taken_sign : (r : ℕ) → taken past.plan past.tree past.acts s.here r ≡ true → HasSign m.signs.items r
+  pub taken_sign : (r : ℕ) → taken past.plan past.tree past.acts s.here r ≡ true → HasSign m.signs r
   taken_sign r h =
       let a = and_parts (given past.plan past.tree s.here r) (on_off (all_signed (path_of past.plan) past.tree past.acts s.here) (statement_of past.plan r)) h in
       go (statement_of past.plan r) refl a.0 a.1
     where
-      go : (o : Option OffTree) → statement_of past.plan r ≡ o → given past.plan past.tree s.here r ≡ true → on_off (all_signed (path_of past.plan) past.tree past.acts s.here) o ≡ true → HasSign m.signs.items r
+      go : (o : Option OffTree) → statement_of past.plan r ≡ o → given past.plan past.tree s.here r ≡ true → on_off (all_signed (path_of past.plan) past.tree past.acts s.here) o ≡ true → HasSign m.signs r
       go None e gv al = absurd (false≢true al)
       go (Some o) e gv al =
           let q = (one_statement_law s.is_past.core s.is_past.good past.plan s.is_past.placed r o).0 e in
@@ -141,12 +141,12 @@ module _ (m : Matcher) (past : Past) (text : Bool) (s : Stands m past text) wher
           record { sign = z.sign; member = z.member; of = z.of ∙ q.1 }
 
   -- the roles that are taken, in order
-  pub roles_are_taken : (rs : List ℕ) → AreTaken (taken past.plan past.tree past.acts s.here) m.signs.items rs → rs ≡ roles_taken past.plan past.tree past.acts s.here
+  pub roles_are_taken : (rs : List ℕ) → AreTaken (taken past.plan past.tree past.acts s.here) m.signs rs → rs ≡ roles_taken past.plan past.tree past.acts s.here
   roles_are_taken rs a = climbs_filtered (taken past.plan past.tree past.acts s.here) (length past.plan.roles) rs a.climbs
       (λ y j. let q = (a.has y).0 j in (below y q.0, q.1))
       (λ y l h. (a.has y).1 (taken_sign y h, h))
     where
-      below : (y : ℕ) → HasSign m.signs.items y → y < length past.plan.roles
+      below : (y : ℕ) → HasSign m.signs y → y < length past.plan.roles
       below y q =
           let g = (s.signs q.sign).0 q.member in
           let f = told_of g.off g.of in

@@ -5,7 +5,7 @@ use Rattle.std.proofs.lemmas.List.{take-append-drop}
 use Rattle.tree_laws.proofs.Lists.{In, In-left, In-right, In-append}
 use Rattle.matcher.specs.Signs.{InTurn}
 use Rattle.matcher.specs.declared.signs.Sign.{Sign}
-use Rattle.matcher.proofs.Gaining.{in_get}
+use Rattle.path_states.proofs.Gaining.{in_get}
 
 -- one place down
 pub turn_down : (xs : List Sign) (p r : ℕ) (d : Sign) → 0 < p → p ≤ length xs → r ≤ (get_or xs (p - 1) d).role → ((s : Sign) → In s (drop p xs) → r ≤ s.role) → (s : Sign) → In s (drop (p - 1) xs) → r ≤ s.role

@@ -1,39 +1,41 @@
 -- How a new node is entered (this project's). This follows the code: private functions alone speak of it.
-use Rattle.std.specs.Prelude.{◌≡◌, ◌<◌, ◌≤◌, ◌-◌, ◌↔◌, ◌⊎◌, ℕ, suc, Bool, true, false, List, [], length, ◌++◌, ◌^◌, Some, slice_get}
+use Rattle.std.specs.Prelude.{◌≡◌, ◌<◌, ◌≤◌, ◌-◌, ◌⊎◌, ◌++◌, ◌∷◌, ◌^◌, ℕ, suc, Bool, true, false, List, [], length, map, Option, Some, None, slice_get}
+use Rattle.gcx_base.specs.Kinds.{is_text}
+use Rattle.gcx_base.specs.declared.ids.Role.{Role}
 use Rattle.gcx_base.specs.declared.kind.Kind.{Kind}
 use Rattle.gcx_base.specs.declared.steps.Step.{Step}
-use Rattle.gcx_model.specs.Tree.{Node, Tree, Token}
+use Rattle.gcx_model.specs.Tree.{Node, Tree, Token, grow}
 use Rattle.gcx_model.specs.Paths.{hits}
 use Rattle.gcx_model.specs.Core.{First, PlanTree, RoleRowTree}
 use Rattle.gcx_model.specs.Held.{path_of}
 use Rattle.gcx_model.specs.Growth.{level, may_come}
 use Rattle.gcx_model.specs.Members.{In}
 use Rattle.gcx_model.specs.Past.{Past, IsPast, open_nodes, Opens, IsNode, token_for}
-use Rattle.matcher.specs.Lists.{From, Holds}
-use Rattle.matcher.specs.Parts.{hits_at, pending_at}
-use Rattle.matcher.specs.Row.{IsFound, IsRole, IsRow}
-use Rattle.matcher.specs.Rows.{HitsBelow, IsOpen}
-use Rattle.matcher.specs.Spots.{AreSpots}
-use Rattle.matcher.specs.Stacks.{AreStacked, IsAdded, innermost_row}
+use Rattle.path_states.specs.Active.{ActiveBelow}
+use Rattle.path_states.specs.Lists.{Climbs, From, Gains}
+use Rattle.path_states.specs.Names.{IsNameNumber}
+use Rattle.path_states.specs.PathTree.{IsPathTree}
+use Rattle.path_states.specs.State.{StateView, MovesBelow}
+use Rattle.path_states.specs.States.{StatesView, Enters, last_state}
+use Rattle.path_states.specs.declared.paths.PathState.{PathState}
+use Rattle.path_states.specs.declared.paths.PathTree.{PathTree}
+use Rattle.matcher.specs.Frame.{IsFound, IsFrame, IsRole}
+use Rattle.matcher.specs.Frames.{AreRoles}
 use Rattle.matcher.specs.Matcher.{Stands}
-use Rattle.matcher.specs.declared.matcher.Matcher.{Matcher}
-use Rattle.matcher.specs.declared.row.Context.{Context}
-use Rattle.matcher.specs.declared.row.Found.{Found}
-use Rattle.matcher.specs.declared.row.Part.{Part}
-use Rattle.matcher.specs.declared.row.Row.{Row}
-use Rattle.matcher.specs.declared.row.Rows.{Rows}
-use Rattle.matcher.specs.declared.spots.Spot.{Spot}
-use Rattle.matcher.specs.declared.spots.Spots.{Spots}
+use Rattle.matcher.specs.Parts.{NodeMarks, new_marks}
+use Rattle.matcher.specs.Stacks.{AreMatched}
+use Rattle.matcher.specs.View.{FrameView, GoTogether, MatcherView, frames_of, innermost_frame}
+use Rattle.matcher.specs.declared.frames.Found.{Found}
 
--- the rows are those of the open nodes, and the token opens the node n
-pub record Comes (past : Past) (spots : Spots) (told : Rows) (t : Token) (n : Node) : Type 0 where
+-- the frames are those of the open nodes, and the token opens the node n
+pub record Comes (past : Past) (tree : PathTree) (told : List FrameView) (t : Token) (n : Node) : Type 0 where
   pub is_past : IsPast past
-  pub are : AreSpots past.plan spots
+  pub are : IsPathTree past.plan tree
   pub opens : Opens past.tree t n
-  pub count : length told.rows.items ≡ level n
-  pub rows : (a : Node) (row : Row) → In a (open_nodes past.tree) → slice_get told.rows.items (level a) ≡ Some row → IsRow past.plan past.tree spots.spots.items are.path told row a
+  pub count : length told ≡ level n
+  pub frames : (a : Node) (frame : FrameView) → In a (open_nodes past.tree) → slice_get told (level a) ≡ Some frame → IsFrame past.plan past.tree tree.states.items are.path frame a
 
--- the spot's path leads to the node
+-- the path state's path leads to the node
 abbrev pub LeadsTo : (ℕ → List Step) → Node → ℕ → Type 0
 LeadsTo path n c = hits 0 (path c) n ≡ true
 
@@ -45,68 +47,99 @@ RoleLeads plan n r = (row : RoleRowTree) → IsRole plan First r row → hits 0 
 abbrev pub FoundOf : PlanTree → Tree → Node → ℕ → Found → Type 0
 FoundOf plan P n r f = (f.role ≡ r) × IsFound plan P n f
 
--- the same of a role that ends at the spot p
-pub record Firsts (plan : PlanTree) (P : Tree) (n : Node) (spots : List Spot) (p : ℕ) (f : Found) : Type 0 where
-  pub spot : Spot
-  pub at : slice_get spots p ≡ Some spot
-  pub from : From spot.first.items (FoundOf plan P n) f
+-- the same of a role that ends at the path state p
+pub record Firsts (plan : PlanTree) (P : Tree) (n : Node) (tree : List PathState) (p : ℕ) (f : Found) : Type 0 where
+  pub state : PathState
+  pub at : slice_get tree p ≡ Some state
+  pub from : From state.first.items (FoundOf plan P n) f
 
--- a context of the role without a match stands at the place i
-pub record OpenAt (contexts : List Context) (i r : ℕ) : Type 0 where
-  pub context : Context
-  pub at : slice_get contexts i ≡ Some context
-  pub is : IsOpen r context
+-- What is added are the contexts of the role whose first match a new node of the level is, to which the role's path leads; where there are states for all marks.
+abbrev pub FindsRole : StatesView → List NodeMarks → (role here : ℕ) → (before now : List Found) → Type 0
+FindsRole v marks role here before now =
+    length marks ≤ length v.states → (past : Past) (t : Token) (n : Node) → Comes past v.tree (frames_of v marks) t n → level n ≡ here → RoleLeads past.plan n role → Gains before now (FoundOf past.plan (grow t past.tree) n role)
 
-abbrev pub IsIn : Part → ℕ → Type 0
-IsIn p i = (p.from ≤ i) × (i < p.to)
+-- the same for each of the roles
+abbrev pub FindsRoles : StatesView → List NodeMarks → (roles : List ℕ) → (here : ℕ) → (before now : List Found) → Type 0
+FindsRoles v marks roles here before now =
+    length marks ≤ length v.states → (past : Past) (t : Token) (n : Node) → Comes past v.tree (frames_of v marks) t n → level n ≡ here → ((r : ℕ) → In r roles → RoleLeads past.plan n r)
+    → Gains before now (From roles (FoundOf past.plan (grow t past.tree) n))
 
--- those of Q have a match now, and nothing else is changed
-pub record Noted (before now : List Context) (Q : ℕ → ℕ → Type 0) : Type 0 where
-  pub as_many : length now ≡ length before
-  pub has : (i r : ℕ) → OpenAt now i r ↔ (OpenAt before i r × (Q i r → ⊥))
+-- the same for the roles that end at the path state, whose path leads to the new node
+abbrev pub FindsAt : StatesView → List NodeMarks → (state here : ℕ) → (before now : List Found) → Type 0
+FindsAt v marks state here before now =
+    length marks ≤ length v.states → (past : Past) (t : Token) (n : Node) → (b : Comes past v.tree (frames_of v marks) t n) → level n ≡ here → LeadsTo b.are.path n state
+    → Gains before now (Firsts past.plan (grow t past.tree) n v.tree.states.items state)
 
--- the place i is in the row of the found context's level, and r is its role
-pub record Finds (rows : List Row) (f : Found) (i r : ℕ) : Type 0 where
-  pub row : Row
-  pub at : slice_get rows f.level ≡ Some row
-  pub within : IsIn row.contexts i
-  pub same : f.role ≡ r
+-- the same for each of the path states
+abbrev pub FindsAll : StatesView → List NodeMarks → (active : List ℕ) → (here : ℕ) → (before now : List Found) → Type 0
+FindsAll v marks active here before now =
+    length marks ≤ length v.states → (past : Past) (t : Token) (n : Node) → (b : Comes past v.tree (frames_of v marks) t n) → level n ≡ here → ((c : ℕ) → In c active → LeadsTo b.are.path n c)
+    → Gains before now (From active (Firsts past.plan (grow t past.tree) n v.tree.states.items))
 
--- what was found has a match now
-abbrev pub FoundNoted : List Row → List Found → (before now : List Context) → Type 0
-FoundNoted rows found before now = Noted before now (λ i r. From found (λ (f : Found) (q : ℕ). Finds rows f i q) r)
-
--- the innermost row tells that no path leads below it, and that nothing is pending there
-pub record IsOver (m : Matcher) : Type 0 where
-  pub nothing : (row : Row) (kind : Kind) (c : ℕ) → innermost_row m.rows ≡ Some row → HitsBelow m.spots.spots.items (hits_at m.rows row) (pending_at m.rows row) kind c → ⊥
-  pub pending : (row : Row) → innermost_row m.rows ≡ Some row → row.pending ≡ 0
+-- the innermost frame tells that no path leads below it, and that nothing is pending there
+pub record IsOver (m : MatcherView) : Type 0 where
+  pub nothing : (frame : FrameView) (kind : Kind) (c : ℕ) → innermost_frame m.frames ≡ Some frame → ActiveBelow m.tree.states.items frame.active frame.pending kind c → ⊥
+  pub pending : (frame : FrameView) → innermost_frame m.frames ≡ Some frame → frame.pending ≡ []
 
 -- why no path leads to a new node
-abbrev pub IsIdle : Matcher → (text : Bool) → Type 0
-IsIdle m text = (0 < m.idle) ⊎ (((text ≡ true) × (m.spots.texts ≡ false)) ⊎ IsOver m)
+abbrev pub IsIdle : MatcherView → (text : Bool) → Type 0
+IsIdle m text = (0 < m.idle) ⊎ (((text ≡ true) × (m.tree.texts ≡ false)) ⊎ IsOver m)
 
--- the numbers are those of the spots whose paths lead to a new node of this kind below the innermost row's
-abbrev pub AreHits : Matcher → Kind → Type 0
-AreHits m kind = (row : Row) → innermost_row m.rows ≡ Some row → Holds m.hits.items (HitsBelow m.spots.spots.items (hits_at m.rows row) (pending_at m.rows row) kind)
+-- no path leads to a new node, of whatever kind
+abbrev pub LeadsNowhere : MatcherView → Type 0
+LeadsNowhere m = (0 < m.idle) ⊎ IsOver m
 
 -- a node of this kind may come
-pub record Goes (m : Matcher) (past : Past) (kind : Kind) : Type 0 where
+pub record Goes (m : MatcherView) (past : Past) (kind : Kind) : Type 0 where
   pub stands : Stands m past false
   pub node : IsNode kind
   pub may : may_come (token_for kind) past.tree ≡ true
 
+-- a node of this kind, whose name has the number, may come below one that has a frame
+pub record GoesBy (m : MatcherView) (past : Past) (kind : Kind) (number : ℕ) (text : Bool) : Type 0 where
+  pub goes : Goes m past kind
+  pub by : IsNameNumber m.names kind number
+  pub flag : is_text kind ≡ text
+  pub here : m.idle ≡ 0
+
 -- one idle node more, which is the innermost one
-pub record IsIdled (before now : Matcher) (text : Bool) : Type 0 where
-  pub spots : now.spots ≡ before.spots
-  pub rows : now.rows ≡ before.rows
-  pub signs : now.signs ≡ before.signs
-  pub flag : now.text ≡ text
+pub record IsIdled (before now : MatcherView) (text : Bool) : Type 0 where
+  pub is : now ≡ record before { idle = now.idle; text = text }
   pub idle : before.idle < 2 ^ 32 - 1 → now.idle ≡ suc before.idle
 
--- one row more, of an element to which no path leads
-pub record IsBared (before now : Matcher) : Type 0 where
-  pub spots : now.spots ≡ before.spots
-  pub signs : now.signs ≡ before.signs
-  pub flag : now.text ≡ false
-  pub idle : now.idle ≡ before.idle
-  pub added : AreStacked before.rows → 0 < length before.rows.rows.items → IsAdded before.rows now.rows before.spots.spots.items [] []
+-- the roles are those of the whole subtrees in which the node of the innermost frame lies
+abbrev pub GivesInside : MatcherView → List Role → Type 0
+GivesInside m given = (frame : FrameView) → innermost_frame m.frames ≡ Some frame → Climbs frame.whole → map (λ (r : Role). r.0) given ≡ frame.whole
+
+-- no path leads to the node with this state, nor to any below it
+pub record IsVain (s : StateView) (text : Bool) : Type 0 where
+  pub none : s.active ≡ []
+  pub quiet : (text ≡ true) ⊎ (s.pending ≡ [])
+
+-- the same of a new node whose name has the number
+pub record Halts (v : StatesView) (number : ℕ) (text : Bool) : Type 0 where
+  pub state : StateView
+  pub leads : (above : StateView) (kind : Kind) → last_state v.states ≡ Some above → IsNameNumber v.names kind number → MovesBelow v.tree.states.items above kind state
+  pub vain : IsVain state text
+
+-- the contexts whose first match the node with the innermost state is, which has no frame yet
+abbrev pub FindsHere : StatesView → List NodeMarks → List Found → Type 0
+FindsHere v marks found = (s : StateView) → last_state v.states ≡ Some s → FindsAll v marks s.active (length marks) [] found
+
+-- one frame more: that of the node with the innermost state, whose roles are these
+pub record AddsFrame (v : StatesView) (before now : List NodeMarks) (given : List Role) : Type 0 where
+  pub state : StateView
+  pub last : last_state v.states ≡ Some state
+  pub found : List Found
+  pub marks : AreMatched found (before ++ new_marks state.contexts found ∷ []) now
+  pub roles : AreRoles v.tree.states.items state.whole state.active found (map (λ (r : Role). r.0) given)
+  pub firsts : FindsAll v before state.active (length before) [] found
+
+-- nothing is changed
+abbrev pub HaveStayed : (before now : StatesView) → (marks later : List NodeMarks) → Type 0
+HaveStayed before now marks later = (now ≡ before) × (later ≡ marks)
+
+-- The states and the marks where a new node whose name has the number is entered, with its roles. Where no path leads there, they have stayed.
+abbrev pub Advances : (before now : StatesView) → (marks later : List NodeMarks) → (number : ℕ) → (text : Bool) → Option (List Role) → Type 0
+Advances before now marks later number text None = GoTogether before marks → (HaveStayed before now marks later × Halts before number text)
+Advances before now marks later number text (Some given) = Enters before now number × AddsFrame now marks later given

@@ -1,11 +1,10 @@
-pub mod Lists
-pub mod Spots
-pub mod Growing
 pub mod Parts
-pub mod Rows
+pub mod View
 pub mod Stacks
+pub mod Frames
 pub mod Signs
 pub mod Ahead
-pub mod Row
+pub mod Frame
 pub mod Matcher
 pub mod Entering
+pub mod Calls

@@ -1,122 +1,94 @@
--- How the parts of rows lie on the stacks (this project's). Public clauses speak of `AreStacked` alone, inside `Stands`; the rest follows the code.
-use Rattle.std.specs.Prelude.{◌≡◌, ◌<◌, ◌≤◌, ◌-◌, ℕ, Bool, true, false, List, [], ◌∷◌, ◌++◌, length, take, Option, Some, None, slice_get}
+-- How the ranges of frames lie on the stacks (this project's). This follows the code: private functions and the model of `Frames` alone speak of it.
+use Rattle.std.specs.Prelude.{◌≡◌, ◌<◌, ◌≤◌, ◌-◌, ◌↔◌, ◌++◌, max, ℕ, true, List, [], length, take, Option, Some, None, slice_get}
 use Rattle.gcx_model.specs.Members.{In}
-use Rattle.matcher.specs.Lists.{Climbs, Extends, From, Gains}
-use Rattle.matcher.specs.Parts.{hits_at, pending_at, whole_at, contexts_at, found_at}
-use Rattle.matcher.specs.Rows.{Opens, Tells, Waits}
-use Rattle.matcher.specs.declared.row.Found.{Found}
-use Rattle.matcher.specs.declared.row.Part.{Part}
-use Rattle.matcher.specs.declared.spots.Spot.{Spot}
-use Rattle.matcher.specs.declared.row.Row.{Row}
-use Rattle.matcher.specs.declared.row.Rows.{Rows}
+use Rattle.path_states.specs.Lists.{From}
+use Rattle.matcher.specs.Parts.{NodeMarks, IsOpen, IsUnmatched, at_level}
+use Rattle.matcher.specs.declared.frames.Context.{Context}
+use Rattle.matcher.specs.declared.frames.Found.{Found}
+use Rattle.matcher.specs.declared.frames.Frame.{Frame}
+use Rattle.matcher.specs.declared.frames.Range.{Range}
 
--- each spot that is marked as waiting is among the pending ones
-abbrev pub Marks : List Bool → List ℕ → Type 0
-Marks waits pending = (c : ℕ) → slice_get waits c ≡ Some true → In c pending
+-- the range ends within so many
+abbrev pub EndsIn : ℕ → Range → Type 0
+EndsIn n p = (p.from ≤ p.to) × (p.to ≤ n)
 
--- the parts of the one row end no later than those of the other
-pub record EndsBefore (one other : Row) : Type 0 where
-  pub hits : one.hits.to ≤ other.hits.to
-  pub pending : one.pending ≤ other.pending
-  pub whole : one.whole.to ≤ other.whole.to
-  pub contexts : one.contexts.to ≤ other.contexts.to
-  pub found : one.found.to ≤ other.found.to
+-- the frame's ranges end within the stacks
+pub record LiesOn (cs : List Context) (fs : List Found) (frame : Frame) : Type 0 where
+  pub contexts : EndsIn (length cs) frame.contexts
+  pub found : EndsIn (length fs) frame.found
 
--- the stacks end with the parts of the row
-pub record EndsWith (t : Rows) (row : Row) : Type 0 where
-  pub hits : length t.hits.items ≡ row.hits.to
-  pub pending : length t.pending.items ≡ row.pending
-  pub whole : length t.whole.items ≡ row.whole.to
-  pub contexts : length t.contexts.items ≡ row.contexts.to
-  pub found : length t.found.items ≡ row.found.to
+-- the ranges of the one frame end where those of the other begin, or before
+pub record IsBefore (one other : Frame) : Type 0 where
+  pub contexts : one.contexts.to ≤ other.contexts.from
+  pub found : one.found.to ≤ other.found.from
 
--- the stacks have nothing
-pub record AreEmpty (t : Rows) : Type 0 where
-  pub hits : t.hits.items ≡ []
-  pub pending : t.pending.items ≡ []
-  pub whole : t.whole.items ≡ []
-  pub contexts : t.contexts.items ≡ []
-  pub found : t.found.items ≡ []
+-- the ranges of frames lie on the stacks, apart and in order
+pub record AreStacked (cs : List Context) (fs : List Found) (frames : List Frame) : Type 0 where
+  pub within : (i : ℕ) (frame : Frame) → slice_get frames i ≡ Some frame → LiesOn cs fs frame
+  pub apart : (i j : ℕ) (one other : Frame) → i < j → slice_get frames i ≡ Some one → slice_get frames j ≡ Some other → IsBefore one other
 
--- the parts of outer rows end no later than those of inner ones, their contexts lie apart, and the stacks end with the innermost row
-pub record AreStacked (t : Rows) : Type 0 where
-  pub rising : (i j : ℕ) (one other : Row) → i ≤ j → slice_get t.rows.items i ≡ Some one → slice_get t.rows.items j ≡ Some other → EndsBefore one other
-  pub apart : (i j : ℕ) (one other : Row) → i < j → slice_get t.rows.items i ≡ Some one → slice_get t.rows.items j ≡ Some other → one.contexts.to ≤ other.contexts.from
-  pub ends : (row : Row) → slice_get t.rows.items (length t.rows.items - 1) ≡ Some row → EndsWith t row
-  pub waits : Marks t.waits.items t.pending.items
-  pub none : t.rows.items ≡ [] → AreEmpty t
+-- the list is the same up to its old end
+pub record Extends {X : Type 0} (before now : List X) : Type 0 where
+  pub rest : List X
+  pub is : now ≡ before ++ rest
 
--- the stacks are the same up to their old ends
-pub record AreLonger (before now : Rows) : Type 0 where
-  pub hits : Extends before.hits.items now.hits.items
-  pub pending : Extends before.pending.items now.pending.items
-  pub whole : Extends before.whole.items now.whole.items
-  pub contexts : Extends before.contexts.items now.contexts.items
-  pub found : Extends before.found.items now.found.items
-  pub marks : Marks before.waits.items before.pending.items → Marks now.waits.items now.pending.items
+-- a context of the role without a match stands at the place i
+pub record OpenAt (contexts : List Context) (i r : ℕ) : Type 0 where
+  pub context : Context
+  pub at : slice_get contexts i ≡ Some context
+  pub is : IsOpen r context
 
--- everything behind the row's parts is taken from the stacks
-pub record IsCut (before now : Rows) (row : Row) : Type 0 where
-  pub rows : now.rows.items ≡ before.rows.items
-  pub hits : now.hits.items ≡ take row.hits.to before.hits.items
-  pub pending : now.pending.items ≡ take row.pending before.pending.items
-  pub whole : now.whole.items ≡ take row.whole.to before.whole.items
-  pub contexts : now.contexts.items ≡ take row.contexts.to before.contexts.items
-  pub found : now.found.items ≡ take row.found.to before.found.items
-  pub marks : Marks before.waits.items before.pending.items → Marks now.waits.items now.pending.items
+abbrev pub IsIn : Range → ℕ → Type 0
+IsIn p i = (p.from ≤ i) × (i < p.to)
 
-abbrev pub innermost_row : Rows → Option Row
-innermost_row t = slice_get t.rows.items (length t.rows.items - 1)
+-- those of Q have a match now, and nothing else is changed
+pub record Noted (before now : List Context) (Q : ℕ → ℕ → Type 0) : Type 0 where
+  pub as_many : length now ≡ length before
+  pub has : (i r : ℕ) → OpenAt now i r ↔ (OpenAt before i r × (Q i r → ⊥))
 
-abbrev pub no_part : Part
-no_part = record { from = 0; to = 0 }
+-- the place i is in the frame of the found context's level, and r is its role
+pub record Finds (frames : List Frame) (f : Found) (i r : ℕ) : Type 0 where
+  pub frame : Frame
+  pub at : slice_get frames f.level ≡ Some frame
+  pub within : IsIn frame.contexts i
+  pub same : f.role ≡ r
 
--- the row with which the stacks end; where there is none, one that has nothing
-abbrev pub end_of : Option Row → Row
-end_of None = record { hits = no_part; pending = 0; whole = no_part; contexts = no_part; found = no_part; signed = false }
-end_of (Some row) = row
+-- what was found has a match now
+abbrev pub FoundNoted : List Frame → List Found → (before now : List Context) → Type 0
+FoundNoted frames found before now = Noted before now (λ i r. From found (λ (f : Found) (q : ℕ). Finds frames f i q) r)
 
--- what the row tells, where there is one
-abbrev pub of_row : {X : Type 0} → (Rows → Row → List X) → Rows → Option Row → List X
-of_row f t None = []
-of_row f t (Some row) = f t row
+-- all but the last; the first one stays
+abbrev pub outer_marks : List NodeMarks → List NodeMarks
+outer_marks ms = take (max 1 (length ms - 1)) ms
 
--- what the row tells is the same
-pub record TellsSame (before now : Rows) (row : Row) : Type 0 where
-  pub hits : hits_at now row ≡ hits_at before row
-  pub pending : pending_at now row ≡ pending_at before row
-  pub whole : whole_at now row ≡ whole_at before row
-  pub contexts : contexts_at now row ≡ contexts_at before row
-  pub found : found_at now row ≡ found_at before row
+abbrev pub last_marks : List NodeMarks → Option NodeMarks
+last_marks ms = slice_get ms (length ms - 1)
 
--- the rows are the same, and tell the same
-pub record SameRows (before now : Rows) : Type 0 where
-  pub rows : now.rows.items ≡ before.rows.items
-  pub stacked : AreStacked now
-  pub same : (row : Row) → In row before.rows.items → TellsSame before now row
+-- the first matches of these marks, if there are any
+abbrev pub found_in : Option NodeMarks → List Found
+found_in None = []
+found_in (Some m) = m.found
 
--- a row more, at the end: of a node to which these spots' paths lead, and which is the first match of these
-pub record IsAdded (before now : Rows) (spots : List Spot) (leading : List ℕ) (firsts : List Found) : Type 0 where
-  pub row : Row
-  pub rows : now.rows.items ≡ before.rows.items ++ row ∷ []
-  pub stacked : AreStacked now
-  pub same : (r : Row) → In r before.rows.items → TellsSame before now r
-  pub unsigned : row.signed ≡ false
-  pub hits : hits_at now row ≡ leading
-  pub pending : Gains (of_row pending_at before (innermost_row before)) (pending_at now row) (From leading (Waits spots))
-  pub whole : Gains (of_row whole_at before (innermost_row before)) (whole_at now row) (From leading (Tells (λ s. s.whole.items) spots))
-  pub climbs : Climbs (of_row whole_at before (innermost_row before)) → Climbs (whole_at now row)
-  pub contexts : Gains [] (contexts_at now row) (From leading (Opens spots))
-  pub found : found_at now row ≡ firsts
+-- the contexts that are found have a match now: what became of the marks of the level
+pub record IsMatched (found : List Found) (level : ℕ) (before now : NodeMarks) : Type 0 where
+  pub same_found : now.found ≡ before.found
+  pub same_signed : now.signed ≡ before.signed
+  pub open_to : (r : ℕ) → IsUnmatched now.contexts r → IsUnmatched before.contexts r × (In (at_level r level) found → ⊥)
+  pub open_from : (r : ℕ) → IsUnmatched before.contexts r × (In (at_level r level) found → ⊥) → IsUnmatched now.contexts r
 
--- the innermost row is taken away, and the others tell the same
-pub record IsTaken (before now : Rows) (row : Row) : Type 0 where
-  pub rows : before.rows.items ≡ now.rows.items ++ row ∷ []
-  pub stacked : AreStacked now
-  pub same : (r : Row) → In r now.rows.items → TellsSame before now r
-
--- the same rows, of which that of the level is noted as one at which a statement is signed
-pub record IsNoted (before now : List Row) (level : ℕ) : Type 0 where
+-- what became of those of all levels
+pub record AreMatched (found : List Found) (before now : List NodeMarks) : Type 0 where
   pub count : length now ≡ length before
-  pub row : (i : ℕ) (one : Row) → slice_get now i ≡ Some one → (other : Row) × (slice_get before i ≡ Some other) × (one ≡ record other { signed = one.signed }) × (other.signed ≡ true → one.signed ≡ true)
-  pub is : (one : Row) → slice_get now level ≡ Some one → one.signed ≡ true
+  pub each : (l : ℕ) (one : NodeMarks) → slice_get now l ≡ Some one → (other : NodeMarks) × (slice_get before l ≡ Some other) × IsMatched found l other one
+
+-- the same frames, of which that of the level is noted as one at which a statement is signed
+pub record IsNoted (before now : List Frame) (level : ℕ) : Type 0 where
+  pub count : length now ≡ length before
+  pub frame : (i : ℕ) (one : Frame) → slice_get now i ≡ Some one → (other : Frame) × (slice_get before i ≡ Some other) × (one ≡ record other { signed = one.signed }) × (other.signed ≡ true → one.signed ≡ true)
+  pub is : (one : Frame) → slice_get now level ≡ Some one → one.signed ≡ true
+
+-- the same of their marks
+pub record IsSigned (before now : List NodeMarks) (level : ℕ) : Type 0 where
+  pub count : length now ≡ length before
+  pub each : (i : ℕ) (one : NodeMarks) → slice_get now i ≡ Some one → (other : NodeMarks) × (slice_get before i ≡ Some other) × (one ≡ record other { signed = one.signed }) × (other.signed ≡ true → one.signed ≡ true)
+  pub is : (one : NodeMarks) → slice_get now level ≡ Some one → one.signed ≡ true

@@ -1,15 +1,12 @@
-//! Which roles a new node is given, from what is kept of the open nodes.
+//! Which roles a new node is given, from the states and frames of the open nodes.
 #![tactic(auto)]
 
 mod found;
-mod hits;
+mod frames;
 mod matcher;
+mod opening;
 mod roles;
-mod row;
 mod signs;
-mod spots;
-mod stacks;
-mod told;
 mod upward;
 
 pub use matcher::Matcher;

@@ -1,92 +1,57 @@
-//! The matcher: rows of the open nodes, the outermost first.
-ghost use Rattle.std.specs.Prelude.{◌≡◌, ◌≤◌, ◌-◌, ℕ, Bool, true, false, length, map, Some, slice_get, IfOk, OnOk, OnErr, ◌++◌, [], ◌∷◌, List};
-ghost use Rattle.gcx_model.specs.Members.{In};
-ghost use Rattle.gcx_model.specs.Tree.{Node, Root, Under, End, grow, serial_of};
-ghost use Rattle.gcx_model.specs.Paths.{matches};
-ghost use Rattle.gcx_model.specs.Growth.{may_come, level as level_of};
-ghost use Rattle.gcx_model.specs.Core.{BodyTree};
-ghost use Rattle.gcx_model.specs.Cores.{Good};
-ghost use Rattle.gcx_model.specs.Run.{Offed};
-ghost use Rattle.gcx_model.specs.Placed.{Placed, offs_in};
+//! The matcher: states and frames of the open nodes, the outermost first.
+ghost use Rattle.std.specs.Prelude.{◌≡◌, ℕ, List, Some, false, true, IfOk, OnErr, OnOk};
+ghost use Rattle.gcx_model.specs.Past.{IsNode};
 ghost use Rattle.gcx_model.specs.ItemView.{off_tree, role_kind};
 ghost use Rattle.gcx_model.specs.PlanView.{plan_tree};
-ghost use Rattle.gcx_model.specs.Held.{path_of, roles_given, taken, roles_taken};
-ghost use Rattle.gcx_model.specs.Past.{Past, opening_past, open_nodes, past_acted};
-ghost use Rattle.gcx_model.specs.Past.{Opens};
-ghost use Rattle.matcher.specs.Lists.{Climbs, Holds};
-ghost use Rattle.gcx_base.specs.Kinds.{is_text};
-ghost use Rattle.gcx_model.specs.Past.{IsLast, IsNode, past_grown, token_for};
-ghost use Rattle.matcher.specs.Matcher.{Stands};
-ghost use Rattle.matcher.specs.Entering.{AreHits, Goes, IsBared, IsIdle, IsIdled, IsOver};
-ghost use Rattle.matcher.specs.Stacks.{innermost_row, IsNoted};
-ghost use Rattle.matcher.specs.Ahead.{HasWhole, WholeTarget, OwnTarget, FirstTarget, Target, AreVars, AreBases, AreTaken, HasSign};
-ghost use Rattle.matcher.specs.declared.row.Row.{Row};
-ghost use Rattle.matcher.specs.declared.row.Rows.{Rows};
-ghost use Rattle.matcher.specs.Stacks.{IsAdded};
-ghost use Rattle.matcher.specs.declared.signs.Sign.{Sign};
-ghost use Rattle.gcx_base.specs.declared.kind.Kind.{Kind};
-ghost use Rattle.matcher.specs.Parts.{whole_at, hits_at, pending_at, found_at};
-ghost use Rattle.matcher.specs.Rows.{AreRoles, HitsBelow};
+ghost use Rattle.path_states.specs.Lists.{Climbs, Holds};
+ghost use Rattle.path_states.specs.Names.{IsNameNumber};
+ghost use Rattle.gcx_base.specs.declared.kind.Kind.TheVariants.{Element, Text};
+ghost use Rattle.matcher.specs.Ahead.{AreBases, AreVars, FirstTarget, HasWhole, OwnTarget, Target, WholeTarget};
+ghost use Rattle.matcher.specs.Calls.{GivesAhead, GivesName, GivesNext, GivesNode, PassesNode, GivesRoot, KeepsStanding};
+ghost use Rattle.matcher.specs.Calls.{LeavesElement, LeavesText, SaysTaken, SignsAt, StandsAtStart, StandsBehind};
+ghost use Rattle.matcher.specs.Calls.{StandsBehindName, StandsNext, TakenHere, TellsSign, TellsWholeHere};
+ghost use Rattle.matcher.specs.Entering.{GivesInside, IsIdle, IsIdled, IsOver, LeadsNowhere};
 
-use crate::found::{contexts_found, found_of, levels_hit, note_found};
-use crate::hits::{find_hits, have_no_kids};
+use crate::found::{contexts_found, levels_hit};
+use crate::frames::Frames;
+use crate::opening::advance;
 use crate::roles::{Levels, given_of, is_above};
-use crate::row::{Row, Rows};
 use crate::signs::{Sign, are_signed, drop_level, put_sign};
-use crate::spots::{Spot, Spots, Way, spots_of};
-use crate::told::given_by;
 use crate::upward::{origins, put_level};
 use gcx_base::{Kind, Memory, Role};
 use gcx_model::{Given, Off, Plan, RoleKind};
+use path_states::{Bound, PathStates, Way};
 use smallvec::SmallVec;
 use std::alloc::Global;
+use std::marker::Model;
 
 /// The roles of new nodes. It stands for an open tree, and for the statements that are signed at open nodes. `Memory`
 /// is want of memory, and the only error of its calls.
-#[derive(Drop, Debug)]
+#[derive(Drop)]
 pub struct Matcher {
-    spots: Spots,
-    /// What is kept of the open nodes from the document node on, and of a text. The innermost nodes have none where no
-    /// path leads to them.
-    rows: Rows,
-    /// The number of those.
+    /// The states of the open nodes from the document node on, and of a text. The innermost nodes have none where no path
+    /// leads to them.
+    states: PathStates,
+    /// What is kept of the same nodes beside their states.
+    frames: Frames,
+    /// The number of the others.
     idle: u32,
     /// Whether the innermost node is a text.
     text: bool,
     signs: Vec<Sign>,
-    /// The spots whose paths lead to a new node, while it is entered.
-    hits: Vec<u32>,
 }
 
-/// The rows with that of the document node alone.
-fn first_rows(alloc: Global, spots: &[Spot]) -> Result<Rows, Memory>
-    ensures { IfOk result (λ t. (before : Rows) × (before.rows.items ≡ []) × IsAdded before t spots.now (0 ∷ []) []) }
-{
-    let mut rows = Rows::new(alloc, spots)?;
-    rows.add(alloc, spots, &[0], &[])?;
-    Ok(rows)
-}
+impl Model for Matcher {
+    ghost use Rattle.path_states.specs.contracts.paths.PathTree as tree;
+    ghost use Rattle.matcher.specs.View.{GoTogether, MatcherView, matcher_code, matcher_view};
 
-/// Finds the spots whose paths lead to a new node below the innermost row's.
-fn find_below(hits: &mut Vec<u32>, spots: &[Spot], rows: &Rows, kind: &Kind) -> Result<(), Memory>
-    ensures { OnOk result ((row : Row) → slice_get rows.now.rows.items (length rows.now.rows.items - 1) ≡ Some row → Holds hits.new.items (HitsBelow spots.now (hits_at rows.now row) (pending_at rows.now row) kind.now)) }
-{
-    match rows.rows.last() {
-        Some(row) => {
-            find_hits(hits, spots, rows.hits_at(row), rows.pending_at(row), kind)?;
-            Ok(())
-        }
-        None => Ok(()),
-    }
-}
+    ghost Value = { MatcherView };
 
-/// Notes that a statement is signed at the node of the row of this level.
-fn note_signed(rows: &mut [Row], level: usize)
-    ensures { IsNoted rows.old rows.new level }
-{
-    if level < rows.len() {
-        rows[level].signed = true;
-    }
+    ghost coded = { matcher_code tree.the_row.coded };
+
+    ghost view = { λ m. matcher_view m.states m.frames m.idle m.text m.signs.items };
+
+    ghost invariant = { λ m. GoTogether m.states m.frames };
 }
 
 /// Whether the role is this one.
@@ -102,104 +67,133 @@ fn is_of(role: Option<u32>, other: u32) -> bool
 impl Matcher {
     /// A matcher for the plan, at the open document node.
     pub fn new(alloc: Global, plan: &Plan) -> Result<Matcher, Memory>
-        ensures { IfOk result (λ m. (core : BodyTree) → Good core → Placed core (plan_tree plan.now) → Stands m (opening_past (plan_tree plan.now)) false) }
+        ensures { IfOk result (λ m. StandsAtStart m (plan_tree plan.now)) }
     {
-        let spots = spots_of(alloc, plan)?;
-        let rows = first_rows(alloc, &spots.spots)?;
+        Matcher::bounded(alloc, plan, Bound::usual())
+    }
+
+    /// The same, where no more of its states and moves is remembered than the bound says.
+    pub fn bounded(alloc: Global, plan: &Plan, bound: Bound) -> Result<Matcher, Memory>
+        ensures { IfOk result (λ m. StandsAtStart m (plan_tree plan.now)) }
+    {
+        let states = PathStates::new(alloc, plan, bound)?;
+        let mut frames = Frames::new(alloc);
+        frames.add(states.here().contexts(), &[])?;
         Ok(Matcher {
-            spots,
-            rows,
+            states,
+            frames,
             idle: 0,
             text: false,
             signs: Vec::new(alloc),
-            hits: Vec::new(alloc),
         })
     }
 
     /// The roles of the document node, by rising number.
     pub fn document(&self, alloc: Global) -> Result<Given, Memory>
-        ensures { (past : Past) (text : Bool) → Stands self.now past text → IfOk result (λ given. map (λ r. r.0) given ≡ roles_given past.plan past.tree Root) }
+        ensures { IfOk result (GivesRoot self.now) }
     {
-        match self.rows.rows.first() {
-            Some(row) => {
-                let given = self.roles_at(alloc, row)?;
+        match self.states.at(0) {
+            Some(state) => {
+                let given = given_of(alloc, state.given())?;
                 Ok(given)
             }
             None => Ok(Given::new(alloc)),
         }
     }
 
-    /// The roles that the row tells.
-    fn roles_at(&self, alloc: Global, row: &Row) -> Result<Given, Memory>
-        ensures { Climbs (whole_at self.now.rows row.now) → IfOk result (λ given. AreRoles self.now.spots.spots.items (whole_at self.now.rows row.now) (hits_at self.now.rows row.now) (found_at self.now.rows row.now) (map (λ r. r.0) given)) }
+    /// The number of the name, for `enter_number`. Takes no memory.
+    #[inline(always)]
+    pub fn number_of(&self, name: &[u8]) -> usize
+        ensures { IsNameNumber self.now.names (Element name.now) result }
     {
-        let mut roles = Vec::new(alloc);
-        let given = given_by(
-            alloc,
-            &mut roles,
-            &self.spots.spots,
-            self.rows.whole_at(row),
-            self.rows.hits_at(row),
-            self.rows.found_at(row),
-        )?;
-        Ok(given)
+        self.states.number(name)
+    }
+
+    /// The number of texts.
+    #[inline(always)]
+    pub fn text_number(&self) -> usize
+        ensures { (bytes : List ℕ) → IsNameNumber self.now.names (Text bytes) result }
+    {
+        self.states.text()
     }
 
     /// Goes to a new node, which is an element or a text, and answers its roles by rising number. After `Memory` the
     /// matcher stands for what it stood for.
     pub fn enter(&mut self, alloc: Global, kind: &Kind) -> Result<Given, Memory>
         requires kind { IsNode kind.now }
-        ensures stands { OnOk result ((past : Past) → Stands self.old past false → may_come (token_for kind.now) past.tree ≡ true → ((p : Node) → past.tree.at ≡ Some p → level_of p ≤ 1000) → Stands self.new (past_grown (token_for kind.now) past) (is_text kind.now)) }
-        ensures given { IfOk result (λ given. (past : Past) (n : Node) → Stands self.old past false → may_come (token_for kind.now) past.tree ≡ true → Opens past.tree (token_for kind.now) n → map (λ r. r.0) given ≡ roles_given past.plan (grow (token_for kind.now) past.tree) n) }
-        ensures err { OnErr result ((past : Past) (text : Bool) → Stands self.old past text → Stands self.new past text) }
+        ensures stands { OnOk result (StandsBehind self.old self.new kind.now) }
+        ensures given { IfOk result (GivesNode self.old kind.now) }
+        ensures err { OnErr result (KeepsStanding self.old self.new) }
     {
         let text = kind.is_text();
         if self.is_idle(text) {
             return self.enter_idle(alloc, text);
         }
-        find_below(&mut self.hits, &self.spots.spots, &self.rows, kind)?;
-        if !self.hits.is_empty() {
-            return self.enter_hit(alloc, text);
-        }
-        if text || !self.is_pending() {
+        let number = self.states.number_of(kind);
+        self.enter_next(alloc, number, text)
+    }
+
+    /// The same by the number of the node's name.
+    pub fn enter_number(&mut self, alloc: Global, number: usize) -> Result<Given, Memory>
+        ensures stands { OnOk result (StandsBehindName self.old self.new number) }
+        ensures given { IfOk result (GivesName self.old number) }
+        ensures err { OnErr result (KeepsStanding self.old self.new) }
+    {
+        let text = number == self.states.text();
+        if self.is_idle(text) {
             return self.enter_idle(alloc, text);
         }
-        self.enter_bare(alloc)
+        self.enter_next(alloc, number, text)
+    }
+
+    /// Whether it is plain that a node that comes is given no role.
+    #[inline(always)]
+    pub fn pass(&self) -> bool
+        ensures { result ≡ true → PassesNode self.now }
+    {
+        self.leads_nowhere() && self.states.here().whole().is_empty()
+    }
+
+    /// Whether it is plain that no path leads to a new node, of whatever kind.
+    #[inline(always)]
+    fn leads_nowhere(&self) -> bool
+        ensures { result ≡ true → LeadsNowhere self.now }
+    {
+        self.idle > 0 || self.is_over()
+    }
+
+    /// The roles of whole subtrees of whose paths the innermost node is a match.
+    #[inline(always)]
+    pub fn whole_here(&self) -> &[u32]
+        ensures { TellsWholeHere self.now result.now }
+    {
+        if self.idle > 0 {
+            return &[];
+        }
+        self.states.here().whole_here()
     }
 
     /// Whether it is plain that no path leads to a new node, nor to any below it.
+    #[inline(always)]
     fn is_idle(&self, text: bool) -> bool
         ensures yes { result ≡ true → IsIdle self.now text }
         ensures no { result ≡ false → self.now.idle ≡ 0 }
     {
-        self.idle > 0 || (text && !self.spots.texts) || self.is_over()
+        self.idle > 0 || (text && !self.states.tree().texts) || self.is_over()
     }
 
-    /// Whether no path leads to a node below the innermost row's.
+    /// Whether no path leads to a node below the innermost one that has a frame.
+    #[inline(always)]
     fn is_over(&self) -> bool
         ensures { result ≡ true → IsOver self.now }
     {
-        match self.rows.rows.last() {
-            Some(row) => row.pending == 0
-                && have_no_kids(&self.spots.spots, self.rows.hits_at(row)),
-            None => true,
-        }
-    }
-
-    /// Whether a descendant step is pending below the innermost row's node.
-    fn is_pending(&self) -> bool
-        ensures { result ≡ false → (row : Row) → innermost_row self.now.rows ≡ Some row → row.pending ≡ 0 }
-    {
-        match self.rows.rows.last() {
-            Some(row) => row.pending > 0,
-            None => false,
-        }
+        self.states.here().is_over()
     }
 
     /// To a node to which no path leads, nor to any below it.
     fn enter_idle(&mut self, alloc: Global, text: bool) -> Result<Given, Memory>
         ensures idled { OnOk result (IsIdled self.old self.new text) }
-        ensures given { IfOk result (λ given. (row : Row) → innermost_row self.old.rows ≡ Some row → Climbs (whole_at self.old.rows row) → map (λ r. r.0) given ≡ whole_at self.old.rows row) }
+        ensures given { IfOk result (GivesInside self.old) }
         ensures err { OnErr result (self.new ≡ self.old) }
     {
         let given = self.given_inside(alloc)?;
@@ -208,61 +202,48 @@ impl Matcher {
         Ok(given)
     }
 
-    /// To an element to which no path leads, but maybe to one below it.
-    fn enter_bare(&mut self, alloc: Global) -> Result<Given, Memory>
-        ensures bared { OnOk result (IsBared self.old self.new) }
-        ensures given { IfOk result (λ given. (row : Row) → innermost_row self.old.rows ≡ Some row → Climbs (whole_at self.old.rows row) → map (λ r. r.0) given ≡ whole_at self.old.rows row) }
-        ensures err { OnErr result ((past : Past) (text : Bool) → Stands self.old past text → Stands self.new past text) }
-    {
-        let given = self.given_inside(alloc)?;
-        self.rows.add_bare()?;
-        self.text = false;
-        Ok(given)
-    }
-
-    /// The roles of whole subtrees in which the innermost row's node is.
+    /// The roles of whole subtrees in which the innermost node that has a frame lies.
     #[inline(always)]
     fn given_inside(&self, alloc: Global) -> Result<Given, Memory>
-        ensures { IfOk result (λ given. (row : Row) → innermost_row self.now.rows ≡ Some row → Climbs (whole_at self.now.rows row) → map (λ r. r.0) given ≡ whole_at self.now.rows row) }
+        ensures { IfOk result (GivesInside self.now) }
     {
-        match self.rows.rows.last() {
-            Some(row) if row.whole.from < row.whole.to => {
-                let given = given_of(alloc, self.rows.whole_at(row))?;
-                Ok(given)
-            }
-            _ => Ok(Given::new(alloc)),
+        let roles = self.states.here().whole();
+        if roles.is_empty() {
+            return Ok(Given::new(alloc));
         }
+        let given = given_of(alloc, roles)?;
+        Ok(given)
     }
 
-    /// To a node to which paths lead.
-    #[inline(never)]
-    fn enter_hit(&mut self, alloc: Global, text: bool) -> Result<Given, Memory>
-        ensures stands { OnOk result ((past : Past) (kind : Kind) → Goes self.old past kind → is_text kind ≡ text → self.old.idle ≡ 0 → AreHits self.old kind → Stands self.new (past_grown (token_for kind) past) text) }
-        ensures given { IfOk result (λ given. (past : Past) (kind : Kind) (n : Node) → Goes self.old past kind → self.old.idle ≡ 0 → AreHits self.old kind → Opens past.tree (token_for kind) n → map (λ r. r.0) given ≡ roles_given past.plan (grow (token_for kind) past.tree) n) }
-        ensures err { OnErr result ((past : Past) (text : Bool) → Stands self.old past text → Stands self.new past text) }
+    /// To a node below one that has a frame, by the number of its name.
+    fn enter_next(&mut self, alloc: Global, number: usize, text: bool) -> Result<Given, Memory>
+        ensures stands { OnOk result (StandsNext self.old self.new number text) }
+        ensures given { IfOk result (GivesNext self.old number text) }
+        ensures err { OnErr result (self.new ≡ self.old) }
     {
-        let level = self.rows.rows.len();
-        let found = found_of(alloc, &self.spots, &self.rows, &self.hits, level)?;
-        let given = self
-            .rows
-            .add(alloc, &self.spots.spots, &self.hits, found.as_slice())?;
-        note_found(&self.rows.rows, &mut self.rows.contexts, found.as_slice());
-        self.text = text;
-        Ok(given)
+        let next = advance(alloc, &mut self.states, &mut self.frames, number, text)?;
+        match next {
+            Some(given) => {
+                self.text = text;
+                Ok(given)
+            }
+            None => self.enter_idle(alloc, text),
+        }
     }
 
     /// Leaves the innermost node, which isn't the document node, for its parent. Takes no memory.
     #[inline(always)]
     pub fn leave(&mut self)
-        ensures text { (past : Past) → Stands self.old past true → Stands self.new past false }
-        ensures element { (past : Past) (p : Node) (s : ℕ) (k : Kind) → Stands self.old past false → past.tree.at ≡ Some (Under p s k) → Stands self.new (past_grown End past) false }
+        ensures text { LeavesText self.old self.new }
+        ensures element { LeavesElement self.old self.new }
     {
         self.text = false;
         if self.idle > 0 {
             self.idle -= 1;
-        } else if let Some(row) = self.rows.take() {
-            if row.signed {
-                drop_level(&mut self.signs, self.rows.rows.len());
+        } else {
+            self.states.leave();
+            if self.frames.leave() {
+                drop_level(&mut self.signs, self.frames.len());
             }
         }
     }
@@ -270,8 +251,8 @@ impl Matcher {
     /// Notes that the statement is carried out at the open node of the level, which for the document node is 0. After
     /// `Memory` the matcher stands for what it stood for.
     pub fn sign(&mut self, level: u32, off: &Off) -> Result<(), Memory>
-        ensures stands { OnOk result ((past : Past) (n : Node) → Stands self.old past false → In (off_tree off.now) (offs_in past.plan.body) → In n (open_nodes past.tree) → level_of n ≡ level → In n (matches past.tree 0 (path_of past.plan (off_tree off.now).base)) → Stands self.new (past_acted (Offed (off_tree off.now) (serial_of n)) past) false) }
-        ensures err { OnErr result ((past : Past) (text : Bool) → Stands self.old past text → Stands self.new past text) }
+        ensures stands { OnOk result (SignsAt self.old self.new level (off_tree off.now)) }
+        ensures err { OnErr result (KeepsStanding self.old self.new) }
     {
         let level = level as usize;
         let sign = Sign {
@@ -280,14 +261,14 @@ impl Matcher {
             steps: off.rel.items().len(),
         };
         put_sign(&mut self.signs, sign)?;
-        note_signed(&mut self.rows.rows, level);
+        self.frames.note_signed(level);
         Ok(())
     }
 
     /// The roles of the innermost node that are taken back already, by rising number.
     #[inline(always)]
     pub fn ahead(&self, alloc: Global) -> Result<Given, Memory>
-        ensures { IfOk result (λ given. (past : Past) (text : Bool) (n : Node) → Stands self.now past text → IsLast past.tree text n → map (λ r. r.0) given ≡ roles_taken past.plan past.tree past.acts n) }
+        ensures { IfOk result (GivesAhead self.now) }
     {
         if self.signs.as_slice().is_empty() {
             return Ok(Given::new(alloc));
@@ -299,7 +280,7 @@ impl Matcher {
     /// The same, sign by sign.
     #[inline(never)]
     fn all_ahead(&self, alloc: Global) -> Result<Given, Memory>
-        ensures { IfOk result (λ given. (past : Past) (text : Bool) (stands : Stands self.now past text) → AreTaken (taken past.plan past.tree past.acts stands.here) self.now.signs.items (map (λ r. r.0) given)) }
+        ensures { IfOk result (TakenHere self.now self.now.signs) }
     {
         let mut given = Given::new(alloc);
         let mut last = None;
@@ -318,7 +299,7 @@ impl Matcher {
         last: Option<u32>,
         sign: Sign,
     ) -> Result<(), Memory>
-        ensures { OnOk result ((past : Past) (text : Bool) (stands : Stands self.now past text) (before : List Sign) → In sign self.now.signs.items → ((s : Sign) → In s before → s.role ≤ sign.role) → ((r : ℕ) → last ≡ Some r → HasSign before r) → AreTaken (taken past.plan past.tree past.acts stands.here) before (map (λ r. r.0) given.old) → AreTaken (taken past.plan past.tree past.acts stands.here) (before ++ sign ∷ []) (map (λ r. r.0) given.new)) }
+        ensures { OnOk result (TellsSign self.now last sign given.old given.new) }
     {
         let role = Role(sign.role);
         if is_of(last, sign.role) {
@@ -335,9 +316,9 @@ impl Matcher {
 
     /// Whether the innermost node was given the sign's role, and its statement is signed at each base that reaches the node.
     fn is_ahead(&self, alloc: Global, sign: Sign) -> Result<bool, Memory>
-        ensures { IfOk result (λ is. (past : Past) (text : Bool) (stands : Stands self.now past text) → In sign self.now.signs.items → is ≡ taken past.plan past.tree past.acts stands.here sign.role) }
+        ensures { IfOk result (SaysTaken self.now sign) }
     {
-        let Some(way) = self.spots.ways.get(sign.role as usize) else {
+        let Some(way) = self.states.tree().ways.get(sign.role as usize) else {
             return Ok(false);
         };
         let targets = self.targets(alloc, sign.role, *way)?;
@@ -375,18 +356,15 @@ impl Matcher {
         if !self.has_whole(role) {
             return Ok(SmallVec::new(alloc));
         }
-        levels_hit(alloc, &self.rows, end)
+        levels_hit(alloc, &self.states, &self.frames, end)
     }
 
-    /// Whether the innermost row tells the role with its subtree.
+    /// Whether the innermost node that has a frame has the role with its subtree.
     fn has_whole(&self, role: u32) -> bool
-        ensures yes { result ≡ true → HasWhole self.now.rows role }
-        ensures no { result ≡ false → HasWhole self.now.rows role → ⊥ }
+        ensures yes { result ≡ true → HasWhole self.now.frames role }
+        ensures no { result ≡ false → HasWhole self.now.frames role → ⊥ }
     {
-        match self.rows.rows.last() {
-            Some(row) => self.rows.whole_at(row).contains(&role),
-            None => false,
-        }
+        self.states.here().whole().contains(&role)
     }
 
     fn own_target(&self, alloc: Global, end: u32) -> Result<Levels, Memory>
@@ -396,12 +374,8 @@ impl Matcher {
         if self.idle > 0 {
             return Ok(levels);
         }
-        put_level(
-            &mut levels,
-            &self.rows,
-            end,
-            self.rows.rows.len().saturating_sub(1),
-        )?;
+        let here = self.frames.len().saturating_sub(1);
+        put_level(&mut levels, &self.states, &self.frames, end, here)?;
         Ok(levels)
     }
 
@@ -411,13 +385,8 @@ impl Matcher {
         if self.idle > 0 {
             return Ok(SmallVec::new(alloc));
         }
-        match self.rows.rows.last() {
-            Some(row) => {
-                let levels = contexts_found(alloc, self.rows.found_at(row), role)?;
-                Ok(levels)
-            }
-            None => Ok(SmallVec::new(alloc)),
-        }
+        let levels = contexts_found(alloc, self.frames.found_here(), role)?;
+        Ok(levels)
     }
 
     /// The levels of the bases from which the statement reaches the node.
@@ -428,21 +397,21 @@ impl Matcher {
         steps: usize,
         targets: Levels,
     ) -> Result<Levels, Memory>
-        ensures { IfOk result (λ levels. AreBases self.now.spots.spots.items self.now.rows way steps targets.items levels.items) }
+        ensures { IfOk result (λ levels. AreBases self.now way steps targets.items levels.items) }
     {
         let vars = self.variables(alloc, way, targets)?;
-        let levels = origins(alloc, &self.spots.spots, &self.rows, way.var, steps, vars)?;
+        let levels = origins(alloc, &self.states, &self.frames, way.var, steps, vars)?;
         Ok(levels)
     }
 
     /// The levels of the role's variable from which the node has the role.
     fn variables(&self, alloc: Global, way: Way, targets: Levels) -> Result<Levels, Memory>
-        ensures { IfOk result (λ levels. AreVars (role_kind way.kind) self.now.spots.spots.items self.now.rows way targets.items levels.items) }
+        ensures { IfOk result (λ levels. AreVars (role_kind way.kind) self.now way targets.items levels.items) }
     {
         match way.kind {
             RoleKind::Whole => {
                 let (end, steps) = (way.end, way.steps);
-                let levels = origins(alloc, &self.spots.spots, &self.rows, end, steps, targets)?;
+                let levels = origins(alloc, &self.states, &self.frames, end, steps, targets)?;
                 Ok(levels)
             }
             RoleKind::Own | RoleKind::First => Ok(targets),

@@ -1,68 +1,22 @@
-//! Rising lists of numbers of roles, and short lists of numbers.
-ghost use Rattle.std.specs.Prelude.{slice_get, Some, ◌≡◌, ◌≤◌, ◌++◌, ◌∷◌, [], false, true, length, map, IfOk, OnOk};
+//! Roles of a node as a list, and short lists of levels.
+ghost use Rattle.std.specs.Prelude.{◌≡◌, ◌++◌, ◌∷◌, [], false, true, map, IfOk, OnOk};
 ghost use Rattle.gcx_model.specs.Given.{IsAboveLast};
-ghost use Rattle.gcx_model.specs.Members.{In};
-ghost use Rattle.matcher.specs.Lists.{Climbs, Gains, Parts};
+ghost use Rattle.path_states.specs.Lists.{Climbs, From, Gains};
+ghost use Rattle.matcher.specs.Frames.{AddsRole, AreBoth, IsRoleOf};
 
+use crate::frames::Found;
 use gcx_base::{Memory, Role};
 use gcx_model::Given;
+use path_states::rise;
 use smallvec::SmallVec;
 use std::alloc::Global;
 
 /// Levels of open nodes. A short list lies in the value itself.
 pub(crate) type Levels = SmallVec<usize, 4>;
 
-/// How many of the rising numbers are below this one. Most come in order, so the search begins at the end.
-fn place(numbers: &[u32], number: u32) -> usize
-    ensures within { result ≤ length numbers.now }
-    ensures parts { Climbs numbers.now → Parts numbers.now result number }
-{
-    let mut place = numbers.len();
-    while place > 0 && numbers[place - 1] >= number {
-        place -= 1;
-    }
-    place
-}
-
-/// Whether the number stands at that place.
-fn is_at(numbers: &[u32], place: usize, number: u32) -> bool
-    ensures yes { result ≡ true → In number numbers.now }
-    ensures no { result ≡ false → slice_get numbers.now place ≡ Some number → ⊥ }
-{
-    match numbers.get(place) {
-        Some(other) => *other == number,
-        None => false,
-    }
-}
-
-/// Adds a number at its place in the rising list, unless the list has it.
-pub(crate) fn rise(numbers: &mut Vec<u32>, number: u32) -> Result<(), Memory>
-    ensures gains { OnOk result (Gains numbers.old.items numbers.new.items (λ y. number ≡ y)) }
-    ensures climbs { OnOk result (Climbs numbers.old.items → Climbs numbers.new.items) }
-{
-    let place = place(numbers, number);
-    if place == numbers.len() {
-        numbers.push(number)?;
-    } else if !is_at(numbers, place, number) {
-        numbers.insert(place, number)?;
-    }
-    Ok(())
-}
-
-/// Adds all of them.
-pub(crate) fn rise_all(numbers: &mut Vec<u32>, more: &[u32]) -> Result<(), Memory>
-    ensures gains { OnOk result (Gains numbers.old.items numbers.new.items (λ y. In y more.now)) }
-    ensures climbs { OnOk result (Climbs numbers.old.items → Climbs numbers.new.items) }
-{
-    for number in more {
-        rise(numbers, *number)?;
-    }
-    Ok(())
-}
-
 /// Adds a role, where it is above the others.
 fn put_role(given: &mut Given, number: u32) -> Result<(), Memory>
-    ensures { OnOk result (IsAboveLast given.old (record { 0 = number }) → map (λ r. r.0) given.new ≡ map (λ r. r.0) given.old ++ number ∷ []) }
+    ensures { OnOk result (AddsRole given.old given.new number) }
 {
     let role = Role(number);
     if is_above(given, role) {
@@ -91,4 +45,30 @@ pub(crate) fn is_above(given: &Given, role: Role) -> bool
         Some(last) => last.0 < role.0,
         None => true,
     }
+}
+
+/// Adds the roles of first matches.
+fn put_first(roles: &mut Vec<u32>, found: &[Found]) -> Result<(), Memory>
+    ensures gains { OnOk result (Gains roles.old.items roles.new.items (From found.now IsRoleOf)) }
+    ensures climbs { OnOk result (Climbs roles.old.items → Climbs roles.new.items) }
+{
+    for one in found {
+        rise(roles, one.role)?;
+    }
+    Ok(())
+}
+
+/// These roles, which rise, and those of first matches.
+pub(crate) fn given_with(alloc: Global, roles: &[u32], found: &[Found]) -> Result<Given, Memory>
+    ensures { Climbs roles.now → IfOk result (λ given. AreBoth roles.now found.now (map (λ r. r.0) given)) }
+{
+    if found.is_empty() {
+        let given = given_of(alloc, roles)?;
+        return Ok(given);
+    }
+    let mut all = Vec::new(alloc);
+    all.extend_from_slice(roles)?;
+    put_first(&mut all, found)?;
+    let both = given_of(alloc, &all)?;
+    Ok(both)
 }

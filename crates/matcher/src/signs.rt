@@ -1,7 +1,7 @@
 //! The statements that are signed at open nodes.
 ghost use Rattle.std.specs.Prelude.{◌≡◌, ◌≤◌, ◌==◌, ℕ, length, filter, not, true, false, OnOk, OnErr, take, drop};
 ghost use Rattle.gcx_model.specs.Members.{In};
-ghost use Rattle.matcher.specs.Lists.{Gains};
+ghost use Rattle.path_states.specs.Lists.{Gains};
 ghost use Rattle.matcher.specs.Signs.{InTurn, SignAt};
 ghost use Rattle.matcher.specs.declared.signs.Sign.{Sign};
 

@@ -16,7 +16,7 @@ use Rattle.gcx_model.specs.Growth.{may_come, level}
 use Rattle.gcx_model.specs.Past.{Past, IsPast, past_fed, Opens, token_for, past_grown, IsNode}
 use Rattle.node_store.specs.declared.store.Place.{Place}
 use Rattle.matcher.specs.Matcher.{Stands}
-use Rattle.matcher.specs.declared.matcher.Matcher.{Matcher}
+use Rattle.matcher.specs.View.{MatcherView}
 use Rattle.buf_tree.specs.declared.ahead.Ahead.{Ahead}
 use Rattle.gcx_base.specs.Kinds.{is_text}
 use Rattle.buf_tree.specs.Shape.{Cell}
@@ -34,7 +34,7 @@ use Rattle.projector.proofs.Grown.{behind, added_then, opens, heard_here, projec
 use Rattle.projector.proofs.Places.{Up, below_nodes, element_place, text_place}
 
 -- the matcher hears of all that waits
-hears : (p : ProjectorView) (m : Matcher) (v : View) (ws : List Ahead) → ws ≡ v.waiting → HearsOf p.matcher m ws → (past : Past) → StandsFor v past → Projects p past → (t : Token) → may_come t past.tree ≡ true → HasHeard m past
+hears : (p : ProjectorView) (m : MatcherView) (v : View) (ws : List Ahead) → ws ≡ v.waiting → HearsOf p.matcher m ws → (past : Past) → StandsFor v past → Projects p past → (t : Token) → may_come t past.tree ≡ true → HasHeard m past
 hears p m v ws e told past h q t c =
     let a = is_open past.tree t c in
     let r = reopened_same past.tree a.0 a.1 in
@@ -60,7 +60,7 @@ module _ (past : Past) (is : IsPast past) (kind : Kind) (k : IsNode kind) (may :
   open_then (Element v) k n e = (Under n (length past.tree.nodes) (Element v), ap (λ z. (grow_at z (Start v) past.tree).at) e)
   open_then (Text v) k n e = (n, ap (λ z. (grow_at z (Chars v) past.tree).at) e)
 
-  pub projects_node : (p : ProjectorView) (m : Matcher) → HasHeard m past → (m' : Matcher) → ((n : Node) → past.tree.at ≡ Some n → level n ≤ 1000) → ((q : Past) → Stands m q false → may_come (token_for kind) q.tree ≡ true → ((n : Node) → q.tree.at ≡ Some n → level n ≤ 1000) → Stands m' (past_grown (token_for kind) q) (is_text kind))
+  pub projects_node : (p : ProjectorView) (m : MatcherView) → HasHeard m past → (m' : MatcherView) → ((n : Node) → past.tree.at ≡ Some n → level n ≤ 1000) → ((q : Past) → Stands m q false → may_come (token_for kind) q.tree ≡ true → ((n : Node) → q.tree.at ≡ Some n → level n ≤ 1000) → Stands m' (past_grown (token_for kind) q) (is_text kind))
       → (is_text kind ≡ true → (q : Past) → Stands m' q true → Stands p.matcher q false) → (is_text kind ≡ false → p.matcher ≡ m') → Projects p (past_fed (token_for kind) past)
   projects_node p m h m' low enters leaves stays =
       let s = enters (ahead_in past.tree past.acts past) (heard_here m past a.0 a.1 h) may low in
@@ -69,9 +69,9 @@ module _ (past : Past) (is : IsPast past) (kind : Kind) (k : IsNode kind) (may :
     where
       go : (c : Bool) → is_text kind ≡ c → Stands m' (past_grown (token_for kind) (ahead_in past.tree past.acts past)) (is_text kind) → Stands p.matcher (past_grown (token_for kind) (ahead_in past.tree past.acts past)) false
       go true e s = leaves e (past_grown (token_for kind) (ahead_in past.tree past.acts past)) (subst (λ (z : Bool). Stands m' (past_grown (token_for kind) (ahead_in past.tree past.acts past)) z) e s)
-      go false e s = subst (λ (z : Matcher). Stands z (past_grown (token_for kind) (ahead_in past.tree past.acts past)) false) (sym (stays e)) (subst (λ (z : Bool). Stands m' (past_grown (token_for kind) (ahead_in past.tree past.acts past)) z) e s)
+      go false e s = subst (λ (z : MatcherView). Stands z (past_grown (token_for kind) (ahead_in past.tree past.acts past)) false) (sym (stays e)) (subst (λ (z : Bool). Stands m' (past_grown (token_for kind) (ahead_in past.tree past.acts past)) z) e s)
 
-  pub does_node : (given : List Role) (count : ℕ) → count ≡ length past.tree.nodes → (m : Matcher) → HasHeard m past
+  pub does_node : (given : List Role) (count : ℕ) → count ≡ length past.tree.nodes → (m : MatcherView) → HasHeard m past
       → ((q : Past) (n : Node) → Stands m q false → may_come (token_for kind) q.tree ≡ true → Opens q.tree (token_for kind) n → numbers given ≡ roles_given q.plan (grow (token_for kind) q.tree) n)
       → (n : Node) × Opens past.tree (token_for kind) n × (serial_of n ≡ count) × (numbers given ≡ roles_given past.plan (grow (token_for kind) past.tree) n)
   does_node given count e m h told =
@@ -97,9 +97,9 @@ node_place kept place now v u q past h kind given stood o k text element = go (i
     go true e = subst (λ (z : Option Place). KeepsPlace z u.rows) (sym (text e)) (subst (λ (z : List Cell). KeepsPlace kept z) (sym rows) (text_place kept v q (option_map (λ (p : Place). p.0) place) kind given o.ahead e k))
     go false e = subst (λ (z : Option Place). KeepsPlace z u.rows) (sym (element e)) (subst (λ (z : List Cell). KeepsPlace place z) (sym rows) (at_place place (held e) e))
 
-pub projects_end : (p : ProjectorView) (m : Matcher) (v : View) (past : Past) (h : StandsFor v past) → may_come End past.tree ≡ true → (o : Option Place) → Up v past h (option_map (λ (p : Place). p.0) o)
+pub projects_end : (p : ProjectorView) (m : MatcherView) (v : View) (past : Past) (h : StandsFor v past) → may_come End past.tree ≡ true → (o : Option Place) → Up v past h (option_map (λ (p : Place). p.0) o)
     → (IsSome o → LeavesBelow m p.matcher) → (o ≡ None → p.matcher ≡ m) → HasHeard m past → Projects p (past_fed End past)
-projects_end p m v past h c None (inl t) up stays heard = projects_ended p past t.0 (subst (λ (z : Matcher). HasHeard z past) (sym (stays refl)) heard)
+projects_end p m v past h c None (inl t) up stays heard = projects_ended p past t.0 (subst (λ (z : MatcherView). HasHeard z past) (sym (stays refl)) heard)
 projects_end p m v past h c (Some pl) (inl t) up stays heard = let e = t.1 in absurd (cc)
 projects_end p m v past h c None (inr (n, s, k, e, d, i, f, g)) up stays heard = absurd (cc)
 projects_end p m v past h c (Some pl) (inr (n, s, k, e, d, i, f, g)) up stays heard =
@@ -136,9 +136,9 @@ module _ (stood now : Past → Type 0) (v w : View) (t : Token) (are : (past : P
   }
 
 -- where the matcher hears of all that waits, what holds of the pasts of which it has heard holds of those for which the projector stood
-pub feeds_heard : (p q : ProjectorView) (m0 m : Matcher) (v w : View) (ws : List Ahead) (t : Token) (r : Result Fed Memory) → m0 ≡ p.matcher → ws ≡ v.waiting → HearsOf m0 m ws
+pub feeds_heard : (p q : ProjectorView) (m0 m : MatcherView) (v w : View) (ws : List Ahead) (t : Token) (r : Result Fed Memory) → m0 ≡ p.matcher → ws ≡ v.waiting → HearsOf m0 m ws
     → IfOk r (λ fed. Feeds (HasHeard m) q v w t fed) → IfOk r (λ fed. Feeds (Projects p) q v w t fed)
 feeds_heard p q m0 m v w ws t (Ok fed) is e told f =
-    let told' : HearsOf p.matcher m ws = subst (λ (z : Matcher). HearsOf z m ws) is told in
+    let told' : HearsOf p.matcher m ws = subst (λ (z : MatcherView). HearsOf z m ws) is told in
     fed_alike (HasHeard m) (Projects p) v w t (λ past h s may. hears p m v ws e told' past h s t may) q fed f
 feeds_heard p q m0 m v w ws t (Err x) is e told f = f

@@ -20,7 +20,7 @@ use Rattle.past_laws.proofs.Bases.{is_grown}
 use Rattle.past_laws.proofs.PastForms.{past_feeds}
 use Rattle.gcx_base.specs.Kinds.{is_text}
 use Rattle.matcher.specs.Matcher.{Stands}
-use Rattle.matcher.specs.declared.matcher.Matcher.{Matcher}
+use Rattle.matcher.specs.View.{MatcherView}
 use Rattle.buf_tree.specs.Stands.{GivenTo}
 use Rattle.buf_tree.specs.Calls.{numbers}
 use Rattle.projector.specs.View.{ProjectorView}
@@ -74,7 +74,7 @@ new_innermost P (Text v) k a e n h =
     (a, length P.nodes, v, P.nodes, sym g, ap (λ o. (grow_at o (Chars v) P).at) e, ap (λ o. (grow_at o (Chars v) P).nodes) e ∙ ap (λ z. P.nodes ++ z ∷ []) g)
 
 -- where a node is open, the matcher that has heard of all stands for the tree itself
-pub heard_here : (m : Matcher) (past : Past) (a : Node) → past.tree.at ≡ Some a → HasHeard m past → Stands m (ahead_in past.tree past.acts past) false
+pub heard_here : (m : MatcherView) (past : Past) (a : Node) → past.tree.at ≡ Some a → HasHeard m past → Stands m (ahead_in past.tree past.acts past) false
 heard_here m past a e h = subst (λ (T : Tree). Stands m (ahead_in T past.acts past) false) (reopened_same past.tree a e) h.matcher
 
 -- a node of the token's kind comes below the innermost open one

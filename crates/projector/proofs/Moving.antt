@@ -14,7 +14,7 @@ use Rattle.tree_laws.proofs.Lists.{In-filter, In-kept}
 use Rattle.past_laws.proofs.Ahead.{ahead_before, open_is}
 use Rattle.tree_laws.proofs.OffsSigned.{signed_is_off}
 use Rattle.matcher.specs.Matcher.{Stands, IsSign}
-use Rattle.matcher.specs.declared.matcher.Matcher.{Matcher}
+use Rattle.matcher.specs.View.{MatcherView}
 use Rattle.matcher.specs.declared.signs.Sign.{Sign}
 
 -- the past with these actions
@@ -24,17 +24,16 @@ with_acts A past = record { plan = past.plan; tree = past.tree; acts = A; fed = 
 abbrev pub SameSigned : Tree → List Action → List Action → Type 0
 SameSigned P A B = (o : OffTree) (n : Node) → In n (open_nodes P) → signed A o n ≡ signed B o n
 
-pub moved : (m : Matcher) (past : Past) (A : List Action) → Stands m past false → IsPast (with_acts A past) → SameSigned past.tree past.acts A → Stands m (with_acts A past) false
+pub moved : (m : MatcherView) (past : Past) (A : List Action) → Stands m past false → IsPast (with_acts A past) → SameSigned past.tree past.acts A → Stands m (with_acts A past) false
 moved m past A h is same = record {
   is_past = is;
-  spots = h.spots;
+  tree = h.tree;
   flag = h.flag;
   here = h.here;
   innermost = h.innermost;
   some = h.some;
   levels = h.levels;
-  rows = h.rows;
-  ends = h.ends;
+  frames = h.frames;
   idle = h.idle;
   over = h.over;
   signs = λ s. (λ i. go s ((h.signs s).0 i), λ q. (h.signs s).1 (back s q));

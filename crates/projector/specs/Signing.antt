@@ -11,7 +11,7 @@ use Rattle.gcx_model.specs.Growth.{level}
 use Rattle.gcx_model.specs.Held.{path_of}
 use Rattle.gcx_model.specs.Past.{Past, open_nodes}
 use Rattle.matcher.specs.Matcher.{Stands}
-use Rattle.matcher.specs.declared.matcher.Matcher.{Matcher}
+use Rattle.matcher.specs.View.{MatcherView}
 use Rattle.buf_tree.specs.declared.ahead.Ahead.{Ahead}
 
 -- a statement of the plan, carried out at this open node, which is a match of its base's path
@@ -38,6 +38,6 @@ abbrev pub with_more : List Action → Past → Past
 with_more A past = record past { acts = past.acts ++ A }
 
 -- telling a matcher of these statements made this of it
-abbrev pub HearsOf : (m n : Matcher) → List Ahead → Type 0
+abbrev pub HearsOf : (m n : MatcherView) → List Ahead → Type 0
 HearsOf m n waiting = (past : Past) (ns : List Node) → Stands m past false → AreDue past.plan past.tree waiting ns
     → Stands n (with_more (carried waiting ns) past) false

@@ -37,7 +37,7 @@ pub enum Fed {
 
 /// Feeds the tokens of a document to a buffer: it tells which roles each new node has. `Memory` is want of memory, and
 /// the only error of its calls.
-#[derive(Drop, Debug)]
+#[derive(Drop)]
 pub struct Projector {
     matcher: Matcher,
     /// The place of the innermost open node. None is the document node's, before the first token, or none at the end.

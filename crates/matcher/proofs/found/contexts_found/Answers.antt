@@ -1,9 +1,9 @@
 use Rattle.std.proofs.Common.{[], get_or, sym}
 use Rattle.std.proofs.lemmas.List.{get_or_default}
-use Rattle.matcher.specs.Lists.{From}
-use Rattle.matcher.specs.Rows.{IsLevelOf}
-use Rattle.matcher.specs.declared.row.Found.{Found}
-use Rattle.matcher.proofs.Gaining.{gains_same, gains_start, gains_more, gains_all, holds_from}
+use Rattle.path_states.specs.Lists.{From}
+use Rattle.matcher.specs.Frames.{IsLevelOf}
+use Rattle.matcher.specs.declared.frames.Found.{Found}
+use Rattle.path_states.proofs.Gaining.{gains_same, gains_start, gains_more, gains_all, holds_from}
 use Rattle.matcher.proofs.found.contexts_found.Goals as goal
 
 abbrev none : Found

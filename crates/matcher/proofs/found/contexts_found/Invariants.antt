@@ -1,6 +1,6 @@
 use Rattle.std.proofs.Common.{[], take}
-use Rattle.matcher.specs.Lists.{From, Gains}
-use Rattle.matcher.specs.Rows.{IsLevelOf}
+use Rattle.path_states.specs.Lists.{From, Gains}
+use Rattle.matcher.specs.Frames.{IsLevelOf}
 use Rattle.matcher.proofs.found.contexts_found.Given as goal
 
 abbrev pub invariant-loop-one : goal.invariant-loop-one

@@ -1,6 +1,6 @@
 use Rattle.std.proofs.Common.{refl}
-use Rattle.matcher.specs.Rows.{IsLevelOf}
-use Rattle.matcher.proofs.Gaining.{gains_push, gains_none}
+use Rattle.matcher.specs.Frames.{IsLevelOf}
+use Rattle.path_states.proofs.Gaining.{gains_push, gains_none}
 use Rattle.matcher.proofs.found.put_context.Goals as goal
 
 pub returns-in_ok-push : goal.returns-in_ok-push

@@ -1,7 +1,7 @@
 use Rattle.std.proofs.Common.{take}
-use Rattle.matcher.specs.Lists.{From, Gains}
-use Rattle.matcher.specs.Rows.{FoundAt}
+use Rattle.path_states.specs.Lists.{From, Gains}
+use Rattle.matcher.specs.Frames.{FoundAt}
 use Rattle.matcher.proofs.found.put_found.Given as goal
 
 abbrev pub invariant-loop-level : goal.invariant-loop-level
-invariant-loop-level l = Gains l.fn.found.items l.found.items (From (take l.level-index l.levels) (FoundAt l.rows l.role))
+invariant-loop-level l = Gains l.fn.found.items l.found.items (From (take l.level-index l.levels) (FoundAt l.frames l.role))

@@ -1,5 +1,5 @@
 use Rattle.std.proofs.Common.{refl}
-use Rattle.matcher.proofs.Climbing.{next_given}
+use Rattle.path_states.proofs.Climbing.{next_given}
 use Rattle.matcher.proofs.roles.given_of.Goals as goal
 
 pub loop-number-preserved : goal.loop-number-preserved

@@ -1,5 +1,5 @@
 use Rattle.std.proofs.Common.{◌≡◌, map, take}
-use Rattle.matcher.specs.Lists.{Climbs}
+use Rattle.path_states.specs.Lists.{Climbs}
 use Rattle.matcher.proofs.roles.given_of.Given as goal
 
 abbrev pub invariant-loop-number : goal.invariant-loop-number

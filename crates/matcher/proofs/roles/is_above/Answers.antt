@@ -2,7 +2,7 @@ use Rattle.std.proofs.Common.{List, sym, subst, arith}
 use borrow.Author.Tests.{ltb-true, ltb-false}
 use Rattle.gcx_base.specs.declared.ids.Role.{Role}
 use Rattle.gcx_model.specs.Given.{IsAboveLast}
-use Rattle.matcher.proofs.Climbing.{above_from, above_to}
+use Rattle.path_states.proofs.Climbing.{above_from, above_to}
 use Rattle.matcher.proofs.roles.is_above.Goals as goal
 
 pub returns-in-Some-clause-yes : goal.returns-in-Some-clause-yes

@@ -1,6 +1,6 @@
 use Rattle.std.proofs.Common.{ℕ, get_or, inl, inr, subst}
 use Rattle.matcher.specs.Signs.{SignAt}
-use Rattle.matcher.proofs.Gaining.{in_get, in_more}
+use Rattle.path_states.proofs.Gaining.{in_get, in_more}
 use Rattle.matcher.proofs.signs.are_signed.Goals as goal
 
 pub returns-then-not-is_signed-clause-no : goal.returns-then-not-is_signed-clause-no

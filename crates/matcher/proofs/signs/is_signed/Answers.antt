@@ -1,6 +1,6 @@
 use Rattle.std.proofs.Common.{get_or, inl, inr, ap, ◌∙◌}
 use Rattle.matcher.specs.declared.signs.Sign.{Sign}
-use Rattle.matcher.proofs.Gaining.{in_get, in_more}
+use Rattle.path_states.proofs.Gaining.{in_get, in_more}
 use Rattle.matcher.proofs.signs.is_signed.Goals as goal
 
 abbrev none : Sign

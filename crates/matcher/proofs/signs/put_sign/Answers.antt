@@ -3,7 +3,7 @@ use Rattle.gcx_model.specs.Members.{In}
 use Rattle.std.proofs.Common.{take, drop}
 use Rattle.matcher.specs.Signs.{InTurn}
 use Rattle.matcher.specs.declared.signs.Sign.{Sign}
-use Rattle.matcher.proofs.Gaining.{gains_insert}
+use Rattle.path_states.proofs.Gaining.{gains_insert}
 use Rattle.matcher.proofs.Turns.{turn_insert}
 use Rattle.matcher.proofs.signs.put_sign.Goals as goal
 

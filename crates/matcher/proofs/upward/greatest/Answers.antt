@@ -1,7 +1,7 @@
 use Rattle.std.proofs.Common.{ℕ, List, sym, subst}
 use Rattle.std.proofs.lemmas.List.{take_all}
 use Rattle.gcx_model.specs.Members.{In}
-use Rattle.matcher.proofs.Climbing.{greatest_more}
+use Rattle.path_states.proofs.Climbing.{greatest_more}
 use Rattle.matcher.proofs.upward.greatest.Goals as goal
 
 pub loop-level-preserved : goal.loop-level-preserved

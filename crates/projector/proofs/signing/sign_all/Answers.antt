@@ -1,4 +1,4 @@
-use Rattle.std.proofs.Common.{◌≡◌, ◌+◌, ◌<◌, List, ◌∷◌, drop, get_or, sym, ◌∙◌, ap, subst, add-one, length}
+use Rattle.std.proofs.Common.{◌≡◌, ◌+◌, ◌<◌, List, ◌∷◌, drop, get_or, sym, ◌∙◌, ap, subst, add-one, length, false}
 use Rattle.std.proofs.Math.Seq.{drop-cons}
 use Rattle.std.proofs.lemmas.List.{drop_all}
 use Rattle.buf_tree.specs.declared.ahead.Ahead.{Ahead}
@@ -17,7 +17,7 @@ loop-ahead-preserved c =
     let here : drop k ws ≡ get_or ws k w ∷ drop (k + 1) ws = drop-cons ws k w low ∙ ap (λ i. get_or ws k w ∷ drop i ws) (sym (add-one k)) in
     tells_more c.args.matcher.now c.loop-ahead.matcher c.sign.new.self ws (drop (k + 1) ws) w
     (subst (λ (z : List Ahead). Tells c.args.matcher.now c.loop-ahead.matcher ws z) (here ∙ ap (λ (z : Ahead). z ∷ drop (k + 1) ws) (sym c.ahead-item.is)) c.loop-ahead.invariant)
-    c.in_ok-sign.ensures.stands
+    (λ past n. c.in_ok-sign.ensures.stands past false n)
 
 pub returns : goal.returns
 returns c =

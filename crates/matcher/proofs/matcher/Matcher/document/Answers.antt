@@ -1,24 +1,30 @@
-use Rattle.std.proofs.Common.{◌≡◌, List, ◌<◌, map, length, sym, subst, arith, Some}
-use Rattle.std.specs.Prelude.{slice_get}
+use Rattle.std.proofs.Common.{◌≡◌, ◌<◌, length, map, sym, ◌∙◌, subst, arith}
 use Rattle.gcx_base.specs.declared.ids.Role.{Role}
-use Rattle.gcx_model.specs.Tree.{Root}
-use Rattle.tree_laws.proofs.Fed.{grown_from, root_from}
-use Rattle.matcher.specs.declared.row.Row.{Row}
-use Rattle.matcher.proofs.Looking.{read_at}
-use Rattle.matcher.proofs.GivenRoles.{roles_are, root_above}
+use Rattle.matcher.specs.Matcher.{Stands}
+use Rattle.matcher.specs.View.{MatcherView, matcher_view}
+use Rattle.path_states.specs.Lists.{Climbs}
+use Rattle.path_states.proofs.Looking.{some_at}
+use Rattle.matcher.proofs.Beginning.{document_given}
+use Rattle.matcher.proofs.Framing.{at_frame}
 use Rattle.matcher.proofs.matcher.Matcher.document.Goals as goal
 
 pub returns-in_ok-given-in-Some : goal.returns-in_ok-given-in-Some
 returns-in_ok-given-in-Some c = λ past text s.
-    let at : slice_get c.args.self.now.rows.rows.items 0 ≡ Some c.in-Some.row.now =
-    subst (λ (z : List Row). slice_get z 0 ≡ Some c.in-Some.row.now) c.deref.ensures.value (read_at c.deref.result.now 0 c.in-Some.row.now c.in-Some.ensures.item.3.0 c.in-Some.ensures.item.1) in
-    let r = s.rows Root c.in-Some.row.now (root_above s.here) at in
-    let a = c.in_ok-given-in-Some.ensures r.climbs in
-    roles_are past.plan c.args.self.now.spots s.spots past.tree (grown_from past.tree s.is_past.grown) Root (root_from past.tree s.is_past.grown) c.args.self.now.rows c.in-Some.row.now r
-    (map (λ (z : Role). z.0) c.in_ok-given-in-Some.given) a.climbs a.holds
+    let v = c.self.inside.states in
+    let marks = c.self.inside.frames in
+    let x = c.in-Some.state.now in
+    let low : 0 < length marks = c.self.invariant.1 in
+    let k = some_at marks 0 low in
+    let made = c.in-Some.ensures.made in
+    let given : map (λ (r : Role). r.0) c.in_ok-given-in-Some.given ≡ x.given = c.in_ok-given-in-Some.ensures (subst Climbs (sym c.given.ensures) made.rising) ∙ c.given.ensures in
+    let seen = matcher_view v marks c.self.inside.idle c.self.inside.text c.self.inside.signs.items in
+    document_given seen past text (subst (λ (m : MatcherView). Stands m past text) (sym c.self.view_is) s) x k.0 (at_frame v.states marks 0 x k.0 (sym c.in-Some.ensures.is) k.1) made
+    (map (λ (r : Role). r.0) c.in_ok-given-in-Some.given) given
 
 pub returns-in-None : goal.returns-in-None
 returns-in-None c = λ past text s.
-    let l = c.in-None.ensures.item.3 in
-    let m = subst (λ (z : List Row). 0 < length z) (sym c.deref.ensures.value) s.some in
-    absurd (omega arith)
+    let v = c.self.inside.states in
+    let low : 0 < length v.states = (let a = c.self.invariant.0 in let b = c.self.invariant.1 in omega arith) in
+    let k = some_at v.states 0 low in
+    let e = c.in-None.ensures.is ∙ k.1 in
+    absurd (cc)

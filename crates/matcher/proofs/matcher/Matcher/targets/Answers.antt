@@ -1,7 +1,7 @@
 use Rattle.std.proofs.Common.{sym, subst}
 use Rattle.gcx_model.specs.ItemView.{role_kind}
 use Rattle.gcx_model.specs.declared.item.RoleKind.{RoleKind}
-use Rattle.matcher.specs.Lists.{Holds}
+use Rattle.path_states.specs.Lists.{Holds}
 use Rattle.matcher.specs.Ahead.{Target}
 use Rattle.matcher.proofs.matcher.Matcher.targets.Goals as goal
 

@@ -2,7 +2,7 @@ use Rattle.std.proofs.Common.{refl, sym, ◌∙◌, ap, subst}
 use Rattle.std.specs.Prelude.{option_map}
 use Rattle.gcx_model.specs.Past.{token_for}
 use Rattle.node_store.specs.declared.store.Place.{Place}
-use Rattle.matcher.specs.declared.matcher.Matcher.{Matcher}
+use Rattle.matcher.specs.View.{MatcherView}
 use Rattle.projector.specs.declared.projector.Fed.TheVariants.{Opened}
 use Rattle.projector.specs.View.{ProjectorView}
 use Rattle.projector.specs.Projector.{Places}
@@ -29,7 +29,7 @@ pub returns-clause-feeds : goal.returns-clause-feeds
 returns-clause-feeds g c =
     let m = c.requires.may in
     let o = c.in_ok-place.ensures.opens in
-    subst (λ (z : Matcher). Feeds (HasHeard z) (record { matcher = c.go_to.new.matcher; at = c.go_to.new.at }) c.args.buffer.now c.open_below.new.buffer (token_for c.args.kind) (Opened (record { 0 = c.nodes.result }) c.in_ok-place.given))
+    subst (λ (z : MatcherView). Feeds (HasHeard z) (record { matcher = c.go_to.new.matcher; at = c.go_to.new.at }) c.args.buffer.now c.open_below.new.buffer (token_for c.args.kind) (Opened (record { 0 = c.nodes.result }) c.in_ok-place.given))
     (ap (λ (p : ProjectorView). p.matcher) c.self.view_is)
     (record {
       stands = λ past h heard may. (

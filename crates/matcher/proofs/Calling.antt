@@ -1,0 +1,242 @@
+-- What the calls of a matcher do, from what became of its parts.
+use Rattle.std.proofs.Common.{◌≡◌, ℕ, ◌-◌, ◌<◌, ◌≤◌, Bool, true, false, List, [], ◌∷◌, ◌++◌, length, map, refl, sym, ◌∙◌, ap, subst, inl, inr, arith, eqb, Some, Option}
+use Rattle.std.proofs.lemmas.Bool.{eqb-true, eq-eqb, false_from_ne_true, false≢true}
+use Rattle.std.proofs.lemmas.Option.{slice_get_within}
+use Rattle.gcx_base.specs.Kinds.{is_text}
+use Rattle.gcx_base.specs.declared.ids.Role.{Role}
+use Rattle.gcx_base.specs.declared.kind.Kind.{Kind}
+use Rattle.gcx_base.specs.declared.kind.Kind.TheVariants.{Document, Element, Text}
+use Rattle.gcx_base.specs.declared.steps.Step.{Step}
+use Rattle.gcx_model.specs.Tree.{Node, Root, Under, Tree, Token, Start, Chars, End, grow, grow_at}
+use Rattle.gcx_model.specs.Paths.{hits}
+use Rattle.gcx_model.specs.Growth.{level, may_come}
+use Rattle.gcx_model.specs.Core.{Whole}
+use Rattle.gcx_model.specs.Held.{path_of, roles_given}
+use Rattle.gcx_model.specs.Past.{Past, IsNode, Opens, past_grown, token_for}
+use Rattle.tree_laws.proofs.Lists.{In}
+use Rattle.tree_laws.proofs.Chains.{above_self}
+use Rattle.path_states.specs.Lists.{From, Gains}
+use Rattle.path_states.specs.Names.{IsNameNumber}
+use Rattle.path_states.specs.State.{StateView, IsMade}
+use Rattle.path_states.specs.States.{StatesView, Enters, last_state, outer_states}
+use Rattle.path_states.proofs.Gaining.{gains_none}
+use Rattle.path_states.proofs.Looking.{one_at, some_at}
+use Rattle.matcher.specs.Calls.{GivesName, GivesNext, GivesNode, PassesNode, KeepsStanding, StandsBehind, StandsBehindName, StandsNext, TellsWholeHere}
+use Rattle.matcher.specs.Entering.{AddsFrame, FindsAll, FindsHere, Firsts, GivesInside, Goes, Halts, IsIdle, IsIdled, IsVain, LeadsNowhere}
+use Rattle.matcher.specs.Frames.{AreBoth}
+use Rattle.matcher.specs.Matcher.{Stands}
+use Rattle.matcher.specs.Parts.{NodeMarks, new_marks}
+use Rattle.matcher.specs.Stacks.{AreMatched}
+use Rattle.matcher.specs.View.{FrameView, GoTogether, MatcherView, frame_of, frames_of, innermost_frame, matcher_view}
+use Rattle.matcher.specs.declared.frames.Found.{Found}
+use Rattle.matcher.specs.declared.signs.Sign.{Sign}
+use Rattle.matcher.proofs.Aheads.{here_frame, innermost_same}
+use Rattle.matcher.proofs.Entering.{Unled, halts_goes, idle_goes, idle_stands, last, none_given, one, unled_given}
+use Rattle.matcher.proofs.EnteringFrame.{advanced_given, advanced_stands}
+use Rattle.matcher.proofs.Framing.{last_frame}
+use Rattle.matcher.proofs.GivenRoles.{roles_of_both}
+use Rattle.matcher.proofs.Places.{last_is, outer_push}
+use Rattle.matcher.proofs.NewFrame.{end_of, ended, whole_tail}
+
+pub same_keeps : (old new : MatcherView) → new ≡ old → KeepsStanding old new
+same_keeps old new e past text S = subst (λ (z : MatcherView). Stands z past text) (sym e) S
+
+-- the roles of whole subtrees of the innermost frame are those of the innermost state
+pub inside_whole : (v : StatesView) (ms : List NodeMarks) → GoTogether v ms → (x : StateView) → last_state v.states ≡ Some x → (frame : FrameView) → innermost_frame (frames_of v ms) ≡ Some frame → frame.whole ≡ x.whole
+inside_whole v ms go x at frame f =
+    let q = last_frame v ms go frame f in
+    let same : q.0 ≡ x = one_at v.states (length v.states - 1) q.0 x q.1 at in
+    ap (λ (z : FrameView). z.whole) q.2.2 ∙ ap (λ (z : StateView). z.whole) same
+
+-- a state that was entered and left again
+pub entered_left : (v mid v2 : StatesView) (number : ℕ) → Enters v mid number → v2 ≡ record mid { states = outer_states mid.states } → 0 < length v.states → v2 ≡ v
+entered_left v mid v2 number E e l =
+    e ∙ (ap (λ (z : StatesView). record z { states = outer_states z.states }) E.is ∙ ap (λ (z : List StateView). record v { states = z }) (outer_push v.states E.state l))
+
+-- no path leads to the node that was entered
+pub entered_halts : (v mid : StatesView) (number : ℕ) (text : Bool) (x : StateView) → Enters v mid number → last_state mid.states ≡ Some x → IsVain x text → Halts v number text
+entered_halts v mid number text x E at vain =
+    let e = ap (λ (z : StatesView). z.states) E.is in
+    let same : x ≡ E.state = one_at mid.states (length mid.states - 1) x E.state at (last_is v.states mid.states E.state e) in
+    record { state = E.state; leads = E.leads; vain = subst (λ (z : StateView). IsVain z text) same vain }
+
+-- a state that may give no first match
+pub no_firsts_here : (v : StatesView) (ms : List NodeMarks) (x : StateView) → last_state v.states ≡ Some x → IsMade v.tree.states.items x → x.has_firsts ≡ false → (found : List Found) → found ≡ [] → FindsHere v ms found
+no_firsts_here v ms x at made none found e s at2 many past t n b l h =
+    let same : s ≡ x = one_at v.states (length v.states - 1) s x at2 at in
+    let R : ℕ → Found → Type 0 = Firsts past.plan (grow t past.tree) n v.tree.states.items in
+    subst (λ (z : List Found). Gains [] z (From s.active R)) (sym e)
+    (subst (λ (z : StateView). Gains [] [] (From z.active R)) (sym same) (gains_none [] (From x.active R) (λ f q. made.firsts none q.is.from.of (record { of = q.of; member = q.member; is = record { state = q.is.state; at = q.is.at; member = q.is.from.member } }))))
+
+pub finds_here : (v : StatesView) (ms : List NodeMarks) (x : StateView) → last_state v.states ≡ Some x → (active : List ℕ) (here : ℕ) (found : List Found) → active ≡ x.active → here ≡ length ms → FindsAll v ms active here [] found → FindsHere v ms found
+finds_here v ms x at active here found ea eh h s at2 =
+    let same : x ≡ s = one_at v.states (length v.states - 1) x s at at2 in
+    subst (λ (z : StateView). FindsAll v ms z.active (length ms) [] found) same
+    (subst (λ (z : ℕ). FindsAll v ms x.active z [] found) eh (subst (λ (z : List ℕ). FindsAll v ms z here [] found) ea h))
+
+-- the frame that was added
+pub adds_frame : (v : StatesView) (before mid now : List NodeMarks) (x : StateView) (given : List Role) (found part : List Found) (roles contexts : List ℕ) → last_state v.states ≡ Some x → IsMade v.tree.states.items x → FindsHere v before found
+    → part ≡ found → roles ≡ x.given → contexts ≡ x.contexts → AreBoth roles part (map (λ (r : Role). r.0) given) → mid ≡ before ++ new_marks contexts part ∷ [] → AreMatched part mid now → AddsFrame v before now given
+adds_frame v before mid now x given found part roles contexts at made finds ep er ec both em matched = record {
+  state = x;
+  last = at;
+  found = found;
+  marks = subst (λ (z : List Found). AreMatched z (before ++ new_marks x.contexts z ∷ []) now) ep
+      (subst (λ (z : List ℕ). AreMatched part (before ++ new_marks z part ∷ []) now) ec (subst (λ (z : List NodeMarks). AreMatched part z now) em matched));
+  roles = roles_of_both v.tree.states.items x.whole x.active x.given found (map (λ (r : Role). r.0) given) made.given
+      (subst (λ (z : List Found). AreBoth x.given z (map (λ (r : Role). r.0) given)) ep (subst (λ (z : List ℕ). AreBoth z part (map (λ (r : Role). r.0) given)) er both));
+  firsts = finds x at;
+}
+
+-- ---- to a new node
+
+-- the roles of a node to which no path leads
+told : (m : MatcherView) (past : Past) (kind : Kind) (G : Goes m past kind) → Unled m past kind G → (given : List Role) → GivesInside m given → (n : Node) → Opens past.tree (token_for kind) n
+    → map (λ (r : Role). r.0) given ≡ roles_given past.plan (grow (token_for kind) past.tree) n
+told m past kind G h given t n o =
+    let l = last m past kind G in
+    t l.frame l.at l.is.climbs ∙ (unled_given m past kind G h ∙ ap (roles_given past.plan (grow (token_for kind) past.tree)) (one m past kind G n o))
+
+module _ (m : MatcherView) (kind : Kind) (node : IsNode kind) (text : Bool) (flag : text ≡ is_text kind) where
+  pub idle_entered : (now : MatcherView) → IsIdle m text → IsIdled m now text → StandsBehind m now kind
+  idle_entered now idle d past S may few =
+      let G : Goes m past kind = record { stands = S; node = node; may = may } in
+      let q = idle_goes m past kind G (subst (λ (z : Bool). IsIdle m z) flag idle) in
+      idle_stands m past kind G q.0 q.1 few now (subst (λ (z : Bool). IsIdled m now z) flag d)
+
+  pub idle_given : (given : List Role) → IsIdle m text → GivesInside m given → GivesNode m kind given
+  idle_given given idle g past n S may op =
+      let G : Goes m past kind = record { stands = S; node = node; may = may } in
+      told m past kind G (idle_goes m past kind G (subst (λ (z : Bool). IsIdle m z) flag idle)).0 given g n op
+
+  pub next_entered : (now : MatcherView) (number : ℕ) → m.idle ≡ 0 → IsNameNumber m.names kind number → StandsNext m now number text → StandsBehind m now kind
+  next_entered now number here by d past S may few =
+      let G : Goes m past kind = record { stands = S; node = node; may = may } in
+      subst (λ (z : Bool). Stands now (past_grown (token_for kind) past) z) flag (d past kind (record { goes = G; by = by; flag = sym flag; here = here }) few)
+
+  pub next_given : (given : List Role) (number : ℕ) → m.idle ≡ 0 → IsNameNumber m.names kind number → GivesNext m number text given → GivesNode m kind given
+  next_given given number here by g past n S may op =
+      let G : Goes m past kind = record { stands = S; node = node; may = may } in
+      g past kind n (record { goes = G; by = by; flag = sym flag; here = here }) op
+
+-- ---- by the number of its name
+
+number_node : (names : List (List ℕ)) (kind : Kind) (k : ℕ) → IsNameNumber names kind k → IsNode kind
+number_node names Document k e = absurd e
+number_node names (Element name) k e = tt
+number_node names (Text b) k e = tt
+
+-- it is a text where the number is that of texts
+number_text : (names : List (List ℕ)) (kind : Kind) (k t : ℕ) → IsNameNumber names kind k → ((bytes : List ℕ) → IsNameNumber names (Text bytes) t) → eqb k t ≡ is_text kind
+number_text names Document k t e f = absurd e
+number_text names (Element name) k t (inl e) f =
+    let l = slice_get_within names k name e in
+    let g = f [] in
+    false_from_ne_true (eqb k t) (λ h. let d = eqb-true k t h in omega arith)
+number_text names (Element name) k t (inr e) f =
+    let l = e.0 in
+    let g = f [] in
+    false_from_ne_true (eqb k t) (λ h. let d = eqb-true k t h in omega arith)
+number_text names (Text b) k t e f = eq-eqb k t (e ∙ sym (f b))
+
+module _ (m : MatcherView) (number t : ℕ) (texts : (bytes : List ℕ) → IsNameNumber m.names (Text bytes) t) where
+  pub idle_entered_name : (now : MatcherView) → IsIdle m (eqb number t) → IsIdled m now (eqb number t) → StandsBehindName m now number
+  idle_entered_name now idle d kind by = idle_entered m kind (number_node m.names kind number by) (eqb number t) (number_text m.names kind number t by texts) now idle d
+
+  pub idle_given_name : (given : List Role) → IsIdle m (eqb number t) → GivesInside m given → GivesName m number given
+  idle_given_name given idle g kind by = idle_given m kind (number_node m.names kind number by) (eqb number t) (number_text m.names kind number t by texts) given idle g
+
+  pub next_entered_name : (now : MatcherView) → m.idle ≡ 0 → StandsNext m now number (eqb number t) → StandsBehindName m now number
+  next_entered_name now here d kind by = next_entered m kind (number_node m.names kind number by) (eqb number t) (number_text m.names kind number t by texts) now number here by d
+
+  pub next_given_name : (given : List Role) → m.idle ≡ 0 → GivesNext m number (eqb number t) given → GivesName m number given
+  next_given_name given here g kind by = next_given m kind (number_node m.names kind number by) (eqb number t) (number_text m.names kind number t by texts) given number here by g
+
+-- ---- below a node that has a frame
+
+abbrev view_with : StatesView → List FrameView → ℕ → Bool → List Sign → MatcherView
+view_with v frames idle text signs = record { tree = v.tree; names = v.names; frames = frames; idle = idle; text = text; signs = signs }
+
+module _ (v : StatesView) (ms : List NodeMarks) (idle : ℕ) (was : Bool) (signs : List Sign) (go : GoTogether v ms) (number : ℕ) (text : Bool) where
+  abbrev old : MatcherView
+  old = matcher_view v ms idle was signs
+
+  -- no path leads to it, nor to any below it
+  pub halted_stands : (now : MatcherView) → Halts v number text → IsIdled old now text → StandsNext old now number text
+  halted_stands now halts d past kind B few =
+      let q = halts_goes old past kind B.goes v ms number text refl refl go B.by B.flag B.here halts in
+      subst (λ (z : Bool). Stands now (past_grown (token_for kind) past) z) B.flag (idle_stands old past kind B.goes q.0 q.1 few now (subst (λ (z : Bool). IsIdled old now z) (sym B.flag) d))
+
+  pub halted_given : (given : List Role) → Halts v number text → GivesInside old given → GivesNext old number text given
+  halted_given given halts g past kind n B op = told old past kind B.goes (halts_goes old past kind B.goes v ms number text refl refl go B.by B.flag B.here halts).0 given g n op
+
+  -- it gets a frame
+  module _ (v2 : StatesView) (later : List NodeMarks) (given : List Role) (E : Enters v v2 number) (A : AddsFrame v2 ms later given) where
+    pub added_stands : StandsNext old (matcher_view v2 later idle text signs) number text
+    added_stands past kind B few =
+        let same : view_with v2 (frames_of v2 later) idle (is_text kind) signs ≡ view_with v (frames_of v2 later) idle (is_text kind) signs = ap (λ (z : StatesView). view_with z (frames_of v2 later) idle (is_text kind) signs) E.is in
+        subst (λ (z : Bool). Stands (matcher_view v2 later idle z signs) (past_grown (token_for kind) past) z) B.flag
+        (subst (λ (z : MatcherView). Stands z (past_grown (token_for kind) past) (is_text kind)) (sym same) (advanced_stands old past kind B.goes B.here v v2 ms later number given refl refl go B.by E A))
+
+    pub added_given : GivesNext old number text given
+    added_given past kind n B op =
+        advanced_given old past kind B.goes B.here v v2 ms later number given refl refl go B.by E A ∙ ap (roles_given past.plan (grow (token_for kind) past.tree)) (one old past kind B.goes n op)
+
+-- ---- a node that is plainly given no role
+
+end_adds_none : (P : Tree) (a : Node) → P.at ≡ Some a → (grow End P).nodes ≡ P.nodes
+end_adds_none P Root e = ap (λ (o : Option Node). (grow_at o End P).nodes) e
+end_adds_none P (Under p s k) e = ap (λ (o : Option Node). (grow_at o End P).nodes) e
+
+pub passes_none : (m : MatcherView) → LeadsNowhere m → ((frame : FrameView) → innermost_frame m.frames ≡ Some frame → frame.whole ≡ []) → PassesNode m
+passes_none m why none past n t S may op = by_token t may op
+  where
+    by_kind : (kind : Kind) → IsNode kind → (G : Goes m past kind) → Opens past.tree (token_for kind) n → roles_given past.plan (grow (token_for kind) past.tree) n ≡ []
+    by_kind kind node G o =
+        let l = last m past kind G in
+        let q = idle_goes m past kind G (elim why [ inl k ↦ inl k | inr over ↦ inr (inr over) ]) in
+        subst (λ (z : Node). roles_given past.plan (grow (token_for kind) past.tree) z ≡ []) (one m past kind G n o) (none_given m past kind G q.0 (none l.frame l.at))
+
+    by_token : (t : Token) → may_come t past.tree ≡ true → Opens past.tree t n → roles_given past.plan (grow t past.tree) n ≡ []
+    by_token (Start name) may o = by_kind (Element name) tt (record { stands = S; node = tt; may = may }) o
+    by_token (Chars b) may o = by_kind (Text b) tt (record { stands = S; node = tt; may = may }) o
+    by_token End may o = absurd (o.1 (subst (λ (z : List Node). In n z) (end_adds_none past.tree S.here S.innermost) o.0))
+
+-- ---- the roles of whole subtrees of whose paths the innermost node is a match
+
+pub whole_none : (m : MatcherView) (roles : List ℕ) → 0 < m.idle → roles ≡ [] → TellsWholeHere m roles
+whole_none m roles k e past text n S here =
+    let same = innermost_same past.tree text S.here n S.innermost here in
+    record {
+      has = λ r. (
+        (λ i. absurd (subst (λ (z : List ℕ). In r z) e i)),
+        (λ d. (
+            let q = end_of past.plan m.tree S.tree r Whole d.row d.role in
+            let p : S.tree.path q.0 ≡ path_of past.plan d.row.var ++ d.row.tail = q.3 ∙ ap (λ (z : List Step). path_of past.plan d.row.var ++ z) (whole_tail d.row.kind d.row.tail d.role.same) in
+            let h : hits 0 (S.tree.path q.0) S.here ≡ true = subst (λ (z : Node). hits 0 (S.tree.path q.0) z ≡ true) (sym same) (subst (λ (z : List Step). hits 0 z n ≡ true) (sym p) d.hit) in
+            let l = S.levels in
+            let few : length m.frames ≤ level S.here = omega arith in
+            absurd (false≢true (sym (S.idle S.here (above_self S.here) few q.0 q.1) ∙ h)))),
+      );
+    }
+
+pub whole_told : (m : MatcherView) (x : StateView) (k : NodeMarks) → m.idle ≡ 0 → innermost_frame m.frames ≡ Some (frame_of x k) → IsMade m.tree.states.items x → (roles : List ℕ) → roles ≡ x.whole_here → TellsWholeHere m roles
+whole_told m x k none at made roles e past text n S here =
+    let same = innermost_same past.tree text S.here n S.innermost here in
+    let R = here_frame m past text S (frame_of x k) at none in
+    record {
+      has = λ r. (
+        (λ i. (
+            let f = (made.here.has r).0 (subst (λ (z : List ℕ). In r z) e i) in
+            let y = f.is in
+            let q = ended past.plan m.tree S.tree r f.of Whole (((S.tree.linked f.of y.state y.at).whole r).0 y.member) in
+            let p : S.tree.path f.of ≡ path_of past.plan q.0.var ++ q.0.tail = q.2 ∙ ap (λ (z : List Step). path_of past.plan q.0.var ++ z) (whole_tail q.0.kind q.0.tail q.1.same) in
+            record { row = q.0; role = q.1; hit = subst (λ (z : Node). hits 0 (path_of past.plan q.0.var ++ q.0.tail) z ≡ true) same (subst (λ (z : List Step). hits 0 z S.here ≡ true) p ((R.active f.of).0 f.member).1) })),
+        (λ d. (
+            let q = end_of past.plan m.tree S.tree r Whole d.row d.role in
+            let p : S.tree.path q.0 ≡ path_of past.plan d.row.var ++ d.row.tail = q.3 ∙ ap (λ (z : List Step). path_of past.plan d.row.var ++ z) (whole_tail d.row.kind d.row.tail d.role.same) in
+            let h : hits 0 (S.tree.path q.0) S.here ≡ true = subst (λ (z : Node). hits 0 (S.tree.path q.0) z ≡ true) (sym same) (subst (λ (z : List Step). hits 0 z n ≡ true) (sym p) d.hit) in
+            let y = some_at m.tree.states.items q.0 q.1 in
+            subst (λ (z : List ℕ). In r z) (sym e) ((made.here.has r).1 (record { of = q.0; member = (R.active q.0).1 (q.1, h); is = record { state = y.0; at = y.1; member = ((S.tree.linked q.0 y.0 y.1).whole r).1 q.2 } })))),
+      );
+    }

@@ -1,9 +1,0 @@
-use Rattle.std.proofs.Common.{◌≡◌, ◌<◌, ℕ, List, Some, false}
-use Rattle.std.specs.Prelude.{slice_get}
-use Rattle.gcx_base.specs.declared.kind.Kind.TheVariants.{Text}
-use Rattle.gcx_base.specs.Tests.{passes}
-use Rattle.matcher.specs.declared.spots.Spot.{Spot}
-use Rattle.matcher.proofs.spots.take_texts.Given as goal
-
-abbrev pub invariant-loop-i : goal.invariant-loop-i
-invariant-loop-i l = (k : ℕ) (s : Spot) (b : List ℕ) → slice_get l.spots k ≡ Some s → 0 < k → k < l.i → passes s.step.test (Text b) ≡ false

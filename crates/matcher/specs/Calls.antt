@@ -1,0 +1,103 @@
+-- What the calls of a matcher do, for each past for which it stood (this project's).
+use Rattle.std.specs.Prelude.{◌≡◌, ◌≤◌, ℕ, Bool, true, false, List, [], ◌∷◌, ◌++◌, map, Option, Some}
+use Rattle.gcx_base.specs.Kinds.{is_text}
+use Rattle.gcx_base.specs.declared.ids.Role.{Role}
+use Rattle.gcx_base.specs.declared.kind.Kind.{Kind}
+use Rattle.gcx_model.specs.Tree.{Node, Root, Under, Token, End, grow, serial_of}
+use Rattle.gcx_model.specs.Paths.{matches}
+use Rattle.gcx_model.specs.Growth.{may_come, level}
+use Rattle.gcx_model.specs.Core.{BodyTree, OffTree, PlanTree}
+use Rattle.gcx_model.specs.Cores.{Good}
+use Rattle.gcx_model.specs.Run.{Offed}
+use Rattle.gcx_model.specs.Members.{In}
+use Rattle.gcx_model.specs.Placed.{Placed, offs_in}
+use Rattle.gcx_model.specs.Held.{path_of, roles_given, taken, roles_taken}
+use Rattle.gcx_model.specs.Past.{Past, IsLast, Opens, open_nodes, opening_past, past_acted, past_grown, token_for}
+use Rattle.path_states.specs.Lists.{Holds}
+use Rattle.path_states.specs.Names.{IsNameNumber}
+use Rattle.matcher.specs.Ahead.{AreTaken, HasSign}
+use Rattle.matcher.specs.Entering.{GoesBy}
+use Rattle.matcher.specs.Frame.{IsWholeMatch}
+use Rattle.matcher.specs.Matcher.{Stands}
+use Rattle.matcher.specs.View.{MatcherView}
+use Rattle.matcher.specs.declared.signs.Sign.{Sign}
+
+-- it stands for the plan's document node alone
+abbrev pub StandsAtStart : MatcherView → PlanTree → Type 0
+StandsAtStart m plan = (core : BodyTree) → Good core → Placed core plan → Stands m (opening_past plan) false
+
+-- it stands for what it stood for
+abbrev pub KeepsStanding : (old new : MatcherView) → Type 0
+KeepsStanding old new = (past : Past) (text : Bool) → Stands old past text → Stands new past text
+
+-- the roles are those of the document node
+abbrev pub GivesRoot : MatcherView → List Role → Type 0
+GivesRoot m given = (past : Past) (text : Bool) → Stands m past text → map (λ (r : Role). r.0) given ≡ roles_given past.plan past.tree Root
+
+-- it stands for the past with the new node, below a node of level 1,000 at most
+abbrev pub StandsBehind : (old new : MatcherView) → Kind → Type 0
+StandsBehind old new kind =
+    (past : Past) → Stands old past false → may_come (token_for kind) past.tree ≡ true → ((p : Node) → past.tree.at ≡ Some p → level p ≤ 1000) → Stands new (past_grown (token_for kind) past) (is_text kind)
+
+-- the roles are those of the new node
+abbrev pub GivesNode : MatcherView → Kind → List Role → Type 0
+GivesNode m kind given =
+    (past : Past) (n : Node) → Stands m past false → may_come (token_for kind) past.tree ≡ true → Opens past.tree (token_for kind) n → map (λ (r : Role). r.0) given ≡ roles_given past.plan (grow (token_for kind) past.tree) n
+
+-- the same of each kind whose name has the number
+abbrev pub StandsBehindName : (old new : MatcherView) → ℕ → Type 0
+StandsBehindName old new number = (kind : Kind) → IsNameNumber old.names kind number → StandsBehind old new kind
+
+abbrev pub GivesName : MatcherView → ℕ → List Role → Type 0
+GivesName m number given = (kind : Kind) → IsNameNumber m.names kind number → GivesNode m kind given
+
+-- the same where the innermost node has a frame
+abbrev pub StandsNext : (old new : MatcherView) → (number : ℕ) → (text : Bool) → Type 0
+StandsNext old new number text =
+    (past : Past) (kind : Kind) → GoesBy old past kind number text → ((p : Node) → past.tree.at ≡ Some p → level p ≤ 1000) → Stands new (past_grown (token_for kind) past) text
+
+abbrev pub GivesNext : MatcherView → (number : ℕ) → (text : Bool) → List Role → Type 0
+GivesNext m number text given =
+    (past : Past) (kind : Kind) (n : Node) → GoesBy m past kind number text → Opens past.tree (token_for kind) n → map (λ (r : Role). r.0) given ≡ roles_given past.plan (grow (token_for kind) past.tree) n
+
+-- a node that may come is given no role
+abbrev pub PassesNode : MatcherView → Type 0
+PassesNode m =
+    (past : Past) (n : Node) (t : Token) → Stands m past false → may_come t past.tree ≡ true → Opens past.tree t n → roles_given past.plan (grow t past.tree) n ≡ []
+
+-- the roles are those of the innermost node's subtree of whose paths it is a match
+abbrev pub TellsWholeHere : MatcherView → List ℕ → Type 0
+TellsWholeHere m roles = (past : Past) (text : Bool) (n : Node) → Stands m past text → IsLast past.tree text n → Holds roles (IsWholeMatch past.plan n)
+
+-- a text is left
+abbrev pub LeavesText : (old new : MatcherView) → Type 0
+LeavesText old new = (past : Past) → Stands old past true → Stands new past false
+
+-- an element is closed
+abbrev pub LeavesElement : (old new : MatcherView) → Type 0
+LeavesElement old new = (past : Past) (p : Node) (s : ℕ) (k : Kind) → Stands old past false → past.tree.at ≡ Some (Under p s k) → Stands new (past_grown End past) false
+
+-- the statement is carried out at the open node of the level
+abbrev pub SignsAt : (old new : MatcherView) → ℕ → OffTree → Type 0
+SignsAt old new here off =
+    (past : Past) (text : Bool) (n : Node) → Stands old past text → In off (offs_in past.plan.body) → In n (open_nodes past.tree) → level n ≡ here → In n (matches past.tree 0 (path_of past.plan off.base))
+    → Stands new (past_acted (Offed off (serial_of n)) past) text
+
+-- the roles are those of the innermost node that are taken back already
+abbrev pub GivesAhead : MatcherView → List Role → Type 0
+GivesAhead m given = (past : Past) (text : Bool) (n : Node) → Stands m past text → IsLast past.tree text n → map (λ (r : Role). r.0) given ≡ roles_taken past.plan past.tree past.acts n
+
+-- the same by the node that it stands for
+abbrev pub TakenHere : MatcherView → List Sign → List Role → Type 0
+TakenHere m signs given =
+    (past : Past) (text : Bool) (stands : Stands m past text) → AreTaken (taken past.plan past.tree past.acts stands.here) signs (map (λ (r : Role). r.0) given)
+
+-- where the roles of the signs before this one are told, those of it too are told
+abbrev pub TellsSign : MatcherView → (last : Option ℕ) → Sign → (old new : List Role) → Type 0
+TellsSign m last sign old new =
+    (past : Past) (text : Bool) (stands : Stands m past text) (before : List Sign) → In sign m.signs → ((s : Sign) → In s before → s.role ≤ sign.role) → ((r : ℕ) → last ≡ Some r → HasSign before r)
+    → AreTaken (taken past.plan past.tree past.acts stands.here) before (map (λ (r : Role). r.0) old) → AreTaken (taken past.plan past.tree past.acts stands.here) (before ++ sign ∷ []) (map (λ (r : Role). r.0) new)
+
+-- whether the sign's role is taken back from the innermost node
+abbrev pub SaysTaken : MatcherView → Sign → Bool → Type 0
+SaysTaken m sign is = (past : Past) (text : Bool) (stands : Stands m past text) → In sign m.signs → is ≡ taken past.plan past.tree past.acts stands.here sign.role

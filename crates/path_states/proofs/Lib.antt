@@ -1,0 +1,11 @@
+pub mod Gaining
+pub mod Looking
+pub mod Climbing
+pub mod Growing
+pub mod Sprouting
+pub mod Naming
+mod RoleSets
+mod Making
+mod Slots
+mod Remembering
+mod Opening

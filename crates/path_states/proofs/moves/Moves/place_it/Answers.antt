@@ -1,0 +1,5 @@
+use Rattle.path_states.proofs.Slots.{adds_set}
+use Rattle.path_states.proofs.moves.Moves.place_it.Goals as goal
+
+pub returns-in-Some : goal.returns-in-Some
+returns-in-Some c = adds_set c.args.self.now.slots.items c.in-Some.at c.args.one

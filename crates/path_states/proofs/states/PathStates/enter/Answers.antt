@@ -1,0 +1,87 @@
+use Rattle.std.proofs.Common.{◌≡◌, ◌<◌, ◌++◌, ℕ, length, List, [], ◌∷◌, refl, sym, ◌∙◌, ap, subst, inl, arith, Ok, Err, Result}
+use Rattle.std.specs.Prelude.{OnErr}
+use Rattle.tree_laws.proofs.Lists.{In, In-right}
+use Rattle.path_states.specs.State.{StateView}
+use Rattle.path_states.specs.States.{StatesView, Enters, ForgetInOrder, states_at}
+use Rattle.path_states.proofs.Opening.{known_same, leads_more, leads_over, made_more, order_now, order_stays, state_at, states_more, stay, there_more, there_now}
+use Rattle.path_states.proofs.states.PathStates.enter.Goals as goal
+
+on_err : {T E P : Type 0} (r : Result T E) → P → OnErr r P
+on_err (Ok x) p = tt
+on_err (Err e) p = p
+
+pub child-requires : goal.child-requires
+child-requires c = let s = c.self.inside in record { known = c.self.invariant.there s.here (In-right s.here s.outer.items (s.here ∷ []) (inl refl)) }
+
+pub invariant_of-self : goal.invariant_of-self
+invariant_of-self c =
+    let s = c.self.inside in
+    let same = c.in_err-to.ensures.err in
+    let states = ap length same.states in
+    record {
+      known = known_same s.tree.states.items s.names.items s.known c.child.new.self same c.self.invariant.known;
+      ordered = c.self.invariant.ordered;
+      there = λ n i. (let l = c.self.invariant.there n i in omega arith);
+      order = subst (λ (z : ℕ). ForgetInOrder z (s.outer.items ++ s.here ∷ [])) (sym same.kept) c.self.invariant.order;
+    }
+
+pub invariant_of-self-in_err-push : goal.invariant_of-self-in_err-push
+invariant_of-self-in_err-push c =
+    let s = c.self.inside in
+    let tree = s.tree.states.items in
+    let names = s.names.items in
+    let l = leads_over c.deref.result.now c.self.inside.tree.states.items c.deref-2.result.now c.self.inside.names.items c.self.inside.known c.child.new.self c.self.inside.here c.args.number c.in_ok-to.to c.deref.ensures.value c.deref-2.ensures.value c.in_ok-to.ensures.ok c.self.invariant.known in
+    let now = c.child.new.self in
+    let items = c.in_err-push.ensures.items in
+    record {
+      known = record { right = l.right; named = c.self.invariant.known.named };
+      ordered = c.self.invariant.ordered;
+      there = subst (λ (z : List ℕ). (n : ℕ) → In n (z ++ s.here ∷ []) → n < length now.states.items) (sym items) (there_now tree names s.known now s.outer.items s.here c.args.number c.in_ok-to.to l c.self.invariant.there c.self.invariant.order);
+      order = subst (λ (z : List ℕ). ForgetInOrder now.kept (z ++ s.here ∷ [])) (sym items) (order_stays tree names s.known now s.outer.items s.here c.args.number c.in_ok-to.to l c.self.invariant.there c.self.invariant.order);
+    }
+
+pub returns-in_err-push-clause-err : goal.returns-in_err-push-clause-err
+returns-in_err-push-clause-err c =
+    let s = c.self.inside in
+    let now = c.child.new.self in
+    let l = leads_over c.deref.result.now c.self.inside.tree.states.items c.deref-2.result.now c.self.inside.names.items c.self.inside.known c.child.new.self c.self.inside.here c.args.number c.in_ok-to.to c.deref.ensures.value c.deref-2.ensures.value c.in_ok-to.ensures.ok c.self.invariant.known in
+    let states : states_at now.states.items (c.push.new.self.items ++ s.here ∷ []) ≡ states_at s.known.states.items (s.outer.items ++ s.here ∷ []) =
+    ap (λ (z : List ℕ). states_at now.states.items (z ++ s.here ∷ [])) c.in_err-push.ensures.items
+    ∙ stay s.tree.states.items s.names.items s.known now s.outer.items s.here c.args.number c.in_ok-to.to l c.self.invariant.there c.self.invariant.order in
+    on_err c.from_residual-in_err-push.result (ap (λ (ss : List StateView). record { tree = s.tree; names = s.names.items; states = ss }) states ∙ c.self.view_is)
+
+pub invariant_of-self-2 : goal.invariant_of-self-2
+invariant_of-self-2 c =
+    let s = c.self.inside in
+    let tree = s.tree.states.items in
+    let names = s.names.items in
+    let l = leads_over c.deref.result.now c.self.inside.tree.states.items c.deref-2.result.now c.self.inside.names.items c.self.inside.known c.child.new.self c.self.inside.here c.args.number c.in_ok-to.to c.deref.ensures.value c.deref-2.ensures.value c.in_ok-to.ensures.ok c.self.invariant.known in
+    let now = c.child.new.self in
+    let to = c.in_ok-to.to in
+    let items = c.in_ok-push.ensures.items in
+    record {
+      known = record { right = l.right; named = c.self.invariant.known.named };
+      ordered = c.self.invariant.ordered;
+      there = subst (λ (z : List ℕ). (n : ℕ) → In n (z ++ to ∷ []) → n < length now.states.items) (sym items) (there_more tree names s.known now s.outer.items s.here c.args.number to l c.self.invariant.there c.self.invariant.order);
+      order = subst (λ (z : List ℕ). ForgetInOrder now.kept (z ++ to ∷ [])) (sym items) (order_now tree names s.known now s.outer.items s.here c.args.number to l c.self.invariant.there c.self.invariant.order);
+    }
+
+pub returns-clause-entered : goal.returns-clause-entered
+returns-clause-entered c =
+    let s = c.self.inside in
+    let tree = s.tree.states.items in
+    let names = s.names.items in
+    let l = leads_over c.deref.result.now c.self.inside.tree.states.items c.deref-2.result.now c.self.inside.names.items c.self.inside.known c.child.new.self c.self.inside.here c.args.number c.in_ok-to.to c.deref.ensures.value c.deref-2.ensures.value c.in_ok-to.ensures.ok c.self.invariant.known in
+    let now = c.child.new.self in
+    let to = c.in_ok-to.to in
+    let state = state_at now.states.items to in
+    let states : states_at now.states.items (c.push.new.self.items ++ to ∷ []) ≡ states_at s.known.states.items (s.outer.items ++ s.here ∷ []) ++ state ∷ [] =
+    ap (λ (z : List ℕ). states_at now.states.items (z ++ to ∷ [])) c.in_ok-push.ensures.items
+    ∙ states_more tree names s.known now s.outer.items s.here c.args.number to l c.self.invariant.there c.self.invariant.order in
+    let view : StatesView = record { tree = s.tree; names = names; states = states_at now.states.items (c.push.new.self.items ++ to ∷ []) } in
+    subst (λ (v : StatesView). Enters v view c.args.number) c.self.view_is (record {
+      state = state;
+      is = ap (λ (ss : List StateView). record { tree = s.tree; names = names; states = ss }) states;
+      made = made_more tree names s.known now s.outer.items s.here c.args.number to l c.self.invariant.there c.self.invariant.order;
+      leads = leads_more tree names s.known now s.outer.items s.here c.args.number to l c.self.invariant.there c.self.invariant.order;
+    })

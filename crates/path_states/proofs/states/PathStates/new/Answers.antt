@@ -1,0 +1,29 @@
+use Rattle.std.proofs.Common.{◌≡◌, ◌++◌, ℕ, List, [], ◌∷◌, ◌∙◌, ap, subst}
+use Rattle.path_states.specs.Names.{HasNames}
+use Rattle.path_states.specs.State.{StateView, Gathers, IsMade}
+use Rattle.path_states.specs.States.{states_at}
+use Rattle.path_states.specs.declared.paths.PathState.{PathState}
+use Rattle.path_states.proofs.Opening.{first_open}
+use Rattle.path_states.proofs.states.PathStates.new.Goals as goal
+
+pub invariant_of-result : goal.invariant_of-result
+invariant_of-result c =
+    let tree = c.in_ok-tree.tree.states.items in
+    let names = c.in_ok-names.names.items in
+    let made = subst (λ (z : List PathState). IsMade z c.in_ok-first.first) c.deref-2.ensures.value (c.in_ok-first.ensures.made tt) in
+    let start = first_open c.in_ok-known.known c.in_ok-first.first c.new-2.result.items c.in_ok-known.ensures.first c.new-2.ensures.items in
+    record {
+      known = record { right = c.in_ok-known.ensures.right tree names made; named = subst (λ (z : List PathState). HasNames z names) c.deref.ensures.value c.in_ok-names.ensures.all };
+      ordered = c.in_ok-names.ensures.ordered;
+      there = start.0;
+      order = start.1;
+    }
+
+pub returns-clause-first : goal.returns-clause-first
+returns-clause-first c =
+    let s = c.in_ok-first.first in
+    let active : c.push.new.self.items ≡ 0 ∷ [] = c.in_ok-push.ensures.items ∙ ap (λ (z : List ℕ). z ++ 0 ∷ []) c.new-active.ensures.items in (
+      s,
+      ap (λ (z : List ℕ). states_at c.in_ok-known.known.states.items (z ++ 0 ∷ [])) c.new-2.ensures.items ∙ ap (λ (z : List StateView). states_at z (0 ∷ [])) c.in_ok-known.ensures.first,
+      record { active = c.in_ok-first.ensures.active ∙ active; gathers = subst (λ (z : List PathState). Gathers z [] [] s) c.deref-2.ensures.value c.in_ok-first.ensures.gathers },
+    )

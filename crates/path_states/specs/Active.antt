@@ -1,0 +1,53 @@
+-- Which path states are active at a node below another one (this project's; in words of automata: the subset construction).
+use Rattle.std.specs.Prelude.{◌≡◌, ◌⊎◌, ℕ, true, List, [], Some, slice_get}
+use Rattle.gcx_base.specs.declared.kind.Kind.{Kind}
+use Rattle.gcx_base.specs.Tests.{passes}
+use Rattle.gcx_model.specs.Members.{In}
+use Rattle.path_states.specs.Lists.{From, Gains, Holds}
+use Rattle.path_states.specs.Names.{HasNames, IsNameNumber}
+use Rattle.path_states.specs.declared.paths.PathState.{PathState}
+
+-- those below by a child step, and by a descendant step
+abbrev pub kids_of : PathState → List ℕ
+kids_of s = s.kids.items
+
+abbrev pub below_of : PathState → List ℕ
+below_of s = s.below.items
+
+-- the path state p tells of y in this list of it
+pub record Tells (list : PathState → List ℕ) (tree : List PathState) (p y : ℕ) : Type 0 where
+  pub state : PathState
+  pub at : slice_get tree p ≡ Some state
+  pub member : In y (list state)
+
+-- the path state p is c, and has path states below it by a descendant step
+pub record Waits (tree : List PathState) (p c : ℕ) : Type 0 where
+  pub state : PathState
+  pub at : slice_get tree p ≡ Some state
+  pub some : (state.below.items ≡ []) → ⊥
+  pub same : p ≡ c
+
+-- the path state p is c, and its test passes the node
+pub record Passes (tree : List PathState) (kind : Kind) (p c : ℕ) : Type 0 where
+  pub state : PathState
+  pub at : slice_get tree p ≡ Some state
+  pub is : passes state.step.test kind ≡ true
+  pub same : p ≡ c
+
+-- the path state c stands in this list of the path state p, and its test passes the node
+pub record Under (list : PathState → List ℕ) (tree : List PathState) (kind : Kind) (p c : ℕ) : Type 0 where
+  pub state : PathState
+  pub at : slice_get tree p ≡ Some state
+  pub from : From (list state) (Passes tree kind) c
+
+-- The paths that lead to a new node of this kind: those below the ones that lead to its parent by a child step, and below the pending ones by a descendant step.
+abbrev pub ActiveBelow : List PathState → (above pending : List ℕ) → Kind → ℕ → Type 0
+ActiveBelow tree above pending kind c = From above (Under kids_of tree kind) c ⊎ From pending (Under below_of tree kind) c
+
+-- for each kind whose name has the number, the members now are those before and those of Q
+abbrev pub GainsBy : List PathState → List (List ℕ) → (name : ℕ) → (before now : List ℕ) → (Kind → ℕ → Type 0) → Type 0
+GainsBy tree names name before now Q = HasNames tree names → (kind : Kind) → IsNameNumber names kind name → Gains before now (Q kind)
+
+-- the members are those of Q
+abbrev pub HoldsBy : List PathState → List (List ℕ) → (name : ℕ) → List ℕ → (Kind → ℕ → Type 0) → Type 0
+HoldsBy tree names name now Q = HasNames tree names → (kind : Kind) → IsNameNumber names kind name → Holds now (Q kind)

@@ -1,0 +1,9 @@
+pub mod Lists
+pub mod PathTree
+pub mod Growing
+pub mod Names
+pub mod Active
+pub mod State
+pub mod Moves
+pub mod States
+pub mod Open
