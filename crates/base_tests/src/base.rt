@@ -167,19 +167,44 @@ fn bytes_are_the_same_where_each_is(rt: HostRuntime) {
     }
 }
 
-#[test]
-fn steps_are_compared_with_their_names(rt: HostRuntime) -> Result<(), Fail> {
-    let alloc = rt.alloc();
-    let (steps, others) = (four_steps(alloc)?, four_steps(alloc)?);
+/// Each step is equal to the one at its own place alone.
+fn assert_each_its_own(rt: &impl Abort, steps: &Steps, others: &Steps) {
     for (i, step) in steps.items().iter().enumerate() {
         for (j, other) in others.items().iter().enumerate() {
             assert!(rt; (*step == *other) == (i == j), "{i} {j}");
         }
     }
-    assert!(rt; name(alloc, b"named")? != name(alloc, b"names")?);
-    let (text, other) = (Text::of_text(alloc, b"12")?, Text::of_text(alloc, b"13")?);
-    assert!(rt; text == text.copy(alloc)? && text != other);
+}
+
+#[test]
+fn steps_are_compared_with_their_names(rt: HostRuntime) -> Result<(), Fail> {
+    let steps = four_steps(rt.alloc())?;
+    let others = four_steps(rt.alloc())?;
+    assert_each_its_own(&rt, &steps, &others);
     Ok(())
+}
+
+#[test]
+fn names_are_compared(rt: HostRuntime) -> Result<(), Fail> {
+    let named = name(rt.alloc(), b"named")?;
+    let other = name(rt.alloc(), b"names")?;
+    assert!(rt; named != other);
+    Ok(())
+}
+
+/// Compares the text with a copy of its own and with another one.
+fn assert_compared(rt: &impl Abort, alloc: Global, text: &Text, other: &Text) -> Result<(), Fail> {
+    let copied = text.copy(alloc)?;
+    assert!(rt; *text == copied);
+    assert!(rt; *text != *other);
+    Ok(())
+}
+
+#[test]
+fn texts_are_compared(rt: HostRuntime) -> Result<(), Fail> {
+    let text = Text::of_text(rt.alloc(), b"12")?;
+    let other = Text::of_text(rt.alloc(), b"13")?;
+    assert_compared(&rt, rt.alloc(), &text, &other)
 }
 
 /// Compares which of a step of each test a node of this kind passes.
@@ -201,18 +226,39 @@ fn assert_passes(
     Ok(())
 }
 
+/// Compares which of a step of each test a node of this kind passes, and whether it is a text.
+fn assert_kind(
+    rt: &impl Abort,
+    alloc: Global,
+    kind: Kind,
+    passed: [bool; 4],
+    is_text: bool,
+) -> Result<(), Fail> {
+    assert_eq!(rt; kind.is_text(), is_text);
+    assert_passes(rt, alloc, &kind, passed)
+}
+
 #[test]
-fn kinds_pass_tests(rt: HostRuntime) -> Result<(), Fail> {
-    let alloc = rt.alloc();
-    let named = Kind::Element(name(alloc, b"a")?);
-    let other = Kind::Element(name(alloc, b"b")?);
-    let text = Kind::Text(Text::of_text(alloc, b"a")?);
-    assert_passes(&rt, alloc, &Kind::Document, [false; 4])?;
-    assert_passes(&rt, alloc, &named, [true, true, false, true])?;
-    assert_passes(&rt, alloc, &other, [false, true, false, true])?;
-    assert_passes(&rt, alloc, &text, [false, false, true, true])?;
-    assert!(rt; text.is_text() && !named.is_text() && !Kind::Document.is_text());
-    Ok(())
+fn the_document_passes_no_test(rt: HostRuntime) -> Result<(), Fail> {
+    assert_kind(&rt, rt.alloc(), Kind::Document, [false; 4], false)
+}
+
+#[test]
+fn an_element_passes_the_test_of_its_name(rt: HostRuntime) -> Result<(), Fail> {
+    let element = Kind::Element(name(rt.alloc(), b"a")?);
+    assert_kind(&rt, rt.alloc(), element, [true, true, false, true], false)
+}
+
+#[test]
+fn an_element_passes_no_test_of_another_name(rt: HostRuntime) -> Result<(), Fail> {
+    let other = Kind::Element(name(rt.alloc(), b"b")?);
+    assert_kind(&rt, rt.alloc(), other, [false, true, false, true], false)
+}
+
+#[test]
+fn a_text_passes_the_tests_of_texts(rt: HostRuntime) -> Result<(), Fail> {
+    let text = Kind::Text(Text::of_text(rt.alloc(), b"a")?);
+    assert_kind(&rt, rt.alloc(), text, [false, false, true, true], true)
 }
 
 #[test]

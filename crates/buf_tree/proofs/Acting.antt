@@ -1,9 +1,10 @@
 -- What a statement that is carried out makes of a buffer.
-use Rattle.std.proofs.Common.{◌≡◌, ◌==◌, ℕ, suc, ◌+◌, Bool, true, false, cond, not, ◌&&◌, List, [], ◌∷◌, ◌++◌, length, map, refl, sym, ◌∙◌, ap, subst, inl, inr, ◌⊎◌, arith}
-use Rattle.std.specs.Prelude.{IsSome}
+use Rattle.std.proofs.Common.{◌≡◌, ◌==◌, ℕ, suc, ◌+◌, Bool, true, false, cond, not, ◌&&◌, ◌||◌, List, [], ◌∷◌, ◌++◌, length, map, refl, sym, ◌∙◌, ap, subst, inl, inr, ◌⊎◌, Option, arith}
 use Rattle.std.specs.List.{filter}
 use Rattle.std.proofs.lemmas.List.{append-nil, map-append}
+use Rattle.std.specs.Ordering.{nat_cmp}
 use Rattle.std.specs.FinSet as set
+use Rattle.std.proofs.Math.Bool.{or-false}
 use Rattle.std.proofs.lemmas.Bool.{and_parts, eqb-true, eq-eqb}
 use Rattle.gcx_model.specs.declared.item.Off.{Off}
 use Rattle.gcx_model.specs.ItemView.{off_tree}
@@ -18,27 +19,27 @@ use Rattle.past_laws.specs.Pasts.{bases}
 use Rattle.tree_laws.proofs.Lists.{In, In-filter}
 use Rattle.past_laws.proofs.Awaited.{waiting_law}
 use Rattle.past_laws.proofs.PastForms.{past_acts}
-use Rattle.std.specs.FinMap.{get}
 use Rattle.node_store.specs.Rows.{changed_at, paid_by}
 use Rattle.buf_tree.specs.Row.{Row}
 use Rattle.buf_tree.specs.declared.ahead.Ahead.{Ahead}
 use Rattle.buf_tree.specs.Rows.{signed_for, IsDead}
 use Rattle.buf_tree.specs.Shape.{Store, Cell, num, cells, Rising, Shaped, with_at, at_place}
-use Rattle.buf_tree.specs.Ways.{TellsOthers}
 use Rattle.buf_tree.specs.Purge.{is_gone, Keeps, Tidy, Purged}
 use Rattle.buf_tree.specs.View.{View, Kept, capped, num_in, serial_at}
 use Rattle.buf_tree.specs.Calls.{Signed, role_count, left_out}
+use Rattle.buf_tree.specs.Spread.{SpreadView, SpreadsAs, is_alone_in, with_roles}
 use Rattle.buf_tree.specs.Sweep.{taken_by}
-use Rattle.buf_tree.specs.Withdraw.{Taking, Withdrawn}
-use Rattle.buf_tree.specs.Stands.{Seen, seen, told, StandsFor, awaited_by, Due, IsAhead, IsBehind}
+use Rattle.buf_tree.specs.Withdraw.{Taking, Withdrawn, TellsKeepers}
+use Rattle.buf_tree.specs.Stands.{Seen, seen, told, StandsFor, KeepsAs, awaited_by, Due, IsAhead, IsBehind}
 use Rattle.buf_tree.proofs.Shaping.{at_place_is, rising_same}
 use Rattle.buf_tree.proofs.Changes.{map-map, g_num, g_place, g_parent}
 use Rattle.buf_tree.proofs.Keeping.{ready_changed, cells_changed}
 use Rattle.buf_tree.proofs.Bridging.{cell_node}
 use Rattle.buf_tree.proofs.Signing.{sign_cell, rows_signed}
 use Rattle.buf_tree.proofs.Losing as losing
+use Rattle.buf_tree.proofs.SpreadTells.{alone_is}
+use Rattle.buf_tree.proofs.Spreading.{in_union}
 use Rattle.buf_tree.proofs.Losing.{is_base, roles_signed}
-use Rattle.buf_tree.proofs.Reading.{used}
 use Rattle.buf_tree.proofs.Taking.{bare, bare_alike, bare_rising}
 use Rattle.buf_tree.proofs.Withdrawing.{left_is, roles_counted}
 
@@ -102,6 +103,7 @@ pub record Between (v w : View) (k p : ℕ) : Type 0 where
   pub nodes : w.nodes ≡ v.nodes
   pub taken : w.taken ≡ v.taken
   pub most : w.most ≡ v.most
+  pub spread : w.spread ≡ v.spread
 
 pub signed_by : (v u w : View) (k p : ℕ) (loses : Cell → Bool) → Rising v.rows → Rising u.rows → Between v u k p → Withdrawn u w loses k → ((c : Cell) → In c u.rows → loses c ≡ true → set.contains c.row.roles k ≡ true) → Signed v w k
 signed_by v u w k p loses rise rise' b h has = record {
@@ -118,6 +120,7 @@ signed_by v u w k p loses rise rise' b h has = record {
   taken = h.taken ∙ ap capped (let e = count in let f = b.taken in omega arith);
   nodes = h.nodes ∙ b.nodes;
   most = h.most ∙ b.most;
+  spread = h.spread ∙ b.spread;
 }
   where
     both : Cell → Cell
@@ -165,17 +168,33 @@ module _ (m0 m1 : Store) (v : View) (p : ℕ) (off : Off) (e0 : cells m0 ≡ v.r
   abbrev pub loses : Cell → Bool
   loses = losing.loses past st.is_past m0 h.shape h.ordered.nested rows0 off stated c0 here p at node.0 node.1 node.2 base
 
-  pub taking : (others : Bool) → TellsOthers (cells m0) p off others → Taking (cells m1) p off others
-  taking others law = losing.taking past st.is_past m0 h.shape h.ordered.nested rows0 off stated c0 here p at node.0 node.1 node.2 base m1 kept.shape kept.ordered.nested rows1 others (law c0 here at)
+  pub taking : (others : Bool) → TellsKeepers (is_alone_in v.spread off.base.0) (cells m0) p off others → Taking (cells m1) p off others
+  taking others law =
+      losing.taking past st.is_past m0 h.shape h.ordered.nested rows0 off stated c0 here p at node.0 node.1 node.2 base m1 kept.shape kept.ordered.nested rows1 others (is_alone_in v.spread off.base.0)
+      (alone_is past st.is_past v.spread st.spread off.base.0)
+      (law c0 here at)
 
-  pub taking_loses : (others : Bool) (law : TellsOthers (cells m0) p off others) → (taking others law).loses ≡ loses
+  pub taking_loses : (others : Bool) (law : TellsKeepers (is_alone_in v.spread off.base.0) (cells m0) p off others) → (taking others law).loses ≡ loses
   unfolding taking
-  taking_loses others law = losing.taking_loses past st.is_past m0 h.shape h.ordered.nested rows0 off stated c0 here p at node.0 node.1 node.2 base m1 kept.shape kept.ordered.nested rows1 others (law c0 here at)
+  taking_loses others law =
+      losing.taking_loses past st.is_past m0 h.shape h.ordered.nested rows0 off stated c0 here p at node.0 node.1 node.2 base m1 kept.shape kept.ordered.nested rows1 others (is_alone_in v.spread off.base.0)
+      (alone_is past st.is_past v.spread st.spread off.base.0)
+      (law c0 here at)
 
   pub loses_has : (c : Cell) → loses c ≡ true → set.contains c.row.roles off.role.0 ≡ true
   loses_has c e = (and_parts (set.contains c.row.roles off.role.0) _ e).0
 
-  serial_here : serial_at p v.rows ≡ serial_of node.0
+  -- a role from above that isn't this one changes nothing
+  pub loses_even : (X : set.FinSet nat_cmp) (c : Cell) → set.contains X off.role.0 ≡ false → loses (with_roles X c) ≡ loses c
+  loses_even X c e = ap (λ b. b && not (keeps (num c))) (in_union c.row.roles X off.role.0 ∙ (ap (λ b. set.contains c.row.roles off.role.0 || b) e ∙ or-false (set.contains c.row.roles off.role.0)))
+
+  -- a row loses the role where it has it, and it isn't live at its node then
+  pub loses_live : (c : Cell) (n : Node) → In n past.tree.nodes → num c ≡ serial_of n → loses c ≡ (set.contains c.row.roles off.role.0 && not (live past.plan past.tree (past.acts ++ Offed (off_tree off) (serial_of node.0) ∷ []) n off.role.0))
+  loses_live c n i e =
+      ap (λ b. set.contains c.row.roles off.role.0 && not b)
+      (ap keeps e ∙ losing.stays_is past st.is_past m0 h.shape h.ordered.nested rows0 off stated c0 here p at node.0 node.1 node.2 base n i)
+
+  pub serial_here : serial_at p v.rows ≡ serial_of node.0
   serial_here =
       ap num_in (ap (λ (q : ℕ). at_place q v.rows) (sym at) ∙ at_place_is v.rows (subst (λ (zs : List Cell). (a b : Cell) → In a zs → In b zs → a.place ≡ b.place → a ≡ b) e0 h.shape.apart) c0 i0)
       ∙ ap (λ (z : Seen). z.serial) node.2
@@ -223,29 +242,29 @@ module _ (m0 m1 : Store) (v : View) (p : ℕ) (off : Off) (e0 : cells m0 ≡ v.r
   is_before : IsAhead v p off → is_ahead past.tree (Offed (off_tree off) (serial_of node.0)) ≡ true
   is_before b = (λ t. (open_here ∙ ap (λ (x : Cell). x.row.is_open) (sym (one_cell b.cell b.among b.place)) ∙ b.is_open) t && not (b.steps t))
 
-  acted : (u w : View) → u.rows ≡ cells m1 → u.nodes ≡ v.nodes → Withdrawn u w loses off.role.0 → map awaited_by w.waiting ≡ waiting_offs (past_acted (Offed (off_tree off) (serial_of node.0)) past)
-      → StandsFor w (past_acted (Offed (off_tree off) (serial_at p v.rows)) past)
-  acted u w e n d q = subst (λ (z : ℕ). StandsFor w (past_acted (Offed (off_tree off) z) past)) (sym serial_here) (record {
+  acted : (u w : View) → u.rows ≡ cells m1 → u.nodes ≡ v.nodes → u.spread ≡ v.spread → Withdrawn u w loses off.role.0 → map awaited_by w.waiting ≡ waiting_offs (past_acted (Offed (off_tree off) (serial_of node.0)) past)
+      → KeepsAs w (past_acted (Offed (off_tree off) (serial_at p v.rows)) past) → StandsFor w (past_acted (Offed (off_tree off) (serial_at p v.rows)) past)
+  acted u w e n s d q k = subst (λ (z : ℕ). StandsFor w (past_acted (Offed (off_tree off) z) past)) (sym serial_here) (record {
     is_past = (past_acts past st.is_past).1 (off_tree off) node.0 stated base;
+    spread = subst (λ (z : Option SpreadView). SpreadsAs z past.plan) (sym (d.spread ∙ s)) st.spread;
     rows = rows_acted u w e d;
+    kept = subst (λ (z : ℕ). KeepsAs w (past_acted (Offed (off_tree off) z) past)) serial_here k (rows_acted u w e d);
     waiting = q;
     nodes = d.nodes ∙ n ∙ st.nodes;
   })
 
-  pub stands_behind : (u w : View) → u.rows ≡ cells m1 → u.nodes ≡ v.nodes → u.waiting ≡ v.waiting → Withdrawn u w loses off.role.0 → IsBehind v p off → StandsFor w (past_acted (Offed (off_tree off) (serial_at p v.rows)) past)
-  stands_behind u w e n q d b = acted u w e n d (ap (map awaited_by) (d.waiting ∙ q) ∙ st.waiting ∙ sym (waits false (is_behind b) ∙ append-nil (waiting_offs past)))
+  pub stands_behind : (u w : View) → u.rows ≡ cells m1 → u.nodes ≡ v.nodes → u.spread ≡ v.spread → u.waiting ≡ v.waiting → Withdrawn u w loses off.role.0 → KeepsAs w (past_acted (Offed (off_tree off) (serial_at p v.rows)) past) → IsBehind v p off → StandsFor w (past_acted (Offed (off_tree off) (serial_at p v.rows)) past)
+  stands_behind u w e n s q d k b = acted u w e n s d (ap (map awaited_by) (d.waiting ∙ q) ∙ st.waiting ∙ sym (waits false (is_behind b) ∙ append-nil (waiting_offs past))) k
 
-  pub stands_ahead : (u w : View) (a : Ahead) → u.rows ≡ cells m1 → u.nodes ≡ v.nodes → u.waiting ≡ v.waiting ++ a ∷ [] → a.level ≡ c0.row.level → a.off ≡ off → Withdrawn u w loses off.role.0 → IsAhead v p off → StandsFor w (past_acted (Offed (off_tree off) (serial_at p v.rows)) past)
-  stands_ahead u w a e n q l o d b = acted u w e n d (
+  pub stands_ahead : (u w : View) (a : Ahead) → u.rows ≡ cells m1 → u.nodes ≡ v.nodes → u.spread ≡ v.spread → u.waiting ≡ v.waiting ++ a ∷ [] → a.level ≡ c0.row.level → a.off ≡ off → Withdrawn u w loses off.role.0 → KeepsAs w (past_acted (Offed (off_tree off) (serial_at p v.rows)) past) → IsAhead v p off → StandsFor w (past_acted (Offed (off_tree off) (serial_at p v.rows)) past)
+  stands_ahead u w a e n s q l o d k b = acted u w e n s d (
       ap (map awaited_by) (d.waiting ∙ q)
       ∙ map-append awaited_by v.waiting (a ∷ [])
       ∙ (λ t. st.waiting t ++ record { level = l t; off = off_tree (o t) } ∷ [])
       ∙ sym (waits true (is_before b)))
+      k
 
 -- ---- a statement that is due
-
-pub due_there : (m : Store) (v : View) (p : ℕ) (off : Off) → cells m ≡ v.rows → Shaped m → Due v p off → IsSome (get m p)
-due_there m v p off e s due = used m v.rows p s e (record { cell = due.cell; among = due.among; place = due.place })
 
 module _ (m0 m1 : Store) (v : View) (p : ℕ) (off : Off) (e0 : cells m0 ≡ v.rows) (gone : List ℕ) (cap count nodes : ℕ) (h : Kept m0 gone cap count nodes) (f : m1 ≡ changed_at (paid_by (signed_for off.role.0)) p m0) (due : Due v p off) where
   cell_there : In due.cell (cells m0)
@@ -254,26 +273,19 @@ module _ (m0 m1 : Store) (v : View) (p : ℕ) (off : Off) (e0 : cells m0 ≡ v.r
   pub due_kept : Kept m1 gone cap count nodes
   due_kept = kept_signed m0 m1 off.role.0 p gone cap count nodes f h due.cell cell_there due.place
 
-  module _ (others : Bool) (law : TellsOthers (cells m0) p off others) where
-    pub due_taking : Taking (cells m1) p off others
-    due_taking = taking m0 m1 v p off e0 gone cap count nodes h f due.cell due.among due.place due.base due.past due.stands due.stated others law
+  module _ (u w : View) (is : u.rows ≡ cells m1)
+      (withdrawn_for : (past : Past) (st : StandsFor v past) (stated : In (off_tree off) (offs_in past.plan.body)) → Withdrawn u w (loses m0 m1 v p off e0 gone cap count nodes h f due.cell due.among due.place due.base past st stated) off.role.0) where
+    pub due_signed : u.gone ≡ v.gone → u.nodes ≡ v.nodes → u.taken ≡ v.taken → u.most ≡ v.most → u.spread ≡ v.spread → Signed v w off.role.0
+    due_signed a b c d s = signed_by v u w off.role.0 p (loses m0 m1 v p off e0 gone cap count nodes h f due.cell due.among due.place due.base due.past due.stands due.stated)
+        (subst (λ (zs : List Cell). Rising zs) e0 h.shape.rising)
+        (subst (λ (zs : List Cell). Rising zs) (sym is) due_kept.shape.rising)
+        (record { rows = is ∙ cells_signed m0 m1 off.role.0 p f h.shape ∙ ap (map (with_at (signed_for off.role.0) p)) e0; gone = a; nodes = b; taken = c; most = d; spread = s })
+        (withdrawn_for due.past due.stands due.stated)
+        (λ x i. loses_has m0 m1 v p off e0 gone cap count nodes h f due.cell due.among due.place due.base due.past due.stands due.stated x)
 
-    module _ (u w : View) (is : u.rows ≡ cells m1) (withdrawn : (t : Taking (cells m1) p off others) → Withdrawn u w t.loses off.role.0) where
-      withdrawn_for : (past : Past) (st : StandsFor v past) (stated : In (off_tree off) (offs_in past.plan.body)) → Withdrawn u w (loses m0 m1 v p off e0 gone cap count nodes h f due.cell due.among due.place due.base past st stated) off.role.0
-      withdrawn_for past st stated = subst (λ (z : Cell → Bool). Withdrawn u w z off.role.0) (taking_loses m0 m1 v p off e0 gone cap count nodes h f due.cell due.among due.place due.base past st stated others law)
-          (withdrawn (taking m0 m1 v p off e0 gone cap count nodes h f due.cell due.among due.place due.base past st stated others law))
+    pub due_behind : u.nodes ≡ v.nodes → u.spread ≡ v.spread → u.waiting ≡ v.waiting → IsBehind v p off → (past : Past) → StandsFor v past → In (off_tree off) (offs_in past.plan.body) → KeepsAs w (past_acted (Offed (off_tree off) (serial_at p v.rows)) past) → StandsFor w (past_acted (Offed (off_tree off) (serial_at p v.rows)) past)
+    due_behind n s q b past st stated k = stands_behind m0 m1 v p off e0 gone cap count nodes h f due.cell due.among due.place due.base past st stated u w is n s q (withdrawn_for past st stated) k b
 
-      pub due_signed : u.gone ≡ v.gone → u.nodes ≡ v.nodes → u.taken ≡ v.taken → u.most ≡ v.most → Signed v w off.role.0
-      due_signed a b c d = signed_by v u w off.role.0 p (loses m0 m1 v p off e0 gone cap count nodes h f due.cell due.among due.place due.base due.past due.stands due.stated)
-          (subst (λ (zs : List Cell). Rising zs) e0 h.shape.rising)
-          (subst (λ (zs : List Cell). Rising zs) (sym is) due_kept.shape.rising)
-          (record { rows = is ∙ cells_signed m0 m1 off.role.0 p f h.shape ∙ ap (map (with_at (signed_for off.role.0) p)) e0; gone = a; nodes = b; taken = c; most = d })
-          (withdrawn_for due.past due.stands due.stated)
-          (λ x i. loses_has m0 m1 v p off e0 gone cap count nodes h f due.cell due.among due.place due.base due.past due.stands due.stated x)
-
-      pub due_behind : u.nodes ≡ v.nodes → u.waiting ≡ v.waiting → IsBehind v p off → (past : Past) → StandsFor v past → In (off_tree off) (offs_in past.plan.body) → StandsFor w (past_acted (Offed (off_tree off) (serial_at p v.rows)) past)
-      due_behind n q b past st stated = stands_behind m0 m1 v p off e0 gone cap count nodes h f due.cell due.among due.place due.base past st stated u w is n q (withdrawn_for past st stated) b
-
-      pub due_ahead : (a : Ahead) → u.nodes ≡ v.nodes → u.waiting ≡ v.waiting ++ a ∷ [] → a.level ≡ due.cell.row.level → a.off ≡ off → IsAhead v p off
-          → (past : Past) → StandsFor v past → In (off_tree off) (offs_in past.plan.body) → StandsFor w (past_acted (Offed (off_tree off) (serial_at p v.rows)) past)
-      due_ahead a n q l o b past st stated = stands_ahead m0 m1 v p off e0 gone cap count nodes h f due.cell due.among due.place due.base past st stated u w a is n q l o (withdrawn_for past st stated) b
+    pub due_ahead : (a : Ahead) → u.nodes ≡ v.nodes → u.spread ≡ v.spread → u.waiting ≡ v.waiting ++ a ∷ [] → a.level ≡ due.cell.row.level → a.off ≡ off → IsAhead v p off
+        → (past : Past) → StandsFor v past → In (off_tree off) (offs_in past.plan.body) → KeepsAs w (past_acted (Offed (off_tree off) (serial_at p v.rows)) past) → StandsFor w (past_acted (Offed (off_tree off) (serial_at p v.rows)) past)
+    due_ahead a n s q l o b past st stated k = stands_ahead m0 m1 v p off e0 gone cap count nodes h f due.cell due.among due.place due.base past st stated u w a is n s q l o (withdrawn_for past st stated) k b

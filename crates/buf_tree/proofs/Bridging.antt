@@ -29,8 +29,32 @@ use Rattle.buf_tree.proofs.Climbing.{tells_same}
 pub has_from : (ks : List ℕ) (q : ℕ) → set.contains (from_list {R = nat_cmp} ks) q ≡ true → In q ks
 has_from ks q h = in_listed ks q (sym (contains-from_list nat_cmp_total ks q) ∙ h)
 
-has_to : (ks : List ℕ) (q : ℕ) → In q ks → set.contains (from_list {R = nat_cmp} ks) q ≡ true
+pub has_to : (ks : List ℕ) (q : ℕ) → In q ks → set.contains (from_list {R = nat_cmp} ks) q ≡ true
 has_to ks q i = contains-from_list nat_cmp_total ks q ∙ listed ks q i
+
+-- of a statement a row tells whether its node is a base that isn't signed
+module _ (past : Past) (off : Off) where
+  pub waits_row : (b : Node) (c : Cell) → seen c ≡ told past b → is_waiting c.row off ≡ true
+      → (In off.own.0 (roles_live past.plan past.tree past.acts b) ⊎ In off.own.0 (roles_signed past.plan past.acts b)) × (In off.role.0 (roles_signed past.plan past.acts b) → ⊥)
+  waits_row b c e w =
+      let p = and_parts (set.contains c.row.roles off.own.0 || set.contains c.row.signed off.own.0) (not (set.contains c.row.signed off.role.0)) w in (
+        elim (or_cases (set.contains c.row.roles off.own.0) (set.contains c.row.signed off.own.0) p.0) [
+          | inl h ↦ inl (has_from _ _ (sym (ap (λ (z : Seen). set.contains z.roles off.own.0) e) ∙ h))
+          | inr h ↦ inr (has_from _ _ (sym (ap (λ (z : Seen). set.contains z.signed off.own.0) e) ∙ h))
+        ],
+        (λ i. true≢false (sym (has_to _ _ i) ∙ sym (ap (λ (z : Seen). set.contains z.signed off.role.0) e) ∙ not-true _ p.1)),
+      )
+
+  pub row_waits : (b : Node) (c : Cell) → seen c ≡ told past b → In off.own.0 (roles_live past.plan past.tree past.acts b) ⊎ In off.own.0 (roles_signed past.plan past.acts b) → (In off.role.0 (roles_signed past.plan past.acts b) → ⊥) → is_waiting c.row off ≡ true
+  row_waits b c e o n = and_from (set.contains c.row.roles off.own.0 || set.contains c.row.signed off.own.0) (not (set.contains c.row.signed off.role.0))
+      (elim o [
+        | inl i ↦ or_left _ _ (ap (λ (z : Seen). set.contains z.roles off.own.0) e ∙ has_to _ _ i)
+        | inr i ↦ or_right (set.contains c.row.roles off.own.0) _ (ap (λ (z : Seen). set.contains z.signed off.own.0) e ∙ has_to _ _ i)
+      ])
+      (elim (cases_Bool (set.contains c.row.signed off.role.0)) [
+        | inl h ↦ absurd (n (has_from _ _ (sym (ap (λ (z : Seen). set.contains z.signed off.role.0) e) ∙ h)))
+        | inr h ↦ ap not h
+      ])
 
 module _ (past : Past) (is : IsPast past) (xs : List Cell) (rise : Rising xs) (rows : map seen xs ≡ map (told past) (held past.plan past.tree past.acts)) where
   abbrev ns : List Node
@@ -73,28 +97,6 @@ module _ (past : Past) (is : IsPast past) (xs : List Cell) (rise : Rising xs) (r
   }
 
   module _ (off : Off) (stated : In (off_tree off) (offs_in past.plan.body)) (m : Node) (base : In m (bases past (off_tree off))) where
-    waits_row : (b : Node) (c : Cell) → seen c ≡ told past b → is_waiting c.row off ≡ true
-        → (In off.own.0 (roles_live past.plan past.tree past.acts b) ⊎ In off.own.0 (roles_signed past.plan past.acts b)) × (In off.role.0 (roles_signed past.plan past.acts b) → ⊥)
-    waits_row b c e w =
-        let p = and_parts (set.contains c.row.roles off.own.0 || set.contains c.row.signed off.own.0) (not (set.contains c.row.signed off.role.0)) w in (
-          elim (or_cases (set.contains c.row.roles off.own.0) (set.contains c.row.signed off.own.0) p.0) [
-            | inl h ↦ inl (has_from _ _ (sym (ap (λ (z : Seen). set.contains z.roles off.own.0) e) ∙ h))
-            | inr h ↦ inr (has_from _ _ (sym (ap (λ (z : Seen). set.contains z.signed off.own.0) e) ∙ h))
-          ],
-          (λ i. true≢false (sym (has_to _ _ i) ∙ sym (ap (λ (z : Seen). set.contains z.signed off.role.0) e) ∙ not-true _ p.1)),
-        )
-
-    row_waits : (b : Node) (c : Cell) → seen c ≡ told past b → In off.own.0 (roles_live past.plan past.tree past.acts b) ⊎ In off.own.0 (roles_signed past.plan past.acts b) → (In off.role.0 (roles_signed past.plan past.acts b) → ⊥) → is_waiting c.row off ≡ true
-    row_waits b c e o n = and_from (set.contains c.row.roles off.own.0 || set.contains c.row.signed off.own.0) (not (set.contains c.row.signed off.role.0))
-        (elim o [
-          | inl i ↦ or_left _ _ (ap (λ (z : Seen). set.contains z.roles off.own.0) e ∙ has_to _ _ i)
-          | inr i ↦ or_right (set.contains c.row.roles off.own.0) _ (ap (λ (z : Seen). set.contains z.signed off.own.0) e ∙ has_to _ _ i)
-        ])
-        (elim (cases_Bool (set.contains c.row.signed off.role.0)) [
-          | inl h ↦ absurd (n (has_from _ _ (sym (ap (λ (z : Seen). set.contains z.signed off.role.0) e) ∙ h)))
-          | inr h ↦ ap not h
-        ])
-
     -- the role is live at a held node behind the statement exactly where the statement reaches it from another row that waits
     pub kept_live : (n : Node) → In n ns → (live past.plan past.tree (past.acts ++ Offed (off_tree off) (serial_of m) ∷ []) n off.role.0 ≡ true) ↔ IsKeptBut xs (held_tree past.plan past.tree past.acts) off n (serial_of m)
     kept_live n i = (to, from)
@@ -113,12 +115,12 @@ module _ (past : Past) (is : IsPast past) (xs : List Cell) (rise : Rising xs) (r
               base = k.0;
               at = record { cell = c.0; among = c.1; place = refl; tells = tells c.0 k.0 k.1 (sym c.2) };
               other = k.4;
-              waits = row_waits k.0 c.0 (sym c.2) k.2 k.3;
+              waits = row_waits past off k.0 c.0 (sym c.2) k.2 k.3;
               reached = k.5;
             }
 
         from : IsKeptBut xs (held_tree past.plan past.tree past.acts) off n (serial_of m) → live past.plan past.tree (past.acts ++ Offed (off_tree off) (serial_of m) ∷ []) n off.role.0 ≡ true
         from k =
             let h = node_held k.place k.base k.at in
-            let w = waits_row k.base k.at.cell h.1 k.waits in
+            let w = waits_row past off k.base k.at.cell h.1 k.waits in
             law.1 (k.base, h.0, w.0, w.1, k.other, k.reached)

@@ -194,7 +194,7 @@ module _ (m : Store) (s : Shaped m) (a n : Node) (steps : List Step) where
   leading_missed from p flags u v l = sym (false_from_ne_true (hits (serial_of a) steps n) (λ h. l (above_hit m s a n from p u v steps h)))
 
 -- a list that is filled again
-pub refilled : (items new : List Bool) (len : ℕ) → len ≡ length items → length new ≡ length items → take len (new ++ drop (length new) items) ≡ new
+pub refilled : {X : Type 0} (items new : List X) (len : ℕ) → len ≡ length items → length new ≡ length items → take len (new ++ drop (length new) items) ≡ new
 refilled items new len e f =
     ap (λ w. take len (new ++ w)) (drop_of_length-le items (omega arith))
     ∙ ap (take len) (append-nil new)

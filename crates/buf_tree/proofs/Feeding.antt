@@ -21,7 +21,8 @@ use Rattle.buf_tree.specs.Shape.{Cell, num, Rising, with_at}
 use Rattle.buf_tree.specs.Purge.{Purged}
 use Rattle.buf_tree.specs.View.{View, Innermost}
 use Rattle.buf_tree.specs.Calls.{Closed}
-use Rattle.buf_tree.specs.Stands.{Seen, seen, told, StandsFor, awaited_by, told_row}
+use Rattle.buf_tree.specs.Spread.{SpreadView, SpreadsAs}
+use Rattle.buf_tree.specs.Stands.{Seen, seen, told, StandsFor, KeepsAs, awaited_by, told_row}
 use Rattle.buf_tree.proofs.Shaping.{rising_same}
 use Rattle.buf_tree.proofs.Changes.{map-map}
 use Rattle.buf_tree.proofs.Standing.{pair_left, rows_held, held_up}
@@ -138,10 +139,12 @@ added_end P = go P.at
     go (Some a) = refl
 
 pub stands_closed : (v u : View) (q : ℕ) → Rising v.rows → Rising (map (with_at shut_row q) v.rows) → ((a b : Cell) → In a v.rows → In b v.rows → a.place ≡ b.place → a ≡ b) → Innermost v.rows q → v.waiting ≡ [] → Closed v u q
-    → (past : Past) → StandsFor v past → may_come End past.tree ≡ true → StandsFor u (past_fed End past)
-stands_closed v u q rise rise' apart i idle c past h m = record {
+    → (past : Past) → StandsFor v past → may_come End past.tree ≡ true → KeepsAs u (past_fed End past) → StandsFor u (past_fed End past)
+stands_closed v u q rise rise' apart i idle c past h m keep = record {
   is_past = past_feeds past h.is_past End m;
-  rows = fed_rows End past h.is_past (map (with_at shut_row q) v.rows) u.rows c.leaves.left rise' c.leaves.purged rows_now;
+  spread = subst (λ (z : Option SpreadView). SpreadsAs z past.plan) (sym c.spread) h.spread;
+  rows = rows_left;
+  kept = keep rows_left;
   waiting = ap (map awaited_by) (c.waiting ∙ idle) ∙ sym ((waiting_law past h.is_past).0 End);
   nodes = c.nodes ∙ h.nodes ∙ sym (ap length (grow_nodes End past.tree ∙ ap (λ z. past.tree.nodes ++ z) (added_end past.tree) ∙ append-nil past.tree.nodes));
 }
@@ -175,3 +178,6 @@ stands_closed v u q rise rise' apart i idle c past h m = record {
         map-map (with_at shut_row q) seen v.rows
         ∙ map_both seen (told past) (λ c. seen (with_at shut_row q c)) (told (past_fed End past)) v.rows (held past.plan past.tree past.acts) h.rows each
         ∙ ap (map (told (past_fed End past))) (sym (ap (λ z. held past.plan past.tree past.acts ++ z) (added_end past.tree) ∙ append-nil (held past.plan past.tree past.acts)))
+
+    rows_left : map seen u.rows ≡ map (told (past_fed End past)) (held past.plan (grow End past.tree) past.acts)
+    rows_left = fed_rows End past h.is_past (map (with_at shut_row q) v.rows) u.rows c.leaves.left rise' c.leaves.purged rows_now

@@ -11,7 +11,7 @@ use Rattle.std.proofs.lemmas.Bool.{false≢true, eqb-true, eq-eqb, ne_eqb, cases
 use Rattle.tree_laws.proofs.Lists.{In, In-left, In-append, In-filter}
 use Rattle.node_store.specs.Rows.{Entry, changed_at, paid_by, with_payload, planted, appended}
 use Rattle.buf_tree.specs.Row.{Row}
-use Rattle.buf_tree.specs.Shape.{Store, Cell, num, cells, is_under, entry_in, Shape, Shaped, with_at, at_place}
+use Rattle.buf_tree.specs.Shape.{Store, Cell, num, cells, is_under, entry_in, Shape, Shaped, with_at}
 use Rattle.gcx_base.specs.Kinds.{is_text}
 use Rattle.buf_tree.specs.Rows.{shut_row, untaken, IsDead, serials, is_bare}
 use Rattle.gcx_base.specs.declared.kind.Kind.{Kind}
@@ -20,7 +20,7 @@ use Rattle.base_laws.proofs.Members.{in_map, from_map}
 use Rattle.buf_tree.specs.Purge.{is_gone, Keeps, Tidy, TidyBut, Purged, Cleared}
 use Rattle.buf_tree.specs.View.{View, Ordered, Kept, Ready, Innermost}
 use Rattle.buf_tree.specs.Calls.{HasRole, Left}
-use Rattle.buf_tree.proofs.Shaping.{cells_is, shaped, get_of, at_place_is, rows_number}
+use Rattle.buf_tree.proofs.Shaping.{cells_is, shaped, get_of, rows_number}
 use Rattle.buf_tree.proofs.Grown.{shape_appended, shape_planted}
 use Rattle.buf_tree.proofs.Changes.{shape_changed, g_num, get_changed}
 
@@ -177,11 +177,6 @@ kept_cleared m m' p gone gone' cap cap' count nodes n n' r c e h h' l =
 pub kept_still : (m : Store) (p : ℕ) (gone : List ℕ) (cap count nodes : ℕ) → Ready m p gone cap count nodes → Cleared m m gone gone → Kept m gone cap count nodes
 kept_still m p gone cap count nodes r c = record { shape = r.shape; tidy = c.left.2.tidy; held = r.held; room = r.room; below = r.below; ordered = r.ordered }
 
-pub in_use : (m : Store) (xs : List Cell) (p : ℕ) → Shaped m → cells m ≡ xs → Innermost xs p → IsSome (get m p)
-in_use m xs p s e i =
-    let at : get m p ≡ Some (entry_in (cells m) i.cell) = ap (get m) (sym i.place) ∙ get_of m (cells m) s i.cell (subst (λ (zs : List Cell). In i.cell zs) (sym e) i.among) in
-    subst (λ o. IsSome o) (sym at) refl
-
 keeps_shut : (r : Row) → ((shut_row r).serial ≡ r.serial) × ((shut_row r).parent ≡ r.parent)
 keeps_shut r = (refl, refl)
 
@@ -228,11 +223,6 @@ module _ (m m' : Store) (xs : List Cell) (q p : ℕ) (row : Row) (is : cells m �
     ];
     ordered = subst (λ (zs : List Cell). Ordered zs) (sym cells_appended) (ordered_push xs (record { place = p; row = row }) q i under last (subst (λ (zs : List Cell). Ordered zs) is od));
   }
-
-pub place_in : (m : Store) (xs : List Cell) (q : ℕ) → cells m ≡ xs → Shaped m → (i : Innermost xs q) → at_place q xs ≡ Some i.cell
-place_in m xs q e s i =
-    let t : Shape m xs = subst (λ (zs : List Cell). Shape m zs) e s in
-    ap (λ k. at_place k xs) (sym i.place) ∙ at_place_is xs t.apart i.cell i.among
 
 pub row_in : (m : Store) (xs : List Cell) (q : ℕ) (r : Row) → cells m ≡ xs → Shaped m → (i : Innermost xs q) → option_map (λ (e : Entry Row). e.payload) (get m q) ≡ Some r → r.serial ≡ num i.cell
 row_in m xs q r e s i h =

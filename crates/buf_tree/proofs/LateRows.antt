@@ -1,5 +1,5 @@
 -- A node that is only counted, and a row that is made late.
-use Rattle.std.proofs.Common.{◌≡◌, ℕ, suc, ◌+◌, ◌<◌, ◌≤◌, true, List, [], ◌∷◌, ◌++◌, length, map, refl, sym, ◌∙◌, ap, subst, arith, Some, None}
+use Rattle.std.proofs.Common.{◌≡◌, ℕ, suc, ◌+◌, ◌<◌, ◌≤◌, true, List, [], ◌∷◌, ◌++◌, length, map, refl, sym, ◌∙◌, ap, subst, arith, Some, None, Option}
 use Rattle.std.specs.Prelude.{option_map}
 use Rattle.std.specs.FinMap.{get}
 use Rattle.std.proofs.lemmas.Bool.{true≢false}
@@ -7,13 +7,15 @@ use Rattle.gcx_model.specs.Members.{In}
 use Rattle.node_store.specs.Rows.{Entry, appended}
 use Rattle.buf_tree.specs.Row.{Row}
 use Rattle.buf_tree.specs.Rows.{IsDead}
-use Rattle.buf_tree.specs.Shape.{Store, Cell, num, cells, at_place, Shape, Shaped}
+use Rattle.buf_tree.specs.Shape.{Store, Cell, num, cells}
 use Rattle.buf_tree.specs.View.{View, Kept, Innermost}
+use Rattle.gcx_model.specs.Held.{held}
+use Rattle.buf_tree.specs.Spread.{SpreadView, SpreadsAs}
 use Rattle.buf_tree.specs.Stands.{seen, StandsFor, awaited_by}
-use Rattle.buf_tree.specs.Loose.{Passed, last_open, cells_passed, with_passed}
+use Rattle.buf_tree.specs.Loose.{Passed, cells_passed, with_passed}
 use Rattle.buf_tree.specs.PassedCalls.{OpenedPassed, RestsLoosely}
-use Rattle.buf_tree.proofs.Keeping.{kept_opened, cells_opened, place_in}
-use Rattle.buf_tree.proofs.OwnPlaces.{last_is_innermost}
+use Rattle.buf_tree.proofs.Keeping.{kept_opened, cells_opened}
+use Rattle.buf_tree.proofs.KeptStands.{kept_set}
 use Rattle.buf_tree.proofs.PassedRows.{settles_one}
 
 -- the number of nodes may be any that is above the rows
@@ -22,10 +24,6 @@ kept_below m gone cap count nodes more low k = record { shape = k.shape; tidy = 
 
 pub alive_open : (row : Row) → row.is_open ≡ true → IsDead row → ⊥
 alive_open row o dead = true≢false (sym o ∙ dead.0)
-
--- the innermost open row is the last open one
-pub last_at : (m : Store) (xs : List Cell) (q : ℕ) → cells m ≡ xs → Shaped m → Innermost xs q → at_place q xs ≡ last_open xs
-last_at m xs q e s i = place_in m xs q e s i ∙ sym (last_is_innermost xs q (subst (λ (zs : List Cell). Shape m zs) e s).rising i)
 
 module _ (m m' : Store) (v : View) (q p : ℕ) (row above : Row) (gone0 : List ℕ) (cap0 count nodes : ℕ) (e : cells m ≡ v.rows) (k : Kept m gone0 cap0 count nodes) (i : Innermost v.rows q) (free : get m p ≡ None) (now : m' ≡ appended m q p row)
     (behind : (c : Cell) → In c v.rows → num c < row.serial) (h : option_map (λ (x : Entry Row). x.payload) (get m q) ≡ Some above) (par : row.parent ≡ above.serial) where
@@ -41,15 +39,18 @@ module _ (m m' : Store) (v : View) (q p : ℕ) (row above : Row) (gone0 : List �
       kept_below m' gone cap (count + 1) (row.serial + 1) nodes (λ d j. let l = new.below d j in omega arith) new
 
 -- the others are passed below the row
-pub rests_loosely : (v w : View) (p : ℕ) (x : Passed) → OpenedPassed v w p x → RestsLoosely v w x
-rests_loosely v w p x c xs past h places e =
+pub rests_loosely : (v w : View) (p : ℕ) (x : Passed) → OpenedPassed v w p x → w.kept ≡ v.kept ++ cells_passed (p ∷ []) (x ∷ []) v.rows → RestsLoosely v w x
+rests_loosely v w p x c kept xs past h places e =
     let s : StandsFor (with_passed (p ∷ places) (x ∷ xs) v) past = h (p ∷ places) (ap suc e) in
     record {
       is_past = s.is_past;
-      rows = ap (map seen) same ∙ s.rows;
+      spread = subst (λ (z : Option SpreadView). SpreadsAs z past.plan) (sym c.spread) s.spread;
+      rows = ap (λ (u : View). map seen u.rows) same ∙ s.rows;
+      kept = subst (λ (z : Option SpreadView). map (λ c. c.row.roles) (with_passed places xs w).kept ≡ map (kept_set z past) (held past.plan past.tree past.acts)) (sym c.spread)
+          (ap (λ (u : View). map (λ (d : Cell). d.row.roles) u.kept) same ∙ s.kept);
       waiting = ap (map awaited_by) c.waiting ∙ s.waiting;
       nodes = c.nodes ∙ s.nodes;
     }
   where
-    same : (with_passed places xs w).rows ≡ (with_passed (p ∷ places) (x ∷ xs) v).rows
-    same = ap (λ (zs : List Cell). zs ++ cells_passed places xs zs) c.rows ∙ sym (ap (λ (u : View). u.rows) (settles_one v x xs p places))
+    same : with_passed places xs (record v { rows = w.rows; kept = w.kept }) ≡ with_passed (p ∷ places) (x ∷ xs) v
+    same = (λ t. with_passed places xs (record v { rows = c.rows t; kept = kept t })) ∙ sym (settles_one v x xs p places)

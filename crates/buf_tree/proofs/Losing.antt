@@ -13,8 +13,9 @@ use Rattle.gcx_model.specs.Core.{RoleKind, Own, First, Whole, OffTree}
 use Rattle.gcx_model.specs.Tree.{Tree, Node, Root, serial_of, above}
 use Rattle.gcx_model.specs.Placed.{offs_in, is_own, is_own_kind, is_empty}
 use Rattle.gcx_model.specs.Run.{Offed}
-use Rattle.gcx_model.specs.Held.{held, held_tree, is_held, live, reaches, gives}
+use Rattle.gcx_model.specs.Held.{held, held_tree, is_held, live, reaches, gives, path_of}
 use Rattle.gcx_model.specs.Past.{Past, IsPast}
+use Rattle.gcx_model.specs.Variables.{all_child}
 use Rattle.base_laws.proofs.Members.{in_map, from_map, map_same}
 use Rattle.past_laws.specs.Pasts.{bases}
 use Rattle.tree_laws.proofs.Lists.{In, In-filter}
@@ -22,12 +23,13 @@ use Rattle.tree_laws.proofs.Matches.{Numbered-same, Matches-in}
 use Rattle.past_laws.proofs.Bases.{is_grown, live_by_bases, own_tells}
 use Rattle.past_laws.proofs.Changes.{live_by_act}
 use Rattle.past_laws.proofs.RowFacts.{bases_above, row_tells}
+use Rattle.spread_laws.proofs.Acted.{alone_takes}
 use Rattle.buf_tree.specs.Rows.{signed_for, untaken}
 use Rattle.buf_tree.specs.Shape.{Store, Cell, num, cells, Shaped, with_at}
 use Rattle.buf_tree.specs.Walk.{Nested, Inside, Within}
 use Rattle.buf_tree.specs.Ways.{Tells, TreeOf, IsKept, IsKeptBut, BaseAbove, BaseBelow}
 use Rattle.buf_tree.specs.Sweep.{Loses, taken_by}
-use Rattle.buf_tree.specs.Withdraw.{Taking}
+use Rattle.buf_tree.specs.Withdraw.{Taking, MayKeep}
 use Rattle.buf_tree.specs.Stands.{Seen, seen, told}
 use Rattle.buf_tree.proofs.Shaping.{rising_same}
 use Rattle.buf_tree.proofs.Changes.{map-map}
@@ -44,7 +46,7 @@ abbrev pub node_for : List Node → ℕ → Node
 node_for [] k = Root
 node_for (n ∷ ns) k = cond (serial_of n == k) n (node_for ns k)
 
-node_for_is : (ns : List Node) → ((a b : Node) → In a ns → In b ns → serial_of a ≡ serial_of b → a ≡ b) → (n : Node) → In n ns → node_for ns (serial_of n) ≡ n
+pub node_for_is : (ns : List Node) → ((a b : Node) → In a ns → In b ns → serial_of a ≡ serial_of b → a ≡ b) → (n : Node) → In n ns → node_for ns (serial_of n) ≡ n
 node_for_is [] one n i = absurd i
 node_for_is (x ∷ ns) one n i = go (serial_of x == serial_of n) refl i (λ j. node_for_is ns (λ a b k l. one a b (inr k) (inr l)) n j)
   where
@@ -64,7 +66,7 @@ own_reaches P o b n h = go o.kind o.rel h
     go Whole rel e = absurd (false≢true e)
 
 -- a role that isn't there is taken in vain
-remove_none : (S : FinSet nat_cmp) (k : ℕ) → set.contains S k ≡ false → set.remove S k ≡ S
+pub remove_none : (S : FinSet nat_cmp) (k : ℕ) → set.contains S k ≡ false → set.remove S k ≡ S
 remove_none S k e = same_set nat_cmp_total nat_cmp-IsAntisymmetric (set.remove S k) S (λ r. contains-remove nat_cmp_total S k r ∙ elim (cases_eq r k) [
   | inl d ↦ ap (λ b. not b && set.contains S r) (unsigned_tied r k ∙ eq-eqb r k d) ∙ sym (ap (set.contains S) d ∙ e)
   | inr d ↦ ap (λ b. not b && set.contains S r) (unsigned_tied r k ∙ ne_eqb r k d)
@@ -219,7 +221,14 @@ module _ (past : Past) (is : IsPast past) (m0 : Store) (s0 : Shaped m0) (nest0 :
             | inr z ↦ z
           ]
 
-    module _ (others : Bool) (law : (others ≡ true) ↔ ((is_own (off_tree off) ≡ false) × (BaseAbove (cells m0) off c0 ⊎ BaseBelow (cells m0) off c0))) where
+      -- below the base, where its path has no descendant step, none leads to it
+      alone_not : all_child (path_of past.plan (off_tree off).base) ≡ true → Within (cells m1) (g c0) (g d) → later n ≡ false
+      alone_not c w =
+          let j = node_within m1 s1 nest1 (g c0) (g d) m (in_now c0 i0) (in_now d i) (tells_now c0 m mi me) w in
+          let same : j.0 ≡ n = tells_same (cells m1) s1.rising (g d) j.0 n j.1 (tells_now d n ni e) in
+          (alone_takes past is (off_tree off) stated m base c n (inside n ni) (subst (λ (x : Node). In m (above x)) same j.2)).0
+
+    module _ (others alone : Bool) (alone_is : alone ≡ true → all_child (path_of past.plan (off_tree off).base) ≡ true) (law : (others ≡ true) ↔ MayKeep alone (cells m0) off c0) where
       each_row : is_own (off_tree off) ≡ false → (d : Cell) → In d (cells m0) → (loses (g d) ≡ true) ↔ Loses (cells m1) T off others (g c0) (g d)
       each_row o d i = (to, from)
         where
@@ -238,7 +247,10 @@ module _ (past : Past) (is : IsPast past) (m0 : Store) (s0 : Shaped m0) (nest0 :
           from : Loses (cells m1) T off others (g c0) (g d) → loses (g d) ≡ true
           from l = loses_from d i n.0 n.1 n.2 l.has (false_from_ne_true _ (λ h. elim (cases_Bool others) [
             | inl y ↦ l.unkept y n.0 (tells_now d n.0 n.1 n.2) (live_kept n.0 n.1 h)
-            | inr y ↦ false≢true (sym y ∙ law.1 (o, kept_other d i n.0 n.1 n.2 l.within h))
+            | inr y ↦ elim (cases_Bool alone) [
+              | inl z ↦ false≢true (sym (alone_not d i n.0 n.1 n.2 (alone_is z) l.within) ∙ h)
+              | inr z ↦ false≢true (sym y ∙ law.1 (z, o, kept_other d i n.0 n.1 n.2 l.within h))
+            ]
           ]))
 
       own_row : is_own (off_tree off) ≡ true → (d : Cell) → In d (cells m0) → (loses (g d) ≡ true) ↔ ((g c0 ≡ g d) × (set.contains (g d).row.roles off.role.0 ≡ true))

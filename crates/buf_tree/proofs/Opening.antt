@@ -34,7 +34,8 @@ use Rattle.base_laws.proofs.Bools.{same_bools}
 use Rattle.buf_tree.specs.Shape.{Cell, num, at_place}
 use Rattle.buf_tree.specs.View.{View, Innermost, num_in, level_in}
 use Rattle.buf_tree.specs.Calls.{Opened, numbers, less, new_roles, new_row, stays, with_new}
-use Rattle.buf_tree.specs.Stands.{Seen, seen, told, StandsFor, GivenTo, awaited_by}
+use Rattle.buf_tree.specs.Spread.{SpreadView, SpreadsAs}
+use Rattle.buf_tree.specs.Stands.{Seen, seen, told, StandsFor, KeepsAs, GivenTo, awaited_by}
 use Rattle.buf_tree.proofs.Standing.{pair_left, none_kept, none_passes, empty_list}
 use Rattle.buf_tree.proofs.Feeding.{map_both, held_fed, row_same, top_is}
 
@@ -53,7 +54,7 @@ in_listed (x ∷ xs) r h = elim (or_cases (x == r) (list_any (λ y. y == r) xs) 
 ]
 
 -- those that pass the one test and not the other
-less_filtered : (g t : ℕ → Bool) (cs : List ℕ) → less (filter g cs) (filter t cs) ≡ filter (λ r. g r && not (t r)) cs
+pub less_filtered : (g t : ℕ → Bool) (cs : List ℕ) → less (filter g cs) (filter t cs) ≡ filter (λ r. g r && not (t r)) cs
 less_filtered g t cs =
     filter_same (λ r. not (list_any (λ y. y == r) (filter t cs))) (λ r. not (t r)) (filter g cs) (λ r i. ap not (found r (In-filter g r cs i).0))
     ∙ sym (filter_both (λ r. not (t r)) g (λ r. g r && not (t r)) cs (λ r. refl))
@@ -179,6 +180,7 @@ module _ (v u : View) (q : ℕ) (at : Option ℕ) (kind : Kind) (gs as_ : List R
     is_open = sym (new_open P w top.0 top.1 kind k) z;
     roles = from_list {R = nat_cmp} (roles_now z);
     signed = from_list {R = nat_cmp} (sym unsigned_now z);
+    covered = false;
   }
 
   each : (c : Cell) (n : Node) → In c v.rows → In n ns → seen c ≡ told past n → seen c ≡ told (past_fed t past) n
@@ -285,12 +287,15 @@ module _ (v u : View) (q : ℕ) (at : Option ℕ) (kind : Kind) (gs as_ : List R
           ap (λ zs. cond (is_own o) [] (map (λ n. record { level = level n; off = o }) (filter (λ n. serial_of n == s) zs))) (open_new P w top.0 top.1 kind k)
           ∙ ap (λ zs. cond (is_own o) [] (map (λ n. record { level = level n; off = o }) zs)) (go o s low (is_text kind))
 
-  pub stands_opened : StandsFor u (past_grown (token_for kind) past)
-  stands_opened =
+  pub stands_opened : KeepsAs u (past_grown (token_for kind) past) → StandsFor u (past_grown (token_for kind) past)
+  stands_opened keep =
       let fed = past_feeds past h.is_past t m in
+      let rows : map seen u.rows ≡ map (told (past_fed t past)) (held past.plan Q past.acts) = ap (map seen) c.rows ∙ rows_now at ∙ ap (map (told (past_fed t past))) (sym (held_fed t past h.is_past ∙ held_now)) in
       record {
         is_past = record { core = fed.core; good = fed.good; placed = fed.placed; grown = fed.grown; stated = fed.stated; within = h.is_past.within };
-        rows = ap (map seen) c.rows ∙ rows_now at ∙ ap (map (told (past_fed t past))) (sym (held_fed t past h.is_past ∙ held_now));
+        spread = subst (λ (z : Option SpreadView). SpreadsAs z past.plan) (sym c.spread) h.spread;
+        rows = rows;
+        kept = keep rows;
         waiting = ap (map awaited_by) c.waiting ∙ h.waiting ∙ sym still_waits;
         nodes = c.nodes ∙ ap (λ z. z + 1) h.nodes ∙ sym (ap length nodes_now ∙ length-append P.nodes (node ∷ []));
       }

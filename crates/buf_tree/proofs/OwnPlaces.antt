@@ -104,7 +104,7 @@ pub flat_seen : (cs : List Cell) → map seen (map own_place cs) ≡ map seen cs
 flat_seen cs = map-map own_place seen cs
 
 pub flat_stands : (v : View) (past : Past) → StandsFor v past → StandsFor (flat v) past
-flat_stands v past h = record { is_past = h.is_past; rows = flat_seen v.rows ∙ h.rows; waiting = h.waiting; nodes = h.nodes }
+flat_stands v past h = record { is_past = h.is_past; spread = h.spread; rows = flat_seen v.rows ∙ h.rows; kept = h.kept; waiting = h.waiting; nodes = h.nodes }
 
 pub own_found : (cs : List Cell) → Rising cs → (c : Cell) → In c cs → at_place (num c) (map own_place cs) ≡ Some (own_place c)
 own_found [] r c i = absurd i

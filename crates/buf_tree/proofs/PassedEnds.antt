@@ -1,7 +1,9 @@
 -- The end of the innermost open element, where that has no role and its row is the last one: no other row goes with it.
 use Rattle.std.proofs.Common.{◌≡◌, ℕ, ◌<◌, ◌≤◌, Bool, true, false, cond, ◌&&◌, List, [], ◌∷◌, ◌++◌, length, map, refl, sym, ◌∙◌, ap, subst, inl, inr, arith, Some, None, Option}
 use Rattle.std.specs.List.{filter}
+use Rattle.std.specs.Ordering.{nat_cmp}
 use Rattle.std.specs.FinSet as set
+use Rattle.std.specs.FinSet.{from_list}
 use Rattle.std.proofs.lemmas.List.{append-nil}
 use Rattle.std.proofs.lemmas.List.Elements.{filter-append}
 use Rattle.std.proofs.lemmas.Bool.{or_cases, or_left, or_right, or_from, and_parts, and_from, false≢true, true≢false, eq-eqb, ne_eqb, false_from_ne_true}
@@ -13,7 +15,7 @@ use Rattle.gcx_model.specs.Members.{count}
 use Rattle.gcx_model.specs.Held.{live, is_live, roles_live, is_held, held}
 use Rattle.gcx_model.specs.Past.{Past, past_fed}
 use Rattle.base_laws.proofs.Lists.{nil_cons, cons_head, cons_tail}
-use Rattle.base_laws.proofs.Members.{filter_all}
+use Rattle.base_laws.proofs.Members.{filter_all, map_same}
 use Rattle.tree_laws.proofs.Lists.{In, In-left, In-append, In-filter, In-kept, any_in, any_from}
 use Rattle.tree_laws.proofs.Matches.{Grown, Numbered-same, Rising-filter, grow_nodes}
 use Rattle.tree_laws.proofs.Freeze.{within_self}
@@ -27,7 +29,8 @@ use Rattle.buf_tree.specs.Stands.{Seen, seen, told, StandsFor, awaited_by}
 use Rattle.buf_tree.specs.Loose.{last_open, passed_cell, cells_passed, with_passed, EndsPassed}
 use Rattle.buf_tree.proofs.Standing.{empty_list, none_passes}
 use Rattle.buf_tree.proofs.Feeding.{map_both, at_held, held_fed, row_same, is_top, end_open, added_end}
-use Rattle.buf_tree.proofs.PassedRows.{rows_same, places_of, places_length, places_push, rows_push}
+use Rattle.buf_tree.proofs.KeptStands.{kept_set, kept_fed}
+use Rattle.buf_tree.proofs.PassedRows.{rows_same, kept_same, places_of, places_length, places_push, front_push}
 
 -- lists that agree member by member do so before the last one
 module _ {S X Y : Type 0} (f : X → S) (g : Y → S) where
@@ -40,6 +43,21 @@ module _ {S X Y : Type 0} (f : X → S) (g : Y → S) where
       let r = split_last xs x ys (cons_tail _ _ _ _ e) in
       let top : f w ≡ g y = cons_head _ _ _ _ e in
       (y ∷ r.0, r.1, ap (λ z. y ∷ z) r.2, (λ t. top t ∷ r.3 t), r.4)
+
+-- and one list has one front
+one_front : {X : Type 0} (xs ys : List X) (x y : X) → xs ++ x ∷ [] ≡ ys ++ y ∷ [] → xs ≡ ys
+one_front [] [] x y e = refl
+one_front {X = X} [] (z ∷ ys) x y e = absurd (no_end ys y (cons_tail _ _ _ _ e))
+  where
+    no_end : (zs : List X) (z : X) → [] ≡ zs ++ z ∷ [] → ⊥
+    no_end [] z h = nil_cons z [] h
+    no_end (w ∷ zs) z h = nil_cons w (zs ++ z ∷ []) h
+one_front {X = X} (z ∷ xs) [] x y e = absurd (no_end xs x (sym (cons_tail _ _ _ _ e)))
+  where
+    no_end : (zs : List X) (z : X) → [] ≡ zs ++ z ∷ [] → ⊥
+    no_end [] z h = nil_cons z [] h
+    no_end (w ∷ zs) z h = nil_cons w (zs ++ z ∷ []) h
+one_front (z ∷ xs) (w ∷ ys) x y e = λ t. cons_head _ _ _ _ e t ∷ one_front xs ys x y (cons_tail _ _ _ _ e) t
 
 below_last : (ns : List Node) (n : Node) → RisingNodes (ns ++ n ∷ []) → (m : Node) → In m ns → serial_of m < serial_of n
 below_last [] n r m i = absurd i
@@ -56,7 +74,7 @@ open_at : (o : Option Node) (ns : List Node) → may_come_at o End ns ≡ true �
 open_at None ns m = absurd (false≢true m)
 open_at (Some a) ns m = (a, refl)
 
-module _ (v : View) (rs : List Cell) (c : Cell) (open_row : c.row.is_open ≡ true) (roles : c.row.roles ≡ set.empty) (past : Past) (h : StandsFor (record v { rows = rs ++ c ∷ [] }) past) (m : may_come End past.tree ≡ true) where
+module _ (v : View) (rs ks : List Cell) (c d : Cell) (open_row : c.row.is_open ≡ true) (roles : c.row.roles ≡ set.empty) (past : Past) (h : StandsFor (record v { rows = rs ++ c ∷ []; kept = ks ++ d ∷ [] }) past) (m : may_come End past.tree ≡ true) where
   abbrev P : Tree
   P = past.tree
 
@@ -180,10 +198,24 @@ module _ (v : View) (rs : List Cell) (c : Cell) (open_row : c.row.is_open ≡ tr
       map_both seen (told past) seen (told (past_fed End past)) rs zs split.3 (λ d n i j e. e ∙ sym (row_same End past h.is_past n (is_open_at P.at (serial_of n)) (inside n (before n j)) (open_now n j)))
       ∙ ap (map (told (past_fed End past))) (sym held_now)
 
-  ended : v.waiting ≡ [] → StandsFor (record v { rows = rs }) (past_fed End past)
+  -- what is kept at the others stays
+  kept_front : map (λ (x : Cell). x.row.roles) ks ≡ map (kept_set v.spread past) zs
+  kept_front =
+      let r = split_last (λ (x : Cell). x.row.roles) (kept_set v.spread past) ks d ns h.kept in
+      r.3 ∙ ap (map (kept_set v.spread past)) (one_front r.0 zs r.1 node (sym r.2 ∙ whole))
+
+  kept_now : map (λ (x : Cell). x.row.roles) ks ≡ map (kept_set v.spread (past_fed End past)) (held past.plan Q past.acts)
+  kept_now =
+      kept_front
+      ∙ map_same (kept_set v.spread past) (kept_set v.spread (past_fed End past)) zs (λ n i. sym (ap (λ xs. from_list {R = nat_cmp} xs) (kept_fed v.spread past h.is_past End n (inside n (before n i)))))
+      ∙ ap (map (kept_set v.spread (past_fed End past))) (sym held_now)
+
+  ended : v.waiting ≡ [] → StandsFor (record v { rows = rs; kept = ks }) (past_fed End past)
   ended idle = record {
     is_past = past_feeds past h.is_past End m;
+    spread = h.spread;
     rows = rows_now;
+    kept = kept_now;
     waiting = ap (map awaited_by) idle ∙ sym ((waiting_law past h.is_past).0 End);
     nodes = h.nodes ∙ sym (ap length nodes_now);
   }
@@ -191,7 +223,9 @@ module _ (v : View) (rs : List Cell) (c : Cell) (open_row : c.row.is_open ≡ tr
 pub ends_passed : EndsPassed
 ends_passed v xs x past h idle m ps e = record {
   is_past = now.is_past;
+  spread = now.spread;
   rows = rows_same v.rows ps (places_of xs) xs e (places_length xs) ∙ now.rows;
+  kept = kept_same v.kept v.rows ps (places_of xs) xs e (places_length xs) ∙ now.kept;
   waiting = now.waiting;
   nodes = now.nodes;
 }
@@ -199,14 +233,17 @@ ends_passed v xs x past h idle m ps e = record {
     rs : List Cell
     rs = v.rows ++ cells_passed (places_of xs) xs v.rows
 
+    ks : List Cell
+    ks = v.kept ++ cells_passed (places_of xs) xs v.rows
+
     c : Cell
     c = passed_cell (num_in (last_open rs)) (level_in (last_open rs)) 0 x
 
     all : StandsFor (with_passed (places_of xs ++ 0 ∷ []) (xs ++ x ∷ []) v) past
     all = h (places_of xs ++ 0 ∷ []) (places_push xs 0 x)
 
-    then_ : StandsFor (record v { rows = rs ++ c ∷ [] }) past
-    then_ = record { is_past = all.is_past; rows = ap (map seen) (sym (rows_push v.rows xs 0 x)) ∙ all.rows; waiting = all.waiting; nodes = all.nodes }
+    then_ : StandsFor (record v { rows = rs ++ c ∷ []; kept = ks ++ c ∷ [] }) past
+    then_ = subst (λ (u : View). StandsFor u past) (λ t. record v { rows = front_push v.rows v.rows xs 0 x t; kept = front_push v.kept v.rows xs 0 x t }) all
 
-    now : StandsFor (record v { rows = rs }) (past_fed End past)
-    now = ended v rs c refl refl past then_ m idle
+    now : StandsFor (record v { rows = rs; kept = ks }) (past_fed End past)
+    now = ended v rs ks c c refl refl past then_ m idle

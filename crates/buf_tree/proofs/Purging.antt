@@ -87,7 +87,7 @@ not_spare m ys s c i e g n = go (map (λ (d : Cell). d.place) (filter (is_under 
     entry = (let a : Some e ≡ Some (entry_in ys c) = sym g ∙ get_of m ys s c i in cc)
 
     go : (qs : List ℕ) → map (λ (d : Cell). d.place) (filter (is_under (num c)) ys) ≡ qs → Keeps ys c
-    go [] f = inl (λ dead. n (sym (ap (λ (x : Entry Row). x.payload.is_open) (sym entry)) ∙ dead.0, ap (λ (x : Entry Row). x.payload.roles) entry ∙ dead.1, ap (λ (x : Entry Row). x.children) entry ∙ f))
+    go [] f = inl (λ dead. n (sym (ap (λ (x : Entry Row). x.payload.is_open) (sym entry)) ∙ dead.0, ap (λ (x : Entry Row). x.payload.roles) entry ∙ dead.1, ap (λ (x : Entry Row). x.payload.covered) entry ∙ dead.2, ap (λ (x : Entry Row). x.children) entry ∙ f))
     go (q ∷ qs) f = inr (child_of ys (num c) q qs f)
 
 -- the row at the place is kept
@@ -112,13 +112,17 @@ module _ (m : Store) (ys : List Cell) (s : Shape m ys) (p : ℕ) (e : Entry Row)
   c0 = the.0
 
   alone : (d : Cell) → In d ys → is_under (num c0) d ≡ false
-  alone = none_under ys (num c0) (ap (λ (x : Entry Row). x.children) (sym the.3) ∙ spare.2)
+  alone = none_under ys (num c0) (ap (λ (x : Entry Row). x.children) (sym the.3) ∙ spare.3)
 
   pub shape_less : Shape (unlinked m p) (without p ys)
   shape_less = subst (λ (q : ℕ). Shape (unlinked m q) (without q ys)) the.2 (shape_unlinked m ys s c0 the.1 alone)
 
   c0_dead : IsDead c0.row
-  c0_dead = (ap (λ (x : Entry Row). x.payload.is_open) (sym the.3) ∙ spare.0, ap (λ (x : Entry Row). x.payload.roles) (sym the.3) ∙ spare.1)
+  c0_dead = (
+    ap (λ (x : Entry Row). x.payload.is_open) (sym the.3) ∙ spare.0,
+    ap (λ (x : Entry Row). x.payload.roles) (sym the.3) ∙ spare.1,
+    ap (λ (x : Entry Row). x.payload.covered) (sym the.3) ∙ spare.2,
+  )
 
   parent_place : parent_of m p ≡ place_for ys c0.row
   parent_place = ap (option_and_then (λ (x : Entry Row). x.parent)) g ∙ ap (λ (x : Entry Row). x.parent) the.3

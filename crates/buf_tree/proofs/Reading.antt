@@ -1,6 +1,6 @@
 -- What the store tells of a row that contracts see.
 use Rattle.std.proofs.Common.{◌≡◌, ◌==◌, ℕ, zero, suc, ◌+◌, ◌<◌, ◌≤◌, Bool, true, false, cond, not, add-one, take, List, [], ◌∷◌, ◌++◌, length, refl, sym, ◌∙◌, ap, subst, inl, inr, arith, Some, None, Option, get_or}
-use Rattle.std.specs.Prelude.{option_map, option_and_then, IsSome, IfSome}
+use Rattle.std.specs.Prelude.{option_map, option_and_then, IsSome}
 use Rattle.std.specs.List.{list_any}
 use Rattle.std.specs.FinMap.{get}
 use Rattle.std.specs.Ordering.{nat_cmp}
@@ -11,17 +11,14 @@ use Rattle.std.proofs.lemmas.List.{append-nil}
 use Rattle.std.proofs.lemmas.List.Elements.{filter-append}
 use Rattle.std.proofs.lemmas.Bool.{or_left, or_right, or_from, or_parts, eq-eqb}
 use Rattle.gcx_base.specs.declared.ids.Role.{Role}
-use Rattle.gcx_base.specs.declared.steps.Axis.{Axis}
 use Rattle.gcx_model.specs.Members.{In}
 use Rattle.gcx_model.specs.Paths.{head}
 use Rattle.node_store.specs.Rows.{Entry, parent_of, Rises, IsTree}
-use Rattle.node_store.specs.declared.store.Place.{Place}
 use Rattle.buf_tree.specs.Row.{Row}
-use Rattle.buf_tree.specs.Shape.{Store, Cell, num, cells, at_place, at_serial, entry_in, Shape, Shaped}
-use Rattle.buf_tree.specs.View.{View, InUse, Innermost, num_in, level_in, serial_at}
+use Rattle.buf_tree.specs.Shape.{Store, Cell, num, cells, at_serial, entry_in, Shape, Shaped}
+use Rattle.buf_tree.specs.View.{View, InUse, Innermost}
 use Rattle.buf_tree.specs.Calls.{Started, root_row, numbers, less}
-use Rattle.buf_tree.specs.Match.{GoesFrom, IsFrom}
-use Rattle.buf_tree.proofs.Shaping.{get_of, at_place_is}
+use Rattle.buf_tree.proofs.Shaping.{get_of}
 
 module _ (m : Store) (xs : List Cell) (p : ℕ) (s : Shaped m) (is : cells m ≡ xs) where
   shape_seen : Shape m xs
@@ -37,33 +34,6 @@ module _ (m : Store) (xs : List Cell) (p : ℕ) (s : Shaped m) (is : cells m ≡
   row_at c i e r h =
       let same : Some c.row ≡ Some r = sym (ap (option_map (λ (x : Entry Row). x.payload)) (entry_at c i e)) ∙ h in
       cc
-
-  pub cell_at : (c : Cell) → In c xs → c.place ≡ p → at_place p xs ≡ Some c
-  cell_at c i e = ap (λ k. at_place k xs) (sym e) ∙ at_place_is xs shape_seen.apart c i
-
-  pub serial_is : InUse xs p → (r : Row) → option_map (λ (e : Entry Row). e.payload) (get m p) ≡ Some r → r.serial ≡ serial_at p xs
-  serial_is u r h = ap (λ (x : Row). x.serial) (sym (row_at u.cell u.among u.place r h)) ∙ sym (ap num_in (cell_at u.cell u.among u.place))
-
-  pub level_is : InUse xs p → (r : Row) → option_map (λ (e : Entry Row). e.payload) (get m p) ≡ Some r → r.level ≡ level_in (at_place p xs)
-  level_is u r h = ap (λ (x : Row). x.level) (sym (row_at u.cell u.among u.place r h)) ∙ sym (ap level_in (cell_at u.cell u.among u.place))
-
--- a place has one row, whose serial is the one at it
-pub serials_at : (m : Store) (xs : List Cell) → Shaped m → cells m ≡ xs → (r : Option Place) → IfSome r (λ p. (c : Cell) → In c xs → c.place ≡ p.0 → serial_at p.0 xs ≡ num c)
-serials_at m xs s is None = tt
-serials_at m xs s is (Some p) = λ c i e. ap num_in (cell_at m xs p.0 s is c i e)
-
--- the one row of each place is that from which a search goes on
-pub goes_from : (m : Store) (xs : List Cell) (p q : ℕ) (axis : Axis) → Shaped m → cells m ≡ xs → GoesFrom xs p axis q
-    → (c d : Cell) → In c (cells m) → In d (cells m) → c.place ≡ p → d.place ≡ q → IsFrom (cells m) axis c d
-goes_from m xs p q axis s is h c d i j e f = subst (λ (zs : List Cell). In c zs → In d zs → IsFrom zs axis c d) (sym is) way i j
-  where
-    apart : (a b : Cell) → In a xs → In b xs → a.place ≡ b.place → a ≡ b
-    apart = (subst (λ (zs : List Cell). Shape m zs) is s).apart
-
-    way : In c xs → In d xs → IsFrom xs axis c d
-    way k l =
-        subst (λ (x : Cell). IsFrom xs axis x d) (apart h.top.cell c h.top.among k (h.top.place ∙ sym e))
-        (subst (λ (x : Cell). IsFrom xs axis h.top.cell x) (apart h.from.cell d h.from.among l (h.from.place ∙ sym f)) h.way)
 
 pub innermost_used : (xs : List Cell) (p : ℕ) → Innermost xs p → InUse xs p
 innermost_used xs p i = record { cell = i.cell; among = i.among; place = i.place }

@@ -9,7 +9,7 @@ use Rattle.std.proofs.lemmas.Bool.{or_cases, false≢true, eqb-true, eq-eqb, ne_
 use Rattle.tree_laws.proofs.Lists.{In}
 use Rattle.node_store.specs.Rows.{Entry}
 use Rattle.buf_tree.specs.Row.{Row}
-use Rattle.buf_tree.specs.Shape.{Store, Cell, num, put, put_entry, gather, cells, Rising, at_place, at_serial, entry_in, Shape, Shaped}
+use Rattle.buf_tree.specs.Shape.{Store, Cell, num, put, put_entry, gather, cells, Rising, Above, at_place, at_serial, entry_in, Shape, Shaped}
 
 -- ---- lists by rising serials
 
@@ -207,7 +207,7 @@ module _ (m : Store) (xs : List Cell) (s : Shape m xs) where
 
 -- the number of rows
 module _ (xs : List Cell) where
-  built : List Cell → Store
+  pub built : List Cell → Store
   built [] = empty
   built (c ∷ cs) = insert (built cs) c.place (entry_in xs c)
 
@@ -235,3 +235,7 @@ module _ (xs : List Cell) where
 pub rows_number : (m : Store) (xs : List Cell) → Shape m xs → len m ≡ length xs
 rows_number m xs s =
     ap len (same_map nat_cmp_total nat_cmp-IsAntisymmetric m (built xs xs) (λ q. s.gets q ∙ sym (get_built xs xs q))) ∙ len_built xs xs s.rising s.apart
+
+-- a store that holds exactly these rows
+pub built_shape : (xs : List Cell) → Rising xs → Apart xs → ((c : Cell) → In c xs → (num c ≡ 0) ⊎ Above xs c) → Shape (built xs xs) xs
+built_shape xs r a u = record { gets = get_built xs xs; rising = r; apart = a; up = u }

@@ -83,6 +83,7 @@ module _ (past : Past) (n : Node) where
   seen_dead c e o l = (
     ap (λ (s : Seen). s.is_open) e ∙ o,
     ap (λ (s : Seen). s.roles) e ∙ ap (λ ks. from_list {R = nat_cmp} ks) (none_kept (live past.plan past.tree past.acts n) (count 0 (length past.plan.roles)) l),
+    ap (λ (s : Seen). s.covered) e,
   )
 
 -- what a row tells of its parent

@@ -1,9 +1,12 @@
 -- The document node alone, in the rows that a new buffer stands for.
-use Rattle.std.proofs.Common.{◌≡◌, ℕ, Bool, true, false, cond, not, ◌&&◌, ◌||◌, List, [], ◌∷◌, ◌++◌, length, map, refl, sym, ◌∙◌, ap, Some, None, Option, inl, inr}
+use Rattle.std.proofs.Common.{◌≡◌, ◌==◌, ℕ, Bool, true, false, cond, not, ◌&&◌, ◌||◌, List, [], ◌∷◌, ◌++◌, length, map, refl, sym, ◌∙◌, ap, subst, Some, None, Option, inl, inr}
 use Rattle.std.specs.List.{filter}
 use Rattle.std.specs.Ordering.{nat_cmp}
-use Rattle.std.specs.FinSet.{from_list}
-use Rattle.std.proofs.lemmas.Bool.{or_from, true≢false, cases_Bool}
+use Rattle.std.specs.Cmp.{nat_cmp_total}
+use Rattle.std.specs.FinMap.{empty as empty_map}
+use Rattle.std.specs.FinSet.{FinSet, empty, contains, len, union, retain, from_list, same_set, nat_cmp-IsAntisymmetric, contains-empty}
+use Rattle.std.proofs.Math.Bool.{or-false}
+use Rattle.std.proofs.lemmas.Bool.{or_from, true≢false, cases_Bool, eq-eqb}
 use Rattle.gcx_base.specs.declared.ids.Role.{Role}
 use Rattle.gcx_base.specs.declared.kind.Kind.TheVariants.{Document}
 use Rattle.gcx_base.specs.declared.steps.Step.{Step}
@@ -18,13 +21,22 @@ use Rattle.gcx_model.specs.Cores.{Good}
 use Rattle.gcx_model.specs.Placed.{Placed}
 use Rattle.gcx_model.specs.Held.{path_of, statement_of, is_node, gives, given, roles_given, signed, all_signed, on_off, live, roles_live}
 use Rattle.gcx_model.specs.Past.{opening_past, is_signed, roles_signed}
+use Rattle.node_store.specs.Rows.{planted}
 use Rattle.past_laws.proofs.Bases.{tells}
 use Rattle.placed_laws.proofs.PlanStatements.{one_statement_law}
 use Rattle.past_laws.proofs.PastForms.{past_opens}
 use Rattle.placed_laws.proofs.Told.{given_told}
 use Rattle.buf_tree.specs.View.{View}
 use Rattle.buf_tree.specs.Calls.{Started, numbers, root_row}
-use Rattle.buf_tree.specs.Stands.{seen, told, StandsFor, awaited_by}
+use Rattle.spread_laws.specs.Tops.{is_kept_at}
+use Rattle.spread_laws.proofs.Tops.{live_by_kept}
+use Rattle.buf_tree.specs.Row.{Row}
+use Rattle.buf_tree.specs.Rows.{document_row}
+use Rattle.buf_tree.specs.Shape.{Store, Cell, num, cells}
+use Rattle.buf_tree.specs.Spread.{SpreadView, SpreadsAs, kept_roles, is_spread_in, roles_at, seen_rows, TellsCovered}
+use Rattle.buf_tree.proofs.Keeping.{cells_planted}
+use Rattle.buf_tree.proofs.Spreading.{in_union, in_retain}
+use Rattle.buf_tree.specs.Stands.{seen, told, StandsFor, KeepsAs, awaited_by}
 
 no_test : (t : Test) → passes t Document ≡ false
 no_test (Named n) = refl
@@ -71,7 +83,7 @@ module _ (core : BodyTree) (good : Good core) (plan : PlanTree) (pl : Placed cor
   filter_no f [] h = refl
   filter_no f (x ∷ xs) h = rw (h x) (filter_no f xs h)
 
-  roles_then : roles_live plan opening [] Root ≡ roles_given plan opening Root
+  pub roles_then : roles_live plan opening [] Root ≡ roles_given plan opening Root
   roles_then = filter_each (live plan opening [] Root) (given plan opening Root) (count 0 (length plan.roles)) all_live
 
   signed_then : roles_signed plan [] Root ≡ []
@@ -81,10 +93,23 @@ module _ (core : BodyTree) (good : Good core) (plan : PlanTree) (pl : Placed cor
       go None = refl
       go (Some s) = refl
 
-  pub stands_started : (v : View) (gs : List Role) → Started v gs → numbers gs ≡ roles_given plan opening Root → StandsFor v (opening_past plan)
-  stands_started v gs c e = record {
+  -- what is kept at it is what it is given
+  kept_then : (s : Option SpreadView) → kept_roles s (opening_past plan) Root ≡ roles_given plan opening Root
+  kept_then None = roles_then
+  kept_then (Some s) =
+      filter_each (is_kept_at (opening_past plan) Root) (live plan opening [] Root) (count 0 (length plan.roles)) (λ r. sym (live_by_kept (opening_past plan) (past_opens core good plan pl) r).0)
+      ∙ roles_then
+
+  keeps_started : (v : View) (gs : List Role) (p : ℕ) → v.kept ≡ record { place = p; row = root_row gs } ∷ [] → numbers gs ≡ roles_given plan opening Root → KeepsAs v (opening_past plan)
+  keeps_started v gs p kept e rows =
+      ap (map (λ (c : Cell). c.row.roles)) kept ∙ (λ t. from_list {R = nat_cmp} ((e ∙ sym (kept_then v.spread)) t) ∷ [])
+
+  pub stands_started : (v : View) (gs : List Role) (p : ℕ) → Started v gs → v.kept ≡ record { place = p; row = root_row gs } ∷ [] → numbers gs ≡ roles_given plan opening Root → SpreadsAs v.spread plan → StandsFor v (opening_past plan)
+  stands_started v gs p c kept e s = record {
     is_past = past_opens core good plan pl;
-    rows = ap (map seen) c.row.1 ∙ (λ t. same t ∷ []);
+    spread = s;
+    rows = rows;
+    kept = keeps_started v gs p kept e rows;
     waiting = ap (map awaited_by) c.waiting;
     nodes = c.nodes;
   }
@@ -98,4 +123,37 @@ module _ (core : BodyTree) (good : Good core) (plan : PlanTree) (pl : Placed cor
         is_open = true;
         roles = from_list {R = nat_cmp} ((e ∙ sym roles_then) t);
         signed = from_list {R = nat_cmp} (sym signed_then t);
+        covered = false;
       }
+
+      rows : map seen v.rows ≡ map (told (opening_past plan)) (Root ∷ [])
+      rows = ap (map seen) c.row.1 ∙ (λ t. same t ∷ [])
+
+-- ---- the row of the document node alone
+
+pub planted_alone : (m m' : Store) (p : ℕ) (row : Row) (gs : List Role) (roles : FinSet nat_cmp) → m ≡ empty_map → m' ≡ planted m p row → row ≡ document_row roles → roles ≡ from_list (numbers gs) → cells m' ≡ record { place = p; row = root_row gs } ∷ []
+planted_alone m m' p row gs roles none now is given =
+    cells_planted m m' p row none now (ap (λ (r : Row). r.serial) is) ∙ (λ t. record { place = p; row = (is ∙ ap document_row given) t } ∷ [])
+
+-- roles of no row above
+none_above : (sp : ℕ → Bool) (r : FinSet nat_cmp) → union r (retain empty sp) ≡ r
+none_above sp r = same_set nat_cmp_total nat_cmp-IsAntisymmetric (union r (retain empty sp)) r (λ k. in_union r (retain empty sp) k ∙ ap (λ b. contains r k || b) (none k) ∙ or-false (contains r k))
+  where
+    none : (k : ℕ) → contains (retain (empty {R = nat_cmp}) sp) k ≡ false
+    none k = in_retain (empty {R = nat_cmp}) sp k ∙ ap (λ b. b && sp k) (contains-empty nat_cmp k)
+
+pub alone_seen : (s : Option SpreadView) (c : Cell) → c.row.covered ≡ false → seen_rows s (c ∷ []) ≡ c ∷ []
+alone_seen s c bare = λ t. record { place = c.place; row = record c.row { roles = none_above (is_spread_in s) c.row.roles t; covered = sym bare t } } ∷ []
+
+pub alone_covers : (s : Option SpreadView) (c : Cell) → c.row.covered ≡ false → num c ≡ 0 → TellsCovered s (c ∷ [])
+alone_covers s c bare zero d (inl e) =
+    sym (ap (λ (z : Cell). z.row.covered) e) ∙ bare
+    ∙ sym (ap (λ b. not b && not (len (retain (roles_at (seen_rows s (c ∷ [])) d.row.parent) (is_spread_in s)) == 0)) (eq-eqb (num d) 0 (sym (ap num e) ∙ zero)))
+alone_covers s c bare zero d (inr i) = absurd i
+
+-- the rows kept are those seen, and each tells that it has no roles from above, whichever are spread
+pub started_rows : (s : Option SpreadView) (ks : List Cell) (p : ℕ) (gs : List Role) → ks ≡ record { place = p; row = root_row gs } ∷ []
+    → (seen_rows s ks ≡ record { place = p; row = root_row gs } ∷ []) × TellsCovered s ks
+started_rows s ks p gs e =
+    let c : Cell = record { place = p; row = root_row gs } in
+    (ap (seen_rows s) e ∙ alone_seen s c refl, subst (λ (zs : List Cell). TellsCovered s zs) (sym e) (alone_covers s c refl refl))

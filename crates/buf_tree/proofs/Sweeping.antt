@@ -40,7 +40,7 @@ pub record Sweeping (m0 m : Store) (off : Off) (others : Bool) (c : Cell) (tidy 
   pub taken : count ≡ length (filter lost (cells m0))
   pub right : (T : Tree) (loses : Cell → Bool) → TreeOf (cells m0) T → LosesBy (cells m0) T off others c loses → (d : Cell) → In d (cells m0) → edge ≤ num d → lost d ≡ loses d
 
-within_low : (xs : List Cell) (c d : Cell) → Within xs c d → num c ≤ num d
+pub within_low : (xs : List Cell) (c d : Cell) → Within xs c d → num c ≤ num d
 within_low xs c d (inl e) = let f = ap num e in omega arith
 within_low xs c d (inr k) = let f = k.behind in omega arith
 

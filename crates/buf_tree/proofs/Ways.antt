@@ -214,7 +214,7 @@ pub record Stepped (steps : List Step) (kind : Kind) (i : ℕ) (old new : List B
   pub done : (j : ℕ) (st : Step) → j < i → get_or new j false ≡ flag_up (get_or steps j st) kind (get_or old j false) (get_or old (j + 1) false)
   pub left : (j : ℕ) → i ≤ j → get_or new j false ≡ get_or old j false
 
-some_step : {X : Type 0} (xs : List X) (i : ℕ) → i < length xs → (x : X) × (drop i xs ≡ x ∷ drop (i + 1) xs) × ((d : X) → get_or xs i d ≡ x)
+pub some_step : {X : Type 0} (xs : List X) (i : ℕ) → i < length xs → (x : X) × (drop i xs ≡ x ∷ drop (i + 1) xs) × ((d : X) → get_or xs i d ≡ x)
 some_step [] i l = absurd (omega arith)
 some_step (x ∷ xs) zero l = (x, refl, λ d. refl)
 some_step (x ∷ xs) (suc i) l =

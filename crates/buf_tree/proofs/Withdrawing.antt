@@ -1,5 +1,5 @@
 -- Taking a role back from rows, and what leaves then.
-use Rattle.std.proofs.Common.{◌≡◌, ◌==◌, ℕ, zero, suc, ◌+◌, ◌-◌, ◌<◌, ◌≤◌, Bool, true, false, cond, not, ◌&&◌, ◌||◌, List, [], ◌∷◌, ◌++◌, length, map, refl, sym, ◌∙◌, ap, subst, inl, inr, ◌⊎◌, arith, Some, append_assoc}
+use Rattle.std.proofs.Common.{◌≡◌, ◌==◌, ℕ, zero, suc, ◌+◌, ◌-◌, ◌<◌, ◌≤◌, Bool, true, false, cond, not, ◌&&◌, ◌||◌, List, [], ◌∷◌, ◌++◌, length, map, refl, sym, ◌∙◌, ap, subst, inl, inr, ◌⊎◌, arith, Some, append_assoc, Option}
 use Rattle.std.specs.Prelude.{◌↔◌, IsSome, reverse}
 use Rattle.std.specs.List.{filter, list_any}
 use Rattle.std.proofs.lemmas.List.{append-nil, length-append, map-append}
@@ -23,8 +23,10 @@ use Rattle.buf_tree.specs.declared.ahead.Ahead.{Ahead}
 use Rattle.base_laws.proofs.Lists.{reverse_cons}
 use Rattle.base_laws.proofs.Bools.{same_bools}
 use Rattle.base_laws.proofs.Members.{in_map, from_map, map_same}
-use Rattle.buf_tree.specs.Withdraw.{TakenBack, Withdrawn}
+use Rattle.buf_tree.specs.Spread.{SpreadView, seen_rows}
+use Rattle.buf_tree.specs.Withdraw.{SeenTaken, Withdrawn}
 use Rattle.buf_tree.specs.View.{Ordered, Kept, Ready, capped}
+use Rattle.buf_tree.specs.Walk.{Nested}
 use Rattle.buf_tree.specs.Calls.{role_count, left_out}
 use Rattle.buf_tree.proofs.Shaping.{get_of, held_in, shaped}
 use Rattle.buf_tree.proofs.Changes.{Rising-filtered, shape_changed}
@@ -164,16 +166,19 @@ module _ (loses : Cell → Bool) (k : ℕ) where
       go true = refl
       go false = refl
 
-  t_ordered : (xs : List Cell) → Ordered xs → Ordered (taken_by loses k xs)
+  pub t_nested : (xs : List Cell) → Nested xs → Nested (taken_by loses k xs)
+  t_nested xs nest b c i j l n =
+      let x = from_map (bare loses k) b xs i in
+      let y = from_map (bare loses k) c xs j in
+      let a1 = (bare_alike loses k x.0).serial ∙ ap num x.2 in
+      let a2 = (bare_alike loses k y.0).serial ∙ ap num y.2 in
+      let b1 = (bare_alike loses k x.0).parent ∙ ap (λ (z : Cell). z.row.parent) x.2 in
+      let b2 = (bare_alike loses k y.0).parent ∙ ap (λ (z : Cell). z.row.parent) y.2 in
+      let z = nest x.0 y.0 x.1 y.1 (omega arith) (omega arith) in omega arith
+
+  pub t_ordered : (xs : List Cell) → Ordered xs → Ordered (taken_by loses k xs)
   t_ordered xs o = record {
-    nested = λ b c i j l n.
-        let x = from_map (bare loses k) b xs i in
-        let y = from_map (bare loses k) c xs j in
-        let a1 = (bare_alike loses k x.0).serial ∙ ap num x.2 in
-        let a2 = (bare_alike loses k y.0).serial ∙ ap num y.2 in
-        let b1 = (bare_alike loses k x.0).parent ∙ ap (λ (z : Cell). z.row.parent) x.2 in
-        let b2 = (bare_alike loses k y.0).parent ∙ ap (λ (z : Cell). z.row.parent) y.2 in
-        let z = o.nested x.0 y.0 x.1 y.1 (omega arith) (omega arith) in omega arith;
+    nested = t_nested xs o.nested;
     open_last = λ a b i j op l.
         let x = from_map (bare loses k) a xs i in
         let y = from_map (bare loses k) b xs j in
@@ -392,12 +397,14 @@ pub gone_longer : (m0 m1 : Store) (p : ℕ) (loses : Cell → Bool) (k : ℕ) (g
 gone_longer m0 m1 p loses k g0 g1 res w = omega (arith, ap length w.left.1 ∙ length-append g0 w.left.0)
 
 -- what a withdrawal makes of a buffer with these fields
-pub withdrawn_by : (waiting : List Ahead) (nodes : ℕ) (m0 m : Store) (g0 g : List ℕ) (loses : Cell → Bool) (k count taken taken' most most' : ℕ) (loans loans' : List ℕ)
-    → TakenBack m0 m loses k g0 g count → taken' ≡ capped (taken + count) → most' ≡ most → loans' ≡ loans
-    → Withdrawn (record { rows = cells m0; gone = g0; waiting = waiting; nodes = nodes; taken = taken; most = most; loans = loans }) (record { rows = cells m; gone = g; waiting = waiting; nodes = nodes; taken = taken'; most = most'; loans = loans' }) loses k
-withdrawn_by waiting nodes m0 m g0 g loses k count taken taken' most most' loans loans' h t o l = record {
+pub withdrawn_by : (s : Option SpreadView) (waiting : List Ahead) (nodes : ℕ) (m0 m : Store) (g0 g : List ℕ) (loses : Cell → Bool) (k count taken taken' most most' : ℕ) (loans loans' : List ℕ)
+    → SeenTaken s m0 m loses k g0 g count → taken' ≡ capped (taken + count) → most' ≡ most → loans' ≡ loans
+    → Withdrawn (record { rows = seen_rows s (cells m0); kept = cells m0; spread = s; gone = g0; waiting = waiting; nodes = nodes; taken = taken; most = most; loans = loans })
+    (record { rows = seen_rows s (cells m); kept = cells m; spread = s; gone = g; waiting = waiting; nodes = nodes; taken = taken'; most = most'; loans = loans' }) loses k
+withdrawn_by s waiting nodes m0 m g0 g loses k count taken taken' most most' loans loans' h t o l = record {
   leaves = record { left = h.left.0; gone = h.left.1; purged = h.left.2 };
   taken = t ∙ ap (λ z. capped (taken + z)) h.taken;
+  spread = refl;
   waiting = refl;
   nodes = refl;
   most = o;

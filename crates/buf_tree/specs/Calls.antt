@@ -71,6 +71,7 @@ pub record Opened (v w : View) (q : ℕ) (at : Option ℕ) (kind : Kind) (given 
   pub nodes : w.nodes ≡ v.nodes + 1
   pub taken : w.taken ≡ capped (v.taken + length ahead)
   pub most : w.most ≡ most_new at v
+  pub spread : w.spread ≡ v.spread
 
 -- `close_node`
 pub record Closed (v w : View) (p : ℕ) : Type 0 where
@@ -79,6 +80,7 @@ pub record Closed (v w : View) (p : ℕ) : Type 0 where
   pub nodes : w.nodes ≡ v.nodes
   pub taken : w.taken ≡ v.taken
   pub most : w.most ≡ v.most
+  pub spread : w.spread ≡ v.spread
 
 -- the row at the place has the role
 pub record HasRole (xs : List Cell) (p k : ℕ) : Type 0 where
@@ -94,6 +96,7 @@ pub record Untaken (v w : View) (p k : ℕ) : Type 0 where
   pub nodes : w.nodes ≡ v.nodes
   pub taken : w.taken ≡ capped (v.taken + 1)
   pub most : w.most ≡ v.most
+  pub spread : w.spread ≡ v.spread
 
 -- the rows with the role k
 abbrev pub role_count : ℕ → List Cell → ℕ
@@ -111,3 +114,4 @@ pub record Signed (v w : View) (k : ℕ) : Type 0 where
   pub taken : w.taken ≡ capped (v.taken + (role_count k v.rows - role_count k w.rows))
   pub nodes : w.nodes ≡ v.nodes
   pub most : w.most ≡ v.most
+  pub spread : w.spread ≡ v.spread

@@ -12,5 +12,8 @@ pub mod Ways
 pub mod Trail
 pub mod Sweep
 pub mod Withdraw
+pub mod Spread
+pub mod Recount
+pub mod Tops
 pub mod Loose
 pub mod PassedCalls

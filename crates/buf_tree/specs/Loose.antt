@@ -41,7 +41,7 @@ cells_passed places xs rows = passed_cells (num_in (last_open rows)) (level_in (
 
 -- the view with these rows too
 abbrev pub with_passed : List ℕ → List Passed → View → View
-with_passed places xs v = record v { rows = v.rows ++ cells_passed places xs v.rows }
+with_passed places xs v = record v { rows = v.rows ++ cells_passed places xs v.rows; kept = v.kept ++ cells_passed places xs v.rows }
 
 -- whatever places they get
 abbrev pub Loosely : (View → Type 0) → List Passed → View → Type 0
@@ -86,7 +86,7 @@ EndsPassed = (v : View) (xs : List Passed) (x : Passed) (past : Past) → Stands
 -- The row of the outermost passed element may be made, at any place: the others are passed below it.
 abbrev pub SettlesOne : Type 0
 SettlesOne = (v : View) (x : Passed) (xs : List Passed) (p : ℕ) (places : List ℕ)
-    → with_passed (p ∷ places) (x ∷ xs) v ≡ with_passed places xs (record v { rows = v.rows ++ cells_passed (p ∷ []) (x ∷ []) v.rows })
+    → with_passed (p ∷ places) (x ∷ xs) v ≡ with_passed places xs (record v { rows = v.rows ++ cells_passed (p ∷ []) (x ∷ []) v.rows; kept = v.kept ++ cells_passed (p ∷ []) (x ∷ []) v.rows })
 
 -- With no element passed nothing is loose.
 abbrev pub SettlesNone : Type 0

@@ -1,5 +1,5 @@
 -- What the calls make of the rows that open a node with a set of roles, pass one, or make its row late.
-use Rattle.std.specs.Prelude.{◌≡◌, ◌+◌, ℕ, true, List, [], ◌∷◌, ◌++◌, Option, Some, length, drop, not, max, is_some}
+use Rattle.std.specs.Prelude.{◌≡◌, ◌+◌, ◌⊎◌, ℕ, true, List, [], ◌∷◌, ◌++◌, Option, Some, None, length, drop, not, max, is_some}
 use Rattle.std.specs.FinSet as set
 use Rattle.std.specs.Ordering.{nat_cmp}
 use Rattle.gcx_base.specs.declared.kind.Kind.{Kind}
@@ -30,11 +30,16 @@ pub record OpenedWith (v w : View) (q : ℕ) (at : Option ℕ) (kind : Kind) (ro
   pub nodes : w.nodes ≡ v.nodes + 1
   pub taken : w.taken ≡ capped (v.taken + ahead)
   pub most : w.most ≡ most_new at v
+  pub spread : w.spread ≡ v.spread
 
 -- of the roles that the node is given which the token opens, these are left that aren't taken in advance
 abbrev pub LeftTo : Past → Token → set.FinSet nat_cmp → Type 0
 LeftTo past t roles = (n : Node) → drop (length past.tree.nodes) (grow t past.tree).nodes ≡ n ∷ []
     → roles ≡ set.from_list (less (roles_given past.plan (grow t past.tree) n) (roles_taken past.plan (grow t past.tree) past.acts n))
+
+-- Where roles are spread, the token may come behind one past at least for which the buffer stands, and these are left to the node.
+abbrev pub MayOpenWith : View → Token → set.FinSet nat_cmp → Type 0
+MayOpenWith v t roles = (v.spread ≡ None) ⊎ ((past : Past) × StandsFor v past × (may_come t past.tree ≡ true) × LeftTo past t roles)
 
 -- from v to w such a node came: for each past for which v stands, w stands for that with the node
 abbrev pub StandsWith : (v w : View) → Kind → set.FinSet nat_cmp → Type 0
@@ -50,6 +55,11 @@ pub record OpenedPassed (v w : View) (p : ℕ) (x : Passed) : Type 0 where
   pub nodes : w.nodes ≡ v.nodes
   pub taken : w.taken ≡ v.taken
   pub most : w.most ≡ max v.most (length v.rows + 1)
+  pub spread : w.spread ≡ v.spread
+
+-- Where roles are spread, the buffer stands loosely for one past at least, where this is the outermost passed element.
+abbrev pub MayRest : View → Passed → Type 0
+MayRest v x = (v.spread ≡ None) ⊎ ((xs : List Passed) × (past : Past) × StandsLoosely (x ∷ xs) v past)
 
 -- with the row of the outermost passed element the others are passed below it
 abbrev pub RestsLoosely : (v w : View) → Passed → Type 0

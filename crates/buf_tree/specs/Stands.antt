@@ -19,9 +19,10 @@ use Rattle.buf_tree.specs.Row.{Row}
 use Rattle.buf_tree.specs.declared.ahead.Ahead.{Ahead}
 use Rattle.buf_tree.specs.Shape.{Cell}
 use Rattle.buf_tree.specs.View.{View, serial_at}
+use Rattle.buf_tree.specs.Spread.{SpreadsAs, kept_roles}
 use Rattle.buf_tree.specs.Calls.{numbers}
 
--- what a row tells of its node, with its roles and the roles signed at it as sets, and how deep it lies
+-- what a row tells of its node, with its roles and the roles signed at it as sets, how deep it lies, and whether it says that it has roles from above: no row that contracts see does
 pub record Seen : Type 0 where
   pub serial : ℕ
   pub level : ℕ
@@ -30,15 +31,16 @@ pub record Seen : Type 0 where
   pub is_open : Bool
   pub roles : set.FinSet nat_cmp
   pub signed : set.FinSet nat_cmp
+  pub covered : Bool
 
 abbrev pub parent_seen : Row → Option ℕ
 parent_seen r = cond (r.serial == 0) None (Some r.parent)
 
 abbrev pub seen : Cell → Seen
-seen c = record { serial = c.row.serial; level = c.row.level; parent = parent_seen c.row; kind = c.row.kind; is_open = c.row.is_open; roles = c.row.roles; signed = c.row.signed }
+seen c = record { serial = c.row.serial; level = c.row.level; parent = parent_seen c.row; kind = c.row.kind; is_open = c.row.is_open; roles = c.row.roles; signed = c.row.signed; covered = c.row.covered }
 
 abbrev pub told_row : (level : ℕ) → HeldRow → Seen
-told_row l r = record { serial = r.serial; level = l; parent = r.parent; kind = r.kind; is_open = r.is_open; roles = set.from_list r.roles; signed = set.from_list r.signed }
+told_row l r = record { serial = r.serial; level = l; parent = r.parent; kind = r.kind; is_open = r.is_open; roles = set.from_list r.roles; signed = set.from_list r.signed; covered = false }
 
 -- what the row of a held node tells
 abbrev pub told : Past → Node → Seen
@@ -47,10 +49,20 @@ told past n = told_row (level n) (row_of past n)
 abbrev pub awaited_by : Ahead → Awaited
 awaited_by a = record { level = a.level; off = off_tree a.off }
 
--- Stands for: the rows are those of the held nodes, as `rows_of` has them, each with its level
+-- the rows kept have what is kept at the held nodes
+abbrev pub KeptAt : View → Past → Type 0
+KeptAt v past = map (λ c. c.row.roles) v.kept ≡ map (λ n. set.from_list (kept_roles v.spread past n)) (held past.plan past.tree past.acts)
+
+-- where the rows that contracts see stand for the past
+abbrev pub KeepsAs : View → Past → Type 0
+KeepsAs v past = map seen v.rows ≡ map (told past) (held past.plan past.tree past.acts) → KeptAt v past
+
+-- Stands for: the rows are those of the held nodes, as `rows_of` has them, each with its level; and where roles are spread, these are those of the past's plan, each kept at its tops
 pub record StandsFor (v : View) (past : Past) : Type 0 where
   pub is_past : IsPast past
+  pub spread : SpreadsAs v.spread past.plan
   pub rows : map seen v.rows ≡ map (told past) (held past.plan past.tree past.acts)
+  pub kept : KeptAt v past
   pub waiting : map awaited_by v.waiting ≡ waiting_offs past
   pub nodes : v.nodes ≡ length past.tree.nodes
 
@@ -62,6 +74,10 @@ past_told past = record past { fed = length past.acts }
 abbrev pub GivenTo : Past → Token → List Role → List Role → Type 0
 GivenTo past t gs as_ = (n : Node) → drop (length past.tree.nodes) (grow t past.tree).nodes ≡ n ∷ []
     → (numbers gs ≡ roles_given past.plan (grow t past.tree) n) × (numbers as_ ≡ roles_taken past.plan (grow t past.tree) past.acts n)
+
+-- Where roles are spread, the token may come behind one past at least for which the buffer stands, and it gives the node these roles.
+abbrev pub MayOpen : View → Token → List Role → List Role → Type 0
+MayOpen v t gs as_ = (v.spread ≡ None) ⊎ ((past : Past) × StandsFor v past × (may_come t past.tree ≡ true) × GivenTo past t gs as_)
 
 -- a buffer of these roles stands for the opening past of each placed plan that gives them to the document node
 abbrev pub StandsFirst : View → List Role → Type 0

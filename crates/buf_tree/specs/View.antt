@@ -1,10 +1,12 @@
 -- What contracts see of a buffer, and what holds of its store.
 use Rattle.std.specs.Prelude.{◌≡◌, ◌<◌, ◌≤◌, ◌+◌, ◌-◌, ◌^◌, min, ℕ, true, List, Option, Some, None, length, IsSome, refl}
-use Rattle.std.specs.Coded.{Coded, code_by, coded×, coded_ℕ, coded_list}
+use Rattle.std.specs.Coded.{Coded, code_by, coded×, coded_ℕ, coded_list, coded_option}
 use Rattle.std.specs.FinMap.{get}
 use Rattle.gcx_model.specs.Members.{In}
 use Rattle.buf_tree.specs.Row.{Row}
+use Rattle.gcx_model.specs.declared.item.Off.{Off}
 use Rattle.buf_tree.specs.declared.ahead.Ahead.{Ahead}
+use Rattle.buf_tree.specs.Spread.{SpreadView, spread_code}
 use Rattle.buf_tree.specs.Shape.{Store, Cell, num, cells, Shaped, at_place}
 use Rattle.buf_tree.specs.Walk.{Nested}
 use Rattle.buf_tree.specs.Purge.{Tidy, TidyBut}
@@ -13,9 +15,11 @@ use Rattle.buf_tree.specs.Purge.{Tidy, TidyBut}
 abbrev pub capped : ℕ → ℕ
 capped n = min n (2 ^ 128 - 1)
 
--- the rows in document order, each with its place; the departures and the statements that wait, in order; the number of nodes so far, and of roles taken back; and of the store the greatest number of rows and the loans
+-- the rows in document order, each with its place; the same as they are kept, where a role of whole subtrees stands at the tops alone, and what is kept of the plan for it; the departures and the statements that wait, in order; the number of nodes so far, and of roles taken back; and of the store the greatest number of rows and the loans
 pub record View : Type 0 where
   pub rows : List Cell
+  pub kept : List Cell
+  pub spread : Option SpreadView
   pub gone : List ℕ
   pub waiting : List Ahead
   pub nodes : ℕ
@@ -27,13 +31,13 @@ abbrev pub cell_code : Coded Row → Coded Cell
 cell_code row =
     code_by (ℕ × Row) (coded× coded_ℕ row) (λ c. (c.place, c.row)) (λ p. record { place = p.0; row = p.1 }) (λ _. refl)
 
-abbrev pub view_code : Coded Row → Coded Ahead → Coded View
-view_code row ahead =
+abbrev pub view_code : Coded Row → Coded Off → Coded Ahead → Coded View
+view_code row off ahead =
     code_by
-    (List Cell × (List ℕ × (List Ahead × (ℕ × (ℕ × (ℕ × List ℕ))))))
-    (coded× (coded_list (cell_code row)) (coded× (coded_list coded_ℕ) (coded× (coded_list ahead) (coded× coded_ℕ (coded× coded_ℕ (coded× coded_ℕ (coded_list coded_ℕ)))))))
-    (λ v. (v.rows, (v.gone, (v.waiting, (v.nodes, (v.taken, (v.most, v.loans)))))))
-    (λ p. record { rows = p.0; gone = p.1.0; waiting = p.1.1.0; nodes = p.1.1.1.0; taken = p.1.1.1.1.0; most = p.1.1.1.1.1.0; loans = p.1.1.1.1.1.1 })
+    (List Cell × (List Cell × (Option SpreadView × (List ℕ × (List Ahead × (ℕ × (ℕ × (ℕ × List ℕ))))))))
+    (coded× (coded_list (cell_code row)) (coded× (coded_list (cell_code row)) (coded× (coded_option (spread_code off)) (coded× (coded_list coded_ℕ) (coded× (coded_list ahead) (coded× coded_ℕ (coded× coded_ℕ (coded× coded_ℕ (coded_list coded_ℕ)))))))))
+    (λ v. (v.rows, (v.kept, (v.spread, (v.gone, (v.waiting, (v.nodes, (v.taken, (v.most, v.loans)))))))))
+    (λ p. record { rows = p.0; kept = p.1.0; spread = p.1.1.0; gone = p.1.1.1.0; waiting = p.1.1.1.1.0; nodes = p.1.1.1.1.1.0; taken = p.1.1.1.1.1.1.0; most = p.1.1.1.1.1.1.1.0; loans = p.1.1.1.1.1.1.1.1 })
     (λ _. refl)
 
 -- the rows stand in document order: what is open is followed by its own subtree alone

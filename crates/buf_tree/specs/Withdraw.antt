@@ -1,5 +1,5 @@
 -- What a statement takes back at a node. This follows the code: private functions alone speak of it.
-use Rattle.std.specs.Prelude.{◌≡◌, ◌↔◌, ◌+◌, ◌++◌, ℕ, Bool, true, false, List, length, filter}
+use Rattle.std.specs.Prelude.{◌≡◌, ◌↔◌, ◌⊎◌, ◌+◌, ◌++◌, ℕ, Bool, true, false, List, Option, Some, None, length, filter, map, slice_index_or}
 use Rattle.std.specs.FinSet as set
 use Rattle.gcx_model.specs.declared.item.Off.{Off}
 use Rattle.gcx_model.specs.ItemView.{off_tree}
@@ -8,7 +8,9 @@ use Rattle.gcx_model.specs.Placed.{is_own}
 use Rattle.gcx_model.specs.Tree.{Tree}
 use Rattle.buf_tree.specs.Shape.{Store, Cell, cells}
 use Rattle.buf_tree.specs.Purge.{Purged}
-use Rattle.buf_tree.specs.Ways.{TreeOf}
+use Rattle.buf_tree.specs.Recount.{Recounting, uncovered, is_lost}
+use Rattle.buf_tree.specs.Spread.{SpreadView, TellsCovered, seen_rows}
+use Rattle.buf_tree.specs.Ways.{TreeOf, BaseAbove, BaseBelow}
 use Rattle.buf_tree.specs.View.{View, capped}
 use Rattle.buf_tree.specs.Calls.{Left}
 use Rattle.buf_tree.specs.Sweep.{LosesBy, taken_by}
@@ -28,12 +30,48 @@ pub record Taking (xs : List Cell) (p : ℕ) (off : Off) (others : Bool) : Type 
   pub place : base.place ≡ p
   pub each : TakesBy xs tree off others base loses
 
+-- another base may keep the statement's role: above the row or below it stands one at which the statement isn't signed; `alone` says that none can, as the path of the bases has no descendant step
+abbrev pub MayKeep : (alone : Bool) → List Cell → Off → Cell → Type 0
+MayKeep alone xs off c = (alone ≡ false) × (is_own (off_tree off) ≡ false) × (BaseAbove xs off c ⊎ BaseBelow xs off c)
+
+-- whether it may for the row at the place
+abbrev pub TellsKeepers : (alone : Bool) → List Cell → ℕ → Off → Bool → Type 0
+TellsKeepers alone xs p off others = (c : Cell) → In c xs → c.place ≡ p → (others ≡ true) ↔ MayKeep alone xs off c
+
+-- for a spread role the statement that reaches its tops alone
+abbrev pub top_for : Option SpreadView → Off → Option Off
+top_for None off = None
+top_for (Some s) off = slice_index_or s.tops off.role.0 None
+
+-- the statement with whose steps rows are walked
+abbrev pub walked_from : Option Off → Off → Off
+walked_from None off = off
+walked_from (Some top) off = top
+
+-- a test of the rows that lose the role, or, of a spread one, of those that keep it no more
+abbrev pub TakingFrom : Option Off → List Cell → ℕ → Off → Bool → Type 0
+TakingFrom None xs p off others = Taking xs p off others
+TakingFrom (Some top) xs p off others = Recounting xs p top others
+
 -- from the store m0 to m: the role k is taken from the rows that lose it, and what nothing keeps then leaves, falling
 pub record TakenBack (m0 m : Store) (loses : Cell → Bool) (k : ℕ) (g0 g : List ℕ) (count : ℕ) : Type 0 where
   pub left : (left : List ℕ) × (g ≡ g0 ++ left) × Purged (taken_by loses k (cells m0)) (cells m) left
   pub taken : count ≡ length (filter loses (cells m0))
 
--- the same of a buffer
+-- The same of a spread role, which these rows keep no more: `between` are the rows before what nothing keeps leaves.
+pub record SpreadBack (s : Option SpreadView) (m0 m : Store) (loses : Cell → Bool) (k : ℕ) (g0 g : List ℕ) (count : ℕ) : Type 0 where
+  pub between : List Cell
+  pub rows : map uncovered between ≡ map uncovered (taken_by loses k (cells m0))
+  pub covers : TellsCovered s between
+  pub left : (left : List ℕ) × (g ≡ g0 ++ left) × Purged between (cells m) left
+  pub taken : count ≡ length (filter (is_lost k (seen_rows s between)) (seen_rows s (cells m0)))
+
+-- what is taken back from the rows that contracts see
+pub record SeenTaken (s : Option SpreadView) (m0 m : Store) (loses : Cell → Bool) (k : ℕ) (g0 g : List ℕ) (count : ℕ) : Type 0 where
+  pub left : (left : List ℕ) × (g ≡ g0 ++ left) × Purged (taken_by loses k (seen_rows s (cells m0))) (seen_rows s (cells m)) left
+  pub taken : count ≡ length (filter loses (seen_rows s (cells m0)))
+
+-- what is taken back from a buffer
 pub record Withdrawn (v w : View) (loses : Cell → Bool) (k : ℕ) : Type 0 where
   pub leaves : Left v w (taken_by loses k v.rows)
   pub taken : w.taken ≡ capped (v.taken + length (filter loses v.rows))
@@ -41,3 +79,4 @@ pub record Withdrawn (v w : View) (loses : Cell → Bool) (k : ℕ) : Type 0 whe
   pub nodes : w.nodes ≡ v.nodes
   pub most : w.most ≡ v.most
   pub loans : w.loans ≡ v.loans
+  pub spread : w.spread ≡ v.spread

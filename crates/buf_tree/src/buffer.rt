@@ -1,25 +1,37 @@
 //! The buffer.
 ghost use Rattle.std.specs.List.{list_any};
-ghost use Rattle.std.specs.Prelude.{◌≡◌, ◌==◌, ◌+◌, ◌≤◌, ◌<◌, ◌^◌, Option, Some, None, IfOk, OnOk, OnErr, max, not, option_map, true, [], length};
+ghost use Rattle.std.specs.Prelude.{◌≡◌, ◌==◌, ◌+◌, ◌≤◌, ◌<◌, ◌^◌, Option, Some, None, IfOk, OnOk, OnErr, IsSome, map as list_map, max, not, option_map, sum, true, false, [], length};
 ghost use Rattle.std.specs.FinMap as map;
 ghost use Rattle.std.specs.FinSet as set;
 ghost use Rattle.gcx_model.specs.Members.{In};
 ghost use Rattle.gcx_model.specs.Paths.{head};
 ghost use Rattle.gcx_model.specs.Past.{Past, IsNode};
 ghost use Rattle.buf_tree.specs.Rows.{serials};
-ghost use Rattle.buf_tree.specs.Shape.{Cell, num, cells, Shape, at_place};
+ghost use Rattle.buf_tree.specs.Shape.{AtPlace, Cell, num, cells, Shape, Shaped, at_place};
 ghost use Rattle.buf_tree.specs.View.{View, InUse, Innermost, serial_at, level_in};
 ghost use Rattle.buf_tree.specs.Calls.{Started, Opened, Closed, HasRole, Untaken, numbers, less};
 ghost use Rattle.buf_tree.specs.Ways.{is_waiting};
-ghost use Rattle.buf_tree.specs.Stands.{StandsFor, past_told, StandsFirst, StandsOpened, StandsClosed};
+ghost use Rattle.buf_tree.specs.Stands.{StandsFor, past_told, StandsFirst, StandsOpened, StandsClosed, MayOpen};
+ghost use Rattle.buf_tree.specs.Spread.{SpreadView, IsSpreadOf, is_spread_in, SameButRoles, capped64};
+ghost use Rattle.buf_tree.specs.Walk.{Nested};
+ghost use Rattle.spread_laws.specs.Tops.{entries_of};
+ghost use Rattle.gcx_model.specs.PlanView.{plan_tree};
+ghost use Rattle.gcx_model.specs.Core.{BodyTree};
+ghost use Rattle.gcx_model.specs.Cores.{Good};
+ghost use Rattle.gcx_model.specs.Placed.{Placed};
+ghost use Rattle.gcx_model.specs.Held.{roles_given};
+ghost use Rattle.gcx_model.specs.Tree.{Root, opening};
+ghost use Rattle.gcx_model.specs.Past.{opening_past, token_for};
 
 use crate::ahead::Ahead;
 use crate::edits::{is_spare, leave, plant_row, settle, shut, untake};
 use crate::row::Row;
+use crate::search::after;
+use crate::spread::Spread;
 use crate::trail::Trail;
 use crate::upward::is_waiting;
 use gcx_base::{Kind, Memory, Role, Serial};
-use gcx_model::{Given, Off};
+use gcx_model::{Given, Off, Plan};
 use node_store::{At, NodeStore, Place};
 use role_set::NodeRoles;
 use std::alloc::Global;
@@ -38,6 +50,7 @@ pub struct Buffer<N: NodeStore<Row>> {
     pub(crate) count: u64,
     pub(crate) taken: u128,
     pub(crate) trail: Trail,
+    pub(crate) spread: Option<Spread>,
 }
 
 impl<N: NodeStore<Row>> Model for Buffer<N> {
@@ -46,14 +59,18 @@ impl<N: NodeStore<Row>> Model for Buffer<N> {
     ghost use Rattle.buf_tree.specs.Rows.{serials};
     ghost use Rattle.buf_tree.specs.Shape.{cells};
     ghost use Rattle.buf_tree.specs.contracts.row.Row as row;
+    ghost use Rattle.gcx_model.specs.contracts.item.Off as off;
     ghost use Rattle.buf_tree.specs.contracts.ahead.Ahead as ahead;
+    ghost use Rattle.buf_tree.specs.Spread.{seen_rows, TellsCovered};
 
     ghost Value = { View };
 
-    ghost coded = { view_code row.the_row.coded ahead.the_row.coded };
+    ghost coded = { view_code row.the_row.coded off.the_row.coded ahead.the_row.coded };
 
     ghost view = { λ b. record {
-      rows = cells (N.rows b.nodes);
+      rows = seen_rows b.spread (cells (N.rows b.nodes));
+      kept = cells (N.rows b.nodes);
+      spread = b.spread;
       gone = serials b.gone.items;
       waiting = b.waiting.items;
       nodes = b.count;
@@ -62,7 +79,9 @@ impl<N: NodeStore<Row>> Model for Buffer<N> {
       loans = N.loans b.nodes;
     } };
 
-    ghost invariant = { λ b. Kept (N.rows b.nodes) (serials b.gone.items) (vec_capacity b.gone) b.held b.count };
+    ghost invariant = { λ b.
+        Kept (N.rows b.nodes) (serials b.gone.items) (vec_capacity b.gone) b.held b.count
+        × TellsCovered b.spread (cells (N.rows b.nodes)) };
 }
 
 impl<N: NodeStore<Row> + Drop> Buffer<N> {
@@ -70,6 +89,8 @@ impl<N: NodeStore<Row> + Drop> Buffer<N> {
     pub fn new(alloc: Global, nodes: N, given: Given) -> Result<Buffer<N>, Memory>
         requires empty { N.rows nodes ≡ map.empty }
         ensures started { IfOk result (λ b. Started b given) }
+        ensures spread { IfOk result (λ b. b.spread ≡ None) }
+        ensures kept { IfOk result (λ b. b.kept ≡ b.rows) }
         ensures most { IfOk result (λ b. b.most ≡ max (N.most_held nodes) 1) }
         ensures loans { IfOk result (λ b. b.loans ≡ N.loans nodes) }
         ensures stands { IfOk result (λ b. StandsFirst b given) }
@@ -87,15 +108,40 @@ impl<N: NodeStore<Row> + Drop> Buffer<N> {
             count: 1,
             taken: 0,
             trail: Trail::new(alloc),
+            spread: None,
         })
+    }
+
+    /// The same for pasts with this plan, of which the buffer keeps what it needs: the roles that the plan gives to whole
+    /// subtrees are spread. Such a role is kept at the tops of its statement alone, and what lies below has it from there.
+    pub fn new_spread(
+        alloc: Global,
+        nodes: N,
+        given: Given,
+        plan: &Plan,
+    ) -> Result<Buffer<N>, Memory>
+        requires empty { N.rows nodes ≡ map.empty }
+        requires placed { (core : BodyTree) × Good core × Placed core (plan_tree plan.now) }
+        requires given { numbers given ≡ roles_given (plan_tree plan.now) opening Root }
+        ensures started { IfOk result (λ b. Started b given) }
+        ensures spread { IfOk result (λ b. (s : SpreadView) × (b.spread ≡ Some s) × IsSpreadOf s (plan_tree plan.now)) }
+        ensures most { IfOk result (λ b. b.most ≡ max (N.most_held nodes) 1) }
+        ensures loans { IfOk result (λ b. b.loans ≡ N.loans nodes) }
+        ensures stands { IfOk result (λ b. StandsFor b (opening_past (plan_tree plan.now))) }
+    {
+        let spread = Spread::of(alloc, plan)?;
+        let mut buffer = Buffer::new(alloc, nodes, given)?;
+        buffer.spread = Some(spread);
+        Ok(buffer)
     }
 }
 
 impl<N: NodeStore<Row>> Buffer<N> {
-    /// The store, with the rows as they are.
+    /// The store, with the rows as they are kept.
     pub fn into_nodes(self) -> N
-        ensures rows { cells (N.rows result) ≡ self.rows }
-        ensures shape { Shape (N.rows result) self.rows }
+        ensures rows { cells (N.rows result) ≡ self.kept }
+        ensures shape { Shape (N.rows result) self.kept }
+        ensures alike { SameButRoles self.kept self.rows }
         ensures most { N.most_held result ≡ self.most }
         ensures loans { N.loans result ≡ self.loans }
     {
@@ -107,6 +153,7 @@ impl<N: NodeStore<Row>> Buffer<N> {
             count: _,
             taken: _,
             trail: _,
+            spread: _,
         } = self;
         nodes
     }
@@ -136,6 +183,7 @@ impl<N: NodeStore<Row>> Buffer<N> {
         requires kind { IsNode kind }
         requires nodes { self.old.nodes ≤ 2 ^ 40 + 1 }
         requires depth { level_in (at_place parent.0 self.old.rows) ≤ 1000 }
+        requires spread { MayOpen self.old (token_for kind) given ahead }
         ensures opened { IfOk result (λ p. Opened self.old self.new parent.0 (option_map (λ q. q.0) p) kind given ahead) }
         ensures stands { OnOk result (StandsOpened self.old self.new kind given ahead) }
         ensures err { OnErr result (self.new ≡ self.old) }
@@ -164,9 +212,10 @@ impl<N: NodeStore<Row>> Buffer<N> {
         self.held = held;
     }
 
-    /// Takes a role, which the node has, back from it. Then what nothing keeps leaves. Takes no memory.
+    /// Takes a role, which the node has and which isn't spread, back from it. Then what nothing keeps leaves. Takes no memory.
     pub fn take_role(&mut self, place: Place, role: Role)
         requires role { HasRole self.old.rows place.0 role.0 }
+        requires spread { is_spread_in self.old.spread role.0 ≡ false }
         ensures untaken { Untaken self.old self.new place.0 role.0 }
         ensures loans { self.new.loans ≡ self.old.loans }
     {
@@ -212,10 +261,11 @@ impl<N: NodeStore<Row>> Buffer<N> {
         self.nodes.payload(place).is_closed()
     }
 
-    /// Whether the statement is due at the node of the row at the place, if it is one of the plan: the role of its base is
-    /// at the node, live or signed, and the statement isn't signed there. Takes no memory.
+    /// Whether the statement is due at the node of the row at the place, if it is one of the plan: the role of its base,
+    /// which isn't spread, is at the node, live or signed, and the statement isn't signed there. Takes no memory.
     pub fn is_due(&self, place: Place, off: &Off) -> bool
-        requires { InUse self.now.rows place.0 }
+        requires used { InUse self.now.rows place.0 }
+        requires spread { is_spread_in self.now.spread off.now.own.0 ≡ false }
         ensures { (c : Cell) → In c self.now.rows → c.place ≡ place.0 → result ≡ is_waiting c.row off.now }
     {
         is_waiting(self.nodes.payload(place), off)
@@ -226,7 +276,8 @@ impl<N: NodeStore<Row>> Buffer<N> {
     pub fn at(&self, place: Place) -> At<'_, N, Row>
         requires { InUse self.now.rows place.0 }
         ensures place { result.place ≡ place }
-        ensures store { Shape (N.rows result.store.now) self.now.rows }
+        ensures store { Shape (N.rows result.store.now) self.now.kept }
+        ensures alike { SameButRoles self.now.kept self.now.rows }
     {
         At::new(&self.nodes, place)
     }
@@ -245,6 +296,19 @@ impl<N: NodeStore<Row>> Buffer<N> {
         ensures { result ≡ self.now.nodes }
     {
         self.count
+    }
+
+    /// The number of pairs of a row and a role that is kept at it. It stands still at 2^64 - 1. Looks at all rows. Takes no
+    /// memory.
+    pub fn entries(&self) -> u64
+        ensures none { self.now.spread ≡ None → result ≡ capped64 (sum (list_map (λ c. set.len c.row.roles) self.now.rows)) }
+        ensures spread { IsSome self.now.spread → (past : Past) → StandsFor self.now past
+            → result ≡ capped64 (entries_of past) }
+    {
+        match self.nodes.root() {
+            Some(root) => count_entries(&self.nodes, root),
+            None => 0,
+        }
     }
 
     /// The serials of the nodes that left since `clear_gone`, in the order of the calls that made them leave, and those
@@ -298,4 +362,21 @@ fn roles_left(alloc: Global, given: &[Role], ahead: &[Role]) -> Result<NodeRoles
         }
     }
     Ok(roles)
+}
+
+/// The number of entries of all rows together, where that at `root` is the document node's.
+fn count_entries<N: NodeStore<Row>>(nodes: &N, root: Place) -> u64
+    requires shape { Shaped (N.rows nodes.now) }
+    requires nested { Nested (cells (N.rows nodes.now)) }
+    requires there { IsSome (map.get (N.rows nodes.now) root.0) }
+    requires first { AtPlace (cells (N.rows nodes.now)) root.0 (λ c. num c ≡ 0) }
+    ensures { result ≡ capped64 (sum (list_map (λ c. set.len c.row.roles) (cells (N.rows nodes.now)))) }
+{
+    let mut entries: u64 = 0;
+    let mut at = Some(root);
+    'rows: while let Some(here) = at {
+        entries = entries.saturating_add(nodes.payload(here).entries());
+        at = after(nodes, root, here);
+    }
+    entries
 }

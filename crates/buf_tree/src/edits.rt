@@ -4,7 +4,7 @@ ghost use Rattle.std.specs.FinMap as map;
 ghost use Rattle.std.specs.FinSet as set;
 ghost use Rattle.gcx_base.specs.declared.ids.Serial.{Serial};
 ghost use Rattle.node_store.specs.Rows.{Entry, planted, appended, unlinked, parent_of, changed_at, paid_by};
-ghost use Rattle.buf_tree.specs.Rows.{IsSpare, shut_row, untaken, signed_for, serials};
+ghost use Rattle.buf_tree.specs.Rows.{IsSpare, covered_by, shut_row, untaken, signed_for, serials};
 ghost use Rattle.buf_tree.specs.Shape.{cells, Shaped, AtEntry, HasEntry};
 ghost use Rattle.buf_tree.specs.Purge.{TidyBut, Cleared};
 ghost use Rattle.buf_tree.specs.View.{Ready, Kept};
@@ -37,6 +37,19 @@ pub(crate) fn untake<N: NodeStore<Row>>(nodes: &mut N, place: Place, role: Role)
 {
     let row = nodes.payload_mut(place);
     row.untake(role);
+}
+
+/// The row says whether some row above it keeps a spread role.
+#[inline(always)]
+pub(crate) fn cover<N: NodeStore<Row>>(nodes: &mut N, place: Place, covered: bool)
+    requires { IsSome (map.get (N.rows nodes.old) place.0) }
+    ensures rows { N.rows nodes.new ≡ changed_at (paid_by (covered_by covered)) place.0 (N.rows nodes.old) }
+    ensures most { N.most_held nodes.new ≡ N.most_held nodes.old }
+    ensures root { N.root_of nodes.new ≡ N.root_of nodes.old }
+    ensures loans { N.loans nodes.new ≡ N.loans nodes.old }
+{
+    let row = nodes.payload_mut(place);
+    row.cover(covered);
 }
 
 /// Signs the node for the role's statement.

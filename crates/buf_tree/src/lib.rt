@@ -8,10 +8,13 @@ mod loose;
 mod matches;
 mod opened;
 mod passed;
+mod recount;
 mod row;
 mod search;
+mod spread;
 mod statements;
 mod sweep;
+mod tops;
 mod trail;
 mod upward;
 

@@ -1,14 +1,18 @@
 //! Nodes that are opened with their roles as a set.
-ghost use Rattle.std.specs.Prelude.{◌≡◌, ◌+◌, ◌≤◌, ◌^◌, IfOk, OnOk, OnErr, option_map};
+ghost use Rattle.std.specs.Prelude.{◌≡◌, ◌+◌, ◌≤◌, ◌^◌, Some, IfOk, OnOk, OnErr, IsSome, option_map};
+ghost use Rattle.std.specs.FinMap as map;
 ghost use Rattle.std.specs.FinSet as set;
-ghost use Rattle.gcx_model.specs.Past.{IsNode};
-ghost use Rattle.buf_tree.specs.PassedCalls.{OpenedWith, StandsWith};
-ghost use Rattle.buf_tree.specs.Shape.{at_place};
+ghost use Rattle.gcx_model.specs.Past.{IsNode, token_for};
+ghost use Rattle.buf_tree.specs.PassedCalls.{OpenedWith, StandsWith, MayOpenWith};
+ghost use Rattle.buf_tree.specs.Shape.{at_place, cells, Shaped};
+ghost use Rattle.buf_tree.specs.Spread.{SpreadView};
+ghost use Rattle.buf_tree.specs.Tops.{KeptOf, OwnApart};
 ghost use Rattle.buf_tree.specs.View.{Innermost, level_in};
 
 use crate::buffer::Buffer;
 use crate::edits::add_row;
 use crate::row::{Row, is_bare};
+use crate::spread::{Spread, covers};
 use gcx_base::{Kind, Memory, Serial};
 use node_store::{NodeStore, Place};
 use role_set::{NodeRoles, RoleSet};
@@ -31,6 +35,7 @@ impl<N: NodeStore<Row>> Buffer<N> {
         requires kind { IsNode kind }
         requires nodes { self.old.nodes ≤ 2 ^ 40 + 1 }
         requires depth { level_in (at_place parent.0 self.old.rows) ≤ 1000 }
+        requires spread { MayOpenWith self.old (token_for kind) given.now }
         ensures opened { IfOk result (λ p. OpenedWith self.old self.new parent.0 (option_map (λ q. q.0) p) kind given.now 0) }
         ensures stands { OnOk result (StandsWith self.old self.new kind given.now) }
         ensures err { OnErr result (self.new ≡ self.old) }
@@ -55,6 +60,7 @@ impl<N: NodeStore<Row>> Buffer<N> {
         requires nodes { self.old.nodes ≤ 2 ^ 40 + 1 }
         requires depth { level_in (at_place parent.0 self.old.rows) ≤ 1000 }
         requires signed { roles.signed ≡ set.empty }
+        requires spread { MayOpenWith self.old (token_for kind) roles.held }
         ensures ok { IfOk result (λ p. OpenedWith self.old self.new parent.0 (option_map (λ q. q.0) p) kind roles.held ahead) }
         ensures stands { OnOk result (StandsWith self.old self.new kind roles.held) }
         ensures err { OnErr result (self.new ≡ self.old) }
@@ -67,12 +73,37 @@ impl<N: NodeStore<Row>> Buffer<N> {
             self.taken = self.taken.saturating_add(ahead);
             return Ok(None);
         }
+        let mut roles = roles;
+        keep_roles(&mut self.spread, &self.nodes, parent, &kind, &mut roles);
         let above = self.nodes.payload(parent);
-        let row = above.new_child(self.count, kind, roles);
+        let covered = covers(&self.spread, above);
+        let row = above.new_child(self.count, kind, roles, covered);
         let place = add_row(&mut self.nodes, parent, row)?;
         self.held += 1;
         self.count += 1;
         self.taken = self.taken.saturating_add(ahead);
         Ok(Some(place))
+    }
+}
+
+/// Of the roles that the new child of the row at `parent` has, leaves those that are kept at it.
+#[inline(always)]
+fn keep_roles<N: NodeStore<Row>>(
+    spread: &mut Option<Spread>,
+    nodes: &N,
+    parent: Place,
+    kind: &Kind,
+    roles: &mut NodeRoles,
+)
+    requires shape { Shaped (N.rows nodes.now) }
+    requires there { IsSome (map.get (N.rows nodes.now) parent.0) }
+    requires own { (s : SpreadView) → spread.old ≡ Some s → OwnApart s.tops }
+    ensures held { KeptOf spread.old (cells (N.rows nodes.now)) parent.0 kind.now roles.old.held roles.new.held }
+    ensures signed { roles.new.signed ≡ roles.old.signed }
+    ensures same { spread.new ≡ spread.old }
+{
+    match spread {
+        Some(spread) => spread.keep_tops(nodes, parent, kind, roles),
+        None => {}
     }
 }

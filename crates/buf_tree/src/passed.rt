@@ -2,13 +2,14 @@
 ghost use Rattle.std.specs.Prelude.{◌≡◌, ◌+◌, ◌≤◌, ◌<◌, ◌^◌, IfOk, OnOk, OnErr};
 ghost use Rattle.gcx_model.specs.Members.{In};
 ghost use Rattle.buf_tree.specs.Loose.{one_passed, ElementPassed, TextPassed};
-ghost use Rattle.buf_tree.specs.PassedCalls.{OpenedPassed, RestsLoosely};
+ghost use Rattle.buf_tree.specs.PassedCalls.{OpenedPassed, RestsLoosely, MayRest};
 ghost use Rattle.buf_tree.specs.Shape.{Cell, num, at_place};
 ghost use Rattle.buf_tree.specs.View.{Innermost, level_in};
 
 use crate::buffer::Buffer;
 use crate::edits::add_row;
 use crate::row::Row;
+use crate::spread::covers;
 use gcx_base::{Kind, Memory, Name, Serial};
 use node_store::{NodeStore, Place};
 use role_set::NodeRoles;
@@ -42,6 +43,7 @@ impl<N: NodeStore<Row>> Buffer<N> {
         requires behind { (c : Cell) → In c self.old.rows → num c < serial.0 }
         requires passed { serial.0 < self.old.nodes }
         requires depth { level_in (at_place parent.0 self.old.rows) ≤ 1000 }
+        requires spread { MayRest self.old (record { name = name; serial = serial.0 }) }
         ensures opened { IfOk result (λ p. OpenedPassed self.old self.new p.0 (record { name = name; serial = serial.0 })) }
         ensures stands { OnOk result (RestsLoosely self.old self.new (record { name = name; serial = serial.0 })) }
         ensures err { OnErr result (self.new ≡ self.old) }
@@ -50,7 +52,8 @@ impl<N: NodeStore<Row>> Buffer<N> {
         self.gone.reserve(self.held + 1)?;
         let above = self.nodes.payload(parent);
         let kind = Kind::Element(name);
-        let row = above.new_child(serial.0, kind, NodeRoles::new(alloc));
+        let covered = covers(&self.spread, above);
+        let row = above.new_child(serial.0, kind, NodeRoles::new(alloc), covered);
         let place = add_row(&mut self.nodes, parent, row)?;
         self.held += 1;
         Ok(place)

@@ -1,10 +1,11 @@
 //! What the buffer keeps of a node.
-ghost use Rattle.std.specs.Prelude.{◌≡◌, ◌≤◌, ◌↔◌, not, true, IsTrue, OnOk, OnErr};
+ghost use Rattle.std.specs.Prelude.{◌≡◌, ◌≤◌, ◌↔◌, ◌⊎◌, not, true, false, IsTrue, OnOk, OnErr};
 ghost use Rattle.std.specs.FinSet as set;
-ghost use Rattle.buf_tree.specs.Rows.{is_bare, document_row, below_row, shut_row, untaken, signed_for};
+ghost use Rattle.buf_tree.specs.Rows.{is_bare, Meet, document_row, below_row, covered_by, shut_row, untaken, signed_for};
+ghost use Rattle.buf_tree.specs.Spread.{capped64};
 
 use gcx_base::{Kind, Memory, Role, Serial};
-use role_set::NodeRoles;
+use role_set::{NodeRoles, RoleSet};
 use std::marker::Model;
 
 /// A node of the buffer, seen as its number and that of its parent, how deep it lies, whether it is open, what it is, its
@@ -16,6 +17,8 @@ pub struct Row {
     parent: u64,
     level: u32,
     is_open: bool,
+    /// Whether some row above keeps a spread role.
+    covered: bool,
     kind: Kind,
     roles: NodeRoles,
 }
@@ -36,6 +39,7 @@ impl Model for Row {
       kind = r.kind;
       roles = r.roles.held;
       signed = r.roles.signed;
+      covered = r.covered;
     } };
 }
 
@@ -50,23 +54,26 @@ impl Row {
             parent: 0,
             level: 0,
             is_open: true,
+            covered: false,
             kind: Kind::Document,
             roles,
         }
     }
 
-    /// The row of a new child of this one, with these roles. A text is closed.
+    /// The row of a new child of this one, with these roles. A text is closed. `covered` says whether this row, or one
+    /// above it, keeps a spread role.
     #[inline(always)]
-    pub(crate) fn new_child(&self, serial: u64, kind: Kind, roles: NodeRoles) -> Row
+    pub(crate) fn new_child(&self, serial: u64, kind: Kind, roles: NodeRoles, covered: bool) -> Row
         requires level { self.now.level ≤ 1000 }
         requires signed { roles.signed ≡ set.empty }
-        ensures { result ≡ below_row self.now.serial self.now.level serial kind roles.held }
+        ensures { result ≡ covered_by covered (below_row self.now.serial self.now.level serial kind roles.held) }
     {
         Row {
             serial,
             parent: self.serial,
             level: self.level + 1,
             is_open: !kind.is_text(),
+            covered,
             kind,
             roles,
         }
@@ -78,6 +85,14 @@ impl Row {
         ensures { result.0 ≡ self.now.serial }
     {
         Serial(self.serial)
+    }
+
+    /// The number of its parent, and 0 for the document node.
+    #[inline(always)]
+    pub(crate) fn parent(&self) -> u64
+        ensures { result ≡ self.now.parent }
+    {
+        self.parent
     }
 
     /// How deep the node lies. The document node lies at 0.
@@ -112,12 +127,35 @@ impl Row {
         self.roles.has(role)
     }
 
-    /// Whether the node has no role.
+    /// Whether the node has no role, and none from above.
     #[inline(always)]
     pub(crate) fn has_none(&self) -> bool
-        ensures { IsTrue result ↔ self.now.roles ≡ set.empty }
+        ensures { IsTrue result ↔ ((self.now.roles ≡ set.empty) × (self.now.covered ≡ false)) }
     {
-        self.roles.is_empty()
+        self.roles.is_empty() && !self.covered
+    }
+
+    /// How many roles are kept at the node, `u64::MAX` where that is less.
+    pub(crate) fn entries(&self) -> u64
+        ensures { result ≡ capped64 (set.len self.now.roles) }
+    {
+        self.roles.count()
+    }
+
+    /// Whether the row, or one above it, keeps one of the spread roles.
+    #[inline(always)]
+    pub(crate) fn covers(&self, spread: &RoleSet) -> bool
+        ensures { (result ≡ true) ↔ ((self.now.covered ≡ true) ⊎ Meet self.now.roles spread.now) }
+    {
+        self.covered || self.roles.meets(spread)
+    }
+
+    /// Says whether some row above keeps a spread role.
+    #[inline(always)]
+    pub(crate) fn cover(&mut self, covered: bool)
+        ensures { self.new ≡ covered_by covered self.old }
+    {
+        self.covered = covered;
     }
 
     /// Whether the node is signed for the role's statement.

@@ -1,11 +1,20 @@
 //! The statements that a buffer carries out.
-ghost use Rattle.std.specs.Prelude.{◌≡◌, ◌+◌, ◌≤◌, true, ℕ, OnOk, OnErr, length, vec_len, vec_capacity};
+ghost use Rattle.std.specs.Prelude.{◌≡◌, ◌↔◌, ◌⊎◌, ◌+◌, ◌<◌, ◌≤◌, ◌^◌, true, false, ℕ, Some, None, OnOk, OnErr, IsSome, length, vec_len, vec_capacity};
+ghost use Rattle.gcx_model.specs.Members.{In};
+ghost use Rattle.gcx_model.specs.ItemView.{off_tree};
 ghost use Rattle.buf_tree.specs.Rows.{serials};
 ghost use Rattle.buf_tree.specs.Shape.{cells, Shaped};
 ghost use Rattle.buf_tree.specs.Walk.{Nested};
 ghost use Rattle.buf_tree.specs.Purge.{Tidy};
 ghost use Rattle.buf_tree.specs.Sweep.{Swept};
-ghost use Rattle.buf_tree.specs.Withdraw.{Taking, TakenBack};
+ghost use Rattle.buf_tree.specs.Withdraw.{Taking, TakingFrom, TakenBack, SpreadBack, top_for, walked_from};
+ghost use Rattle.buf_tree.specs.Recount.{Recounting, SpreadSwept};
+ghost use Rattle.buf_tree.specs.Spread.{TellsCovered, is_alone_in};
+ghost use Rattle.buf_tree.specs.Ways.{BaseAbove, BaseBelow};
+ghost use Rattle.gcx_model.specs.Placed.{is_own};
+ghost use Rattle.gcx_model.specs.declared.item.Off.{Off};
+ghost use Rattle.buf_tree.specs.Shape.{Cell};
+ghost use Rattle.std.specs.FinMap as map;
 ghost use Rattle.buf_tree.specs.Trail.{HasTrailRoom};
 ghost use Rattle.buf_tree.specs.View.{Kept};
 ghost use Rattle.buf_tree.specs.Calls.{Signed};
@@ -14,10 +23,12 @@ ghost use Rattle.buf_tree.specs.Stands.{Due, IsAhead, IsBehind, StandsSigned};
 use crate::ahead::Ahead;
 use crate::buffer::Buffer;
 use crate::edits::{settle, sign};
+use crate::recount::recount;
 use crate::row::Row;
-use crate::sweep::{has_other_base, sweep, take_own};
+use crate::spread::Spread;
+use crate::sweep::{drop_below, has_other_base, sweep, take_own};
 use crate::trail::Trail;
-use gcx_base::{Memory, Serial};
+use gcx_base::{Memory, Serial, VarId};
 use gcx_model::Off;
 use node_store::{NodeStore, Place};
 use std::alloc::Global;
@@ -36,13 +47,14 @@ impl<N: NodeStore<Row>> Buffer<N> {
         ensures err { OnErr result (self.new ≡ self.old) }
         ensures loans { self.new.loans ≡ self.old.loans }
     {
-        let others = has_other_base(&self.nodes, off, place);
-        self.trail.prepare(off, others)?;
+        let others = may_be_kept(&self.nodes, &self.spread, off, place);
+        self.trail.prepare(walked(&self.spread, off), others)?;
         sign(&mut self.nodes, place, off.role)?;
         let taken = withdraw(
             &mut self.nodes,
             &mut self.gone,
             &mut self.held,
+            &self.spread,
             off,
             place,
             others,
@@ -64,8 +76,8 @@ impl<N: NodeStore<Row>> Buffer<N> {
         ensures err { OnErr result (self.new ≡ self.old) }
         ensures loans { self.new.loans ≡ self.old.loans }
     {
-        let others = has_other_base(&self.nodes, off, place);
-        self.trail.prepare(off, others)?;
+        let others = may_be_kept(&self.nodes, &self.spread, off, place);
+        self.trail.prepare(walked(&self.spread, off), others)?;
         let level = self.nodes.payload(place).level();
         let copy = off.copy(alloc)?;
         self.waiting.reserve(1)?;
@@ -75,6 +87,7 @@ impl<N: NodeStore<Row>> Buffer<N> {
             &mut self.nodes,
             &mut self.gone,
             &mut self.held,
+            &self.spread,
             off,
             place,
             others,
@@ -93,24 +106,30 @@ fn withdraw<N: NodeStore<Row>>(
     nodes: &mut N,
     gone: &mut Vec<Serial>,
     held: &mut usize,
+    spread: &Option<Spread>,
     off: &Off,
     place: Place,
     others: bool,
     trail: &mut Trail,
 ) -> u64
     requires kept { (n : ℕ) × Kept (N.rows nodes.old) (serials gone.old.items) (vec_capacity gone.old) held.old n }
-    requires taking { Taking (cells (N.rows nodes.old)) place.0 off.now others }
-    requires room { others ≡ true → HasTrailRoom off.now trail.old }
+    requires covers { TellsCovered spread.now (cells (N.rows nodes.old)) }
+    requires taking { TakingFrom (top_for spread.now off.now) (cells (N.rows nodes.old)) place.0 off.now others }
+    requires room { others ≡ true → HasTrailRoom (walked_from (top_for spread.now off.now) off.now) trail.old }
     ensures kept { (n : ℕ) → Kept (N.rows nodes.old) (serials gone.old.items) (vec_capacity gone.old) held.old n
         → Kept (N.rows nodes.new) (serials gone.new.items) (vec_capacity gone.new) held.new n }
-    ensures withdrawn { let old_gone = serials gone.old.items in let new_gone = serials gone.new.items in
-        (t : Taking (cells (N.rows nodes.old)) place.0 off.now others)
-        → TakenBack (N.rows nodes.old) (N.rows nodes.new) t.loses off.now.role.0 old_gone new_gone result }
+    ensures withdrawn { let gone0 = serials gone.old.items in let gone1 = serials gone.new.items in
+        top_for spread.now off.now ≡ None → (t : Taking (cells (N.rows nodes.old)) place.0 off.now others)
+        → TakenBack (N.rows nodes.old) (N.rows nodes.new) t.loses off.now.role.0 gone0 gone1 result }
+    ensures spread { let gone0 = serials gone.old.items in let gone1 = serials gone.new.items in
+        (top : Off) → top_for spread.now off.now ≡ Some top
+        → (t : Recounting (cells (N.rows nodes.old)) place.0 top others)
+        → SpreadBack spread.now (N.rows nodes.old) (N.rows nodes.new) t.loses off.now.role.0 gone0 gone1 result }
     ensures most { N.most_held nodes.new ≡ N.most_held nodes.old }
     ensures loans { N.loans nodes.new ≡ N.loans nodes.old }
 {
     let before = gone.len();
-    let taken = take_back(nodes, gone, off, place, others, trail);
+    let taken = take(nodes, gone, spread, off, place, others, trail);
     let left = *held - (gone.len() - before);
     let rest = settle(nodes, gone, place, left);
     *held = rest;
@@ -119,6 +138,43 @@ fn withdraw<N: NodeStore<Row>>(
 
 /// Takes the role of the statement from the rows that lose it, and takes out the rows below the base that nothing
 /// keeps then. Answers how many roles were taken.
+fn take<N: NodeStore<Row>>(
+    nodes: &mut N,
+    gone: &mut Vec<Serial>,
+    spread: &Option<Spread>,
+    off: &Off,
+    place: Place,
+    others: bool,
+    trail: &mut Trail,
+) -> u64
+    requires shape { Shaped (N.rows nodes.old) }
+    requires nested { Nested (cells (N.rows nodes.old)) }
+    requires tidy { Tidy (cells (N.rows nodes.old)) }
+    requires rows { length (cells (N.rows nodes.old)) < 2 ^ 64 }
+    requires covers { TellsCovered spread.now (cells (N.rows nodes.old)) }
+    requires taking { TakingFrom (top_for spread.now off.now) (cells (N.rows nodes.old)) place.0 off.now others }
+    requires departures { vec_len gone.old + length (cells (N.rows nodes.old)) ≤ vec_capacity gone.old }
+    requires room { others ≡ true → HasTrailRoom (walked_from (top_for spread.now off.now) off.now) trail.old }
+    ensures swept { let gone0 = serials gone.old.items in let gone1 = serials gone.new.items in
+        top_for spread.now off.now ≡ None → (t : Taking (cells (N.rows nodes.old)) place.0 off.now others)
+        → Swept (N.rows nodes.old) (N.rows nodes.new) place.0 t.loses off.now.role.0 gone0 gone1 result }
+    ensures spread { let gone0 = serials gone.old.items in let gone1 = serials gone.new.items in
+        (top : Off) → top_for spread.now off.now ≡ Some top
+        → (t : Recounting (cells (N.rows nodes.old)) place.0 top others)
+        → SpreadSwept spread.now (N.rows nodes.old) (N.rows nodes.new) place.0 t.loses off.now.role.0 gone0 gone1 result }
+    ensures count { vec_len gone.new + length (cells (N.rows nodes.new))
+        ≡ vec_len gone.old + length (cells (N.rows nodes.old)) }
+    ensures capacity { vec_capacity gone.old ≤ vec_capacity gone.new }
+    ensures most { N.most_held nodes.new ≡ N.most_held nodes.old }
+    ensures loans { N.loans nodes.new ≡ N.loans nodes.old }
+{
+    match spread {
+        Some(spread) => take_spread(nodes, gone, spread, off, place, others, trail),
+        None => take_back(nodes, gone, off, place, others, trail),
+    }
+}
+
+/// The same of a role that isn't spread: it is kept at each row that has it.
 #[inline(always)]
 fn take_back<N: NodeStore<Row>>(
     nodes: &mut N,
@@ -148,4 +204,92 @@ fn take_back<N: NodeStore<Row>>(
         return take_own(nodes, off, place);
     }
     sweep(nodes, gone, off, place, others, trail)
+}
+
+/// The same where roles are spread.
+fn take_spread<N: NodeStore<Row>>(
+    nodes: &mut N,
+    gone: &mut Vec<Serial>,
+    spread: &Spread,
+    off: &Off,
+    place: Place,
+    others: bool,
+    trail: &mut Trail,
+) -> u64
+    requires shape { Shaped (N.rows nodes.old) }
+    requires nested { Nested (cells (N.rows nodes.old)) }
+    requires tidy { Tidy (cells (N.rows nodes.old)) }
+    requires rows { length (cells (N.rows nodes.old)) < 2 ^ 64 }
+    requires covers { TellsCovered (Some spread.now) (cells (N.rows nodes.old)) }
+    requires taking { TakingFrom (top_for (Some spread.now) off.now) (cells (N.rows nodes.old)) place.0 off.now others }
+    requires departures { vec_len gone.old + length (cells (N.rows nodes.old)) ≤ vec_capacity gone.old }
+    requires room { others ≡ true → HasTrailRoom (walked_from (top_for (Some spread.now) off.now) off.now) trail.old }
+    ensures swept { let gone0 = serials gone.old.items in let gone1 = serials gone.new.items in
+        top_for (Some spread.now) off.now ≡ None → (t : Taking (cells (N.rows nodes.old)) place.0 off.now others)
+        → Swept (N.rows nodes.old) (N.rows nodes.new) place.0 t.loses off.now.role.0 gone0 gone1 result }
+    ensures spread { let gone0 = serials gone.old.items in let gone1 = serials gone.new.items in
+        (top : Off) → top_for (Some spread.now) off.now ≡ Some top
+        → (t : Recounting (cells (N.rows nodes.old)) place.0 top others)
+        → SpreadSwept (Some spread.now) (N.rows nodes.old) (N.rows nodes.new) place.0 t.loses off.now.role.0 gone0 gone1
+        result }
+    ensures count { vec_len gone.new + length (cells (N.rows nodes.new))
+        ≡ vec_len gone.old + length (cells (N.rows nodes.old)) }
+    ensures capacity { vec_capacity gone.old ≤ vec_capacity gone.new }
+    ensures most { N.most_held nodes.new ≡ N.most_held nodes.old }
+    ensures loans { N.loans nodes.new ≡ N.loans nodes.old }
+{
+    match spread.top(off.role) {
+        Some(top) => {
+            let lost = recount(nodes, spread, top, place, others, trail);
+            drop_below(nodes, gone, place);
+            lost
+        }
+        None => take_back(nodes, gone, off, place, others, trail),
+    }
+}
+
+/// Whether another base may keep the role of this one's statement somewhere. Where the path of the base has no
+/// descendant step none can, and no row is looked at.
+#[inline(always)]
+fn may_be_kept<N: NodeStore<Row>>(
+    nodes: &N,
+    spread: &Option<Spread>,
+    off: &Off,
+    place: Place,
+) -> bool
+    requires shape { Shaped (N.rows nodes.now) }
+    requires nested { Nested (cells (N.rows nodes.now)) }
+    requires there { IsSome (map.get (N.rows nodes.now) place.0) }
+    ensures { (c : Cell) → In c (cells (N.rows nodes.now)) → c.place ≡ place.0
+        → (result ≡ true) ↔ ((is_alone_in spread.now off.now.base.0 ≡ false) × (is_own (off_tree off.now) ≡ false)
+        × (BaseAbove (cells (N.rows nodes.now)) off.now c ⊎ BaseBelow (cells (N.rows nodes.now)) off.now c)) }
+{
+    if is_alone(spread, off.base) {
+        return false;
+    }
+    has_other_base(nodes, off, place)
+}
+
+#[inline(always)]
+fn is_alone(spread: &Option<Spread>, base: VarId) -> bool
+    ensures { result ≡ is_alone_in spread.now base.0 }
+{
+    match spread {
+        Some(spread) => spread.is_alone(base),
+        None => false,
+    }
+}
+
+/// The statement with whose steps the rows are walked: for a spread role that which reaches its tops alone.
+#[inline(always)]
+fn walked<'a>(spread: &'a Option<Spread>, off: &'a Off) -> &'a Off
+    ensures { result.now ≡ walked_from (top_for spread.now off.now) off.now }
+{
+    match spread {
+        Some(spread) => match spread.top(off.role) {
+            Some(top) => top,
+            None => off,
+        },
+        None => off,
+    }
 }

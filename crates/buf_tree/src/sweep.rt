@@ -2,11 +2,13 @@
 ghost use Rattle.std.specs.Prelude.{◌≡◌, ◌==◌, ◌+◌, ◌≤◌, ◌<◌, true, cond, length, vec_capacity, vec_len, IsSome};
 ghost use Rattle.std.specs.FinMap as map;
 ghost use Rattle.std.specs.FinSet as set;
-ghost use Rattle.buf_tree.specs.Purge.{Tidy};
+ghost use Rattle.gcx_model.specs.Members.{In};
+ghost use Rattle.buf_tree.specs.Purge.{Keeps, Tidy};
+ghost use Rattle.buf_tree.specs.Recount.{Dropped};
 ghost use Rattle.buf_tree.specs.Rows.{serials};
 ghost use Rattle.buf_tree.specs.Sweep.{taken_at, TakesAt, Shed, SweptBy};
-ghost use Rattle.buf_tree.specs.Shape.{cells, Shaped, AtEntry};
-ghost use Rattle.buf_tree.specs.Walk.{Nested};
+ghost use Rattle.buf_tree.specs.Shape.{Cell, cells, Shaped, AtEntry};
+ghost use Rattle.buf_tree.specs.Walk.{Nested, Within};
 ghost use Rattle.buf_tree.specs.Trail.{HasTrailRoom};
 ghost use Rattle.buf_tree.specs.Ways.{BaseAbove, BaseBelow, TellsOf, TellsOthers};
 
@@ -75,7 +77,7 @@ pub(crate) fn has_other_base<N: NodeStore<Row>>(nodes: &N, off: &Off, place: Pla
 /// Takes the statement's role from the row, where it has it and no base keeps it. Answers how many roles were taken.
 /// Where there is no other base none keeps it.
 #[inline(always)]
-fn withdraw<N: NodeStore<Row>>(
+pub(crate) fn withdraw<N: NodeStore<Row>>(
     nodes: &mut N,
     off: &Off,
     place: Place,
@@ -157,6 +159,29 @@ pub(crate) fn sweep<N: NodeStore<Row>>(
         drop_spare(nodes, gone, here);
     }
     taken + withdraw(nodes, off, place, others, trail)
+}
+
+/// Takes out the rows below the base that nothing keeps, from the last one back.
+pub(crate) fn drop_below<N: NodeStore<Row>>(nodes: &mut N, gone: &mut Vec<Serial>, place: Place)
+    requires shape { Shaped (N.rows nodes.old) }
+    requires nested { Nested (cells (N.rows nodes.old)) }
+    requires there { IsSome (map.get (N.rows nodes.old) place.0) }
+    requires tidy { (c d : Cell) → In c (cells (N.rows nodes.old)) → c.place ≡ place.0 → In d (cells (N.rows nodes.old))
+        → (Within (cells (N.rows nodes.old)) c d → ⊥) → Keeps (cells (N.rows nodes.old)) d }
+    requires departures { vec_len gone.old + length (cells (N.rows nodes.old)) ≤ vec_capacity gone.old }
+    ensures dropped { let gone0 = serials gone.old.items in let gone1 = serials gone.new.items in
+        Dropped (N.rows nodes.old) (N.rows nodes.new) place.0 gone0 gone1 }
+    ensures count { vec_len gone.new + length (cells (N.rows nodes.new))
+        ≡ vec_len gone.old + length (cells (N.rows nodes.old)) }
+    ensures capacity { vec_capacity gone.old ≤ vec_capacity gone.new }
+    ensures most { N.most_held nodes.new ≡ N.most_held nodes.old }
+    ensures loans { N.loans nodes.new ≡ N.loans nodes.old }
+{
+    let mut at = last_below(&*nodes, place);
+    'back: while let Some(here) = at {
+        at = before_below(&*nodes, place, here);
+        drop_spare(nodes, gone, here);
+    }
 }
 
 /// Takes the role of a statement that reaches its base alone, where the base has it. Answers how many roles were taken.

@@ -5,6 +5,7 @@
 ghost use Rattle.std.specs.Prelude.{◌≡◌, ◌+◌, ◌≤◌, ◌∷◌, ◌++◌, [], false, length, vec_capacity, IsSome};
 ghost use Rattle.std.specs.FinMap as map;
 ghost use Rattle.std.proofs.Math.ListN.{replicate, set, get_or};
+ghost use Rattle.gcx_model.specs.Paths.{any};
 ghost use Rattle.gcx_model.specs.ItemView.{off_tree, role_kind};
 ghost use Rattle.buf_tree.specs.Shape.{cells, Shaped};
 ghost use Rattle.buf_tree.specs.Walk.{Nested};
@@ -18,7 +19,7 @@ use gcx_model::{Off, RoleKind};
 use node_store::{NodeStore, Place};
 
 /// The flags where a walk begins: no step is left to take, or for `end` false none leads there yet.
-fn begin(flags: &mut Vec<bool>, steps: usize, end: bool)
+pub(crate) fn begin(flags: &mut Vec<bool>, steps: usize, end: bool)
     requires room { steps + 1 ≤ vec_capacity flags.old }
     ensures flags { flags.new.items ≡ replicate steps false ++ end ∷ [] }
     ensures room { vec_capacity flags.old ≤ vec_capacity flags.new }
@@ -50,7 +51,7 @@ fn goes_on(axis: Axis) -> bool
 }
 
 /// From a node of this kind to its parent. `end` is the last flag there.
-fn go_up(flags: &mut [bool], steps: &[Step], kind: &Kind, end: bool)
+pub(crate) fn go_up(flags: &mut [bool], steps: &[Step], kind: &Kind, end: bool)
     requires count { length flags.old ≡ length steps.now + 1 }
     ensures count { length flags.new ≡ length flags.old }
     ensures flags { GoesUp steps.now kind.now end flags.old flags.new }
@@ -62,6 +63,18 @@ fn go_up(flags: &mut [bool], steps: &[Step], kind: &Kind, end: bool)
         i += 1;
     }
     flags[steps.len()] = end;
+}
+
+/// Whether some flag is left.
+pub(crate) fn has_flag(flags: &[bool]) -> bool
+    ensures { result ≡ any (λ flag. flag) flags.now }
+{
+    for flag in flags {
+        if *flag {
+            return true;
+        }
+    }
+    false
 }
 
 /// Whether the steps lead from the row at `from` to the row at `place`.

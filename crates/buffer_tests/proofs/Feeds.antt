@@ -32,7 +32,9 @@ use Rattle.doc_reader.proofs.Givings.{said-append}
 use Rattle.buf_tree.specs.Shape.{Cell, num}
 use Rattle.buf_tree.specs.View.{View, InUse, Innermost}
 use Rattle.buf_tree.specs.Ways.{is_waiting}
+use Rattle.buf_tree.specs.Spread.{is_spread_in}
 use Rattle.buf_tree.specs.Stands.{Seen, seen, told, StandsFor, Due}
+use Rattle.buf_tree.proofs.SpreadTells.{own_plain}
 use Rattle.buf_tree.proofs.Standing.{pair_left}
 use Rattle.projector.specs.declared.projector.Projector.{Projector}
 use Rattle.projector.specs.Projector.{Projects, KeepsPlace, Places, MayBeFed, heard, ahead_in}
@@ -156,7 +158,7 @@ forgotten plan r p v w e f = subst (IsFed plan r p) (sym e) (record {
   past = f.past;
   plan_is = f.plan_is;
   tree_is = f.tree_is;
-  stands = record { is_past = f.stands.is_past; rows = f.stands.rows; waiting = f.stands.waiting; nodes = f.stands.nodes };
+  stands = record { is_past = f.stands.is_past; spread = f.stands.spread; rows = f.stands.rows; kept = f.stands.kept; waiting = f.stands.waiting; nodes = f.stands.nodes };
   projects = f.projects;
   place = f.place;
 })
@@ -167,8 +169,8 @@ module _ (plan : PlanTree) (r : ReaderView) (p : Projector) (v : View) (f : IsFe
   comes : (t : Given) (rest : List Given) → waiting r ≡ t ∷ rest → may_come (said_of t) f.past.tree ≡ true
   comes t rest e = subst (λ (P : Tree). may_come (said_of t) P ≡ true) (sym f.tree_is) (next_comes r full_limits f.document true f.given f.read t rest e)
 
-  pub may_feed : (t : Given) (rest : List Given) → waiting r ≡ t ∷ rest → MayBeFed v (said_of t)
-  may_feed t rest e = record { past = f.past; stands = f.stands; may = comes t rest e }
+  pub may_feed : (t : Given) (rest : List Given) → waiting r ≡ t ∷ rest → MayBeFed (Projects p) v (said_of t)
+  may_feed t rest e = record { past = f.past; stands = f.stands; projects = f.projects; may = comes t rest e }
 
   pub depth_low : (c : Cell) → In c v.rows → c.row.is_open ≡ true → c.row.level ≤ 1000
   depth_low = open_low v f.past 1000 f.stands (λ n e. not_deep r full_limits f.document true f.given f.read n (ap (λ (P : Tree). P.at) (sym f.tree_is) ∙ e))
@@ -191,6 +193,10 @@ module _ (plan : PlanTree) (r : ReaderView) (p : Projector) (v : View) (f : IsFe
         projects = q.0;
         place = place;
       })
+
+  -- a base's own role isn't spread
+  pub plain : (off : Off) → In (off_tree off) (offs_in plan.body) → is_spread_in v.spread off.own.0 ≡ false
+  plain off i = own_plain f.past f.stands.is_past off (subst (λ (z : PlanTree). In (off_tree off) (offs_in z.body)) (sym f.plan_is) i) v.spread f.stands.spread
 
   pub due : (off : Off) (q : ℕ) → (u : InUse v.rows q) → is_waiting u.cell.row off ≡ true → In (off_tree off) (offs_in plan.body) → Due v q off
   due off q u h i =

@@ -5,15 +5,21 @@ ghost use Rattle.gcx_base.specs.Limits.{full_limits};
 ghost use Rattle.gcx_model.specs.Members.{In};
 ghost use Rattle.gcx_model.specs.Core.{BodyTree, PlanTree};
 ghost use Rattle.gcx_model.specs.Cores.{Good};
+ghost use Rattle.gcx_model.specs.Held.{roles_given};
 ghost use Rattle.gcx_model.specs.ItemView.{body_tree, off_tree};
+ghost use Rattle.gcx_model.specs.Past.{opening_past};
 ghost use Rattle.gcx_model.specs.Placed.{Placed, offs_in};
 ghost use Rattle.gcx_model.specs.PlanView.{plan_tree};
+ghost use Rattle.gcx_model.specs.Tree.{Root, opening};
 ghost use Rattle.doc_reader.specs.Standing.{ReaderView, Stands};
 ghost use Rattle.projector.specs.declared.projector.Projector.{Projector};
+ghost use Rattle.buf_tree.specs.Calls.{Started, numbers};
+ghost use Rattle.buf_tree.specs.Stands.{StandsFor};
 ghost use Rattle.buf_tree.specs.View.{InUse};
 ghost use Rattle.buffer_tests.specs.Buffers.{IsFed};
 
 mod given;
+mod kept;
 mod large;
 mod matches;
 mod passed;
@@ -307,12 +313,34 @@ fn put_all<N: NodeStore<Row>>(out: &mut String, buffer: &Buffer<N>) -> Result<()
     Ok(())
 }
 
+/// A buffer that has the document node, given these roles, whose roles of whole subtrees are spread or aren't.
+fn buffer_of<N: NodeStore<Row> + Drop>(
+    alloc: Global,
+    nodes: N,
+    given: Given,
+    plan: &Plan,
+    spread: bool,
+) -> Result<Buffer<N>, Fail>
+    requires empty { N.rows nodes ≡ map.empty }
+    requires placed { (core : BodyTree) × Good core × Placed core (plan_tree plan.now) }
+    requires given { numbers given ≡ roles_given (plan_tree plan.now) opening Root }
+    ensures started { IfOk result (λ buffer. Started buffer given) }
+    ensures stands { IfOk result (λ buffer. StandsFor buffer (opening_past (plan_tree plan.now))) }
+{
+    if spread {
+        Ok(Buffer::new_spread(alloc, nodes, given, plan)?)
+    } else {
+        Ok(Buffer::new(alloc, nodes, given)?)
+    }
+}
+
 /// A projector and a buffer that have the document node, whose roles are told.
 fn begin<N: NodeStore<Row> + Drop>(
     alloc: Global,
     out: &mut String,
     nodes: N,
     plan: &Plan,
+    spread: bool,
 ) -> Result<(Projector, Buffer<N>), Fail>
     requires empty { N.rows nodes ≡ map.empty }
     requires placed { (core : BodyTree) × Good core × Placed core (plan_tree plan.now) }
@@ -321,7 +349,7 @@ fn begin<N: NodeStore<Row> + Drop>(
     let projector = Projector::new(alloc, plan)?;
     let given = projector.document(alloc)?;
     put_opened(out, Serial(0), &given)?;
-    let buffer = Buffer::new(alloc, nodes, given)?;
+    let buffer = buffer_of(alloc, nodes, given, plan, spread)?;
     Ok((projector, buffer))
 }
 
@@ -374,12 +402,13 @@ fn followed_from<N: NodeStore<Row> + Drop>(
     plan: &Plan,
     reader: &mut Reader,
     script: &str,
+    spread: bool,
 ) -> Result<Buffer<N>, Fail>
     requires empty { N.rows nodes ≡ map.empty }
     requires placed { (core : BodyTree) × Good core × Placed core (plan_tree plan.now) }
     requires read { (document : List ℕ) × Stands reader.old full_limits document true [] }
 {
-    let (mut projector, mut buffer) = begin(alloc, out, nodes, plan)?;
+    let (mut projector, mut buffer) = begin(alloc, out, nodes, plan, spread)?;
     follow_all(
         alloc,
         out,
@@ -400,12 +429,13 @@ fn followed<N: NodeStore<Row> + Drop>(
     plan: &Plan,
     document: &[u8],
     script: &str,
+    spread: bool,
 ) -> Result<Buffer<N>, Fail>
     requires empty { N.rows nodes ≡ map.empty }
     requires placed { (core : BodyTree) × Good core × Placed core (plan_tree plan.now) }
 {
     let mut reader = read(alloc, document)?;
-    followed_from(alloc, out, nodes, plan, &mut reader, script)
+    followed_from(alloc, out, nodes, plan, &mut reader, script, spread)
 }
 
 /// What the script tells by the plan.
@@ -415,12 +445,13 @@ fn told_by<N: NodeStore<Row> + Drop>(
     plan: &Plan,
     document: &[u8],
     script: &str,
+    spread: bool,
 ) -> Result<String, Fail>
     requires empty { N.rows nodes ≡ map.empty }
     requires placed { (core : BodyTree) × Good core × Placed core (plan_tree plan.now) }
 {
     let mut out = String::new(alloc);
-    let buffer = followed(alloc, &mut out, nodes, plan, document, script)?;
+    let buffer = followed(alloc, &mut out, nodes, plan, document, script, spread)?;
     write!(out, " most {}", buffer.into_nodes().most())?;
     Ok(out)
 }
@@ -432,11 +463,12 @@ fn told<N: NodeStore<Row> + Drop>(
     query: &[u8],
     document: &[u8],
     script: &str,
+    spread: bool,
 ) -> Result<String, Fail>
     requires { N.rows nodes ≡ map.empty }
 {
     let plan = plan_of(alloc, query)?;
-    told_by(alloc, nodes, &plan, document, script)
+    told_by(alloc, nodes, &plan, document, script, spread)
 }
 
 /// The script tells that over this store.
@@ -446,11 +478,19 @@ fn is_told_over<N: NodeStore<Row> + Drop>(
     nodes: N,
     store: &str,
     case: Case,
+    spread: bool,
 ) -> Result<(), Fail>
     requires { N.rows nodes ≡ map.empty }
 {
     let (query, document, script, want) = case;
-    let got = told(alloc, nodes, query.as_bytes(), document.as_bytes(), script)?;
+    let got = told(
+        alloc,
+        nodes,
+        query.as_bytes(),
+        document.as_bytes(),
+        script,
+        spread,
+    )?;
     assert_eq!(rt; got.as_str(), want, "{store}: {query} | {document}");
     Ok(())
 }
@@ -458,8 +498,9 @@ fn is_told_over<N: NodeStore<Row> + Drop>(
 /// These scripts tell that.
 fn are_told(rt: &impl Abort, alloc: Global, cases: &[Case]) -> Result<(), Fail> {
     for case in cases {
-        is_told_over(rt, alloc, SlabNodes::new(alloc), "slab", *case)?;
-        is_told_over(rt, alloc, RawNodes::new(alloc), "raw", *case)?;
+        is_told_over(rt, alloc, SlabNodes::new(alloc), "slab", *case, false)?;
+        is_told_over(rt, alloc, RawNodes::new(alloc), "raw", *case, false)?;
+        is_told_over(rt, alloc, RawNodes::new(alloc), "spread", *case, true)?;
     }
     Ok(())
 }

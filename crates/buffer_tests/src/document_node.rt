@@ -1,5 +1,5 @@
 //! The document node, and a node below it.
-ghost use Rattle.std.specs.Prelude.{List, IfOk};
+ghost use Rattle.std.specs.Prelude.{◌≡◌, List, None, IfOk};
 ghost use Rattle.gcx_base.specs.declared.ids.Role.{Role};
 ghost use Rattle.buf_tree.specs.Calls.{Started};
 ghost use Rattle.gcx_model.specs.Past.{IsNode};
@@ -53,7 +53,7 @@ fn the_document_node_has_the_roles_of_the_empty_path(rt: HostRuntime) -> Result<
 
 /// A buffer that has the document node, which was given a role.
 fn begun(alloc: Global) -> Result<Buffer<SlabNodes<Row>>, Fail>
-    ensures { IfOk result (λ buffer. (given : List Role) × Started buffer given) }
+    ensures { IfOk result (λ buffer. (given : List Role) × Started buffer given × (buffer.spread ≡ None)) }
 {
     let mut given = Given::new(alloc);
     given.push(Role(0))?;
@@ -68,7 +68,7 @@ fn element(alloc: Global) -> Result<Kind, Fail>
 
 /// Opens an element below the document node, with no roles.
 fn open_below(alloc: Global, buffer: &mut Buffer<SlabNodes<Row>>) -> Result<Option<Place>, Fail>
-    requires { (given : List Role) × Started buffer.old given }
+    requires { (given : List Role) × Started buffer.old given × (buffer.old.spread ≡ None) }
 {
     let Some(root) = buffer.root() else {
         return Err("no root")?;

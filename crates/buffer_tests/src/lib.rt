@@ -9,3 +9,5 @@ mod document_node;
 mod large;
 #[cfg(test)]
 mod matchers;
+#[cfg(test)]
+mod states;

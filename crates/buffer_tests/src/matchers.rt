@@ -9,6 +9,7 @@ use gcx_model::{
 };
 use matcher::Matcher;
 use path_states::Bound;
+use role_set::RoleSet;
 use std::alloc::Global;
 use std::fmt::Write;
 use std::process::Abort;
@@ -73,7 +74,7 @@ fn var_row(alloc: Global, word: &[u8]) -> Result<VarRow, Fail> {
     Ok(VarRow { parent, step })
 }
 
-fn var_rows(alloc: Global, words: &str) -> Result<VarRows, Fail> {
+pub(crate) fn var_rows(alloc: Global, words: &str) -> Result<VarRows, Fail> {
     let mut rows = VarRows::new(alloc);
     for word in words.split_ascii_whitespace() {
         rows.push(var_row(alloc, word.as_bytes())?)?;
@@ -103,7 +104,7 @@ fn role_rows(alloc: Global, words: &str) -> Result<RoleRows, Fail> {
 }
 
 /// Variables and roles in words.
-fn plan(alloc: Global, vars: &str, roles: &str) -> Result<Plan, Fail> {
+pub(crate) fn plan(alloc: Global, vars: &str, roles: &str) -> Result<Plan, Fail> {
     let vars = var_rows(alloc, vars)?;
     let roles = role_rows(alloc, roles)?;
     Ok(Plan {
@@ -136,12 +137,45 @@ fn off(alloc: Global, role: u8, rel: &[u8]) -> Result<Off, Fail> {
     })
 }
 
+/// Whether the set has all of these.
+fn has_all(roles: &RoleSet, given: &[Role]) -> bool {
+    given.iter().all(|role| roles.has(*role))
+}
+
+/// Whether the set of the innermost node's roles, where there is one at hand, has these and no more.
+fn are_plain(matcher: &Matcher, given: &Given) -> bool {
+    match matcher.plain() {
+        Some((roles, count)) => count == given.items().len() && has_all(roles, given.items()),
+        None => true,
+    }
+}
+
+/// Puts the innermost node's roles, and a `!` where the set differs.
+fn put_here(alloc: Global, out: &mut String, matcher: &Matcher) -> Result<(), Fail> {
+    let given = matcher.given(alloc)?;
+    if !are_plain(matcher, &given) {
+        out.push('!')?;
+    }
+    put(out, &given)
+}
+
 /// Enters a node, and puts its roles.
 fn enter(alloc: Global, out: &mut String, matcher: &mut Matcher, kind: &Kind) -> Result<(), Fail>
     requires { IsNode kind.now }
 {
     let given = matcher.enter(alloc, kind)?;
+    if !are_plain(matcher, &given) {
+        out.push('!')?;
+    }
     put(out, &given)
+}
+
+/// Goes to a node without a list of its roles, and puts them.
+fn go(alloc: Global, out: &mut String, matcher: &mut Matcher, kind: &Kind) -> Result<(), Fail>
+    requires { IsNode kind.now }
+{
+    matcher.go(alloc, kind)?;
+    put_here(alloc, out, matcher)
 }
 
 fn text(alloc: Global) -> Result<Kind, Fail>
@@ -215,6 +249,10 @@ fn follow<'a>(
             enter_number(alloc, out, matcher, *letter)?;
             Ok(rest)
         }
+        [b'>', letter, rest @ ..] => {
+            go(alloc, out, matcher, &node(alloc, *letter)?)?;
+            Ok(rest)
+        }
         [letter, rest @ ..] => {
             step_on(alloc, out, matcher, *letter)?;
             Ok(rest)
@@ -225,7 +263,7 @@ fn follow<'a>(
 
 /// What the matcher answers: `.` is a text, `)` the end of the innermost node, `!rl` signs role r's statement at
 /// level l, `?` asks what is taken back, another letter is the start of an element, `#` before it, or before `.`, enters
-/// it by the number of its name.
+/// it by the number of its name, and `>` goes to it without a list of roles.
 fn answers(
     alloc: Global,
     plan: &Plan,
@@ -259,7 +297,7 @@ fn answers_by(
 fn bounds() -> [Bound; 2] {
     let narrow = Bound {
         states: 2,
-        bytes: 1_000,
+        bytes: 2_000,
     };
     [Bound::usual(), narrow]
 }
@@ -313,6 +351,28 @@ const CASES: &[Case] = &[
     ),
     // a first match at the document node, an empty tail, a text
     ("0r", "o0 o1 f0/n f1 f1t", "", "r.a.", "0 123 4   "),
+    // without lists: texts, whole subtrees, first matches, what is signed
+    (
+        "0r 1a",
+        "o0 o1 o2 w2",
+        "",
+        ">r>a>.)>b>.))>b.))",
+        "0 1 23 3 3 3 3 3 ",
+    ),
+    (
+        "0/a",
+        "o0 o1 f1/b",
+        "",
+        ">a>a>c>b)>b))>a>b)b",
+        "0 1 1  2  1 2  ",
+    ),
+    (
+        "0/a",
+        "o0 o1 w1b",
+        "",
+        ">a!21>b?)>a>b?)!22>b?)>c?",
+        "0 1 2 ?2 1 2 ? 2 ?2  ? ",
+    ),
     // any element, any node
     ("0e 1n", "o0 o1 o2", "", "r.)a.)).", "0 1 2 2  2 "),
     // below a level with nothing to come

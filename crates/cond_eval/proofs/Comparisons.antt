@@ -49,7 +49,7 @@ turn ms ns i d e h =
     let s = same_at ms ns i d e h in
     record { member = in_at ms i d h; node = get_or ns i Root; among = in_at ns i Root s.0; same = s.1; taken = take_more ns i Root s.0; dropped = drop_more ns i Root s.0 }
 
-same_length : (ms : List Member) (ns : List Node) → serials ms ≡ map serial_of ns → length ns ≡ length ms
+pub same_length : (ms : List Member) (ns : List Node) → serials ms ≡ map serial_of ns → length ns ≡ length ms
 same_length [] [] e = refl
 same_length [] (n ∷ ns) e = absurd (cc)
 same_length (m ∷ ms) [] e = absurd (cc)

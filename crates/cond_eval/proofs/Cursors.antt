@@ -35,9 +35,6 @@ module _ (m : Store) (rows : List Cell) (s : Shape m rows) where
       let same : Some c.row ≡ Some r = sym (ap (option_map (λ (x : Entry Row). x.payload)) (ap (get m) (sym e) ∙ get_of m rows s c i)) ∙ h in
       cc
 
-  pub kind_here : (p : ℕ) (r : Row) (k : Kind) → option_map (λ (e : Entry Row). e.payload) (get m p) ≡ Some r → r.kind ≡ k → (c : Cell) → In c rows → c.place ≡ p → c.row.kind ≡ k
-  kind_here p r k h f c i e = ap (λ (x : Row). x.kind) (row_here p r h c i e) ∙ f
-
   pub num_here : (p : ℕ) (r : Row) (k : ℕ) → option_map (λ (e : Entry Row). e.payload) (get m p) ≡ Some r → k ≡ r.serial → (c : Cell) → In c rows → c.place ≡ p → num c ≡ k
   num_here p r k h f c i e = ap (λ (x : Row). x.serial) (row_here p r h c i e) ∙ sym f
 

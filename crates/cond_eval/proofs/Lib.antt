@@ -6,9 +6,10 @@ pub mod Below
 mod Variables
 pub mod Parts
 mod Flipping
-mod Comparisons
+pub mod Comparisons
 pub mod Telling
 mod Searches
 mod Texts
 mod Counts
 mod Nexts
+pub mod Stored

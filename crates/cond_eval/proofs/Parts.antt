@@ -166,7 +166,7 @@ alike Unknown Unknown e = refl
 abbrev pub MayAskEach : (Tree → Type 0) → List Cell → Bindings → List Cond → Type 0
 MayAskEach now rows bound items = (k : ℕ) (x : Cond) → k < length items → x ≡ get_or items k x → MayAsk now rows bound (core_cond_tree x)
 
-in_trees : (items : List Cond) (k : ℕ) (x : Cond) → k < length items → x ≡ get_or items k x → In (core_cond_tree x) (map core_cond_tree items)
+pub in_trees : (items : List Cond) (k : ℕ) (x : Cond) → k < length items → x ≡ get_or items k x → In (core_cond_tree x) (map core_cond_tree items)
 in_trees [] k x h e = absurd (omega arith)
 in_trees (y ∷ items) zero x h e = inl (ap core_cond_tree (sym e))
 in_trees (y ∷ items) (suc k) x h e = inr (in_trees items k x (omega arith) e)

@@ -15,7 +15,7 @@ use std::alloc::Global;
 use xq_values::{compare_text, holds};
 
 /// The closed ones of the nodes that the steps reach from the row at the place.
-fn closed_matches<N: NodeStore<Row>>(
+pub fn closed_matches<N: NodeStore<Row>>(
     alloc: Global,
     buffer: &Buffer<N>,
     place: Place,

@@ -9,9 +9,9 @@ use gcx_base::{Axis, Memory, Step};
 use node_store::{NodeStore, Place};
 use std::alloc::Global;
 
-/// A row of a set. The order is that of the serials.
+/// A row of a set: its node's serial, and its place. The order is that of the serials.
 #[derive(Clone, Copy, Debug, PartialEq, Eq, PartialOrd, Ord)]
-pub(crate) struct Member {
+pub struct Member {
     pub serial: u64,
     pub place: usize,
 }

@@ -5,7 +5,7 @@ ghost use Rattle.gcx_model.specs.Truth.{negate, settle};
 use gcx_model::Truth;
 
 /// True once a match does, false once none does and no more come.
-pub(crate) fn settle(found: bool, over: bool) -> Truth
+pub fn settle(found: bool, over: bool) -> Truth
     ensures { result ≡ settle found over }
 {
     if found {
@@ -18,7 +18,7 @@ pub(crate) fn settle(found: bool, over: bool) -> Truth
 }
 
 /// `not`: unknown stays unknown.
-pub(crate) fn negate(truth: Truth) -> Truth
+pub fn negate(truth: Truth) -> Truth
     ensures { result ≡ negate truth }
 {
     match truth {

@@ -1,5 +1,5 @@
 //! String values of nodes, and their comparison with literals.
-ghost use Rattle.std.specs.Prelude.{◌≡◌, IfOk, OnOk, MatchOption};
+ghost use Rattle.std.specs.Prelude.{◌≡◌, IfOk, IsUtf8, OnOk, MatchOption};
 ghost use Rattle.gcx_model.specs.Values.{Value, Bytes, Units, compare};
 ghost use Rattle.gcx_model.specs.Members.{In};
 ghost use Rattle.gcx_base.specs.Kinds.{is_text};
@@ -27,7 +27,8 @@ pub(crate) fn to_texts() -> Step
 /// The bytes of a text, and none of another node.
 fn bytes_at<N: NodeStore<Row>>(buffer: &Buffer<N>, place: Place) -> &[u8]
     requires { InUse buffer.now.rows place.0 }
-    ensures { (c : Cell) → In c buffer.now.rows → c.place ≡ place.0 → result.now ≡ bytes_of c }
+    ensures bytes { (c : Cell) → In c buffer.now.rows → c.place ≡ place.0 → result.now ≡ bytes_of c }
+    ensures utf8 { IsUtf8 result.now }
 {
     match buffer.at(place).payload().kind() {
         Kind::Text(text) => text.as_bytes(),
@@ -66,7 +67,8 @@ fn gather<N: NodeStore<Row>>(
     room: &mut Vec<u8>,
 ) -> Result<(), Memory>
     requires { InUse buffer.now.rows place.0 }
-    ensures { OnOk result (AreTexts buffer.now.rows place.0 room.new.items) }
+    ensures texts { OnOk result (AreTexts buffer.now.rows place.0 room.new.items) }
+    ensures utf8 { OnOk result (IsUtf8 room.new.items) }
 {
     room.clear();
     let step = to_texts();
@@ -85,7 +87,8 @@ pub fn value<'a, N: NodeStore<Row>>(
     room: &'a mut Vec<u8>,
 ) -> Result<&'a [u8], Memory>
     requires { InUse buffer.now.rows place.0 }
-    ensures { IfOk result (λ v. IsValue buffer.now.rows place.0 v.now) }
+    ensures value { IfOk result (λ v. IsValue buffer.now.rows place.0 v.now) }
+    ensures utf8 { IfOk result (λ v. IsUtf8 v.now) }
 {
     if let Some(text) = only_text(buffer, place) {
         return Ok(bytes_at(buffer, text));

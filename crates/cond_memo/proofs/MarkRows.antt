@@ -17,13 +17,15 @@ use Rattle.buf_tree.specs.Shape.{Store, Cell, num, cells, at_place, Shape}
 use Rattle.buf_tree.specs.Match.{IsChild}
 use Rattle.buf_tree.specs.View.{InUse, serial_at, num_in}
 use Rattle.buf_tree.specs.Ways.{Tells, NodeOf}
-use Rattle.buf_tree.proofs.Kin.{parent_row, no_parent}
+use Rattle.buf_tree.specs.Spread.{SameButRoles}
+use Rattle.buf_tree.proofs.KeptReading.{seen_of, seen_stand_apart, parent_told_by, no_parent_told}
 use Rattle.buf_tree.proofs.Shaping.{cells_is, at_place_is}
 use Rattle.cond_eval.specs.Asking.{RowsOf}
 use Rattle.cond_eval.specs.Reads.{NodeAt}
 use Rattle.cond_memo.specs.Reaching.{NotBelow, HasSerial}
 use Rattle.cond_memo.specs.Marks.{NextAbove, HasNoParent, IsParentAt, AreApart, IsShut, StillOpen}
 use Rattle.cond_eval.proofs.Rows.{OfNode, grown_tree, node_for, same_row, same_node, of_serial, closed_told, serial_told, kind_told, parent_for, child_of, node_at, at_node}
+use Rattle.cond_eval.proofs.Stored.{node_stored}
 use Rattle.cond_memo.proofs.MarkTrees.{above_low, hit_high}
 
 -- ---- rows as buf_tree tells them
@@ -43,22 +45,26 @@ serial_is rows apart c p i e = ap num_in (ap (λ (q : ℕ). at_place q rows) (sy
 
 -- ---- the parent's row
 
-pub no_parent_row : (m : Store) (rows : List Cell) → Shape m rows → (p : ℕ) → parent_of m p ≡ None → HasNoParent rows p
-no_parent_row m rows s p h c i e = no_parent m rows s c i (ap (parent_of m) e ∙ h)
+module _ (m : Store) (ks rows : List Cell) (s : Shape m ks) (same : SameButRoles ks rows) where
+  pub no_parent_row : (p : ℕ) → parent_of m p ≡ None → HasNoParent rows p
+  no_parent_row p h c i e = no_parent_told m ks rows s same c i (ap (parent_of m) e ∙ h)
 
-pub parent_row_at : (m : Store) (rows : List Cell) → Shape m rows → (p q : ℕ) → InUse rows p → parent_of m p ≡ Some q → IsParentAt rows p q
-parent_row_at m rows s p q u h = record {
-  used = record { cell = up.0; among = up.1; place = up.3 };
-  lower =
-      let a = serial_is rows s.apart up.0 q up.1 up.3 in
-      let b = serial_is rows s.apart u.cell p u.among u.place in
-      let l = up.2.1 in
-      omega arith;
-  parent = λ c i e. parent_row m rows s c i q (ap (parent_of m) e ∙ h);
-}
-  where
-    up : (d : Cell) × In d rows × IsChild d u.cell × (d.place ≡ q)
-    up = parent_row m rows s u.cell u.among q (ap (parent_of m) u.place ∙ h)
+  pub parent_row_at : (p q : ℕ) → InUse rows p → parent_of m p ≡ Some q → IsParentAt rows p q
+  parent_row_at p q u h = record {
+    used = record { cell = up.0; among = up.1; place = up.3 };
+    lower =
+        let a = serial_is rows apart up.0 q up.1 up.3 in
+        let b = serial_is rows apart u.cell p u.among u.place in
+        let l = up.2.1 in
+        omega arith;
+    parent = λ c i e. parent_told_by m ks rows s same c i q (ap (parent_of m) e ∙ h);
+  }
+    where
+      apart : AreApart rows
+      apart = seen_stand_apart m ks rows s same
+
+      up : (d : Cell) × In d rows × IsChild d u.cell × (d.place ≡ q)
+      up = parent_told_by m ks rows s same u.cell u.among q (ap (parent_of m) u.place ∙ h)
 
 -- ---- the way up to the nearest match
 
@@ -144,8 +150,11 @@ pub leads_told : {E : Type 0} (rows : List Cell) (p q : ℕ) (path steps : List 
 leads_told rows p q path steps last (Ok b) e h = λ P keep n m a o l. subst (λ (s : List Step). b ≡ hits (serial_of n) s m) e (h n m (node_of rows P keep p n a) (node_of rows P keep q m o))
 leads_told rows p q path steps last (Err x) e h = tt
 
-pub has_serial : (m : Store) (rows : List Cell) → Shape m rows → (s q : ℕ) → HasSerial (cells m) s q → HasSerial rows s q
-has_serial m rows sh s q h = subst (λ (xs : List Cell). HasSerial xs s q) (cells_is m rows sh) h
+pub has_serial : (m : Store) (ks rows : List Cell) → Shape m ks → SameButRoles ks rows → (s q : ℕ) → HasSerial (cells m) s q → HasSerial rows s q
+has_serial m ks rows sh same s q h =
+    let k = subst (λ (xs : List Cell). HasSerial xs s q) (cells_is m ks sh) h in
+    let c = seen_of ks rows same k.cell k.among in
+    record { cell = c.0; among = c.1; place = sym (ap (λ (z : Cell). z.place) c.2) ∙ k.place; number = sym (ap num c.2) ∙ k.number }
 
 pub has_used : (rows : List Cell) (s q : ℕ) → HasSerial rows s q → InUse rows q
 has_used rows s q h = record { cell = h.cell; among = h.among; place = h.place }
@@ -154,10 +163,10 @@ same_waiting : (waiting : Option Serial) (s t : Serial) → waiting ≡ Some s �
 same_waiting waiting s t e f = let g : Some s ≡ Some t = sym e ∙ f in cc
 
 -- the row isn't there
-pub still_out : (m : Store) (rows : List Cell) → Shape m rows → (q p : Place) → q ≡ p → (waiting : Option Serial) (s : Serial) → waiting ≡ Some s → NotBelow (cells m) q.0 s.0 → StillOpen rows p.0 waiting
-still_out m rows sh q p e waiting s w none t f P keep n o a i k g up =
-    let below = subst (λ (x : Place). NotBelow rows x.0 s.0) e (subst (λ (xs : List Cell). NotBelow xs q.0 s.0) (cells_is m rows sh) none) in
-    absurd (below P keep n o a i k (g ∙ ap (λ (x : Serial). x.0) (same_waiting waiting t s f w)) up)
+pub still_out : (m : Store) (ks rows : List Cell) → Shape m ks → SameButRoles ks rows → (q p : Place) → q ≡ p → (waiting : Option Serial) (s : Serial) → waiting ≡ Some s → NotBelow (cells m) q.0 s.0 → StillOpen rows p.0 waiting
+still_out m ks rows sh same q p e waiting s w none t f P keep n o a i k g up =
+    let below = subst (λ (x : Place). NotBelow ks x.0 s.0) e (subst (λ (xs : List Cell). NotBelow xs q.0 s.0) (cells_is m ks sh) none) in
+    absurd (below P keep n o (node_stored ks rows same P keep p.0 n a) i k (g ∙ ap (λ (x : Serial). x.0) (same_waiting waiting t s f w)) up)
 
 -- or it is open
 pub still_open : (rows : List Cell) (waiting : Option Serial) (s : Serial) (q : ℕ) → waiting ≡ Some s → (h : HasSerial rows s.0 q) → (b : Bool) → b ≡ not h.cell.row.is_open → b ≡ false → (p : ℕ) → StillOpen rows p waiting

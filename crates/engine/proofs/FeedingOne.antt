@@ -10,7 +10,8 @@ use Rattle.gcx_model.specs.Past.{Past, past_fed}
 use Rattle.buf_tree.specs.Shape.{Cell}
 use Rattle.buf_tree.specs.View.{View, capped}
 use Rattle.buf_tree.specs.Stands.{StandsFor}
-use Rattle.projector.specs.Projector.{Projects, Places, Changes, DoesBy}
+use Rattle.projector.specs.Calls.{tally_of}
+use Rattle.projector.specs.Projector.{Projects, MayBeFed, Places, Changes, DoesBy}
 use Rattle.projector.specs.declared.projector.Fed.{Fed}
 use Rattle.projector.specs.declared.projector.Projector.{Projector}
 use Rattle.engine.specs.declared.engine.Engine.{Engine}
@@ -25,6 +26,9 @@ use Rattle.engine.proofs.Quieting.{quiet_fed}
 module _ {N C : Type 0} (stands : C → Tree → Type 0) where
   -- ---- what feeding asks
 
+  pub fed_may : (e : Engine N C) (t : Said) → MayFeed stands e t → MayBeFed (Projects e.projector) e.buffer t
+  fed_may e t m = record { past = past_at (plan_tree e.plan.now) m.tree m.taken m.of.fed; stands = m.of.beside.buffer; projects = m.of.projects; may = m.comes.may }
+
   pub fed_depth : (e : Engine N C) (t : Said) → MayFeed stands e t → (c : Cell) → In c e.buffer.rows → c.row.is_open ≡ true → c.row.level ≤ 1000
   fed_depth e t m = shallow_rows e.buffer (past_at (plan_tree e.plan.now) m.tree m.taken m.of.fed) m.of.beside.buffer 1000 m.comes.depth
 
@@ -35,7 +39,7 @@ module _ {N C : Type 0} (stands : C → Tree → Type 0) where
       (does : (past : Past) → StandsFor old.buffer past → Projects old.projector past → may_come t past.tree ≡ true → DoesBy f t past) (changes : Changes (Projects old.projector) old.buffer w t f) where
     -- the engine with what the token made, its departures told
     abbrev pub fed_form : (d : Engine N C) → Engine N C
-    fed_form d = record old { projector = q; buffer = told_all w; trace = d.trace; counts = counted old.counts f (length w.rows) }
+    fed_form d = record old { projector = q; buffer = told_all w; trace = d.trace; counts = counted old.counts (tally_of f) (length w.rows) }
 
     pub feeds_one : (d : Engine N C) → d ≡ fed_form d → (P : Tree) (k : ℕ) → Actors stands old P k → ComesWithin t P → FeedsOne stands old d t P k
     feeds_one d same P k a c =
@@ -48,7 +52,7 @@ module _ {N C : Type 0} (stands : C → Tree → Type 0) where
           counted = counts_fed plan (stands old.machine.conds) old.projector old.machine.position old.buffer w P k t f a c.may x.1 changes y old.counts (length w.rows) refl;
         })
 
-    pub feeds_quietly : is_quiet f w ≡ true → (P : Tree) → Actors stands old P (length (actions (plan_tree old.plan.now) P)) → ComesWithin t P → actions (plan_tree old.plan.now) (grow t P) ≡ actions (plan_tree old.plan.now) P
+    pub feeds_quietly : is_quiet (tally_of f) w ≡ true → (P : Tree) → Actors stands old P (length (actions (plan_tree old.plan.now) P)) → ComesWithin t P → actions (plan_tree old.plan.now) (grow t P) ≡ actions (plan_tree old.plan.now) P
     feeds_quietly quiet P a c =
         let plan = plan_tree old.plan.now in
         let past = past_at plan P (length (actions plan P)) a.fed in
@@ -57,7 +61,7 @@ module _ {N C : Type 0} (stands : C → Tree → Type 0) where
         quiet_fed (Projects old.projector) past old.buffer w t f a.beside.buffer x.1 c.may a.gone (all_is plan P) changes y quiet
 
     -- behind it no more is taken back than given
-    pub fed_balance : (P : Tree) (k : ℕ) → Actors stands old P k → ComesWithin t P → old.counts.given ≡ capped (sum_given (plan_tree old.plan.now) P) → w.taken ≤ (counted old.counts f (length w.rows)).given
+    pub fed_balance : (P : Tree) (k : ℕ) → Actors stands old P k → ComesWithin t P → old.counts.given ≡ capped (sum_given (plan_tree old.plan.now) P) → w.taken ≤ (counted old.counts (tally_of f) (length w.rows)).given
     fed_balance P k a c given =
         let d = fed_form old in
         let o = feeds_one d refl P k a c in

@@ -25,6 +25,7 @@ use Rattle.buf_tree.specs.Purge.{is_gone}
 use Rattle.buf_tree.specs.View.{View}
 use Rattle.buf_tree.specs.Stands.{Seen, StandsFor}
 use Rattle.buf_tree.specs.Calls.{numbers}
+use Rattle.projector.specs.Calls.{tally_of}
 use Rattle.projector.specs.Projector.{ClosedOne, Changes, DoesBy}
 use Rattle.projector.specs.declared.projector.Fed.{Fed}
 use Rattle.projector.specs.declared.projector.Fed.TheVariants.{Opened, Closed}
@@ -120,7 +121,7 @@ left_dead v w past s h g may empty c some p at =
 
 -- Behind a token that is quiet the run has the same actions.
 pub quiet_fed : (stood : Past → Type 0) (past : Past) (v w : View) (t : Said) (f : Fed) → StandsFor v past → StandsFor w (past_fed t past) → may_come t past.tree ≡ true → v.gone ≡ [] → past.acts ≡ actions past.plan past.tree
-    → Changes stood v w t f → DoesBy f t past → is_quiet f w ≡ true → actions past.plan (grow t past.tree) ≡ actions past.plan past.tree
+    → Changes stood v w t f → DoesBy f t past → is_quiet (tally_of f) w ≡ true → actions past.plan (grow t past.tree) ≡ actions past.plan past.tree
 quiet_fed stood past v w t (Opened s given) h g may empty all c d q =
     let is = h.is_past in
     let none : roles_given past.plan (grow t past.tree) d.0 ≡ [] = none_mapped given (roles_given past.plan (grow t past.tree) d.0) d.3 (none_of given q) in

@@ -33,7 +33,7 @@ pub beside_told : (w : Position) (v : View) (past : Past) (k : ℕ) → Beside w
 beside_told w v past k b = record {
   state = b.state;
   acts = b.acts;
-  buffer = record { is_past = b.buffer.is_past; rows = b.buffer.rows; waiting = b.buffer.waiting; nodes = b.buffer.nodes };
+  buffer = record { is_past = b.buffer.is_past; spread = b.buffer.spread; rows = b.buffer.rows; kept = b.buffer.kept; waiting = b.buffer.waiting; nodes = b.buffer.nodes };
   taken = b.taken;
   position = b.position;
 }

@@ -17,6 +17,7 @@ use Rattle.doc_reader.specs.Standing.{said_of}
 use Rattle.buf_tree.specs.Shape.{Cell}
 use Rattle.buf_tree.specs.View.{View, capped}
 use Rattle.buf_tree.specs.Stands.{StandsFor}
+use Rattle.projector.specs.Calls.{tally_of}
 use Rattle.projector.specs.Projector.{Projects, MayBeFed, Places, Changes, DoesBy}
 use Rattle.projector.specs.declared.projector.Fed.{Fed}
 use Rattle.projector.specs.declared.projector.Projector.{Projector}
@@ -108,8 +109,8 @@ module _ {N C : Type 0} (stands : C → Tree → Type 0) (plan : PlanTree) (ts :
         let w = tokens_fit ts h.may h.within in
         omega arith
 
-    pub feed_may : MayBeFed a.buffer t
-    feed_may = record { past = past_at plan P s.acted h.actors.fed; stands = h.actors.beside.buffer; may = comes.may }
+    pub feed_may : MayBeFed (Projects a.projector) a.buffer t
+    feed_may = record { past = past_at plan P s.acted h.actors.fed; stands = h.actors.beside.buffer; projects = h.actors.projects; may = comes.may }
 
     pub feed_nodes : a.buffer.nodes ≤ 2 ^ 40 + 1
     feed_nodes = let n = h.actors.beside.buffer.nodes in let l = comes.nodes in omega arith
@@ -120,7 +121,7 @@ module _ {N C : Type 0} (stands : C → Tree → Type 0) (plan : PlanTree) (ts :
     pub feeds : (on : (s : C) (P Q : Tree) → Leads opening P → Leads P Q → stands s P → stands s Q) (q : Projector) (w : View) (f : Fed)
         → ((past : Past) → StandsFor a.buffer past → Projects a.projector past → may_come t past.tree ≡ true → Projects q (past_fed t past) × StandsFor w (past_fed t past)) → Places q w
         → ((past : Past) → StandsFor a.buffer past → Projects a.projector past → may_come t past.tree ≡ true → DoesBy f t past) → Changes (Projects a.projector) a.buffer w t f
-        → (d : Actors N C) → d.projector ≡ q → d.buffer ≡ told_all w → d.machine ≡ a.machine → d.tokens.items ≡ others → d.fed ≡ a.fed + 1 → d.acted ≡ a.acted → d.given ≡ capped (a.given + roles_in f)
+        → (d : Actors N C) → d.projector ≡ q → d.buffer ≡ told_all w → d.machine ≡ a.machine → d.tokens.items ≡ others → d.fed ≡ a.fed + 1 → d.acted ≡ a.acted → d.given ≡ capped (a.given + roles_in (tally_of f))
         → Reaches stands plan ts (turn plan ts Feed s) d
     feeds on q w f then keeps does changes d is_q is_w is_m left fed_on still given_on =
         let past = past_at plan P s.acted h.actors.fed in
@@ -129,7 +130,7 @@ module _ {N C : Type 0} (stands : C → Tree → Type 0) (plan : PlanTree) (ts :
         let actors : ActorsStand plan (stands a.machine.conds) q a.machine.position (told_all w) (grow t P) s.acted
         = stands_fed plan (stands a.machine.conds) a.projector q a.machine.position a.buffer w P s.acted t f h.actors comes.may (λ T l m. on a.machine.conds P T l m h.actors.stand) x.0 x.1 keeps changes y in
         let n : Counts = record { bytes = 0; peak = 0; given = a.given; taken = 0 } in
-        let given : capped (a.given + roles_in f) ≡ capped (sum_given plan (grow t P)) = given_fed plan P s.acted h.actors.fed h.actors.beside.buffer.is_past t comes.may f y n 0 h.given_is in
+        let given : capped (a.given + roles_in (tally_of f)) ≡ capped (sum_given plan (grow t P)) = given_fed plan P s.acted h.actors.fed h.actors.beside.buffer.is_past t comes.may f y n 0 h.given_is in
         fed_reaches stands plan ts s a h t (map said_of others) next d
         (subst (λ (z : Machine C). ActorsStand plan (stands z.conds) d.projector z.position d.buffer (grow t P) s.acted) (sym is_m)
         (subst (λ (z : Projector). ActorsStand plan (stands a.machine.conds) z a.machine.position d.buffer (grow t P) s.acted) (sym is_q)

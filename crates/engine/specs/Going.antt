@@ -16,8 +16,8 @@ use Rattle.gcx_model.specs.Seen.{SeenIs, seen_tree}
 use Rattle.doc_reader.specs.declared.token.Token.{Token}
 use Rattle.doc_reader.specs.Standing.{Stands, waiting, said_of}
 use Rattle.buf_tree.specs.View.{View, capped}
-use Rattle.projector.specs.declared.projector.Fed.{Fed}
-use Rattle.projector.specs.declared.projector.Fed.TheVariants.{Opened, Closed}
+use Rattle.projector.specs.declared.projector.Tally.{Tally}
+use Rattle.projector.specs.declared.projector.Tally.TheVariants as tallies
 use Rattle.engine.specs.declared.engine.Counts.{Counts}
 use Rattle.engine.specs.declared.engine.Engine.{Engine}
 use Rattle.engine.specs.Engine.{Actors, Balanced, CountsOf, KeepsMost, MayLimit, PartsStand, OnRefusal}
@@ -98,18 +98,18 @@ lacking o (Ok u) = o
 lacking o (Err m) = Some Memory
 
 -- how many roles a token gave
-abbrev pub roles_in : Fed → ℕ
-roles_in (Opened s given) = length given
-roles_in (Closed s) = 0
+abbrev pub roles_in : Tally → ℕ
+roles_in (tallies.Opened n) = n
+roles_in tallies.Closed = 0
 
 -- the counts with what it did, behind which so many rows are held
-abbrev pub counted : Counts → Fed → (held : ℕ) → Counts
-counted n fed rows = record n { peak = max n.peak rows; given = capped (n.given + roles_in fed) }
+abbrev pub counted : Counts → Tally → (held : ℕ) → Counts
+counted n tally rows = record n { peak = max n.peak rows; given = capped (n.given + roles_in tally) }
 
 -- it gave no role, or closed a node that left at once
-abbrev pub is_quiet : Fed → View → Bool
-is_quiet (Opened s given) v = nat_eq (length given) 0
-is_quiet (Closed s) v = not (nat_eq (length v.gone) 0)
+abbrev pub is_quiet : Tally → View → Bool
+is_quiet (tallies.Opened n) v = nat_eq n 0
+is_quiet tallies.Closed v = not (nat_eq (length v.gone) 0)
 
 -- what a token makes of the counts, behind k actions over P
 pub record Counted (plan : PlanTree) (t : Said) (P : Tree) (k : ℕ) (v w : View) (n m : Counts) : Type 0 where

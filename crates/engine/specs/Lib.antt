@@ -1,5 +1,6 @@
 pub mod Engine
 pub mod Going
+pub mod Feeding
 pub mod Runs
 pub mod Telling
 pub mod Turns

@@ -16,12 +16,15 @@ ghost use Rattle.gcx_model.specs.declared.fault.DocFault.TheVariants.{Memory as 
 ghost use Rattle.doc_reader.specs.Standing.{Answers, Keeps, answer_by, answer_of, said_of, waiting};
 ghost use Rattle.doc_reader.specs.declared.token.Token.{Token};
 ghost use Rattle.buf_tree.specs.Shape.{Shape, cells};
+ghost use Rattle.buf_tree.specs.Spread.{SameButRoles};
 ghost use Rattle.buf_tree.specs.View.{View, capped};
 ghost use Rattle.engine.specs.Engine.{Actors, Balanced, IsSilent, Kept, Lost, MayGoOn, MostIs, OnAnswer, OnRefusal, PartsStand, Starts, StandsOf, StandsSome, IsTold, TraceGrewBy, TraceGrewWithin};
-ghost use Rattle.engine.specs.Going.{ActsOn, ActsOne, ActsSome, Begins, Breaks, counted, FeedsSome, is_quiet, lacking, refusal_of, roles_in, ComesWithin, FeedsOn, FeedsOne, GoesOn, MayFeed, SomeActors, SomeParts, all_of};
+ghost use Rattle.engine.specs.Going.{ActsOn, ActsOne, ActsSome, Begins, Breaks, FeedsSome, lacking, refusal_of, ComesWithin, FeedsOn, FeedsOne, GoesOn, MayFeed, SomeActors, SomeParts, all_of};
+ghost use Rattle.engine.specs.Feeding.{BalancesEach, FeedsEach, IsQuietFor, TellsEach, TellsPart};
 ghost use Rattle.engine.specs.Telling.{GrewPart, ToldOne, ToldSome, acted_lines, fed_lines, lines_to, more_lines, next_lines, told_lines};
 
 use crate::lines::{opening_trace, put_action, put_fed, put_gone, wanted_kind};
+use crate::tallies::{count, is_quiet};
 use buf_trace::LineKind;
 use buf_tree::{Buffer, Row};
 use cond_eval::Conds;
@@ -124,7 +127,7 @@ impl<'p, N: NodeStore<Row> + Drop, C: Conds + Drop> Engine<'p, N, C> {
         let given = projector.document(alloc)?;
         let count = given.items().len() as u128;
         let trace = opening_trace(alloc, tracing, &given)?;
-        let buffer = Buffer::new(alloc, nodes, given)?;
+        let buffer = Buffer::new_spread(alloc, nodes, given, plan)?;
         let machine = Machine::new(alloc, plan, conds)?;
         let reader = Reader::new(alloc, limits);
         Ok(Engine {
@@ -148,10 +151,11 @@ impl<'p, N: NodeStore<Row> + Drop, C: Conds + Drop> Engine<'p, N, C> {
         })
     }
 
-    /// The store, with the rows as they are.
+    /// The store, with the rows as they are kept.
     pub fn finish_nodes(self) -> N
-        ensures rows { cells (N.rows result) ≡ self.entry.buffer.rows }
-        ensures shape { Shape (N.rows result) self.entry.buffer.rows }
+        ensures rows { cells (N.rows result) ≡ self.entry.buffer.kept }
+        ensures shape { Shape (N.rows result) self.entry.buffer.kept }
+        ensures alike { SameButRoles self.entry.buffer.kept self.entry.buffer.rows }
         ensures most { N.most_held result ≡ self.entry.buffer.most }
         ensures loans { N.loans result ≡ self.entry.buffer.loans }
     {
@@ -385,11 +389,35 @@ impl<'p, N: NodeStore<Row>, C: Conds> Engine<'p, N, C> {
     #[inline(always)]
     fn feed_one(&mut self, alloc: Global, token: Token) -> Result<bool, Memory>
         requires { MayFeed C.stands self.old (said_of token) }
-        ensures feeds { OnOk result ((P : Tree) (k : ℕ) → Actors C.stands self.old P k → ComesWithin (said_of token) P → FeedsOne C.stands self.old self.new (said_of token) P k) }
-        ensures quiet { IfOk result (λ q. q ≡ true → (P : Tree) → Actors C.stands self.old P (length (actions (plan_tree self.old.plan.now) P)) → ComesWithin (said_of token) P → actions (plan_tree self.old.plan.now) (grow (said_of token) P) ≡ actions (plan_tree self.old.plan.now) P) }
-        ensures balance { OnErr result ((P : Tree) (k : ℕ) → Actors C.stands self.old P k → ComesWithin (said_of token) P → self.old.counts.given ≡ capped (sum_given (plan_tree self.old.plan.now) P) → Balanced self.new) }
-        ensures told { OnOk result (self.old.tracing ≡ true → (P : Tree) (k : ℕ) → Actors C.stands self.old P k → ComesWithin (said_of token) P → self.new.trace.items ≡ self.old.trace.items ++ text_of_lines (fed_lines (plan_tree self.old.plan.now) (said_of token) P (so_far (plan_tree self.old.plan.now) P k))) }
-        ensures part { OnErr result (self.old.tracing ≡ true → (P : Tree) (k : ℕ) → Actors C.stands self.old P k → ComesWithin (said_of token) P → GrewPart self.old.trace.items self.new.trace.items (text_of_lines (fed_lines (plan_tree self.old.plan.now) (said_of token) P (so_far (plan_tree self.old.plan.now) P k)))) }
+        ensures feeds { OnOk result (FeedsEach C.stands self.old self.new (said_of token)) }
+        ensures quiet { IfOk result (λ q. q ≡ true → IsQuietFor C.stands self.old (said_of token)) }
+        ensures balance { OnErr result (BalancesEach C.stands self.old self.new (said_of token)) }
+        ensures told { OnOk result (self.old.tracing ≡ true → TellsEach C.stands self.old self.new (said_of token)) }
+        ensures part { OnErr result (self.old.tracing ≡ true → TellsPart C.stands self.old self.new (said_of token)) }
+        ensures rest { self.new ≡ record self.old { projector = self.new.projector; buffer = self.new.buffer; trace = self.new.trace; counts = self.new.counts } }
+        ensures bytes { self.new.counts.bytes ≡ self.old.counts.bytes }
+        ensures silent { IsSilent self.old → IsSilent self.new }
+        ensures loans { self.new.buffer.loans ≡ self.old.buffer.loans }
+    {
+        if self.tracing {
+            return self.feed_traced(alloc, token);
+        }
+        let tally = self.projector.feed_tallied(alloc, &mut self.buffer, token)?;
+        let quiet = is_quiet(tally, &self.buffer);
+        self.counts = count(self.counts, tally, self.buffer.held());
+        self.buffer.clear_gone();
+        Ok(quiet)
+    }
+
+    /// The same with the token's lines.
+    #[inline(never)]
+    fn feed_traced(&mut self, alloc: Global, token: Token) -> Result<bool, Memory>
+        requires { MayFeed C.stands self.old (said_of token) }
+        ensures feeds { OnOk result (FeedsEach C.stands self.old self.new (said_of token)) }
+        ensures quiet { IfOk result (λ q. q ≡ true → IsQuietFor C.stands self.old (said_of token)) }
+        ensures balance { OnErr result (BalancesEach C.stands self.old self.new (said_of token)) }
+        ensures told { OnOk result (self.old.tracing ≡ true → TellsEach C.stands self.old self.new (said_of token)) }
+        ensures part { OnErr result (self.old.tracing ≡ true → TellsPart C.stands self.old self.new (said_of token)) }
         ensures rest { self.new ≡ record self.old { projector = self.new.projector; buffer = self.new.buffer; trace = self.new.trace; counts = self.new.counts } }
         ensures bytes { self.new.counts.bytes ≡ self.old.counts.bytes }
         ensures silent { IsSilent self.old → IsSilent self.new }
@@ -397,8 +425,8 @@ impl<'p, N: NodeStore<Row>, C: Conds> Engine<'p, N, C> {
     {
         let kind = wanted_kind(alloc, self.tracing, &token)?;
         let fed = self.projector.feed_token(alloc, &mut self.buffer, token)?;
-        let quiet = is_quiet(&fed, &self.buffer);
-        self.counts = count(self.counts, &fed, self.buffer.held());
+        let quiet = is_quiet(fed.tally(), &self.buffer);
+        self.counts = count(self.counts, fed.tally(), self.buffer.held());
         self.tell(fed, kind)?;
         self.buffer.clear_gone();
         Ok(quiet)
@@ -565,36 +593,4 @@ fn both(still: bool, quiet: bool) -> bool
     ensures { result ≡ (still && quiet) }
 {
     still && quiet
-}
-
-/// The counts with what a token did, behind which so many rows are held.
-fn count(counts: Counts, fed: &Fed, held: u64) -> Counts
-    ensures { result ≡ counted counts fed.now held }
-{
-    Counts {
-        peak: counts.peak.max(held),
-        given: counts.given.saturating_add(roles_of(fed)),
-        ..counts
-    }
-}
-
-/// How many roles the token gave.
-pub(crate) fn roles_of(fed: &Fed) -> u128
-    ensures { result ≡ roles_in fed.now }
-{
-    match fed {
-        Fed::Opened(_, given) => given.items().len() as u128,
-        Fed::Closed(_) => 0,
-    }
-}
-
-/// Whether no action is possible behind the token that wasn't before it: the token gave no role, or closed a node that
-/// left at once, so that no role was live there.
-fn is_quiet<N: NodeStore<Row>>(fed: &Fed, buffer: &Buffer<N>) -> bool
-    ensures { result ≡ is_quiet fed.now buffer.now }
-{
-    match fed {
-        Fed::Opened(_, given) => given.items().is_empty(),
-        Fed::Closed(_) => !buffer.gone().is_empty(),
-    }
 }

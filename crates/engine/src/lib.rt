@@ -5,6 +5,7 @@ mod engine;
 mod lines;
 mod report;
 mod running;
+mod tallies;
 mod turns;
 
 pub use engine::{Counts, Engine};

@@ -12,8 +12,8 @@ ghost use Rattle.doc_reader.specs.Standing.{said_of};
 ghost use Rattle.gcx_model.specs.Seen.{AreWithin};
 ghost use Rattle.engine.specs.Turns.{Reaches, SomeTurns, Tells, TurnsOn, actions_in, turn_of, turns_of, written};
 
-use crate::engine::roles_of;
 use crate::report::few_roles;
+use crate::tallies::roles_of;
 use buf_tree::{Buffer, Row};
 use cond_eval::Conds;
 use doc_reader::Token;
@@ -65,9 +65,9 @@ impl<'p, N: NodeStore<Row>, C: Conds> Actors<'p, N, C> {
         let Some(token) = self.tokens.pop_front() else {
             return Ok(());
         };
-        let fed = self.projector.feed_token(alloc, &mut self.buffer, token)?;
+        let tally = self.projector.feed_tallied(alloc, &mut self.buffer, token)?;
         self.fed += 1;
-        self.given = self.given.saturating_add(roles_of(&fed));
+        self.given = self.given.saturating_add(roles_of(tally));
         self.buffer.clear_gone();
         Ok(())
     }
@@ -145,7 +145,7 @@ fn actors_of<'p, N: NodeStore<Row> + Drop, C: Conds + Drop>(
     let count = given.items().len() as u128;
     Ok(Actors {
         projector,
-        buffer: Buffer::new(alloc, nodes, given)?,
+        buffer: Buffer::new_spread(alloc, nodes, given, plan)?,
         machine: Machine::new(alloc, plan, conds)?,
         tokens,
         fed: 0,

@@ -1,6 +1,7 @@
-//! Runs of the engine over objects in memory: the worked rows, in pieces of any size, over both stores and both ways to
+//! Runs of the engine over objects in memory: the worked rows, in pieces of any size, over both stores and each way to
 //! find the truth of conditions.
 mod checks;
+mod joins;
 mod rows;
 mod turns;
 
@@ -12,6 +13,7 @@ ghost use Rattle.gcx_model.specs.Placed.{Placed};
 ghost use Rattle.gcx_model.specs.PlanView.{plan_tree};
 ghost use Rattle.gcx_model.specs.Tree.{opening};
 ghost use Rattle.cond_memo.specs.Marks.{AreMarks};
+ghost use Rattle.join_index.specs.Index.{IsIndex};
 
 use buf_tree::Row;
 use cond_eval::{Conds, Plain};
@@ -20,6 +22,7 @@ use engine::{Engine, Report, run_query};
 use gcx_base::Limits;
 use gcx_io::{MemSink, MemSource};
 use gcx_model::Plan;
+use join_index::Indexed;
 use node_store::{NodeStore, SlabNodes};
 use placed_laws::normal_is_good;
 use raw_nodes::RawNodes;
@@ -83,6 +86,14 @@ pub(crate) fn marked(alloc: Global) -> Marked
     Marked::new(alloc)
 }
 
+/// Conditions with an index, of which no list was made.
+fn indexed(alloc: Global, plan: &Plan) -> Result<Indexed, Fail>
+    ensures { IfOk result (λ k. IsIndex k opening) }
+{
+    let conds = Indexed::new(alloc, plan)?;
+    Ok(conds)
+}
+
 fn source_of(alloc: Global, document: &[u8], how: How<'_>) -> Result<MemSource, Fail>
     requires { 0 < how.most }
 {
@@ -131,6 +142,26 @@ fn run_through<N: NodeStore<Row> + Drop, C: Conds + Drop>(
     let mut engine = Engine::new(alloc, plan, nodes, conds, Limits::full(), ahead, tracing)?;
     let report = run_query(&mut engine, alloc, source, out, err);
     Ok((report, engine.finish_nodes()))
+}
+
+/// The same with an index, over nodes in a slab. It answers how many lists were made.
+fn run_index(
+    alloc: Global,
+    plan: &Plan,
+    ahead: u32,
+    streams: &mut Streams,
+) -> Result<(Report, u64), Fail>
+    requires placed { (core : BodyTree) × Good core × Placed core (plan_tree plan.now) }
+    requires ahead { ahead ≤ 1000 }
+{
+    let Streams { source, out, err } = streams;
+    let (nodes, conds) = (SlabNodes::new(alloc), indexed(alloc, plan)?);
+    let tracing = ahead == 0;
+    let ahead = ahead.max(1);
+    let mut engine = Engine::new(alloc, plan, nodes, conds, Limits::full(), ahead, tracing)?;
+    let report = run_query(&mut engine, alloc, source, out, err);
+    let built = engine.conds().built();
+    Ok((report, built))
 }
 
 /// What the sink took, all of which it kept.
@@ -230,7 +261,24 @@ fn run_plain_by(
     Ok(ran)
 }
 
-/// The same run over both stores and both kinds of conditions, which are one.
+/// A run over nodes in a slab, with an index, and how many lists it made.
+pub(crate) fn run_indexed(
+    rt: &impl Abort,
+    alloc: Global,
+    plan: &Plan,
+    document: &[u8],
+    how: How<'_>,
+) -> Result<(Ran, u64), Fail>
+    requires placed { (core : BodyTree) × Good core × Placed core (plan_tree plan.now) }
+    requires ahead { how.ahead ≤ 1000 }
+{
+    let mut streams = streams_of(rt, alloc, document, how)?;
+    let (report, built) = run_index(alloc, plan, how.ahead, &mut streams)?;
+    let ran = left_by(rt, alloc, report, &streams)?;
+    Ok((ran, built))
+}
+
+/// The same run over both stores and each kind of conditions, which are one.
 fn run_by(
     rt: &impl Abort,
     alloc: Global,
@@ -245,6 +293,8 @@ fn run_by(
     let ran = run_marked_by(rt, alloc, plan, document, how)?;
     let other = run_plain_by(rt, alloc, plan, document, how)?;
     assert_eq!(rt; ran, other, "{query:?}");
+    let (third, _) = run_indexed(rt, alloc, plan, document, how)?;
+    assert_eq!(rt; ran, third, "{query:?}");
     Ok(ran)
 }
 

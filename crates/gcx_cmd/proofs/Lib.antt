@@ -1,5 +1,6 @@
 mod Lists
 mod Along
+mod Attached
 mod QueryRead
 mod DocRead
 mod FileRead

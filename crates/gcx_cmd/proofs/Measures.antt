@@ -31,7 +31,7 @@ use Rattle.gcx_cmd.proofs.Says.{given_all, read_all}
 use Rattle.gcx_cmd.specs.DocumentDoes.{OverDoc, IsClean}
 use Rattle.gcx_cmd.specs.Main.{Accepts}
 use Rattle.gcx_cmd.specs.Outside.{Outside, StoreView}
-use Rattle.gcx_cmd.specs.Reads.{Opens, Reads}
+use Rattle.gcx_cmd.specs.Reads.{Reads}
 use Rattle.gcx_cmd.specs.RunDoes.{EndsBy, HoldsSeen, RunDoes}
 use Rattle.gcx_cmd.specs.Running.{Settles, UnlessMemory}
 use Rattle.gcx_cmd.specs.Runs.{DocumentMeasures, NumbersIn, SelfRuns, SourceRuns, StopsMeasure}
@@ -64,10 +64,6 @@ run_written tracing ahead q d query_bytes document_bytes x doc a b told_q told_d
     subst (λ (l : List ℕ). Takes a.out b.out l) (is ∙ ap (λ (y : List ExprTree). answer y doc) (sym same)) r.ends.2.wrote
 
 -- ---- a report of DOC
-
--- nothing was opened
-pub opens_none : (a b : ShelfView) → b ≡ a → Opens 0 a b
-opens_none a b same = record { count = omega (arith, ap (λ (v : ShelfView). length v.given) same); refused = ap (λ (v : ShelfView). v.refused) same }
 
 -- the status is Ok at the end of an input without faults alone
 pub ended_ok : (y : Ended) → ended_status y ≡ status.Ok → y ≡ end.Ok

@@ -1,14 +1,16 @@
 -- The reading of the text of a query, so far.
-use Rattle.std.proofs.Common.{◌≡◌, ◌⊎◌, inl, inr, ℕ, ◌<◌, ◌≤◌, List, [], ◌∷◌, ◌++◌, take, length, Ok, Err, refl, ap, subst, ◌∙◌, arith}
+use Rattle.std.proofs.Common.{◌≡◌, ◌⊎◌, inl, inr, ℕ, ◌<◌, ◌≤◌, List, [], ◌∷◌, ◌++◌, take, length, Result, Ok, Err, refl, ap, subst, ◌∙◌, arith}
 use Rattle.std.proofs.lemmas.List.{length-take-le}
 use Rattle.gcx_io.proofs.Written.{joined_push}
 use Rattle.gcx_io.specs.Calls.{GivesHandle, ReadsOnce}
 use Rattle.gcx_io.specs.Shelf.{content_of}
 use Rattle.gcx_io.specs.Views.{ShelfView}
 use Rattle.gcx_io.specs.Writing.{joined}
+use Rattle.gcx_model.specs.declared.fault.QueryFault.TheVariants.{TooLarge}
+use Rattle.gcx_model.specs.declared.fault.What.TheVariants.{Text}
 use Rattle.run_words.specs.Stops.{More, End, Fault}
 use Rattle.gcx_cmd.proofs.Along.{opens_one, opens_on, reads_none, reads_more, reads_end, reads_fault, keeps_given, keeps_read, within_or_passes, passes}
-use Rattle.gcx_cmd.specs.QueryDoes.{ReadsText, FailsInText, RunsOutInText}
+use Rattle.gcx_cmd.specs.QueryDoes.{ReadsText, FailsInText, RefusesText, RunsOutInText}
 use Rattle.gcx_cmd.specs.Reads.{Reads, Opens, KeepsShelf, Within, PassesIn, Calmly, most_of_query}
 
 pub record HasRead (name text : List ℕ) (h : ℕ) (a b : ShelfView) : Type 0 where
@@ -76,3 +78,19 @@ runs_out name text h a b r =
 
 pub texts : (name text text' : List ℕ) (h : ℕ) (a b : ShelfView) → text ≡ text' → HasRead name text h a b → HasRead name text' h a b
 texts name text text' h a b same r = subst (λ (l : List ℕ). HasRead name l h a b) same r
+
+-- a read of the handle changes nothing else of the shelf
+pub stays : {E : Type 0} (name text : List ℕ) (h : ℕ) (a b c : ShelfView) (r : Result ℕ E) (buf : List ℕ) → HasRead name text h a b → ReadsOnce {E = E} h b c r buf → KeepsShelf a c
+stays name text h a b c r buf so_far once = keeps_read h a b c r buf so_far.keeps (omega (arith, so_far.number)) once
+
+-- there is more of it than a query may have
+pub refuses : (name text : List ℕ) (h : ℕ) (a b : ShelfView) → HasRead name text h a b → most_of_query < length text → RefusesText name (TooLarge Text most_of_query) a b
+refuses name text h a b r past = record {
+  opens = r.opens;
+  pieces = r.pieces;
+  why = inr (
+    subst (λ (k : ℕ). Reads name k a b r.pieces More) r.number r.reads,
+    passes r.pieces r.near (omega (arith, past, ap length r.whole)),
+    refl,
+  );
+}

@@ -4,6 +4,7 @@ use Rattle.std.specs.Prelude.{option_map, option_and_then}
 use Rattle.std.specs.Ordering.{nat_cmp}
 use Rattle.std.specs.Cmp.{nat_cmp_total}
 use Rattle.std.specs.FinMap.{empty, get, get-empty, same_map, nat_cmp-IsAntisymmetric}
+use Rattle.std.specs.FinSet as set
 use Rattle.std.proofs.lemmas.Bool.{false≢true, eq-eqb}
 use Rattle.std.proofs.lemmas.List.{length-map}
 use Rattle.node_store.specs.Rows.{Entry}
@@ -12,29 +13,33 @@ use Rattle.gcx_model.specs.Tree.{Node, Tree}
 use Rattle.gcx_model.specs.Past.{Past}
 use Rattle.buf_tree.specs.Row.{Row}
 use Rattle.buf_tree.specs.Shape.{Store, Cell, num, Rising, at_serial, place_for, is_under, entry_in, Shape}
+use Rattle.buf_tree.specs.Spread.{SameButRoles, bare_cell}
 use Rattle.buf_tree.specs.Stands.{Seen, seen, told, parent_seen}
+use Rattle.buf_tree.specs.View.{View}
+use Rattle.buf_tree.proofs.Changes.{map-map}
 use Rattle.buf_tree.proofs.Shaping.{at_place_is, at_serial_is, held_in, rows_number}
+use Rattle.buf_tree.proofs.Standing.{pair_left}
 use Rattle.gcx_cmd.specs.Running.{serial_in, serials_in, AreRising, Shows, RowsAre}
 
--- ---- rows and nodes, one by one
+-- the store holds the rows as they are kept
+abbrev pub HasRows : Store → View → Type 0
+HasRows m v = Shape m v.kept × SameButRoles v.kept v.rows
 
-told_by : (past : Past) (xs : List Cell) (ns : List Node) → map seen xs ≡ map (told past) ns → (c : Cell) → In c xs → (n : Node) × In n ns × (seen c ≡ told past n)
-told_by past [] ns e c i = absurd i
-told_by past (x ∷ xs) [] e c i = let no : ⊥ = cc in absurd no
-told_by past (x ∷ xs) (n ∷ ns) e c (inl f) = let here : seen x ≡ told past n = cc in (n, inl refl, subst (λ (z : Cell). seen z ≡ told past n) f here)
-told_by past (x ∷ xs) (n ∷ ns) e c (inr i) =
-    let rest : map seen xs ≡ map (told past) ns = cc in
-    let r = told_by past xs ns rest c i in
-    (r.0, inr r.1, r.2)
+-- what a row tells beside its roles
+abbrev bare : Seen → Seen
+bare s = record s { roles = set.empty; covered = false }
 
-row_for : (past : Past) (xs : List Cell) (ns : List Node) → map seen xs ≡ map (told past) ns → (n : Node) → In n ns → (c : Cell) × In c xs × (seen c ≡ told past n)
-row_for past xs [] e n i = absurd i
-row_for past [] (m ∷ ns) e n i = let no : ⊥ = cc in absurd no
-row_for past (x ∷ xs) (m ∷ ns) e n (inl f) = let here : seen x ≡ told past m = cc in (x, inl refl, subst (λ (z : Node). seen x ≡ told past z) f here)
-row_for past (x ∷ xs) (m ∷ ns) e n (inr i) =
-    let rest : map seen xs ≡ map (told past) ns = cc in
-    let r = row_for past xs ns rest n i in
-    (r.0, inr r.1, r.2)
+abbrev bare_seen : Cell → Seen
+bare_seen c = seen (bare_cell c)
+
+abbrev bare_told : Past → Node → Seen
+bare_told past n = bare (told past n)
+
+-- the rows kept tell it of the same nodes
+kept_tell : (past : Past) (v : View) (ns : List Node) → SameButRoles v.kept v.rows → map seen v.rows ≡ map (told past) ns → map bare_seen v.kept ≡ map (bare_told past) ns
+kept_tell past v ns same e =
+    sym (map-map bare_cell seen v.kept)
+    ∙ (ap (map seen) same ∙ (map-map bare_cell seen v.rows ∙ (sym (map-map seen bare v.rows) ∙ (ap (map bare) e ∙ map-map (told past) bare ns))))
 
 -- ---- children
 
@@ -78,7 +83,7 @@ module _ (m : Store) (xs : List Cell) (s : Shape m xs) where
             ∙ serial_here a.0 a.1 ∙ ap (λ (k : ℕ). Some k) a.2
       ]
 
-  shows_here : (past : Past) (c : Cell) → In c xs → (n : Node) → seen c ≡ told past n → Shows m past.tree (entry_in xs c) n
+  shows_here : (past : Past) (c : Cell) → In c xs → (n : Node) → bare_seen c ≡ bare_told past n → Shows m past.tree (entry_in xs c) n
   shows_here past c i n e = record {
     serial = ap (λ (z : Seen). z.serial) e;
     kind = ap (λ (z : Seen). z.kind) e;
@@ -87,20 +92,23 @@ module _ (m : Store) (xs : List Cell) (s : Shape m xs) where
   }
 
   -- rows that tell what the past tells of these nodes are theirs
-  pub rows_are : (past : Past) (ns : List Node) → map seen xs ≡ map (told past) ns → RowsAre m past.tree ns
-  rows_are past ns e = record {
+  are_theirs : (past : Past) (ns : List Node) → map bare_seen xs ≡ map (bare_told past) ns → RowsAre m past.tree ns
+  are_theirs past ns e = record {
     each = λ p x g.
         let h = held_in m xs s p x g in
-        let t = told_by past xs ns e h.0 h.1 in
+        let t = pair_left bare_seen (bare_told past) xs ns e h.0 h.1 in
         (t.0, t.1, subst (λ (y : Entry Row). Shows m past.tree y t.0) (sym h.3) (shows_here past h.0 h.1 t.0 t.2));
     all = λ n i.
-        let r = row_for past xs ns e n i in
-        (r.0.place, entry_in xs r.0, gets_cell r.0 r.1, shows_here past r.0 r.1 n r.2);
-    count = rows_number m xs s ∙ sym (length-map xs seen) ∙ ap length e ∙ length-map ns (told past);
+        let r = pair_left (bare_told past) bare_seen ns xs (sym e) n i in
+        (r.0.place, entry_in xs r.0, gets_cell r.0 r.1, shows_here past r.0 r.1 n (sym r.2));
+    count = rows_number m xs s ∙ sym (length-map xs bare_seen) ∙ ap length e ∙ length-map ns (bare_told past);
     order = λ p x g.
         let h = held_in m xs s p x g in
         subst (λ (y : Entry Row). AreRising (serials_in m y.children)) (sym h.3) (rising_children h.0);
   }
+
+pub rows_are : (m : Store) (v : View) → HasRows m v → (past : Past) (ns : List Node) → map seen v.rows ≡ map (told past) ns → RowsAre m past.tree ns
+rows_are m v s past ns e = are_theirs m v.kept s.0 past ns (kept_tell past v ns s.1 e)
 
 -- where no node is held the store is empty
 pub no_rows : (m : Store) (P : Tree) → RowsAre m P [] → m ≡ empty

@@ -25,7 +25,7 @@ use Rattle.placed_laws.proofs.Balances.{empty_law}
 use Rattle.doc_laws.proofs.Found.{found_seen}
 use Rattle.doc_laws.proofs.Growing.{seen_leads}
 use Rattle.doc_reader.specs.Standing.{said_of}
-use Rattle.buf_tree.specs.Shape.{Store, Shape}
+use Rattle.buf_tree.specs.Shape.{Store}
 use Rattle.buf_tree.specs.Stands.{StandsFor}
 use Rattle.buf_tree.specs.View.{View}
 use Rattle.run_words.proofs.Mapping.{ends_map}
@@ -50,7 +50,7 @@ use Rattle.gcx_cmd.specs.Tracing.{IsTrace}
 use Rattle.engine.proofs.Nothing.{none_at_start}
 use Rattle.engine.proofs.Whole.{all_closed}
 use Rattle.gcx_cmd.proofs.Documents.{no_memory, seen_document}
-use Rattle.gcx_cmd.proofs.Rows.{rows_are, no_rows}
+use Rattle.gcx_cmd.proofs.Rows.{HasRows, rows_are, no_rows}
 use Rattle.gcx_cmd.proofs.Tells.{ends_told, telling}
 
 -- ---- what was written
@@ -93,13 +93,13 @@ all_taken : (plan : PlanTree) (P : Tree) → so_far plan P (length (actions plan
 all_taken plan P = take_whole (actions plan P)
 
 module _ (plan : PlanTree) (ts : List Token) (v : View) (fed : ℕ) (st : StandsFor v (past_at plan (seen_tree ts) (length (actions plan (seen_tree ts))) fed)) where
-  rows_on : (m : Store) → Shape m v.rows → RowsAre m (seen_tree ts) (held_by plan (seen_tree ts))
+  rows_on : (m : Store) → HasRows m v → RowsAre m (seen_tree ts) (held_by plan (seen_tree ts))
   rows_on m s =
       subst (λ (l : List Action). RowsAre m (seen_tree ts) (held plan (seen_tree ts) l)) (all_taken plan (seen_tree ts))
-      (rows_are m v.rows s (past_at plan (seen_tree ts) (length (actions plan (seen_tree ts))) fed) (held plan (seen_tree ts) (so_far plan (seen_tree ts) (length (actions plan (seen_tree ts))))) st.rows)
+      (rows_are m v s (past_at plan (seen_tree ts) (length (actions plan (seen_tree ts))) fed) (held plan (seen_tree ts) (so_far plan (seen_tree ts) (length (actions plan (seen_tree ts))))) st.rows)
 
   -- what the store holds
-  pub holds_on : (q : List ExprTree) (ahead : ℕ) (m : Store) (most : ℕ) → plan ≡ plan_of (normal q) → Shape m v.rows → Peaks (peak_of plan ts) ahead v.most → most ≡ v.most → Holds q ahead ts m most
+  pub holds_on : (q : List ExprTree) (ahead : ℕ) (m : Store) (most : ℕ) → plan ≡ plan_of (normal q) → HasRows m v → Peaks (peak_of plan ts) ahead v.most → most ≡ v.most → Holds q ahead ts m most
   holds_on q ahead m most is s p e =
       let least : peak_of plan ts ≤ most = let a = p.least in let b = e in omega arith in
       let near : most < peak_of plan ts + ahead = let a = p.near in let b = e in omega arith in
@@ -110,7 +110,7 @@ module _ (plan : PlanTree) (ts : List Token) (v : View) (fed : ℕ) (st : Stands
       }
 
   -- behind a whole document none is left
-  pub emptied_on : (b : List ℕ) (m : Store) → IsPlaced plan → SeenIs full_limits b true ts → FaultIs full_limits b true None → Shape m v.rows → m ≡ empty
+  pub emptied_on : (b : List ℕ) (m : Store) → IsPlaced plan → SeenIs full_limits b true ts → FaultIs full_limits b true None → HasRows m v → m ≡ empty
   emptied_on b m placed s clean shape =
       let w = seen_document full_limits b ts clean s in
       let closed : AllClosed (seen_tree ts) = subst AllClosed (sym w.tree_is) (all_closed w.document) in
@@ -149,7 +149,7 @@ module _ {N C : Type 0} (stands : C → Tree → Type 0) (tracing : Bool) (e : E
   ends_said : EndsRun (PlanSettles plan full_limits) (PlanTrace plan full_limits) full_limits tracing (run_end t.ended) r.pieces r.stop (sinks o d) (sinks p f)
   ends_said = ends_told tracing (PlanSettles plan full_limits) plan full_limits (run_end t.ended) r.pieces r.stop (sinks o d) (sinks p f) r.ends
 
-  stands_hold : (q : List ExprTree) (ahead : ℕ) (m : Store) (most : ℕ) → IsPlanOf q plan → e.ahead ≡ ahead → Shape m e.buffer.rows → most ≡ e.buffer.most
+  stands_hold : (q : List ExprTree) (ahead : ℕ) (m : Store) (most : ℕ) → IsPlanOf q plan → e.ahead ≡ ahead → HasRows m e.buffer → most ≡ e.buffer.most
       → StandsOf stands full_limits e (joined r.pieces) (is_end r.stop) → MostIs 0 e → HoldsSeen q ahead r.pieces r.stop (stored m most)
   stands_hold q ahead m most is one s h st fresh =
       let peak = peak_of plan (map said_of st.given) in
@@ -167,7 +167,7 @@ module _ {N C : Type 0} (stands : C → Tree → Type 0) (tracing : Bool) (e : E
       let st = subst (λ (x : Ended). UnlessLost x (StandsOf stands full_limits e (joined r.pieces) (is_end r.stop))) ok r.stand in
       (ends.0, ends.1, subst (λ (x : Stop). StandsOf stands full_limits e (joined r.pieces) (is_end x)) ends.0 st)
 
-  pub source_runs : (q : List ExprTree) (ahead : ℕ) (m : Store) (most : ℕ) → IsPlanOf q plan → e.ahead ≡ ahead → Shape m e.buffer.rows → most ≡ e.buffer.most
+  pub source_runs : (q : List ExprTree) (ahead : ℕ) (m : Store) (most : ℕ) → IsPlanOf q plan → e.ahead ≡ ahead → HasRows m e.buffer → most ≡ e.buffer.most
       → UnlessLost t.ended (MostIs 0 e) → ((b : List ℕ) (ended : Bool) → StandsOf stands full_limits e b ended → Numbers plan full_limits b ended e.ahead t)
       → SourceRuns tracing ahead q t s0 s1 o p d f (stored m most)
   source_runs q ahead m most is same s h fresh told = record {
@@ -193,7 +193,7 @@ module _ {N C : Type 0} (stands : C → Tree → Type 0) (tracing : Bool) (e : E
       subst (λ (x : Stop). CountsFault x s0.faults s1.faults) ends.0 r.gave.faults
 
   -- at Ok the store is empty
-  pub emptied_by : (m : Store) → IsPlaced plan → Shape m e.buffer.rows → t.ended ≡ end.Ok → m ≡ empty
+  pub emptied_by : (m : Store) → IsPlaced plan → HasRows m e.buffer → t.ended ≡ end.Ok → m ≡ empty
   emptied_by m placed s ok =
       let q = at_end ok in
       emptied_on plan (map said_of q.2.given) e.buffer q.2.parts.actors.fed q.2.parts.actors.beside.buffer (joined r.pieces) m placed q.2.seen q.1 s

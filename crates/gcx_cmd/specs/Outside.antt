@@ -23,8 +23,11 @@ outside s o e rows most = record { shelf = s; out = o; err = e; store = record {
 abbrev pub beside : ShelfView → (out err : SinkView) → StoreView → Outside
 beside s o e store = record { shelf = s; out = o; err = e; store = store }
 
+abbrev pub both_sinks : (out err : SinkView) → Sinks
+both_sinks o e = record { out = o; err = e }
+
 abbrev pub sinks_of : Outside → Sinks
-sinks_of a = record { out = a.out; err = a.err }
+sinks_of a = both_sinks a.out a.err
 
 -- nothing was written, and the store is as it was
 pub record Untouched (a b : Outside) : Type 0 where

@@ -18,11 +18,10 @@ use Rattle.node_store.specs.Rows.{Rows}
 use Rattle.buf_tree.specs.Row.{Row}
 use Rattle.run_words.specs.Reading.{SourceGave, ReadsOn}
 use Rattle.run_words.specs.Stops.{Stop, IsCalm}
-use Rattle.engine.specs.Runs.{sinks}
 use Rattle.engine.specs.declared.report.Ended.TheVariants as end
 use Rattle.engine.specs.declared.report.Report.{Report}
 use Rattle.gcx_cmd.specs.DocumentDoes.{DocDoes, HasFault, IsClean, IsCut, OverDoc}
-use Rattle.gcx_cmd.specs.Outside.{Outside, StoreView, Untouched, sinks_of}
+use Rattle.gcx_cmd.specs.Outside.{Outside, StoreView, Untouched, both_sinks, sinks_of}
 use Rattle.gcx_cmd.specs.RunDoes.{EndsBy, HoldsSeen}
 use Rattle.gcx_cmd.specs.Running.{UnlessMemory}
 use Rattle.gcx_cmd.specs.SelfInput.{SelfInput}
@@ -53,7 +52,7 @@ pub record SourceRuns (tracing : Bool) (ahead : ℕ) (q : List ExprTree) (report
   pub stop : Stop
   pub gave : SourceGave left now pieces stop
   pub reads_on : ReadsOn full_limits pieces stop
-  pub ends : EndsBy q tracing (ended_status report.ended) pieces stop (sinks out_before err_before) (sinks out_after err_after)
+  pub ends : EndsBy q tracing (ended_status report.ended) pieces stop (both_sinks out_before err_before) (both_sinks out_after err_after)
   pub holds : UnlessMemory (ended_status report.ended) (HoldsSeen q ahead pieces stop store)
   pub numbers : ahead ≡ 1 → report.ended ≡ end.Ok → NumbersIn q pieces report
 

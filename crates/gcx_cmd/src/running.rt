@@ -16,11 +16,11 @@ ghost use Rattle.gcx_cmd.specs.Status.{ended_status};
 use crate::Status;
 use crate::query::read_query;
 use buf_tree::Row;
-use cond_memo::Marked;
 use engine::{Ended, Engine, Report, run_query};
 use gcx_base::{Limits, Text};
 use gcx_io::{AttachFault, Opened, Shelf, Sink, Source};
 use gcx_model::Plan;
+use join_index::Indexed;
 use node_store::NodeStore;
 use std::alloc::Global;
 
@@ -78,7 +78,9 @@ pub(crate) fn run_plan<S: Source, O: Sink, E: Sink, N: NodeStore<Row> + Drop>(
     ensures counts { (S.faults source.old ≤ S.faults source.new)
         × ((O.seen out.old).faults ≤ (O.seen out.new).faults) × ((E.seen err.old).faults ≤ (E.seen err.new).faults) }
 {
-    let conds = Marked::new(alloc);
+    let Ok(conds) = Indexed::new(alloc, plan) else {
+        return nothing_run();
+    };
     let limits = Limits::full();
     let Ok(mut engine) = Engine::new(alloc, plan, nodes, conds, limits, ahead, tracing) else {
         return nothing_run();

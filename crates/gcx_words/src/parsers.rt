@@ -1,30 +1,69 @@
 //! The commands of `clap`, one for each form of arguments.
 ghost use Rattle.std.specs.Prelude.{◌≡◌, IfOk};
-ghost use Rattle.clap.specs.Words.{app_of};
-ghost use Rattle.gcx_words.specs.Words.{run_app, pair_app, check_app, single_app, numbers_app};
+ghost use Rattle.clap.specs.Words.{app_of, with_rule};
+ghost use Rattle.gcx_words.specs.Words.{ahead_rule, check_app, numbers_app, pair_app, run_app, single_app, trace_rule, wanted, wanted_number};
 
 use clap::builder::ValueParser;
 use clap::{Arg, ArgAction, Command};
 use gcx_base::Memory;
 use std::alloc::Global;
 
+/// The command with one argument more, which must be given.
+fn with_wanted<'a>(alloc: Global, command: Command<'a>, id: &'a str) -> Result<Command<'a>, Memory>
+    ensures { IfOk result (λ c. app_of c ≡ with_rule (app_of command.entry) (wanted id.entry.now)) }
+{
+    let arg = Arg::new(alloc, id).required(true);
+    let command = command.arg(arg)?;
+    Ok(command)
+}
+
+/// The same of a number between two.
+fn with_number<'a>(
+    alloc: Global,
+    command: Command<'a>,
+    id: &'a str,
+    low: u64,
+    high: u64,
+) -> Result<Command<'a>, Memory>
+    ensures { IfOk result (λ c. app_of c ≡ with_rule (app_of command.entry) (wanted_number id.entry.now low high)) }
+{
+    let arg = Arg::new(alloc, id)
+        .required(true)
+        .value_parser(ValueParser::unsigned(low, high));
+    let command = command.arg(arg)?;
+    Ok(command)
+}
+
+/// The command with `[--trace]`.
+fn with_trace<'a>(alloc: Global, command: Command<'a>) -> Result<Command<'a>, Memory>
+    ensures { IfOk result (λ c. app_of c ≡ with_rule (app_of command.entry) trace_rule) }
+{
+    let arg = Arg::new(alloc, "trace")
+        .long("trace")
+        .action(ArgAction::SetTrue);
+    let command = command.arg(arg)?;
+    Ok(command)
+}
+
+/// The command with `[--ahead K]`.
+fn with_ahead<'a>(alloc: Global, command: Command<'a>) -> Result<Command<'a>, Memory>
+    ensures { IfOk result (λ c. app_of c ≡ with_rule (app_of command.entry) ahead_rule) }
+{
+    let arg = Arg::new(alloc, "ahead")
+        .long("ahead")
+        .value_parser(ValueParser::unsigned(1, 1000));
+    let command = command.arg(arg)?;
+    Ok(command)
+}
+
 /// `run [--trace] [--ahead K] QUERY DOC`.
 pub(crate) fn run_parser<'a>(alloc: Global) -> Result<Command<'a>, Memory>
     ensures { IfOk result (λ c. app_of c ≡ run_app) }
 {
-    let trace = Arg::new(alloc, "trace")
-        .long("trace")
-        .action(ArgAction::SetTrue);
-    let ahead = Arg::new(alloc, "ahead")
-        .long("ahead")
-        .value_parser(ValueParser::unsigned(1, 1000));
-    let query = Arg::new(alloc, "query").required(true);
-    let document = Arg::new(alloc, "document").required(true);
-    let command = Command::new(alloc, "run")
-        .arg(trace)?
-        .arg(ahead)?
-        .arg(query)?
-        .arg(document)?;
+    let command = with_trace(alloc, Command::new(alloc, "run"))?;
+    let command = with_ahead(alloc, command)?;
+    let command = with_wanted(alloc, command, "query")?;
+    let command = with_wanted(alloc, command, "document")?;
     Ok(command)
 }
 
@@ -32,9 +71,8 @@ pub(crate) fn run_parser<'a>(alloc: Global) -> Result<Command<'a>, Memory>
 pub(crate) fn pair_parser<'a>(alloc: Global, name: &'a str) -> Result<Command<'a>, Memory>
     ensures { IfOk result (λ c. app_of c ≡ pair_app name.entry.now) }
 {
-    let query = Arg::new(alloc, "query").required(true);
-    let document = Arg::new(alloc, "document").required(true);
-    let command = Command::new(alloc, name).arg(query)?.arg(document)?;
+    let command = with_wanted(alloc, Command::new(alloc, name), "query")?;
+    let command = with_wanted(alloc, command, "document")?;
     Ok(command)
 }
 
@@ -42,13 +80,8 @@ pub(crate) fn pair_parser<'a>(alloc: Global, name: &'a str) -> Result<Command<'a
 pub(crate) fn check_parser<'a>(alloc: Global) -> Result<Command<'a>, Memory>
     ensures { IfOk result (λ c. app_of c ≡ check_app) }
 {
-    let query = Arg::new(alloc, "query").required(true);
-    let document = Arg::new(alloc, "document").required(true);
-    let trace = Arg::new(alloc, "trace").required(true);
-    let command = Command::new(alloc, "check")
-        .arg(query)?
-        .arg(document)?
-        .arg(trace)?;
+    let command = pair_parser(alloc, "check")?;
+    let command = with_wanted(alloc, command, "trace")?;
     Ok(command)
 }
 
@@ -56,8 +89,7 @@ pub(crate) fn check_parser<'a>(alloc: Global) -> Result<Command<'a>, Memory>
 pub(crate) fn single_parser<'a>(alloc: Global) -> Result<Command<'a>, Memory>
     ensures { IfOk result (λ c. app_of c ≡ single_app) }
 {
-    let query = Arg::new(alloc, "query").required(true);
-    let command = Command::new(alloc, "explain").arg(query)?;
+    let command = with_wanted(alloc, Command::new(alloc, "explain"), "query")?;
     Ok(command)
 }
 
@@ -65,12 +97,8 @@ pub(crate) fn single_parser<'a>(alloc: Global) -> Result<Command<'a>, Memory>
 pub(crate) fn numbers_parser<'a>(alloc: Global, name: &'a str) -> Result<Command<'a>, Memory>
     ensures { IfOk result (λ c. app_of c ≡ numbers_app name.entry.now) }
 {
-    let seed = Arg::new(alloc, "seed")
-        .required(true)
-        .value_parser(ValueParser::unsigned(0, 4_294_967_295));
-    let count = Arg::new(alloc, "count")
-        .required(true)
-        .value_parser(ValueParser::unsigned(1, 100_000));
-    let command = Command::new(alloc, name).arg(seed)?.arg(count)?;
+    let command = Command::new(alloc, name);
+    let command = with_number(alloc, command, "seed", 0, 4_294_967_295)?;
+    let command = with_number(alloc, command, "count", 1, 100_000)?;
     Ok(command)
 }

@@ -1,7 +1,7 @@
 //! From words to a command.
 ghost use Rattle.std.specs.Prelude.{◌≡◌, ◌+◌, ℕ, List, [], None, Ok, IfOk, IfSome, map, take};
 ghost use Rattle.clap.specs.Words.{found_of, rows_of};
-ghost use Rattle.gcx_words.specs.Words.{command_of, named, named_by, numbers_of, pair_of, run_of, run_with};
+ghost use Rattle.gcx_words.specs.Words.{check_of, command_of, named, named_by, numbers_of, pair_of, run_of, run_with};
 ghost use Rattle.gcx_words.specs.Within.{IsWithin};
 ghost use Rattle.gcx_words.specs.Words.{read, read_check, read_explain, read_gen, read_peak, read_run, read_selfrun, read_whole};
 
@@ -101,6 +101,23 @@ fn pair_of(alloc: Global, matches: &ArgMatches) -> Result<Option<(Text, Text)>, 
     Ok(Some((query, document)))
 }
 
+/// QUERY, DOC and TRACE.
+fn check_of(alloc: Global, matches: &ArgMatches) -> Result<Option<Command>, Memory>
+    ensures { IfOk result (λ c. c ≡ check_of (rows_of (found_of matches.now))) }
+{
+    let Some((query, document)) = pair_of(alloc, matches)? else {
+        return Ok(None);
+    };
+    let Some(trace) = own_found(alloc, matches, "trace")? else {
+        return Ok(None);
+    };
+    Ok(Some(Command::Check {
+        query,
+        document,
+        trace,
+    }))
+}
+
 /// SEED and N.
 fn numbers_of(matches: &ArgMatches) -> Option<(u32, u32)>
     ensures { result ≡ numbers_of (rows_of (found_of matches.now)) }
@@ -146,20 +163,10 @@ fn read_peak(alloc: Global, words: &[&str]) -> Result<Option<Command>, Memory>
 fn read_check(alloc: Global, words: &[&str]) -> Result<Option<Command>, Memory>
     ensures { IfOk result (λ c. c ≡ read_check (map (λ w. w.now) words.now)) }
 {
-    let Some(matches) = parsed(check_parser(alloc)?, words)? else {
-        return Ok(None);
-    };
-    let Some((query, document)) = pair_of(alloc, &matches)? else {
-        return Ok(None);
-    };
-    let Some(trace) = own_found(alloc, &matches, "trace")? else {
-        return Ok(None);
-    };
-    Ok(Some(Command::Check {
-        query,
-        document,
-        trace,
-    }))
+    match parsed(check_parser(alloc)?, words)? {
+        Some(matches) => check_of(alloc, &matches),
+        None => Ok(None),
+    }
 }
 
 fn read_explain(alloc: Global, words: &[&str]) -> Result<Option<Command>, Memory>

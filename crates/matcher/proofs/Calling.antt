@@ -21,9 +21,9 @@ use Rattle.path_states.specs.State.{StateView, IsMade}
 use Rattle.path_states.specs.States.{StatesView, Enters, last_state, outer_states}
 use Rattle.path_states.proofs.Gaining.{gains_none}
 use Rattle.path_states.proofs.Looking.{one_at, some_at}
-use Rattle.matcher.specs.Calls.{GivesName, GivesNext, GivesNode, PassesNode, KeepsStanding, StandsBehind, StandsBehindName, StandsNext, TellsWholeHere}
-use Rattle.matcher.specs.Entering.{AddsFrame, FindsAll, FindsHere, Firsts, GivesInside, Goes, Halts, IsIdle, IsIdled, IsVain, LeadsNowhere}
-use Rattle.matcher.specs.Frames.{AreBoth}
+use Rattle.matcher.specs.Calls.{GivesName, GivesNext, GivesNode, PassesNode, KeepsStanding, StandsBehind, StandsBehindName, StandsIn, StandsNext, TellsWholeHere}
+use Rattle.matcher.specs.Entering.{AddsFrame, AddsGiven, FindsAll, FindsHere, Firsts, GivesInside, Goes, Halts, IsIdle, IsIdled, IsVain, LeadsNowhere}
+use Rattle.matcher.specs.Frames.{AreBoth, AreRoles}
 use Rattle.matcher.specs.Matcher.{Stands}
 use Rattle.matcher.specs.Parts.{NodeMarks, new_marks}
 use Rattle.matcher.specs.Stacks.{AreMatched}
@@ -39,7 +39,12 @@ use Rattle.matcher.proofs.Places.{last_is, outer_push}
 use Rattle.matcher.proofs.NewFrame.{end_of, ended, whole_tail}
 
 pub same_keeps : (old new : MatcherView) → new ≡ old → KeepsStanding old new
-same_keeps old new e past text S = subst (λ (z : MatcherView). Stands z past text) (sym e) S
+same_keeps old new e s S = subst (λ (z : MatcherView). StandsIn z s) (sym e) S
+
+-- behind a new node
+behind_by : (old new : MatcherView) (kind : Kind)
+    → ((past : Past) → Stands old past false → may_come (token_for kind) past.tree ≡ true → ((p : Node) → past.tree.at ≡ Some p → level p ≤ 1000) → Stands new (past_grown (token_for kind) past) (is_text kind)) → StandsBehind old new kind
+behind_by old new kind f s S may = f s.0 (subst (λ (b : Bool). Stands old s.0 b) may.0 S) may.1.0 may.1.1
 
 -- the roles of whole subtrees of the innermost frame are those of the innermost state
 pub inside_whole : (v : StatesView) (ms : List NodeMarks) → GoTogether v ms → (x : StateView) → last_state v.states ≡ Some x → (frame : FrameView) → innermost_frame (frames_of v ms) ≡ Some frame → frame.whole ≡ x.whole
@@ -75,18 +80,26 @@ finds_here v ms x at active here found ea eh h s at2 =
     (subst (λ (z : ℕ). FindsAll v ms x.active z [] found) eh (subst (λ (z : List ℕ). FindsAll v ms z here [] found) ea h))
 
 -- the frame that was added
-pub adds_frame : (v : StatesView) (before mid now : List NodeMarks) (x : StateView) (given : List Role) (found part : List Found) (roles contexts : List ℕ) → last_state v.states ≡ Some x → IsMade v.tree.states.items x → FindsHere v before found
-    → part ≡ found → roles ≡ x.given → contexts ≡ x.contexts → AreBoth roles part (map (λ (r : Role). r.0) given) → mid ≡ before ++ new_marks contexts part ∷ [] → AreMatched part mid now → AddsFrame v before now given
-adds_frame v before mid now x given found part roles contexts at made finds ep er ec both em matched = record {
+pub adds_frame : (v : StatesView) (before mid now : List NodeMarks) (x : StateView) (found : List Found) (contexts : List ℕ) → last_state v.states ≡ Some x → FindsHere v before found → contexts ≡ x.contexts
+    → mid ≡ before ++ new_marks contexts found ∷ [] → AreMatched found mid now → AddsFrame v before now found
+adds_frame v before mid now x found contexts at finds ec em matched = record {
   state = x;
   last = at;
-  found = found;
-  marks = subst (λ (z : List Found). AreMatched z (before ++ new_marks x.contexts z ∷ []) now) ep
-      (subst (λ (z : List ℕ). AreMatched part (before ++ new_marks z part ∷ []) now) ec (subst (λ (z : List NodeMarks). AreMatched part z now) em matched));
-  roles = roles_of_both v.tree.states.items x.whole x.active x.given found (map (λ (r : Role). r.0) given) made.given
-      (subst (λ (z : List Found). AreBoth x.given z (map (λ (r : Role). r.0) given)) ep (subst (λ (z : List ℕ). AreBoth z part (map (λ (r : Role). r.0) given)) er both));
+  marks = subst (λ (z : List ℕ). AreMatched found (before ++ new_marks z found ∷ []) now) ec (subst (λ (z : List NodeMarks). AreMatched found z now) em matched);
   firsts = finds x at;
 }
+
+-- and the roles of its node
+pub adds_given : (v : StatesView) (before now : List NodeMarks) (x : StateView) (found : List Found) (given : List Role) (roles : List ℕ) → last_state v.states ≡ Some x → IsMade v.tree.states.items x → AddsFrame v before now found
+    → roles ≡ x.given → AreBoth roles found (map (λ (r : Role). r.0) given) → AddsGiven v before now given
+adds_given v before now x found given roles at made F er both =
+    let same : x ≡ F.state = one_at v.states (length v.states - 1) x F.state at F.last in
+    record {
+      found = found;
+      frame = F;
+      roles = subst (λ (z : StateView). AreRoles v.tree.states.items z.whole z.active found (map (λ (r : Role). r.0) given)) same
+          (roles_of_both v.tree.states.items x.whole x.active x.given found (map (λ (r : Role). r.0) given) made.given (subst (λ (z : List ℕ). AreBoth z found (map (λ (r : Role). r.0) given)) er both));
+    }
 
 -- ---- to a new node
 
@@ -99,10 +112,10 @@ told m past kind G h given t n o =
 
 module _ (m : MatcherView) (kind : Kind) (node : IsNode kind) (text : Bool) (flag : text ≡ is_text kind) where
   pub idle_entered : (now : MatcherView) → IsIdle m text → IsIdled m now text → StandsBehind m now kind
-  idle_entered now idle d past S may few =
+  idle_entered now idle d = behind_by m now kind (λ past S may few.
       let G : Goes m past kind = record { stands = S; node = node; may = may } in
       let q = idle_goes m past kind G (subst (λ (z : Bool). IsIdle m z) flag idle) in
-      idle_stands m past kind G q.0 q.1 few now (subst (λ (z : Bool). IsIdled m now z) flag d)
+      idle_stands m past kind G q.0 q.1 few now (subst (λ (z : Bool). IsIdled m now z) flag d))
 
   pub idle_given : (given : List Role) → IsIdle m text → GivesInside m given → GivesNode m kind given
   idle_given given idle g past n S may op =
@@ -110,9 +123,9 @@ module _ (m : MatcherView) (kind : Kind) (node : IsNode kind) (text : Bool) (fla
       told m past kind G (idle_goes m past kind G (subst (λ (z : Bool). IsIdle m z) flag idle)).0 given g n op
 
   pub next_entered : (now : MatcherView) (number : ℕ) → m.idle ≡ 0 → IsNameNumber m.names kind number → StandsNext m now number text → StandsBehind m now kind
-  next_entered now number here by d past S may few =
+  next_entered now number here by d = behind_by m now kind (λ past S may few.
       let G : Goes m past kind = record { stands = S; node = node; may = may } in
-      subst (λ (z : Bool). Stands now (past_grown (token_for kind) past) z) flag (d past kind (record { goes = G; by = by; flag = sym flag; here = here }) few)
+      subst (λ (z : Bool). Stands now (past_grown (token_for kind) past) z) flag (d past kind (record { goes = G; by = by; flag = sym flag; here = here }) few))
 
   pub next_given : (given : List Role) (number : ℕ) → m.idle ≡ 0 → IsNameNumber m.names kind number → GivesNext m number text given → GivesNode m kind given
   next_given given number here by g past n S may op =
@@ -171,16 +184,16 @@ module _ (v : StatesView) (ms : List NodeMarks) (idle : ℕ) (was : Bool) (signs
   halted_given given halts g past kind n B op = told old past kind B.goes (halts_goes old past kind B.goes v ms number text refl refl go B.by B.flag B.here halts).0 given g n op
 
   -- it gets a frame
-  module _ (v2 : StatesView) (later : List NodeMarks) (given : List Role) (E : Enters v v2 number) (A : AddsFrame v2 ms later given) where
+  module _ (v2 : StatesView) (later : List NodeMarks) (found : List Found) (E : Enters v v2 number) (A : AddsFrame v2 ms later found) where
     pub added_stands : StandsNext old (matcher_view v2 later idle text signs) number text
     added_stands past kind B few =
         let same : view_with v2 (frames_of v2 later) idle (is_text kind) signs ≡ view_with v (frames_of v2 later) idle (is_text kind) signs = ap (λ (z : StatesView). view_with z (frames_of v2 later) idle (is_text kind) signs) E.is in
         subst (λ (z : Bool). Stands (matcher_view v2 later idle z signs) (past_grown (token_for kind) past) z) B.flag
-        (subst (λ (z : MatcherView). Stands z (past_grown (token_for kind) past) (is_text kind)) (sym same) (advanced_stands old past kind B.goes B.here v v2 ms later number given refl refl go B.by E A))
+        (subst (λ (z : MatcherView). Stands z (past_grown (token_for kind) past) (is_text kind)) (sym same) (advanced_stands old past kind B.goes B.here v v2 ms later number found refl refl go B.by E A))
 
-    pub added_given : GivesNext old number text given
-    added_given past kind n B op =
-        advanced_given old past kind B.goes B.here v v2 ms later number given refl refl go B.by E A ∙ ap (roles_given past.plan (grow (token_for kind) past.tree)) (one old past kind B.goes n op)
+    pub added_given : (given : List Role) → AreRoles v2.tree.states.items A.state.whole A.state.active found (map (λ (r : Role). r.0) given) → GivesNext old number text given
+    added_given given roles past kind n B op =
+        advanced_given old past kind B.goes B.here v v2 ms later number found refl refl go B.by E A given roles ∙ ap (roles_given past.plan (grow (token_for kind) past.tree)) (one old past kind B.goes n op)
 
 -- ---- a node that is plainly given no role
 

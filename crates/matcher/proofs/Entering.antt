@@ -59,7 +59,7 @@ no_or_some : (k : ℕ) → (k ≡ 0) ⊎ (0 < k)
 no_or_some zero = inl refl
 no_or_some (suc k) = inr (omega arith)
 
-le_or_less : (x y : ℕ) → (x ≤ y) ⊎ (y < x)
+pub le_or_less : (x y : ℕ) → (x ≤ y) ⊎ (y < x)
 le_or_less zero y = inl (omega arith)
 le_or_less (suc x) zero = inr (omega arith)
 le_or_less (suc x) (suc y) = elim (le_or_less x y) [ inl l ↦ inl (omega arith) | inr l ↦ inr (omega arith) ]

@@ -157,17 +157,17 @@ FindsFrom tree told active here found =
     (past : Past) (t : Token) (n : Node) → (b : Comes past tree told t n) → level n ≡ here → ((c : ℕ) → In c active → LeadsTo b.are.path n c) → Gains [] found (From active (Firsts past.plan (grow t past.tree) n tree.states.items))
 
 -- there are as many states as marks then
-pub grown_together : (v v2 : StatesView) (ms later : List NodeMarks) (number : ℕ) (given : List Role) → GoTogether v ms → Enters v v2 number → AddsFrame v2 ms later given → GoTogether v2 later
-grown_together v v2 ms later number given go E A =
+pub grown_together : (v v2 : StatesView) (ms later : List NodeMarks) (number : ℕ) (found : List Found) → GoTogether v ms → Enters v v2 number → AddsFrame v2 ms later found → GoTogether v2 later
+grown_together v v2 ms later number found go E A =
     let g = go.0 in
     let f = ap (λ (z : StatesView). length z.states) E.is in
     let h = length-append v.states (E.state ∷ []) in
     let k = A.marks.count in
-    let j = length-append ms (new_marks A.state.contexts A.found ∷ []) in
+    let j = length-append ms (new_marks A.state.contexts found ∷ []) in
     (omega arith, omega arith)
 
-module _ (m : MatcherView) (past : Past) (kind : Kind) (G : Goes m past kind) (idle : m.idle ≡ 0) (v v2 : StatesView) (ms later : List NodeMarks) (number : ℕ) (given : List Role)
-    (ef : m.frames ≡ frames_of v ms) (et : m.tree ≡ v.tree) (go : GoTogether v ms) (by : IsNameNumber v.names kind number) (E : Enters v v2 number) (A : AddsFrame v2 ms later given) where
+module _ (m : MatcherView) (past : Past) (kind : Kind) (G : Goes m past kind) (idle : m.idle ≡ 0) (v v2 : StatesView) (ms later : List NodeMarks) (number : ℕ) (found : List Found)
+    (ef : m.frames ≡ frames_of v ms) (et : m.tree ≡ v.tree) (go : GoTogether v ms) (by : IsNameNumber v.names kind number) (E : Enters v v2 number) (A : AddsFrame v2 ms later found) where
   states_now : v2.states ≡ v.states ++ E.state ∷ []
   states_now = ap (λ (z : StatesView). z.states) E.is
 
@@ -203,23 +203,23 @@ module _ (m : MatcherView) (past : Past) (kind : Kind) (G : Goes m past kind) (i
   as_before : length m.frames ≡ length ms
   as_before = let g = go.0 in ap (λ (z : List FrameView). length z) ef ∙ frames_length v.states ms (omega arith)
 
-  finds : FindsFrom m.tree m.frames E.state.active (length ms) A.found
+  finds : FindsFrom m.tree m.frames E.state.active (length ms) found
   finds =
-      subst (λ (z : StateView). FindsFrom m.tree m.frames z.active (length ms) A.found) same_state
-      (subst (λ (z : List FrameView). FindsFrom m.tree z A.state.active (length ms) A.found) (sym frames_before)
-      (subst (λ (z : PathTree). FindsFrom z (frames_of v2 ms) A.state.active (length ms) A.found) tree_now (A.firsts many)))
+      subst (λ (z : StateView). FindsFrom m.tree m.frames z.active (length ms) found) same_state
+      (subst (λ (z : List FrameView). FindsFrom m.tree z A.state.active (length ms) found) (sym frames_before)
+      (subst (λ (z : PathTree). FindsFrom z (frames_of v2 ms) A.state.active (length ms) found) tree_now (A.firsts many)))
 
   level_to : level (Under G.stands.here (length past.tree.nodes) kind) ≡ length ms
   level_to = let b = comes m past kind G idle in sym b.count ∙ as_before
 
   -- what is found are its contexts
-  first : (f : Found) → (In f A.found → IsFound past.plan (grow (token_for kind) past.tree) (Under G.stands.here (length past.tree.nodes) kind) f) × (IsFound past.plan (grow (token_for kind) past.tree) (Under G.stands.here (length past.tree.nodes) kind) f → In f A.found)
+  first : (f : Found) → (In f found → IsFound past.plan (grow (token_for kind) past.tree) (Under G.stands.here (length past.tree.nodes) kind) f) × (IsFound past.plan (grow (token_for kind) past.tree) (Under G.stands.here (length past.tree.nodes) kind) f → In f found)
   first =
-      found_are past m.tree m.frames (token_for kind) to (comes m past kind G idle) E.state.active (λ c l h. (leading_to c).1 (l, h)) A.found
+      found_are past m.tree m.frames (token_for kind) to (comes m past kind G idle) E.state.active (λ c l h. (leading_to c).1 (l, h)) found
       (finds past (token_for kind) to (comes m past kind G idle) level_to (λ c i. ((leading_to c).0 i).1))
 
   -- none of it is at the new node
-  not_here : (r : ℕ) → In (at_level r (level (Under G.stands.here (length past.tree.nodes) kind))) A.found → ⊥
+  not_here : (r : ℕ) → In (at_level r (level (Under G.stands.here (length past.tree.nodes) kind))) found → ⊥
   not_here r i =
       let f : Found = at_level r (level to) in
       let d = (first f).0 i in
@@ -228,20 +228,20 @@ module _ (m : MatcherView) (past : Past) (kind : Kind) (G : Goes m past kind) (i
       let e = d.at in
       omega arith
 
-  frames_mid : frames_with v2.states (ms ++ new_marks E.state.contexts A.found ∷ []) ≡ m.frames ++ frame_of E.state (new_marks E.state.contexts A.found) ∷ []
+  frames_mid : frames_with v2.states (ms ++ new_marks E.state.contexts found ∷ []) ≡ m.frames ++ frame_of E.state (new_marks E.state.contexts found) ∷ []
   frames_mid =
-      ap (λ (z : List StateView). frames_with z (ms ++ new_marks E.state.contexts A.found ∷ [])) states_now
-      ∙ (frames_push v.states ms E.state (new_marks E.state.contexts A.found) go.0 ∙ ap (λ (z : List FrameView). z ++ frame_of E.state (new_marks E.state.contexts A.found) ∷ []) (sym ef))
+      ap (λ (z : List StateView). frames_with z (ms ++ new_marks E.state.contexts found ∷ [])) states_now
+      ∙ (frames_push v.states ms E.state (new_marks E.state.contexts found) go.0 ∙ ap (λ (z : List FrameView). z ++ frame_of E.state (new_marks E.state.contexts found) ∷ []) (sym ef))
 
-  marks_now : AreMatched A.found (ms ++ new_marks E.state.contexts A.found ∷ []) later
-  marks_now = subst (λ (z : StateView). AreMatched A.found (ms ++ new_marks z.contexts A.found ∷ []) later) same_state A.marks
+  marks_now : AreMatched found (ms ++ new_marks E.state.contexts found ∷ []) later
+  marks_now = subst (λ (z : StateView). AreMatched found (ms ++ new_marks z.contexts found ∷ []) later) same_state A.marks
 
   together : GoTogether v2 later
-  together = grown_together v v2 ms later number given go E A
+  together = grown_together v v2 ms later number found go E A
 
-  matched : (l : ℕ) (f : FrameView) → slice_get (frames_of v2 later) l ≡ Some f → (g : FrameView) × (slice_get (m.frames ++ frame_of E.state (new_marks E.state.contexts A.found) ∷ []) l ≡ Some g) × FrameMatched A.found l g f
+  matched : (l : ℕ) (f : FrameView) → slice_get (frames_of v2 later) l ≡ Some f → (g : FrameView) × (slice_get (m.frames ++ frame_of E.state (new_marks E.state.contexts found) ∷ []) l ≡ Some g) × FrameMatched found l g f
   matched l f at =
-      let q = frames_matched v2.states A.found (ms ++ new_marks E.state.contexts A.found ∷ []) later marks_now l f at in
+      let q = frames_matched v2.states found (ms ++ new_marks E.state.contexts found ∷ []) later marks_now l f at in
       (q.0, subst (λ (z : List FrameView). slice_get z l ≡ Some q.0) frames_mid q.1, q.2)
 
   count_now : length (frames_of v2 later) ≡ suc (length m.frames)
@@ -249,15 +249,16 @@ module _ (m : MatcherView) (past : Past) (kind : Kind) (G : Goes m past kind) (i
       let t = together in
       let e = t.0 in
       let k = marks_now.count in
-      let j = length-append ms (new_marks E.state.contexts A.found ∷ []) in
+      let j = length-append ms (new_marks E.state.contexts found ∷ []) in
       let b = as_before in
       frames_length v2.states later (omega arith) ∙ omega arith
 
   pub advanced_stands : Stands (record m { frames = frames_of v2 later; text = is_text kind }) (past_grown (token_for kind) past) (is_text kind)
-  advanced_stands = frame_stands m past kind G idle E.state leads made A.found first (frames_of v2 later) count_now matched not_here
+  advanced_stands = frame_stands m past kind G idle E.state leads made found first (frames_of v2 later) count_now matched not_here
 
-  pub advanced_given : map (λ (r : Role). r.0) given ≡ roles_given past.plan (grow (token_for kind) past.tree) (Under G.stands.here (length past.tree.nodes) kind)
-  advanced_given =
-      frame_given m past kind G idle E.state leads made A.found first (map (λ (r : Role). r.0) given)
-      (subst (λ (z : PathTree). AreRoles z.states.items E.state.whole E.state.active A.found (map (λ (r : Role). r.0) given)) tree_now
-      (subst (λ (z : StateView). AreRoles v2.tree.states.items z.whole z.active A.found (map (λ (r : Role). r.0) given)) same_state A.roles))
+  pub advanced_given : (given : List Role) → AreRoles v2.tree.states.items A.state.whole A.state.active found (map (λ (r : Role). r.0) given)
+      → map (λ (r : Role). r.0) given ≡ roles_given past.plan (grow (token_for kind) past.tree) (Under G.stands.here (length past.tree.nodes) kind)
+  advanced_given given roles =
+      frame_given m past kind G idle E.state leads made found first (map (λ (r : Role). r.0) given)
+      (subst (λ (z : PathTree). AreRoles z.states.items E.state.whole E.state.active found (map (λ (r : Role). r.0) given)) tree_now
+      (subst (λ (z : StateView). AreRoles v2.tree.states.items z.whole z.active found (map (λ (r : Role). r.0) given)) same_state roles))

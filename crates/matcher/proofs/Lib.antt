@@ -20,6 +20,7 @@ pub mod EnteringFrame
 pub mod Reaching
 pub mod Aheads
 pub mod Taking
+pub mod HereGiven
 pub mod Turns
 pub mod Signing
 pub mod Beginning

@@ -1,5 +1,7 @@
 -- What the calls of a matcher do, for each past for which it stood (this project's).
-use Rattle.std.specs.Prelude.{◌≡◌, ◌≤◌, ℕ, Bool, true, false, List, [], ◌∷◌, ◌++◌, map, Option, Some}
+use Rattle.std.specs.Prelude.{◌≡◌, ◌≤◌, ℕ, Bool, true, false, List, [], ◌∷◌, ◌++◌, length, map, Option, Some}
+use Rattle.std.specs.FinSet as set
+use Rattle.std.specs.Ordering.{nat_cmp}
 use Rattle.gcx_base.specs.Kinds.{is_text}
 use Rattle.gcx_base.specs.declared.ids.Role.{Role}
 use Rattle.gcx_base.specs.declared.kind.Kind.{Kind}
@@ -13,6 +15,7 @@ use Rattle.gcx_model.specs.Members.{In}
 use Rattle.gcx_model.specs.Placed.{Placed, offs_in}
 use Rattle.gcx_model.specs.Held.{path_of, roles_given, taken, roles_taken}
 use Rattle.gcx_model.specs.Past.{Past, IsLast, Opens, open_nodes, opening_past, past_acted, past_grown, token_for}
+use Rattle.run_words.specs.Steps.{Follows, StandsAsBefore}
 use Rattle.path_states.specs.Lists.{Holds}
 use Rattle.path_states.specs.Names.{IsNameNumber}
 use Rattle.matcher.specs.Ahead.{AreTaken, HasSign}
@@ -26,18 +29,25 @@ use Rattle.matcher.specs.declared.signs.Sign.{Sign}
 abbrev pub StandsAtStart : MatcherView → PlanTree → Type 0
 StandsAtStart m plan = (core : BodyTree) → Good core → Placed core plan → Stands m (opening_past plan) false
 
+-- it stands for the past, whose innermost node is a text or isn't
+abbrev pub StandsIn : MatcherView → Past × Bool → Type 0
+StandsIn m s = Stands m s.0 s.1
+
 -- it stands for what it stood for
 abbrev pub KeepsStanding : (old new : MatcherView) → Type 0
-KeepsStanding old new = (past : Past) (text : Bool) → Stands old past text → Stands new past text
+KeepsStanding old new = StandsAsBefore StandsIn old new
 
 -- the roles are those of the document node
 abbrev pub GivesRoot : MatcherView → List Role → Type 0
 GivesRoot m given = (past : Past) (text : Bool) → Stands m past text → map (λ (r : Role). r.0) given ≡ roles_given past.plan past.tree Root
 
--- it stands for the past with the new node, below a node of level 1,000 at most
+-- a node of the kind may come, below a node of level 1,000 at most
+abbrev pub MayEnter : Kind → Past × Bool → Type 0
+MayEnter kind s = (s.1 ≡ false) × ((may_come (token_for kind) s.0.tree ≡ true) × ((p : Node) → s.0.tree.at ≡ Some p → level p ≤ 1000))
+
+-- it stands for the past with the new node
 abbrev pub StandsBehind : (old new : MatcherView) → Kind → Type 0
-StandsBehind old new kind =
-    (past : Past) → Stands old past false → may_come (token_for kind) past.tree ≡ true → ((p : Node) → past.tree.at ≡ Some p → level p ≤ 1000) → Stands new (past_grown (token_for kind) past) (is_text kind)
+StandsBehind old new kind = Follows StandsIn (MayEnter kind) (λ s. (past_grown (token_for kind) s.0, is_text kind)) old new
 
 -- the roles are those of the new node
 abbrev pub GivesNode : MatcherView → Kind → List Role → Type 0
@@ -59,6 +69,26 @@ StandsNext old new number text =
 abbrev pub GivesNext : MatcherView → (number : ℕ) → (text : Bool) → List Role → Type 0
 GivesNext m number text given =
     (past : Past) (kind : Kind) (n : Node) → GoesBy m past kind number text → Opens past.tree (token_for kind) n → map (λ (r : Role). r.0) given ≡ roles_given past.plan (grow (token_for kind) past.tree) n
+
+-- the roles are those of the innermost node
+abbrev pub GivesHere : MatcherView → List Role → Type 0
+GivesHere m given = (past : Past) (text : Bool) (n : Node) → Stands m past text → IsLast past.tree text n → map (λ (r : Role). r.0) given ≡ roles_given past.plan past.tree n
+
+-- the roles are those of the innermost node that are taken back already
+abbrev pub GivesAhead : MatcherView → List Role → Type 0
+GivesAhead m given = (past : Past) (text : Bool) (n : Node) → Stands m past text → IsLast past.tree text n → map (λ (r : Role). r.0) given ≡ roles_taken past.plan past.tree past.acts n
+
+-- the set of the roles of the innermost node, and how many they are
+pub record GivesSet (m : MatcherView) (roles : set.FinSet nat_cmp) (count : ℕ) : Type 0 where
+  pub given : List Role
+  pub here : GivesHere m given
+  pub is : roles ≡ set.from_list (map (λ (r : Role). r.0) given)
+  pub many : length given ≡ count
+
+-- the same, and none of them is taken back already
+pub record GivesPlainly (m : MatcherView) (roles : set.FinSet nat_cmp) (count : ℕ) : Type 0 where
+  pub gives : GivesSet m roles count
+  pub ahead : GivesAhead m []
 
 -- a node that may come is given no role
 abbrev pub PassesNode : MatcherView → Type 0
@@ -83,11 +113,7 @@ SignsAt old new here off =
     (past : Past) (text : Bool) (n : Node) → Stands old past text → In off (offs_in past.plan.body) → In n (open_nodes past.tree) → level n ≡ here → In n (matches past.tree 0 (path_of past.plan off.base))
     → Stands new (past_acted (Offed off (serial_of n)) past) text
 
--- the roles are those of the innermost node that are taken back already
-abbrev pub GivesAhead : MatcherView → List Role → Type 0
-GivesAhead m given = (past : Past) (text : Bool) (n : Node) → Stands m past text → IsLast past.tree text n → map (λ (r : Role). r.0) given ≡ roles_taken past.plan past.tree past.acts n
-
--- the same by the node that it stands for
+-- the roles of the node that it stands for that are taken back already
 abbrev pub TakenHere : MatcherView → List Sign → List Role → Type 0
 TakenHere m signs given =
     (past : Past) (text : Bool) (stands : Stands m past text) → AreTaken (taken past.plan past.tree past.acts stands.here) signs (map (λ (r : Role). r.0) given)

@@ -126,20 +126,33 @@ pub record Halts (v : StatesView) (number : ℕ) (text : Bool) : Type 0 where
 abbrev pub FindsHere : StatesView → List NodeMarks → List Found → Type 0
 FindsHere v marks found = (s : StateView) → last_state v.states ≡ Some s → FindsAll v marks s.active (length marks) [] found
 
--- one frame more: that of the node with the innermost state, whose roles are these
-pub record AddsFrame (v : StatesView) (before now : List NodeMarks) (given : List Role) : Type 0 where
+-- one frame more: that of the node with the innermost state, whose first matches these are
+pub record AddsFrame (v : StatesView) (before now : List NodeMarks) (found : List Found) : Type 0 where
   pub state : StateView
   pub last : last_state v.states ≡ Some state
-  pub found : List Found
   pub marks : AreMatched found (before ++ new_marks state.contexts found ∷ []) now
-  pub roles : AreRoles v.tree.states.items state.whole state.active found (map (λ (r : Role). r.0) given)
   pub firsts : FindsAll v before state.active (length before) [] found
+
+-- the same, whatever its first matches are
+abbrev pub AddsSome : StatesView → (before now : List NodeMarks) → Type 0
+AddsSome v before now = (found : List Found) × AddsFrame v before now found
+
+-- the same, and these are the node's roles
+pub record AddsGiven (v : StatesView) (before now : List NodeMarks) (given : List Role) : Type 0 where
+  pub found : List Found
+  pub frame : AddsFrame v before now found
+  pub roles : AreRoles v.tree.states.items frame.state.whole frame.state.active found (map (λ (r : Role). r.0) given)
 
 -- nothing is changed
 abbrev pub HaveStayed : (before now : StatesView) → (marks later : List NodeMarks) → Type 0
 HaveStayed before now marks later = (now ≡ before) × (later ≡ marks)
 
--- The states and the marks where a new node whose name has the number is entered, with its roles. Where no path leads there, they have stayed.
+-- The states and the marks where a new node whose name has the number is entered. Where no path leads there, they have stayed.
+abbrev pub EntersIfLed : (before now : StatesView) → (marks later : List NodeMarks) → (number : ℕ) → (text led : Bool) → Type 0
+EntersIfLed before now marks later number text false = GoTogether before marks → (HaveStayed before now marks later × Halts before number text)
+EntersIfLed before now marks later number text true = Enters before now number × AddsSome now marks later
+
+-- the same with its roles
 abbrev pub Advances : (before now : StatesView) → (marks later : List NodeMarks) → (number : ℕ) → (text : Bool) → Option (List Role) → Type 0
-Advances before now marks later number text None = GoTogether before marks → (HaveStayed before now marks later × Halts before number text)
-Advances before now marks later number text (Some given) = Enters before now number × AddsFrame now marks later given
+Advances before now marks later number text None = EntersIfLed before now marks later number text false
+Advances before now marks later number text (Some given) = Enters before now number × AddsGiven now marks later given

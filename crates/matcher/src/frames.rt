@@ -65,6 +65,7 @@ impl Model for Frames {
 }
 
 /// The first ones of a list.
+#[inline(always)]
 fn up_to<T>(list: &[T], to: usize) -> &[T]
     ensures { result.now ≡ take to list.now }
 {
@@ -75,6 +76,7 @@ fn up_to<T>(list: &[T], to: usize) -> &[T]
 }
 
 /// The others.
+#[inline(always)]
 fn from<T>(list: &[T], from: usize) -> &[T]
     ensures { result.now ≡ drop from list.now }
 {
@@ -85,6 +87,7 @@ fn from<T>(list: &[T], from: usize) -> &[T]
 }
 
 /// The part of a list.
+#[inline(always)]
 fn part_of<T>(list: &[T], range: Range) -> &[T]
     ensures { result.now ≡ slice_of range list.now }
 {
@@ -180,6 +183,14 @@ fn note_signed(nodes: &mut [Frame], level: usize)
     }
 }
 
+/// Whether a node with these is no context and no first match.
+#[inline(always)]
+fn is_bare(roles: &[u32], found: &[Found]) -> bool
+    ensures { result ≡ true → (roles.now ≡ []) × (found.now ≡ []) }
+{
+    roles.is_empty() && found.is_empty()
+}
+
 impl Frames {
     pub(crate) fn new(alloc: Global) -> Frames
         ensures { result ≡ [] }
@@ -200,7 +211,43 @@ impl Frames {
 
     /// Adds the frame of a node that is a context of these roles, and the first match of these. After `Memory` there are
     /// the same frames.
+    #[inline(always)]
     pub(crate) fn add(&mut self, roles: &[u32], found: &[Found]) -> Result<(), Memory>
+        ensures added { OnOk result (self.new ≡ self.old ++ new_marks roles.now found.now ∷ []) }
+        ensures err { OnErr result (self.new ≡ self.old) }
+    {
+        if is_bare(roles, found) {
+            return self.add_bare();
+        }
+        self.add_marked(roles, found)
+    }
+
+    /// Adds that of a node that is no context and no first match.
+    #[inline(always)]
+    fn add_bare(&mut self) -> Result<(), Memory>
+        ensures added { OnOk result (self.new ≡ self.old ++ new_marks [] [] ∷ []) }
+        ensures err { OnErr result (self.new ≡ self.old) }
+    {
+        let contexts = self.contexts.len();
+        let found = self.found.len();
+        let frame = Frame {
+            contexts: Range {
+                from: contexts,
+                to: contexts,
+            },
+            found: Range {
+                from: found,
+                to: found,
+            },
+            signed: false,
+        };
+        self.nodes.push(frame)?;
+        Ok(())
+    }
+
+    /// The same as `add`, whatever they are.
+    #[inline(never)]
+    fn add_marked(&mut self, roles: &[u32], found: &[Found]) -> Result<(), Memory>
         ensures added { OnOk result (self.new ≡ self.old ++ new_marks roles.now found.now ∷ []) }
         ensures err { OnErr result (self.new ≡ self.old) }
     {
@@ -254,6 +301,7 @@ impl Frames {
     }
 
     /// The roles whose first match the innermost node is.
+    #[inline(always)]
     pub(crate) fn found_here(&self) -> &[Found]
         ensures { result.now ≡ found_in (last_marks self.now) }
     {
@@ -261,6 +309,14 @@ impl Frames {
             Some(frame) => part_of(&self.found, frame.found),
             None => &[],
         }
+    }
+
+    /// Whether the innermost node is a first match.
+    #[inline(always)]
+    pub(crate) fn is_first(&self) -> bool
+        ensures { result ≡ false → found_in (last_marks self.now) ≡ [] }
+    {
+        !self.found_here().is_empty()
     }
 
     /// Whether some node is a context of the role without a match.

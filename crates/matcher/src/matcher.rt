@@ -1,5 +1,5 @@
 //! The matcher: states and frames of the open nodes, the outermost first.
-ghost use Rattle.std.specs.Prelude.{◌≡◌, ℕ, List, Some, false, true, IfOk, OnErr, OnOk};
+ghost use Rattle.std.specs.Prelude.{◌≡◌, ℕ, List, Some, false, true, IfOk, IfSome, OnErr, OnOk};
 ghost use Rattle.gcx_model.specs.Past.{IsNode};
 ghost use Rattle.gcx_model.specs.ItemView.{off_tree, role_kind};
 ghost use Rattle.gcx_model.specs.PlanView.{plan_tree};
@@ -7,20 +7,22 @@ ghost use Rattle.path_states.specs.Lists.{Climbs, Holds};
 ghost use Rattle.path_states.specs.Names.{IsNameNumber};
 ghost use Rattle.gcx_base.specs.declared.kind.Kind.TheVariants.{Element, Text};
 ghost use Rattle.matcher.specs.Ahead.{AreBases, AreVars, FirstTarget, HasWhole, OwnTarget, Target, WholeTarget};
-ghost use Rattle.matcher.specs.Calls.{GivesAhead, GivesName, GivesNext, GivesNode, PassesNode, GivesRoot, KeepsStanding};
+ghost use Rattle.matcher.specs.Calls.{GivesAhead, GivesHere, GivesName, GivesNext, GivesNode, GivesPlainly, GivesRoot, GivesSet};
+ghost use Rattle.matcher.specs.Calls.{KeepsStanding, PassesNode};
 ghost use Rattle.matcher.specs.Calls.{LeavesElement, LeavesText, SaysTaken, SignsAt, StandsAtStart, StandsBehind};
 ghost use Rattle.matcher.specs.Calls.{StandsBehindName, StandsNext, TakenHere, TellsSign, TellsWholeHere};
 ghost use Rattle.matcher.specs.Entering.{GivesInside, IsIdle, IsIdled, IsOver, LeadsNowhere};
 
 use crate::found::{contexts_found, levels_hit};
 use crate::frames::Frames;
-use crate::opening::advance;
-use crate::roles::{Levels, given_of, is_above};
+use crate::opening::{advance, step};
+use crate::roles::{Levels, given_of, given_with, is_above};
 use crate::signs::{Sign, are_signed, drop_level, put_sign};
 use crate::upward::{origins, put_level};
 use gcx_base::{Kind, Memory, Role};
 use gcx_model::{Given, Off, Plan, RoleKind};
 use path_states::{Bound, PathStates, Way};
+use role_set::RoleSet;
 use smallvec::SmallVec;
 use std::alloc::Global;
 use std::marker::Model;
@@ -197,8 +199,7 @@ impl Matcher {
         ensures err { OnErr result (self.new ≡ self.old) }
     {
         let given = self.given_inside(alloc)?;
-        self.idle = self.idle.saturating_add(1);
-        self.text = text;
+        self.go_idle(text);
         Ok(given)
     }
 
@@ -229,6 +230,85 @@ impl Matcher {
             }
             None => self.enter_idle(alloc, text),
         }
+    }
+
+    /// Goes to a new node as `enter` does, without a list of its roles.
+    #[inline(always)]
+    pub fn go(&mut self, alloc: Global, kind: &Kind) -> Result<(), Memory>
+        requires kind { IsNode kind.now }
+        ensures stands { OnOk result (StandsBehind self.old self.new kind.now) }
+        ensures err { OnErr result (KeepsStanding self.old self.new) }
+    {
+        let text = kind.is_text();
+        if self.is_idle(text) {
+            self.go_idle(text);
+            return Ok(());
+        }
+        let number = self.states.number_of(kind);
+        self.go_next(alloc, number, text)
+    }
+
+    /// To a node to which no path leads, nor to any below it.
+    #[inline(always)]
+    fn go_idle(&mut self, text: bool)
+        ensures { IsIdled self.old self.new text }
+    {
+        self.idle = self.idle.saturating_add(1);
+        self.text = text;
+    }
+
+    /// To a node below one that has a frame, by the number of its name.
+    #[inline(always)]
+    fn go_next(&mut self, alloc: Global, number: usize, text: bool) -> Result<(), Memory>
+        ensures stands { OnOk result (StandsNext self.old self.new number text) }
+        ensures err { OnErr result (self.new ≡ self.old) }
+    {
+        let led = step(alloc, &mut self.states, &mut self.frames, number, text)?;
+        if !led {
+            self.go_idle(text);
+            return Ok(());
+        }
+        self.text = text;
+        Ok(())
+    }
+
+    /// The roles of the innermost node as a set, and how many they are. None where first matches are among them, or where
+    /// a statement is signed at an open node.
+    #[inline(always)]
+    pub fn plain(&self) -> Option<(&RoleSet, usize)>
+        ensures { IfSome result (λ x. GivesPlainly self.now x.0.now x.1) }
+    {
+        if !self.signs.as_slice().is_empty() {
+            return None;
+        }
+        self.roles_here()
+    }
+
+    /// The same, whatever is signed.
+    #[inline(always)]
+    fn roles_here(&self) -> Option<(&RoleSet, usize)>
+        ensures { IfSome result (λ x. GivesSet self.now x.0.now x.1) }
+    {
+        let state = self.states.here();
+        if self.idle > 0 {
+            return Some((state.whole_set(), state.whole().len()));
+        }
+        if self.frames.is_first() {
+            return None;
+        }
+        Some((state.roles(), state.given().len()))
+    }
+
+    /// The roles of the innermost node, by rising number.
+    pub fn given(&self, alloc: Global) -> Result<Given, Memory>
+        ensures { IfOk result (GivesHere self.now) }
+    {
+        if self.idle > 0 {
+            let inside = self.given_inside(alloc)?;
+            return Ok(inside);
+        }
+        let given = given_with(alloc, self.states.here().given(), self.frames.found_here())?;
+        Ok(given)
     }
 
     /// Leaves the innermost node, which isn't the document node, for its parent. Takes no memory.

@@ -1,10 +1,10 @@
 //! A new node is entered: its state, and its frame where paths lead to it or to nodes below it.
-ghost use Rattle.std.specs.Prelude.{◌≡◌, true, IfOk, OnErr};
-ghost use Rattle.matcher.specs.Entering.{AddsFrame, Advances, FindsHere, HaveStayed, IsVain};
+ghost use Rattle.std.specs.Prelude.{◌≡◌, true, IfOk, OnOk, OnErr};
+ghost use Rattle.matcher.specs.Entering.{AddsFrame, AddsGiven, AddsSome, Advances, FindsHere, HaveStayed, IsVain, EntersIfLed};
 ghost use Rattle.matcher.specs.View.{GoTogether};
 
 use crate::found::{FoundList, found_of};
-use crate::frames::Frames;
+use crate::frames::{Found, Frames};
 use crate::roles::given_with;
 use gcx_base::Memory;
 use gcx_model::Given;
@@ -32,17 +32,54 @@ fn first_matches(alloc: Global, states: &PathStates, frames: &Frames) -> Result<
     found_of(alloc, states, frames, state.active(), frames.len())
 }
 
-/// Adds the frame of the node with the innermost state, and answers its roles. After `Memory` there are the same frames.
-fn add_frame(alloc: Global, states: &PathStates, frames: &mut Frames) -> Result<Given, Memory>
-    ensures added { IfOk result (AddsFrame states.now frames.old frames.new) }
+/// Adds the frame of the node with the innermost state, whose first matches these are. After `Memory` there are the same
+/// frames.
+#[inline(always)]
+fn put_frame(states: &PathStates, frames: &mut Frames, firsts: &[Found]) -> Result<(), Memory>
+    ensures added { OnOk result
+        (FindsHere states.now frames.old firsts.now → AddsFrame states.now frames.old frames.new firsts.now) }
+    ensures err { OnErr result (frames.new ≡ frames.old) }
+{
+    frames.add(states.here().contexts(), firsts)?;
+    frames.note_found(firsts);
+    Ok(())
+}
+
+/// The same, where first matches are looked for.
+#[inline(never)]
+fn add_found(alloc: Global, states: &PathStates, frames: &mut Frames) -> Result<(), Memory>
+    ensures added { OnOk result (AddsSome states.now frames.old frames.new) }
+    ensures err { OnErr result (frames.new ≡ frames.old) }
+{
+    let found = first_matches(alloc, states, frames)?;
+    let firsts = found.as_slice();
+    put_frame(states, frames, firsts)?;
+    Ok(())
+}
+
+/// The same: they are looked for where the state may give any.
+#[inline(always)]
+fn add_frame(alloc: Global, states: &PathStates, frames: &mut Frames) -> Result<(), Memory>
+    ensures added { OnOk result (AddsSome states.now frames.old frames.new) }
+    ensures err { OnErr result (frames.new ≡ frames.old) }
+{
+    let state = states.here();
+    if !state.has_firsts() {
+        return put_frame(states, frames, &[]);
+    }
+    add_found(alloc, states, frames)
+}
+
+/// The same with the roles of the node.
+fn add_given(alloc: Global, states: &PathStates, frames: &mut Frames) -> Result<Given, Memory>
+    ensures added { IfOk result (AddsGiven states.now frames.old frames.new) }
     ensures err { OnErr result (frames.new ≡ frames.old) }
 {
     let found = first_matches(alloc, states, frames)?;
     let firsts = found.as_slice();
     let state = states.here();
     let given = given_with(alloc, state.given(), firsts)?;
-    frames.add(state.contexts(), firsts)?;
-    frames.note_found(firsts);
+    put_frame(states, frames, firsts)?;
     Ok(given)
 }
 
@@ -63,8 +100,34 @@ pub(crate) fn advance(
         states.leave();
         return Ok(None);
     }
-    match add_frame(alloc, states, frames) {
+    match add_given(alloc, states, frames) {
         Ok(given) => Ok(Some(given)),
+        Err(Memory) => {
+            states.leave();
+            Err(Memory)
+        }
+    }
+}
+
+/// The same without its roles: false, where no path leads to it, nor to any below it.
+#[inline(always)]
+pub(crate) fn step(
+    alloc: Global,
+    states: &mut PathStates,
+    frames: &mut Frames,
+    number: usize,
+    text: bool,
+) -> Result<bool, Memory>
+    ensures done { IfOk result (EntersIfLed states.old states.new frames.old frames.new number text) }
+    ensures err { OnErr result (GoTogether states.old frames.old → HaveStayed states.old states.new frames.old frames.new) }
+{
+    states.enter(alloc, number)?;
+    if is_vain(states.here(), text) {
+        states.leave();
+        return Ok(false);
+    }
+    match add_frame(alloc, states, frames) {
+        Ok(()) => Ok(true),
         Err(Memory) => {
             states.leave();
             Err(Memory)

@@ -1,5 +1,5 @@
 mod Rounds
 mod Guards
 mod Settled
-mod Stay
+pub mod Stay
 mod LoopFacts

@@ -4,8 +4,10 @@ pub mod Climbing
 pub mod Growing
 pub mod Sprouting
 pub mod Naming
+mod Branching
 mod RoleSets
 mod Making
 mod Slots
+mod Rooming
 mod Remembering
 mod Opening

@@ -17,14 +17,15 @@ module _ (tree : List PathState) (s : StateView) (here whole given pending : Lis
     whole = subst (λ (z : List ℕ). Gains wholes s.whole (From z (Tells whole_roles tree))) is_here w;
   }
 
-  pub made : Climbs s.whole → Gains [] s.whole_here (From here (Tells whole_roles tree)) → (Climbs whole → Climbs s.given) → Holds s.given (GivenBy tree whole here) → ((r : ℕ) → contains s.roles r ≡ true ↔ In r given)
+  pub made : Climbs s.whole → Gains [] s.whole_here (From here (Tells whole_roles tree)) → (Climbs whole → Climbs s.given) → Holds s.given (GivenBy tree whole here) → ((r : ℕ) → contains s.roles r ≡ true ↔ In r given) → ((r : ℕ) → contains s.whole_set r ≡ true ↔ In r whole)
       → Holds s.contexts (From here (Tells context_roles tree)) → (s.has_firsts ≡ false → (r : ℕ) → From here (Tells first_roles tree) r → ⊥) → (s.is_over ≡ true → AreDead tree here pending) → IsMade tree s
-  made climbs w rising g roles c f o = record {
+  made climbs w rising g roles wholes c f o = record {
     climbs = climbs;
     here = subst (λ (z : List ℕ). Holds s.whole_here (From z (Tells whole_roles tree))) is_here (holds_from s.whole_here (From here (Tells whole_roles tree)) w);
     rising = rising (subst Climbs (sym is_whole) climbs);
     given = subst (λ (z : List ℕ). Holds s.given (GivenBy tree z s.active)) is_whole (subst (λ (z : List ℕ). Holds s.given (GivenBy tree whole z)) is_here g);
     roles = subst (λ (z : List ℕ). (r : ℕ) → contains s.roles r ≡ true ↔ In r z) is_given roles;
+    wholes = subst (λ (z : List ℕ). (r : ℕ) → contains s.whole_set r ≡ true ↔ In r z) is_whole wholes;
     contexts = subst (λ (z : List ℕ). Holds s.contexts (From z (Tells context_roles tree))) is_here c;
     firsts = subst (λ (z : List ℕ). s.has_firsts ≡ false → (r : ℕ) → From z (Tells first_roles tree) r → ⊥) is_here f;
     over = subst (λ (z : List ℕ). s.is_over ≡ true → AreDead tree s.active z) is_pending (subst (λ (z : List ℕ). s.is_over ≡ true → AreDead tree z pending) is_here o);

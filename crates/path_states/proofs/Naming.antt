@@ -1,11 +1,12 @@
 -- Names in order, and the number of a name, found by halves.
-use Rattle.std.proofs.Common.{◌≡◌, ℕ, zero, suc, ◌+◌, ◌<◌, ◌≤◌, Bool, true, false, List, [], ◌∷◌, ◌++◌, length, take, get_or, leb, ltb, bytes_eq, refl, sym, ◌∙◌, ap, subst, inl, inr, ◌⊎◌, arith, Some}
+use Rattle.std.proofs.Common.{◌≡◌, ℕ, zero, suc, ◌+◌, ◌<◌, ◌≤◌, Bool, true, false, List, [], ◌∷◌, ◌++◌, length, take, get_or, leb, ltb, eqb, cond, bytes_eq, refl, sym, ◌∙◌, ap, subst, inl, inr, ◌⊎◌, arith, Some}
 use Rattle.std.specs.Prelude.{slice_get, ◌↔◌}
 use Rattle.std.specs.Cmp.{IsStrictWeakOrder}
 use Rattle.std.specs.Cmp.Lexicographic.{slice_cmp, bytes_decides}
-use Rattle.std.specs.Ordering.{is_lt, nat_cmp, ordering_reverse}
+use Rattle.std.specs.Ordering.{is_lt, nat_cmp, ordering_reverse, ordering_then}
 use Rattle.std.specs.List.{Contains}
 use Rattle.std.specs.List.Sorted.{IsPermutation}
+use Rattle.std.specs.declared.cmp.Ordering.{Ordering}
 use Rattle.std.specs.declared.cmp.Ordering.TheVariants.{Less, Equal, Greater}
 use Rattle.std.proofs.lemmas.Bool.{false≢true, le-leb, lt-leb, le-ltb, lt-ltb}
 use Rattle.std.proofs.lemmas.Cmp.{nat_list_cmp_total}
@@ -18,10 +19,25 @@ use Rattle.gcx_base.specs.declared.kind.Kind.{Kind}
 use Rattle.gcx_base.specs.declared.kind.Kind.TheVariants.{Document, Element, Text}
 use Rattle.gcx_base.specs.declared.steps.Test.TheVariants.{Named, AnyElement, AnyText}
 use Rattle.tree_laws.proofs.Lists.{In, In-left, In-right, In-append}
-use Rattle.path_states.specs.Names.{PutsName, AreOrdered, IsNameNumber, is_before}
+use Rattle.path_states.specs.Names.{BranchesAreApart, AreOnce, AreOrdered, IsNameNumber, PutsName, is_before}
+use Rattle.path_states.proofs.Growing.{at_more}
 use Rattle.path_states.proofs.Looking.{at_in, in_at, none_at}
 
 -- the order of names
+
+-- lower first bytes come before
+pub first_before : (xs ys : List ℕ) (x y : ℕ) → slice_get xs 0 ≡ Some x → slice_get ys 0 ≡ Some y → x < y → slice_cmp nat_cmp xs ys ≡ Less
+first_before [] ys x y e f l = absurd (none_at [] 0 x (omega arith) e)
+first_before (a ∷ xs) [] x y e f l = absurd (none_at [] 0 y (omega arith) f)
+first_before (a ∷ xs) (b ∷ ys) x y e f l =
+    let a_is : a ≡ x = cc in
+    let b_is : b ≡ y = cc in
+    let below : ltb a b ≡ true = lt-ltb a b (omega arith) in
+    let less : nat_cmp a b ≡ Less = ap (λ (z : Bool). cond z Less (cond (eqb a b) Equal Greater)) below in
+    ap (λ (o : Ordering). ordering_then o (slice_cmp nat_cmp xs ys)) less
+
+pub order_turned : (xs ys : List ℕ) → slice_cmp nat_cmp xs ys ≡ Less → slice_cmp nat_cmp ys xs ≡ Greater
+order_turned xs ys e = nat_list_cmp_total.antisymm ys xs ∙ ap ordering_reverse e
 
 pub weak : IsStrictWeakOrder is_before
 weak = ranks_by nat_list_cmp_total (λ (x : List ℕ). x)
@@ -62,19 +78,30 @@ ordered_push xs y up all k d lo hi = elim (less_or_same (k + 1) (length xs) with
 
 -- each once
 
-pub record Once (names : List (List ℕ)) (i : ℕ) (once : List (List ℕ)) : Type 0 where
-  pub all : (n : List ℕ) → In n (take i names) → In n once
-  pub of : (n : List ℕ) → In n once → In n (take i names)
-  pub ordered : AreOrdered names → AreOrdered once
+apart_push : (xs : List (List ℕ)) (y : List ℕ) → BranchesAreApart xs → (In y xs → ⊥) → BranchesAreApart (xs ++ y ∷ [])
+apart_push xs y apart new i j n at here = elim (at_more xs y i n at) [
+  | inl a ↦ elim (at_more xs y j n here) [ inl b ↦ apart i j n a b | inr q ↦ absurd (new (subst (λ (z : List ℕ). In z xs) (sym q.1) (in_at xs i n a))) ]
+  | inr p ↦ elim (at_more xs y j n here) [ inl b ↦ absurd (new (subst (λ (z : List ℕ). In z xs) (sym p.1) (in_at xs j n b))) | inr q ↦ p.0 ∙ sym q.0 ]
+]
 
-pub once_start : (names once : List (List ℕ)) → once ≡ [] → Once names 0 once
-once_start names once e = record {
+pub once_start : (once : List (List ℕ)) → once ≡ [] → AreOnce [] once
+once_start once e = record {
   all = λ n i. absurd i;
   of = λ n i. absurd (subst (λ (z : List (List ℕ)). In n z) e i);
-  ordered = λ up. subst AreOrdered (sym e) (λ k d lo hi. absurd (omega arith));
+  ordered = subst AreOrdered (sym e) (λ k d lo hi. absurd (omega arith));
+  apart = λ i j n at. absurd (none_at [] i n (omega arith) (subst (λ (z : List (List ℕ)). slice_get z i ≡ Some n) e at));
 }
 
-module _ (names : List (List ℕ)) (i : ℕ) (name : List ℕ) (l : i < length names) (at : name ≡ get_or names i name) where
+-- the name is there, or isn't
+pub name_there : (names : List (List ℕ)) (name : List ℕ) (k : ℕ) → k < length names → IsNameNumber names (Element name) k → In name names
+name_there names name k l (inl at) = in_at names k name at
+name_there names name k l (inr q) = let e = q.0 in absurd (omega arith)
+
+pub name_new : (names : List (List ℕ)) (name : List ℕ) (k : ℕ) → length names ≤ k → IsNameNumber names (Element name) k → In name names → ⊥
+name_new names name k l (inl at) i = none_at names k name l at
+name_new names name k l (inr q) i = q.1 i
+
+module _ (names : List (List ℕ)) (i : ℕ) (name : List ℕ) (l : i < length names) (at : name ≡ get_or names i name) (up : AreOrdered names) where
   more : take (i + 1) names ≡ take i names ++ name ∷ []
   more = take_more names i name l ∙ ap (λ (z : List ℕ). take i names ++ z ∷ []) (sym at)
 
@@ -85,23 +112,24 @@ module _ (names : List (List ℕ)) (i : ℕ) (name : List ℕ) (l : i < length n
   in_take n (suc k) (x ∷ xs) (inr m) = let r = in_take n k xs m in (suc r.0, omega (arith, r.1), r.2)
 
   -- those that were taken don't come behind it
-  behind : AreOrdered names → (n : List ℕ) → In n (take i names) → is_before name n ≡ false
-  behind up n m =
+  behind : (n : List ℕ) → In n (take i names) → is_before name n ≡ false
+  behind n m =
       let r = in_take n i names m in
       let b = r.1 in
       later names up r.0 i n name (omega arith) r.2 (slice_get-get_or names i name l ∙ ap Some (sym at))
 
-  pub once_more : (once next : List (List ℕ)) → Once names i once → PutsName once next name → Once names (i + 1) next
-  once_more once next o (inl e) = record {
-    all = λ n m. subst (λ (z : List (List ℕ)). In n z) (sym e) (elim (In-append n (take i names) (name ∷ []) (subst (λ (z : List (List ℕ)). In n z) more m)) [
+  pub once_more : (once next : List (List ℕ)) → AreOnce (take i names) once → PutsName once next name → AreOnce (take (i + 1) names) next
+  once_more once next o (inl p) = record {
+    all = λ n m. subst (λ (z : List (List ℕ)). In n z) (sym p.0) (elim (In-append n (take i names) (name ∷ []) (subst (λ (z : List (List ℕ)). In n z) more m)) [
       | inl j ↦ In-left n once (name ∷ []) (o.all n j)
       | inr j ↦ In-right n once (name ∷ []) j
     ]);
-    of = λ n m. subst (λ (z : List (List ℕ)). In n z) (sym more) (elim (In-append n once (name ∷ []) (subst (λ (z : List (List ℕ)). In n z) e m)) [
+    of = λ n m. subst (λ (z : List (List ℕ)). In n z) (sym more) (elim (In-append n once (name ∷ []) (subst (λ (z : List (List ℕ)). In n z) p.0 m)) [
       | inl j ↦ In-left n (take i names) (name ∷ []) (o.of n j)
       | inr j ↦ In-right n (take i names) (name ∷ []) j
     ]);
-    ordered = λ up. subst AreOrdered (sym e) (ordered_push once name (o.ordered up) (λ x j. behind up x (o.of x j)));
+    ordered = subst AreOrdered (sym p.0) (ordered_push once name o.ordered (λ x j. behind x (o.of x j)));
+    apart = subst BranchesAreApart (sym p.0) (apart_push once name o.apart p.1);
   }
   once_more once next o (inr q) = record {
     all = λ n m. subst (λ (z : List (List ℕ)). In n z) (sym q.0) (elim (In-append n (take i names) (name ∷ []) (subst (λ (z : List (List ℕ)). In n z) more m)) [
@@ -109,11 +137,12 @@ module _ (names : List (List ℕ)) (i : ℕ) (name : List ℕ) (l : i < length n
       | inr j ↦ elim j [ inl e ↦ subst (λ (z : List ℕ). In z once) e q.1 | inr b ↦ absurd b ]
     ]);
     of = λ n m. subst (λ (z : List (List ℕ)). In n z) (sym more) (In-left n (take i names) (name ∷ []) (o.of n (subst (λ (z : List (List ℕ)). In n z) q.0 m)));
-    ordered = λ up. subst AreOrdered (sym q.0) (o.ordered up);
+    ordered = subst AreOrdered (sym q.0) o.ordered;
+    apart = subst BranchesAreApart (sym q.0) o.apart;
   }
 
--- the order moves names alone
-pub in_sorted : (xs ys : List (List ℕ)) (n : List ℕ) → IsPermutation xs ys → In n xs → In n ys
+-- an order moves members alone
+pub in_sorted : {X : Type 0} (xs ys : List X) (n : X) → IsPermutation xs ys → In n xs → In n ys
 in_sorted xs ys n p m =
     let r = at_in xs n m in
     let has : Contains xs n = (r.0, slice_get_within xs r.0 n r.1, get_or_from_slice_get xs r.0 n n r.1) in

@@ -1,7 +1,7 @@
 -- The states of the open nodes, where one is entered or left.
 use Rattle.std.proofs.Common.{◌≡◌, ℕ, zero, suc, ◌-◌, ◌<◌, ◌≤◌, max, List, [], ◌∷◌, ◌++◌, length, take, get_or, refl, sym, ◌∙◌, ap, subst, inl, inr, ◌⊎◌, arith, Some}
 use Rattle.std.specs.Prelude.{slice_get}
-use Rattle.std.proofs.lemmas.List.{length-append, length-take-le, take-append-le, take_all}
+use Rattle.std.proofs.lemmas.List.{length-append, length-take-le, take-append-le, take-take, take_all}
 use Rattle.std.proofs.lemmas.Option.{slice_get-get_or}
 use Rattle.gcx_base.specs.declared.kind.Kind.{Kind}
 use Rattle.tree_laws.proofs.Lists.{In, In-left, In-right, In-append}
@@ -9,9 +9,11 @@ use Rattle.path_states.specs.Moves.{AreKnown, AreRight, AreSame, Forgets, LeadsO
 use Rattle.path_states.specs.Names.{IsNameNumber}
 use Rattle.path_states.specs.State.{StateView, IsMade, MovesBelow}
 use Rattle.path_states.specs.States.{ForgetInOrder, last_state, no_state, outer_states, states_at}
+use Rattle.path_states.specs.declared.branches.StepIndex.{StepIndex}
 use Rattle.path_states.specs.declared.paths.PathState.{PathState}
 use Rattle.path_states.specs.declared.remembered.Remembered.{Remembered}
 use Rattle.path_states.proofs.Growing.{at_seam}
+use Rattle.path_states.proofs.Rooming.{room_same}
 
 -- the state of a number
 abbrev pub state_at : List StateView → ℕ → StateView
@@ -54,19 +56,18 @@ pub length_states : (known : List StateView) (numbers : List ℕ) → length (st
 length_states known [] = refl
 length_states known (n ∷ ns) = ap suc (length_states known ns)
 
--- what was said over slices of the same lists
-pub leads_over : (t tree : List PathState) (n names : List (List ℕ)) (before now : Remembered) (from number to : ℕ) → t ≡ tree → n ≡ names → (AreKnown t n before → LeadsOn t n before now from number to)
-    → AreKnown tree names before → LeadsOn tree names before now from number to
-leads_over t tree n names before now from number to e f h a =
-    subst (λ (z : List PathState). LeadsOn z names before now from number to) e
-    (subst (λ (z : List (List ℕ)). LeadsOn t z before now from number to) f
-    (h (subst (λ (z : List PathState). AreKnown z n before) (sym e) (subst (λ (z : List (List ℕ)). AreKnown tree z before) (sym f) a))))
+-- what was said over a slice of the same path states
+pub leads_over : (t tree : List PathState) (steps : StepIndex) (before now : Remembered) (from number to : ℕ) → t ≡ tree → (AreKnown t steps before → LeadsOn t steps.names.items before now from number to)
+    → AreKnown tree steps before → LeadsOn tree steps.names.items before now from number to
+leads_over t tree steps before now from number to e h a =
+    subst (λ (z : List PathState). LeadsOn z steps.names.items before now from number to) e (h (subst (λ (z : List PathState). AreKnown z steps before) (sym e) a))
 
 -- the same states and moves are right
-pub known_same : (tree : List PathState) (names : List (List ℕ)) (before now : Remembered) → AreSame before now → AreKnown tree names before → AreKnown tree names now
-known_same tree names before now s a = record {
+pub known_same : (tree : List PathState) (steps : StepIndex) (before now : Remembered) → AreSame before now → AreKnown tree steps before → AreKnown tree steps now
+known_same tree steps before now s a = record {
   right = record {
     kept = (let b = a.right.kept in let e = ap length s.states in let f = s.kept in omega arith);
+    room = room_same before now (ap (λ (z : ℕ). take z now.states.items) s.kept ∙ ap (take before.kept) s.states) s.kept s.moves s.bytes s.bound a.right.room;
     made = λ n x at. a.right.made n x (subst (λ (z : List StateView). slice_get z n ≡ Some x) s.states at);
     moves = λ m j. (
         let h = a.right.moves m (subst (λ z. In (Some m) z.slots.items) s.moves j) in
@@ -79,7 +80,7 @@ known_same tree names before now s a = record {
           leads = λ x at above kind up is. h.leads x (subst (λ (z : List StateView). slice_get z m.to ≡ Some x) s.states at) above kind (subst (λ (z : List StateView). slice_get z m.from ≡ Some above) s.states up) is;
         });
   };
-  named = a.named;
+  index = a.index;
 }
 
 -- one node is entered
@@ -136,10 +137,17 @@ module _ (tree : List PathState) (names : List (List ℕ)) (before now : Remembe
 
 -- the innermost node is left
 
+pub at_take : (xs : List StateView) (k i : ℕ) (s : StateView) → slice_get (take k xs) i ≡ Some s → slice_get xs i ≡ Some s
+at_take xs zero i s e = absurd (cc)
+at_take [] (suc k) i s e = e
+at_take (x ∷ xs) (suc k) zero s e = e
+at_take (x ∷ xs) (suc k) (suc i) s e = at_take xs k i s e
+
 right_less : (tree : List PathState) (names : List (List ℕ)) (before now : Remembered) (n : ℕ) → before.kept ≤ n → now.kept ≡ before.kept → now.moves ≡ before.moves → now.states.items ≡ take n before.states.items
-    → n < length before.states.items → AreRight tree names before → AreRight tree names now
-right_less tree names before now n k kept moves states low r = record {
+    → n < length before.states.items → now.bytes ≡ before.bytes → now.bound ≡ before.bound → AreRight tree names before → AreRight tree names now
+right_less tree names before now n k kept moves states low bytes bound r = record {
   kept = (let e = ap length states in let f = length-take-le n before.states.items (omega arith) in omega arith);
+  room = room_same before now (ap (λ (z : ℕ). take z now.states.items) kept ∙ (ap (take before.kept) states ∙ take-take before.kept n before.states.items k)) kept moves bytes bound r.room;
   made = λ i s at. r.made i s (as_before i s at);
   moves = λ m j. (
       let h = r.moves m (subst (λ z. In (Some m) z.slots.items) moves j) in
@@ -152,12 +160,6 @@ right_less tree names before now n k kept moves states low r = record {
       });
 }
   where
-    at_take : (xs : List StateView) (k i : ℕ) (s : StateView) → slice_get (take k xs) i ≡ Some s → slice_get xs i ≡ Some s
-    at_take xs zero i s e = absurd (cc)
-    at_take [] (suc k) i s e = e
-    at_take (x ∷ xs) (suc k) zero s e = e
-    at_take (x ∷ xs) (suc k) (suc i) s e = at_take xs k i s e
-
     as_before : (i : ℕ) (s : StateView) → slice_get now.states.items i ≡ Some s → slice_get before.states.items i ≡ Some s
     as_before i s at = at_take before.states.items n i s (subst (λ (z : List StateView). slice_get z i ≡ Some s) states at)
 
@@ -166,10 +168,11 @@ module _ (tree : List PathState) (names : List (List ℕ)) (before now : Remembe
   here_there : here < length before.states.items
   here_there = there here (In-right here numbers (here ∷ []) (inl refl))
 
-  pub right_left : AreRight tree names before → AreRight tree names now
-  right_left r = elim f [
+  pub right_left : now.bytes ≡ before.bytes → now.bound ≡ before.bound → AreRight tree names before → AreRight tree names now
+  right_left bytes bound r = elim f [
     | inl p ↦ record {
       kept = (let b = r.kept in let e = ap length p.1 in omega arith);
+      room = room_same before now (ap (λ (z : ℕ). take z now.states.items) kept ∙ ap (take before.kept) p.1) kept moves bytes bound r.room;
       made = λ i s at. r.made i s (subst (λ (z : List StateView). slice_get z i ≡ Some s) p.1 at);
       moves = λ m j. (
           let h = r.moves m (subst (λ z. In (Some m) z.slots.items) moves j) in
@@ -181,7 +184,7 @@ module _ (tree : List PathState) (names : List (List ℕ)) (before now : Remembe
             leads = λ s at above kind up is. h.leads s (subst (λ (z : List StateView). slice_get z m.to ≡ Some s) p.1 at) above kind (subst (λ (z : List StateView). slice_get z m.from ≡ Some above) p.1 up) is;
           });
     }
-    | inr p ↦ right_less tree names before now here p.0 kept moves p.1 here_there r
+    | inr p ↦ right_less tree names before now here p.0 kept moves p.1 here_there bytes bound r
   ]
 
   -- the innermost one's number is kept, or above the others

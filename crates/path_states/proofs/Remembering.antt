@@ -1,17 +1,20 @@
 -- Remembered states and moves stay right where a state or a move is added.
-use Rattle.std.proofs.Common.{◌≡◌, ℕ, zero, suc, ◌<◌, ◌≤◌, List, [], ◌∷◌, ◌++◌, length, refl, sym, ◌∙◌, ap, subst, inl, inr, ◌⊎◌, arith, Some}
+use Rattle.std.proofs.Common.{◌≡◌, ℕ, zero, suc, ◌<◌, ◌≤◌, List, [], ◌∷◌, ◌++◌, length, take, refl, sym, ◌∙◌, ap, subst, inl, inr, ◌⊎◌, arith, Some}
 use Rattle.std.specs.Prelude.{slice_get}
-use Rattle.std.proofs.lemmas.List.{append-nil, length-append}
+use Rattle.std.proofs.lemmas.List.{append-nil, length-append, take-append-le}
 use Rattle.tree_laws.proofs.Lists.{In}
 use Rattle.path_states.specs.Active.{ActiveBelow, Tells, Waits}
 use Rattle.path_states.specs.Lists.{From, Gains, Holds}
 use Rattle.path_states.specs.Moves.{AreKnown, AreRight, HasNone, HasParts, IsMove, IsStep, LeadsOn, MayAdd, Remembers}
+use Rattle.path_states.specs.Room.{HasRoomLeft}
 use Rattle.path_states.specs.State.{StateView, HaveSameParts, IsMade, whole_roles}
+use Rattle.path_states.specs.declared.branches.StepIndex.{StepIndex}
 use Rattle.path_states.specs.declared.moves.Move.{Move}
 use Rattle.path_states.specs.declared.paths.PathState.{PathState}
 use Rattle.path_states.specs.declared.remembered.Remembered.{Remembered}
 use Rattle.path_states.proofs.Growing.{at_front, at_seam}
 use Rattle.path_states.proofs.Looking.{in_at, one_at}
+use Rattle.path_states.proofs.Rooming.{room_first, room_same}
 
 at_two : {X : Type 0} (xs ys : List X) (i : ℕ) (x : X) → slice_get (xs ++ ys) i ≡ Some x → (slice_get xs i ≡ Some x) ⊎ In x ys
 at_two [] ys i x e = inr (in_at ys i x e)
@@ -53,10 +56,11 @@ module _ (tree : List PathState) (names : List (List ℕ)) where
           leads = λ s at. step_now m.from m.number s (omega arith) (h.leads s (as_before m.to s (omega arith) at));
         }
 
-    pub right_more : AreRight tree names before → ((s : StateView) → In s more → IsMade tree s) → before.kept ≤ now.kept → now.kept ≤ length now.states.items
+    pub right_more : HasRoomLeft now → AreRight tree names before → ((s : StateView) → In s more → IsMade tree s) → before.kept ≤ now.kept → now.kept ≤ length now.states.items
         → ((m : Move) → In (Some m) now.moves.slots.items → In (Some m) before.moves.slots.items ⊎ IsMove tree names now m) → AreRight tree names now
-    right_more r made k l moves = record {
+    right_more room r made k l moves = record {
       kept = l;
+      room = room;
       made = λ n s at. elim (at_two before.states.items more n s (subst (λ (z : List StateView). slice_get z n ≡ Some s) states at)) [ inl a ↦ r.made n s a | inr j ↦ made s j ];
       moves = λ m j. elim (moves m j) [ inl i ↦ move_stays r k m (r.moves m i) | inr h ↦ h ];
     }
@@ -84,10 +88,11 @@ pub parts_by : (k s : StateView) → k ≡ s → HaveSameParts k s
 parts_by k s e = subst (λ (z : StateView). HaveSameParts k z) e (same_parts k)
 
 -- the first state alone
-pub right_first : (known : Remembered) (first : StateView) → known.states.items ≡ first ∷ [] → known.kept ≡ 1 → HasNone known.moves.slots.items
+pub right_first : (known : Remembered) (first : StateView) → known.states.items ≡ first ∷ [] → known.kept ≡ 1 → HasNone known.moves.slots.items → length known.moves.slots.items ≡ 64
     → (tree : List PathState) (names : List (List ℕ)) → IsMade tree first → AreRight tree names known
-right_first known first states kept none tree names made = record {
+right_first known first states kept none slots tree names made = record {
   kept = (let e = ap length states in omega arith);
+  room = room_first known first states kept slots;
   made = λ n s at. (let j = in_at (first ∷ []) n s (subst (λ (z : List StateView). slice_get z n ≡ Some s) states at) in elim j [ inl e ↦ subst (IsMade tree) e made | inr b ↦ absurd b ]);
   moves = λ m j. absurd (none m j);
 }
@@ -110,24 +115,27 @@ module _ (before now : Remembered) (state : StateView) (from number to : ℕ) (s
   leads_to s at = subst (λ (z : StateView). IsStep tree names before.states.items from number z) (at_to s at) a.step
 
   -- it isn't kept
-  pub leads_last : now.kept ≡ before.kept → now.moves ≡ before.moves → LeadsOn tree names before now from number to
-  leads_last kept moves =
+  pub leads_last : now.kept ≡ before.kept → now.moves ≡ before.moves → now.bytes ≡ before.bytes → now.bound ≡ before.bound → LeadsOn tree names before now from number to
+  leads_last kept moves bytes bound =
       let b = a.right.kept in
       let l = long in
+      let front : take now.kept now.states.items ≡ take before.kept before.states.items =
+      ap (λ (z : ℕ). take z now.states.items) kept ∙ (ap (take before.kept) states ∙ take-append-le before.kept before.states.items (state ∷ []) b) in
       record {
         more = state ∷ [];
         states = states;
         kept = omega arith;
-        right = right_more tree names before now (state ∷ []) states a.right made_more (omega arith) (omega arith) (λ m j. inl (subst (λ z. In (Some m) z.slots.items) moves j));
+        bound = bound;
+        right = right_more tree names before now (state ∷ []) states (room_same before now front kept moves bytes bound a.right.room) a.right made_more (omega arith) (omega arith) (λ m j. inl (subst (λ z. In (Some m) z.slots.items) moves j));
         there = omega arith;
         place = inr is_to;
         leads = leads_to;
       }
 
   -- it is kept
-  pub leads_kept : before.kept ≡ length before.states.items → now.kept ≡ length now.states.items
+  pub leads_kept : HasRoomLeft now → now.bound ≡ before.bound → before.kept ≡ length before.states.items → now.kept ≡ length now.states.items
       → ((m : Move) → In (Some m) now.moves.slots.items → In (Some m) before.moves.slots.items ⊎ ((m.from ≡ from) × ((m.number ≡ number) × (m.to ≡ to)))) → LeadsOn tree names before now from number to
-  leads_kept was kept moves =
+  leads_kept room bound was kept moves =
       let l = long in
       let f = a.there in
       let from_kept : from < now.kept = omega arith in
@@ -136,7 +144,8 @@ module _ (before now : Remembered) (state : StateView) (from number to : ℕ) (s
         more = state ∷ [];
         states = states;
         kept = omega arith;
-        right = right_more tree names before now (state ∷ []) states a.right made_more (omega arith) (omega arith) (λ m j. elim (moves m j) [
+        bound = bound;
+        right = right_more tree names before now (state ∷ []) states room a.right made_more (omega arith) (omega arith) (λ m j. elim (moves m j) [
           | inl i ↦ inl i
           | inr q ↦ inr (move_added tree names before now (state ∷ []) states from number to state a.there from_kept to_kept a.step (λ s at. parts_by s state (sym (at_to s at))) m q)
         ]);
@@ -146,10 +155,10 @@ module _ (before now : Remembered) (state : StateView) (from number to : ℕ) (s
       }
 
 -- a kept state of the same parts, with the move to it
-pub leads_same : (before now : Remembered) (state : StateView) (from number to : ℕ) → now.states ≡ before.states → now.kept ≡ before.kept → (before.kept < length before.states.items → ⊥) → to < before.kept → HasParts before.states.items to state
+pub leads_same : (before now : Remembered) (state : StateView) (from number to : ℕ) → (HasRoomLeft before → HasRoomLeft now) → now.bound ≡ before.bound → now.states ≡ before.states → now.kept ≡ before.kept → (before.kept < length before.states.items → ⊥) → to < before.kept → HasParts before.states.items to state
     → ((m : Move) → In (Some m) now.moves.slots.items → In (Some m) before.moves.slots.items ⊎ ((m.from ≡ from) × ((m.number ≡ number) × (m.to ≡ to))))
     → (tree : List PathState) (names : List (List ℕ)) → MayAdd tree names before from number state → LeadsOn tree names before now from number to
-leads_same before now state from number to same_states kept all t parts moves tree names a =
+leads_same before now state from number to room bound same_states kept all t parts moves tree names a =
     let states : now.states.items ≡ before.states.items = ap (λ z. z.items) same_states in
     let more : now.states.items ≡ before.states.items ++ [] = states ∙ sym (append-nil before.states.items) in
     let b = a.right.kept in
@@ -163,7 +172,8 @@ leads_same before now state from number to same_states kept all t parts moves tr
       more = [];
       states = more;
       kept = omega arith;
-      right = right_more tree names before now [] more a.right (λ s j. absurd j) (omega arith) (omega arith) (λ m j. elim (moves m j) [
+      bound = bound;
+      right = right_more tree names before now [] more (room a.right.room) a.right (λ s j. absurd j) (omega arith) (omega arith) (λ m j. elim (moves m j) [
         | inl i ↦ inl i
         | inr q ↦ inr (move_added tree names before now [] more from number to state a.there from_kept to_kept a.step is m q)
       ]);
@@ -181,8 +191,9 @@ leads_same before now state from number to same_states kept all t parts moves tr
     equal_from i j le above = elim (less_or i j) [ inl l ↦ absurd (above l) | inr l ↦ omega arith ]
 
 -- by a remembered move
-pub leads_known : (known : Remembered) (from number to : ℕ) → Remembers known.moves from number to → (tree : List PathState) (names : List (List ℕ)) → AreKnown tree names known → LeadsOn tree names known known from number to
-leads_known known from number to r tree names a =
+pub leads_known : (known : Remembered) (from number to : ℕ) → Remembers known.moves from number to → (tree : List PathState) (steps : StepIndex) → AreKnown tree steps known → LeadsOn tree steps.names.items known known from number to
+leads_known known from number to r tree steps a =
+    let names = steps.names.items in
     let m = a.right.moves r.move r.among in
     let t = m.ends in
     let e = r.ends in
@@ -191,6 +202,7 @@ leads_known known from number to r tree names a =
       more = [];
       states = sym (append-nil known.states.items);
       kept = omega arith;
+      bound = refl;
       right = a.right;
       there = omega arith;
       place = inl (omega arith);

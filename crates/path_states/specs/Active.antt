@@ -4,7 +4,10 @@ use Rattle.gcx_base.specs.declared.kind.Kind.{Kind}
 use Rattle.gcx_base.specs.Tests.{passes}
 use Rattle.gcx_model.specs.Members.{In}
 use Rattle.path_states.specs.Lists.{From, Gains, Holds}
-use Rattle.path_states.specs.Names.{HasNames, IsNameNumber}
+use Rattle.path_states.specs.Branches.{IsStepIndex}
+use Rattle.path_states.specs.Names.{IsNameNumber}
+use Rattle.path_states.specs.declared.branches.Branch.{Branch}
+use Rattle.path_states.specs.declared.branches.StepIndex.{StepIndex}
 use Rattle.path_states.specs.declared.paths.PathState.{PathState}
 
 -- those below by a child step, and by a descendant step
@@ -34,6 +37,10 @@ pub record Passes (tree : List PathState) (kind : Kind) (p c : ℕ) : Type 0 whe
   pub is : passes state.step.test kind ≡ true
   pub same : p ≡ c
 
+-- the same of the path state to which the branch leads
+abbrev pub PassesTo : List PathState → Kind → Branch → ℕ → Type 0
+PassesTo tree kind b c = Passes tree kind b.state c
+
 -- the path state c stands in this list of the path state p, and its test passes the node
 pub record Under (list : PathState → List ℕ) (tree : List PathState) (kind : Kind) (p c : ℕ) : Type 0 where
   pub state : PathState
@@ -45,9 +52,9 @@ abbrev pub ActiveBelow : List PathState → (above pending : List ℕ) → Kind 
 ActiveBelow tree above pending kind c = From above (Under kids_of tree kind) c ⊎ From pending (Under below_of tree kind) c
 
 -- for each kind whose name has the number, the members now are those before and those of Q
-abbrev pub GainsBy : List PathState → List (List ℕ) → (name : ℕ) → (before now : List ℕ) → (Kind → ℕ → Type 0) → Type 0
-GainsBy tree names name before now Q = HasNames tree names → (kind : Kind) → IsNameNumber names kind name → Gains before now (Q kind)
+abbrev pub GainsBy : List PathState → StepIndex → (name : ℕ) → (before now : List ℕ) → (Kind → ℕ → Type 0) → Type 0
+GainsBy tree steps name before now Q = IsStepIndex tree steps → (kind : Kind) → IsNameNumber steps.names.items kind name → Gains before now (Q kind)
 
 -- the members are those of Q
-abbrev pub HoldsBy : List PathState → List (List ℕ) → (name : ℕ) → List ℕ → (Kind → ℕ → Type 0) → Type 0
-HoldsBy tree names name now Q = HasNames tree names → (kind : Kind) → IsNameNumber names kind name → Holds now (Q kind)
+abbrev pub HoldsBy : List PathState → StepIndex → (name : ℕ) → List ℕ → (Kind → ℕ → Type 0) → Type 0
+HoldsBy tree steps name now Q = IsStepIndex tree steps → (kind : Kind) → IsNameNumber steps.names.items kind name → Holds now (Q kind)

@@ -2,8 +2,10 @@ pub mod Lists
 pub mod PathTree
 pub mod Growing
 pub mod Names
+pub mod Branches
 pub mod Active
 pub mod State
+pub mod Room
 pub mod Moves
 pub mod States
 pub mod Open

@@ -1,9 +1,12 @@
 -- Remembered states and moves (this project's). This follows the code: private functions and the model of `PathStates` alone speak of it.
-use Rattle.std.specs.Prelude.{◌≡◌, ◌<◌, ◌≤◌, ◌⊎◌, ℕ, List, ◌++◌, length, take, Option, Some, slice_get}
+use Rattle.std.specs.Prelude.{◌≡◌, ◌<◌, ◌≤◌, ◌⊎◌, ◌*◌, ℕ, Bool, true, List, ◌++◌, length, take, Option, Some, slice_get}
 use Rattle.gcx_base.specs.declared.kind.Kind.{Kind}
 use Rattle.gcx_model.specs.Members.{In}
-use Rattle.path_states.specs.Names.{HasNames, IsNameNumber}
+use Rattle.path_states.specs.Branches.{IsStepIndex}
+use Rattle.path_states.specs.Names.{IsNameNumber}
+use Rattle.path_states.specs.Room.{HasRoomLeft}
 use Rattle.path_states.specs.State.{StateView, HaveSameParts, IsMade, MovesBelow}
+use Rattle.path_states.specs.declared.branches.StepIndex.{StepIndex}
 use Rattle.path_states.specs.declared.moves.Move.{Move}
 use Rattle.path_states.specs.declared.moves.Moves.{Moves}
 use Rattle.path_states.specs.declared.paths.PathState.{PathState}
@@ -25,6 +28,10 @@ pub record Remembers (moves : Moves) (from number to : ℕ) : Type 0 where
 abbrev pub AddsAtMost : (before now : List (Option Move)) → Move → Type 0
 AddsAtMost before now one = (m : Move) → In (Some m) now → In (Some m) before ⊎ (one ≡ m)
 
+-- there are as many slots, or twice as many where there may be
+abbrev pub GrowsIf : Bool → (before now : ℕ) → Type 0
+GrowsIf may_grow before now = (now ≡ before) ⊎ ((may_grow ≡ true) × (now ≡ 2 * before))
+
 -- the same by the move's numbers
 abbrev pub AddsMove : (before now : Moves) → (from number to : ℕ) → Type 0
 AddsMove before now from number to = (m : Move) → In (Some m) now.slots.items → In (Some m) before.slots.items ⊎ ((m.from ≡ from) × ((m.number ≡ number) × (m.to ≡ to)))
@@ -45,16 +52,17 @@ pub record IsMove (tree : List PathState) (names : List (List ℕ)) (known : Rem
   pub ends : m.to < known.kept
   pub leads : (s : StateView) → slice_get known.states.items m.to ≡ Some s → IsStep tree names known.states.items m.from m.number s
 
--- Each state is the one that its parts make, and each remembered move leads to the state made for it.
+-- Each state is the one that its parts make, each remembered move leads to the state made for it, and there is room for those that are kept.
 pub record AreRight (tree : List PathState) (names : List (List ℕ)) (known : Remembered) : Type 0 where
   pub kept : known.kept ≤ length known.states.items
+  pub room : HasRoomLeft known
   pub made : (n : ℕ) (s : StateView) → slice_get known.states.items n ≡ Some s → IsMade tree s
   pub moves : (m : Move) → In (Some m) known.moves.slots.items → IsMove tree names known m
 
--- the same, and the names are those of the tree
-pub record AreKnown (tree : List PathState) (names : List (List ℕ)) (known : Remembered) : Type 0 where
-  pub right : AreRight tree names known
-  pub named : HasNames tree names
+-- the same by the names of the tree's index
+pub record AreKnown (tree : List PathState) (steps : StepIndex) (known : Remembered) : Type 0 where
+  pub right : AreRight tree steps.names.items known
+  pub index : IsStepIndex tree steps
 
 -- the state may be added as one to which the number leads from the state `from`
 pub record MayAdd (tree : List PathState) (names : List (List ℕ)) (known : Remembered) (from number : ℕ) (s : StateView) : Type 0 where
@@ -68,12 +76,15 @@ pub record AreSame (before now : Remembered) : Type 0 where
   pub states : now.states.items ≡ before.states.items
   pub kept : now.kept ≡ before.kept
   pub moves : now.moves ≡ before.moves
+  pub bytes : now.bytes ≡ before.bytes
+  pub bound : now.bound ≡ before.bound
 
 -- The number leads from the state `from` to this one: a kept one, or a new one at the end. There may be more states now, and no fewer of them are kept.
 pub record LeadsOn (tree : List PathState) (names : List (List ℕ)) (before now : Remembered) (from number to : ℕ) : Type 0 where
   pub more : List StateView
   pub states : now.states.items ≡ before.states.items ++ more
   pub kept : before.kept ≤ now.kept
+  pub bound : now.bound ≡ before.bound
   pub right : AreRight tree names now
   pub there : to < length now.states.items
   pub place : (to < now.kept) ⊎ (to ≡ length before.states.items)

@@ -36,6 +36,17 @@ is_before one other = is_lt (slice_cmp nat_cmp one other)
 abbrev pub AreOrdered : List (List ℕ) → Type 0
 AreOrdered names = IsSortedBy is_before names
 
--- the name stands at the end of the names, or was there already
+-- each name stands at one place
+abbrev pub BranchesAreApart : List (List ℕ) → Type 0
+BranchesAreApart names = (i j : ℕ) (name : List ℕ) → slice_get names i ≡ Some name → slice_get names j ≡ Some name → i ≡ j
+
+-- the name stands at the end of the names, if it wasn't there already
 abbrev pub PutsName : (before now : List (List ℕ)) → List ℕ → Type 0
-PutsName before now name = (now ≡ before ++ name ∷ []) ⊎ ((now ≡ before) × In name before)
+PutsName before now name = ((now ≡ before ++ name ∷ []) × (In name before → ⊥)) ⊎ ((now ≡ before) × In name before)
+
+-- the same names in order, each once
+pub record AreOnce (names once : List (List ℕ)) : Type 0 where
+  pub all : (name : List ℕ) → In name names → In name once
+  pub of : (name : List ℕ) → In name once → In name names
+  pub ordered : AreOrdered once
+  pub apart : BranchesAreApart once

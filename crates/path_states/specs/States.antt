@@ -8,19 +8,22 @@ use Rattle.path_states.specs.Names.{IsNameNumber}
 use Rattle.path_states.specs.State.{StateView, IsMade, MovesBelow, state_code}
 use Rattle.path_states.specs.declared.paths.PathTree.{PathTree}
 
--- What a contract sees of the states of the open nodes: the path tree, the names in order, and the states, that of the document node first.
+-- What a contract sees of the states of the open nodes: the path tree, the names in order, and the states, that of the document node first;
+-- and how many states, in how many bytes with their moves, are remembered at most.
 pub record StatesView : Type 0 where
   pub tree : PathTree
   pub names : List (List ℕ)
   pub states : List StateView
+  pub most_states : ℕ
+  pub most_bytes : ℕ
 
 abbrev pub states_code : Coded PathTree → Coded StatesView
 states_code tree =
     code_by
-    (PathTree × (List (List ℕ) × List StateView))
-    (coded× tree (coded× (coded_list (coded_list coded_ℕ)) (coded_list state_code)))
-    (λ v. (v.tree, (v.names, v.states)))
-    (λ p. record { tree = p.0; names = p.1.0; states = p.1.1 })
+    (PathTree × (List (List ℕ) × (List StateView × (ℕ × ℕ))))
+    (coded× tree (coded× (coded_list (coded_list coded_ℕ)) (coded× (coded_list state_code) (coded× coded_ℕ coded_ℕ))))
+    (λ v. (v.tree, (v.names, (v.states, (v.most_states, v.most_bytes)))))
+    (λ p. record { tree = p.0; names = p.1.0; states = p.1.1.0; most_states = p.1.1.1.0; most_bytes = p.1.1.1.1 })
     (λ _. refl)
 
 -- the state of the innermost open node
@@ -40,7 +43,7 @@ pub record Enters (before now : StatesView) (number : ℕ) : Type 0 where
 
 -- no state
 abbrev pub no_state : StateView
-no_state = record { active = []; pending = []; whole = []; whole_here = []; given = []; roles = set.empty; contexts = []; has_firsts = false; is_over = false }
+no_state = record { active = []; pending = []; whole = []; whole_here = []; given = []; roles = set.empty; whole_set = set.empty; contexts = []; has_firsts = false; is_over = false }
 
 -- the states with these numbers
 abbrev pub states_at : List StateView → List ℕ → List StateView

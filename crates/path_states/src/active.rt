@@ -1,28 +1,30 @@
 //! Which path states are active at a node below another one, by the number of its name.
-ghost use Rattle.std.specs.Prelude.{◌≡◌, ℕ, true, IfOk, OnOk};
+ghost use Rattle.std.specs.Prelude.{◌≡◌, ℕ, List, true, IfOk, OnOk};
 ghost use Rattle.path_states.specs.Lists.{From};
-ghost use Rattle.path_states.specs.Active.{ActiveBelow, GainsBy, HoldsBy, Passes, Tells, Under, below_of, kids_of};
+ghost use Rattle.path_states.specs.Active.{ActiveBelow, GainsBy, HoldsBy, Passes, PassesTo, Tells, Under, kids_of};
+ghost use Rattle.path_states.specs.Branches.{AreSorted, steps_by};
 
+use crate::branches::{Branch, StepIndex, asking};
 use crate::names::takes;
 use crate::paths::PathState;
 use crate::rising::rise;
-use gcx_base::{Memory, Name};
+use gcx_base::{Axis, Memory};
 use std::alloc::Global;
 
 /// Adds the path state where the node passes its test.
 fn try_one(
     active: &mut Vec<u32>,
     tree: &[PathState],
-    names: &[Name],
+    steps: &StepIndex,
     name: usize,
     number: u32,
 ) -> Result<(), Memory>
     ensures { OnOk result
-        (GainsBy tree.now names.now name active.old.items active.new.items (λ kind. Passes tree.now kind number)) }
+        (GainsBy tree.now steps.now name active.old.items active.new.items (λ kind. Passes tree.now kind number)) }
 {
     match tree.get(number as usize) {
         Some(state) => {
-            if takes(&state.step.test, names, name) {
+            if takes(&state.step.test, &steps.names, name) {
                 rise(active, number)?;
             }
             Ok(())
@@ -31,95 +33,79 @@ fn try_one(
     }
 }
 
-/// Adds those of the path states whose tests the node passes.
+/// Adds those of the branches' path states whose tests the node passes.
 fn try_all(
     active: &mut Vec<u32>,
     tree: &[PathState],
-    names: &[Name],
+    steps: &StepIndex,
     name: usize,
-    numbers: &[u32],
+    branches: &[Branch],
 ) -> Result<(), Memory>
     ensures { OnOk result
-        (GainsBy tree.now names.now name active.old.items active.new.items (λ kind. From numbers.now (Passes tree.now kind))) }
+        (GainsBy tree.now steps.now name active.old.items active.new.items
+        (λ kind. From branches.now (PassesTo tree.now kind))) }
 {
-    for number in numbers {
-        try_one(active, tree, names, name, *number)?;
+    for branch in branches {
+        try_one(active, tree, steps, name, branch.state)?;
     }
     Ok(())
 }
 
-/// Adds those below by a child step from this one.
-fn try_kids_of(
+/// The same, where those alone are looked at that ask for the node's name, or for none.
+fn try_asking(
     active: &mut Vec<u32>,
     tree: &[PathState],
-    names: &[Name],
+    steps: &StepIndex,
     name: usize,
-    number: u32,
+    branches: &[Branch],
 ) -> Result<(), Memory>
-    ensures { OnOk result
-        (GainsBy tree.now names.now name active.old.items active.new.items (λ kind. Under kids_of tree.now kind number)) }
+    ensures { OnOk result ((numbers : List ℕ) → AreSorted tree.now steps.now.names.items numbers branches.now →
+        GainsBy tree.now steps.now name active.old.items active.new.items (λ kind. From numbers (Passes tree.now kind))) }
 {
-    match tree.get(number as usize) {
-        Some(state) => {
-            try_all(active, tree, names, name, &state.kids)?;
-            Ok(())
-        }
-        None => Ok(()),
-    }
-}
-
-/// Adds those below by a child step from these.
-fn try_kids(
-    active: &mut Vec<u32>,
-    tree: &[PathState],
-    names: &[Name],
-    name: usize,
-    above: &[u32],
-) -> Result<(), Memory>
-    ensures { OnOk result
-        (GainsBy tree.now names.now name active.old.items active.new.items
-        (λ kind. From above.now (Under kids_of tree.now kind))) }
-{
-    for number in above {
-        try_kids_of(active, tree, names, name, *number)?;
-    }
+    let named = asking(branches, name);
+    try_all(active, tree, steps, name, named)?;
+    let others = asking(branches, steps.names.len());
+    try_all(active, tree, steps, name, others)?;
     Ok(())
 }
 
-/// Adds those below by a descendant step from this one.
-fn try_below_of(
-    active: &mut Vec<u32>,
-    tree: &[PathState],
-    names: &[Name],
-    name: usize,
-    number: u32,
-) -> Result<(), Memory>
-    ensures { OnOk result
-        (GainsBy tree.now names.now name active.old.items active.new.items (λ kind. Under below_of tree.now kind number)) }
-{
-    match tree.get(number as usize) {
-        Some(state) => {
-            try_all(active, tree, names, name, &state.below)?;
-            Ok(())
-        }
-        None => Ok(()),
-    }
-}
-
-/// Adds those below by a descendant step from these.
+/// Adds those below by a step of the axis from this path state.
 fn try_below(
     active: &mut Vec<u32>,
     tree: &[PathState],
-    names: &[Name],
+    steps: &StepIndex,
     name: usize,
-    pending: &[u32],
+    axis: Axis,
+    number: u32,
 ) -> Result<(), Memory>
     ensures { OnOk result
-        (GainsBy tree.now names.now name active.old.items active.new.items
-        (λ kind. From pending.now (Under below_of tree.now kind))) }
+        (GainsBy tree.now steps.now name active.old.items active.new.items
+        (λ kind. Under (steps_by axis) tree.now kind number)) }
 {
-    for number in pending {
-        try_below_of(active, tree, names, name, *number)?;
+    match steps.branches.get(number as usize) {
+        Some(branches) => {
+            try_asking(active, tree, steps, name, branches.by(axis))?;
+            Ok(())
+        }
+        None => Ok(()),
+    }
+}
+
+/// Adds those below by a step of the axis from these.
+fn try_below_all(
+    active: &mut Vec<u32>,
+    tree: &[PathState],
+    steps: &StepIndex,
+    name: usize,
+    axis: Axis,
+    above: &[u32],
+) -> Result<(), Memory>
+    ensures { OnOk result
+        (GainsBy tree.now steps.now name active.old.items active.new.items
+        (λ kind. From above.now (Under (steps_by axis) tree.now kind))) }
+{
+    for number in above {
+        try_below(active, tree, steps, name, axis, *number)?;
     }
     Ok(())
 }
@@ -151,16 +137,16 @@ pub(crate) fn have_no_kids(tree: &[PathState], active: &[u32]) -> bool
 pub(crate) fn find_active(
     alloc: Global,
     tree: &[PathState],
-    names: &[Name],
+    steps: &StepIndex,
     name: usize,
     above: &[u32],
     pending: &[u32],
 ) -> Result<Vec<u32>, Memory>
-    ensures { IfOk result (λ active. HoldsBy tree.now names.now name active.items
+    ensures { IfOk result (λ active. HoldsBy tree.now steps.now name active.items
         (λ kind. ActiveBelow tree.now above.now pending.now kind)) }
 {
     let mut active = Vec::new(alloc);
-    try_kids(&mut active, tree, names, name, above)?;
-    try_below(&mut active, tree, names, name, pending)?;
+    try_below_all(&mut active, tree, steps, name, Axis::Child, above)?;
+    try_below_all(&mut active, tree, steps, name, Axis::Descendant, pending)?;
     Ok(active)
 }

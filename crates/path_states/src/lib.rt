@@ -2,6 +2,8 @@
 #![tactic(auto)]
 
 mod active;
+mod branches;
+mod homes;
 mod moves;
 mod names;
 mod outputs;

@@ -1,7 +1,8 @@
 //! The remembered moves between states.
-ghost use Rattle.std.specs.Prelude.{◌≡◌, ◌<◌, ◌⊎◌, length, Some, true, IfOk, IfSome};
+ghost use Rattle.std.specs.Prelude.{◌≡◌, ◌<◌, ◌⊎◌, ◌-◌, ◌*◌, ◌^◌, length, min, Some, true, IfOk, IfSome};
 ghost use Rattle.gcx_model.specs.Members.{In};
-ghost use Rattle.path_states.specs.Moves.{AddsAtMost, HasNone, Remembers};
+ghost use Rattle.path_states.specs.Moves.{AddsAtMost, GrowsIf, HasNone, Remembers};
+ghost use Rattle.path_states.specs.Room.{slot_bytes};
 ghost use Rattle.path_states.specs.declared.moves.Move.{Move};
 
 use gcx_base::Memory;
@@ -34,7 +35,8 @@ pub(crate) struct Moves {
 
 /// So many empty slots.
 fn empty_slots(alloc: Global, count: usize) -> Result<Vec<Option<Move>>, Memory>
-    ensures { IfOk result (λ slots. HasNone slots.items) }
+    ensures none { IfOk result (λ slots. HasNone slots.items) }
+    ensures count { IfOk result (λ slots. length slots.items ≡ count) }
 {
     let mut slots = Vec::new(alloc);
     for _ in 0..count {
@@ -58,14 +60,24 @@ fn end_of(known: Move, from: usize, number: usize) -> Option<usize>
 impl Moves {
     /// A table without moves, for so many numbers of names.
     pub(crate) fn new(alloc: Global, stride: usize) -> Result<Moves, Memory>
-        ensures { IfOk result (λ moves. HasNone moves.slots.items) }
+        ensures none { IfOk result (λ moves. HasNone moves.slots.items) }
+        ensures count { IfOk result (λ moves. length moves.slots.items ≡ 64) }
     {
         let slots = empty_slots(alloc, FIRST_SLOTS)?;
         Ok(Moves { slots, stride })
     }
 
+    /// How many slots there are.
+    pub(crate) fn len(&self) -> usize
+        ensures { result ≡ length self.now.slots.items }
+    {
+        self.slots.len()
+    }
+
     /// What the table takes of memory.
-    pub(crate) fn bytes(&self) -> usize {
+    pub(crate) fn bytes(&self) -> usize
+        ensures { result ≡ min (slot_bytes (length self.now.slots.items)) (2 ^ 64 - 1) }
+    {
         self.slots.len().saturating_mul(SLOT_BYTES)
     }
 
@@ -129,7 +141,8 @@ impl Moves {
 
     /// Puts the move into an empty slot, if there is one for it, and answers whether there was.
     fn place_it(&mut self, one: Move) -> bool
-        ensures { AddsAtMost self.old.slots.items self.new.slots.items one }
+        ensures adds { AddsAtMost self.old.slots.items self.new.slots.items one }
+        ensures count { length self.new.slots.items ≡ length self.old.slots.items }
     {
         match self.empty_for(one) {
             Some(at) => {
@@ -142,7 +155,8 @@ impl Moves {
 
     /// The same for the slot's move, if it has one.
     fn place_slot(&mut self, slot: &Option<Move>)
-        ensures { (m : Move) → In (Some m) self.new.slots.items →
+        ensures count { length self.new.slots.items ≡ length self.old.slots.items }
+        ensures adds { (m : Move) → In (Some m) self.new.slots.items →
             In (Some m) self.old.slots.items ⊎ (slot.now ≡ Some m) }
     {
         if let Some(one) = slot {
@@ -152,10 +166,11 @@ impl Moves {
 
     /// A table of twice as many slots, with those of the moves that find one there.
     fn grown(&self, alloc: Global) -> Result<Moves, Memory>
-        ensures { IfOk result (λ moves.
+        ensures count { IfOk result (λ moves. length moves.slots.items ≡ 2 * length self.now.slots.items) }
+        ensures moves { IfOk result (λ moves.
             (m : Move) → In (Some m) moves.slots.items → In (Some m) self.now.slots.items) }
     {
-        let slots = empty_slots(alloc, self.slots.len().saturating_mul(2))?;
+        let slots = empty_slots(alloc, self.slots.len() * 2)?;
         let mut moves = Moves {
             slots,
             stride: self.stride,
@@ -166,17 +181,28 @@ impl Moves {
         Ok(moves)
     }
 
-    /// Remembers the move, if a slot is empty for it. Where none is and the table may grow, a greater one is made, unless
-    /// there is no memory for it.
-    pub(crate) fn put(&mut self, alloc: Global, one: Move, may_grow: bool)
-        ensures { AddsAtMost self.old.slots.items self.new.slots.items one }
+    /// Remembers the move in a table of twice as many slots, unless there is no memory for it.
+    fn grow_for(&mut self, alloc: Global, one: Move)
+        ensures adds { AddsAtMost self.old.slots.items self.new.slots.items one }
+        ensures count { GrowsIf true (length self.old.slots.items) (length self.new.slots.items) }
     {
-        if self.place_it(one) || !may_grow {
-            return;
-        }
         if let Ok(grown) = self.grown(alloc) {
             *self = grown;
             self.place_it(one);
+        }
+    }
+
+    /// Remembers the move, if a slot is empty for it. Where none is and the table may grow, a greater one is made, unless
+    /// there is no memory for it.
+    pub(crate) fn put(&mut self, alloc: Global, one: Move, may_grow: bool)
+        ensures adds { AddsAtMost self.old.slots.items self.new.slots.items one }
+        ensures count { GrowsIf may_grow (length self.old.slots.items) (length self.new.slots.items) }
+    {
+        if self.place_it(one) {
+            return;
+        }
+        if may_grow {
+            self.grow_for(alloc, one);
         }
     }
 }

@@ -2,25 +2,46 @@
 ghost use Rattle.std.specs.Prelude.{◌≡◌, ◌↔◌, ℕ, List, true, Some, slice_get, IfOk, OnOk};
 ghost use Rattle.std.specs.Ordering.{nat_cmp};
 ghost use Rattle.std.specs.Cmp.Lexicographic.{slice_cmp};
+ghost use Rattle.std.specs.declared.cmp.Ordering.TheVariants.{Less};
 ghost use Rattle.gcx_base.specs.Tests.{passes};
 ghost use Rattle.gcx_base.specs.declared.kind.Kind.{Kind};
 ghost use Rattle.gcx_base.specs.declared.kind.Kind.TheVariants.{Element};
 ghost use Rattle.gcx_base.specs.declared.steps.Test.TheVariants.{Named};
 ghost use Rattle.gcx_model.specs.Members.{In};
 ghost use Rattle.path_states.specs.Lists.{From, Gains};
-ghost use Rattle.path_states.specs.Names.{PutsName, AreOrdered, AsksFor, HasNames, IsNameNumber, KnowsName};
+ghost use Rattle.path_states.specs.Names.{BranchesAreApart, AreOnce, AreOrdered, AsksFor, HasNames, IsNameNumber, KnowsName, PutsName};
 
 use crate::paths::PathState;
 use gcx_base::{Memory, Name, Test, same_bytes};
 use std::alloc::Global;
 use std::cmp::Ordering;
 
-/// The order of names: that of their bytes.
+/// Whether the first byte of the one comes before that of the other.
+#[inline(always)]
+fn starts_before(one: &[u8], other: &[u8]) -> bool
+    ensures { result ≡ true → slice_cmp nat_cmp one.now other.now ≡ Less }
+{
+    match one.get(0) {
+        Some(first) => match other.get(0) {
+            Some(second) => *first < *second,
+            None => false,
+        },
+        None => false,
+    }
+}
+
+/// The order of names: that of their bytes. Mostly the first ones tell it, which is quicker.
 #[inline(always)]
 fn order(one: &[u8], other: &[u8]) -> Ordering
     ensures { result ≡ slice_cmp nat_cmp one.now other.now }
 {
-    one.cmp(other)
+    if starts_before(one, other) {
+        Ordering::Less
+    } else if starts_before(other, one) {
+        Ordering::Greater
+    } else {
+        one.cmp(other)
+    }
 }
 
 /// Adds the name that the test asks for.
@@ -50,21 +71,11 @@ fn all_names(alloc: Global, tree: &[PathState]) -> Result<Vec<Name>, Memory>
     Ok(names)
 }
 
-/// Whether the name is the last of these.
-fn is_last(names: &[Name], name: &Name) -> bool
-    ensures { result ≡ true → In name.now names.now }
-{
-    match names.last() {
-        Some(last) => same_bytes(last.as_bytes(), name.as_bytes()),
-        None => false,
-    }
-}
-
-/// Adds the name, unless it is the last.
+/// Adds the name, unless it is there.
 fn put_new(alloc: Global, names: &mut Vec<Name>, name: &Name) -> Result<(), Memory>
-    ensures { OnOk result (PutsName names.old.items names.new.items name.now) }
+    ensures { OnOk result (AreOrdered names.old.items → PutsName names.old.items names.new.items name.now) }
 {
-    if is_last(names, name) {
+    if number_in(names, name.as_bytes()) < names.len() {
         return Ok(());
     }
     let copied = name.copy(alloc)?;
@@ -74,8 +85,7 @@ fn put_new(alloc: Global, names: &mut Vec<Name>, name: &Name) -> Result<(), Memo
 
 /// The ordered names, each once.
 fn without_repeats(alloc: Global, names: &[Name]) -> Result<Vec<Name>, Memory>
-    ensures all { IfOk result (λ once. (name : List ℕ) → In name names.now → In name once.items) }
-    ensures ordered { IfOk result (λ once. AreOrdered names.now → AreOrdered once.items) }
+    ensures { IfOk result (λ once. AreOrdered names.now → AreOnce names.now once.items) }
 {
     let mut once = Vec::new(alloc);
     for name in names {
@@ -84,10 +94,11 @@ fn without_repeats(alloc: Global, names: &[Name]) -> Result<Vec<Name>, Memory>
     Ok(once)
 }
 
-/// The names that the path states' tests ask for, in order.
+/// The names that the path states' tests ask for, in order and each once.
 pub(crate) fn names_of(alloc: Global, tree: &[PathState]) -> Result<Vec<Name>, Memory>
     ensures all { IfOk result (λ names. HasNames tree.now names.items) }
     ensures ordered { IfOk result (λ names. AreOrdered names.items) }
+    ensures apart { IfOk result (λ names. BranchesAreApart names.items) }
 {
     let mut names = all_names(alloc, tree)?;
     names.sort_by(|one, other| order(one.as_bytes(), other.as_bytes()))?;

@@ -1,23 +1,28 @@
 //! The states that were met, and the moves between them, as far as they are remembered.
-ghost use Rattle.std.specs.Prelude.{◌≡◌, ◌<◌, ◌≤◌, ◌∷◌, ◌++◌, ℕ, List, [], length, true, IfOk, IfSome, OnErr, OnOk};
+ghost use Rattle.std.specs.Prelude.{◌≡◌, ◌<◌, ◌≤◌, ◌-◌, ◌^◌, ◌∷◌, ◌++◌, ℕ, List, [], length, min, take, true, IfOk, IfSome, OnErr, OnOk};
 ghost use Rattle.gcx_base.specs.declared.kind.Kind.{Kind};
 ghost use Rattle.path_states.specs.Lists.{Climbs};
 ghost use Rattle.path_states.specs.Moves.{AddsMove, AreKnown, AreRight, AreSame, Forgets, HasParts, LeadsOn, MayAdd};
-ghost use Rattle.path_states.specs.Names.{HasNames, IsNameNumber};
+ghost use Rattle.path_states.specs.Branches.{IsStepIndex};
+ghost use Rattle.path_states.specs.Names.{IsNameNumber};
+ghost use Rattle.path_states.specs.Room.{HasRoomLeft, HasRoomForState, slot_bytes, state_bytes};
 ghost use Rattle.path_states.specs.State.{IsMade, MovesBelow};
 ghost use Rattle.path_states.specs.declared.paths.PathState.{PathState};
 
 use crate::active::find_active;
+use crate::branches::StepIndex;
+use crate::homes::{Homes, NEAR, place_of};
 use crate::moves::{Move, Moves};
 use crate::paths::PathState;
 use crate::state::{State, make_state};
-use gcx_base::{Memory, Name};
+use gcx_base::Memory;
 use std::alloc::Global;
 
 /// What a state takes of memory beside its lists.
 const STATE_BYTES: usize = 256;
 
-/// What is remembered at most: so many states, and so many bytes of states and moves together. The rest is made anew.
+/// What is remembered at most: so many states, and so many bytes of states and moves together, but for the document node's
+/// state. The rest is made anew.
 #[derive(Clone, Copy, Debug)]
 pub struct Bound {
     pub states: usize,
@@ -42,13 +47,17 @@ pub(crate) struct Remembered {
     /// How many are kept.
     pub kept: usize,
     pub moves: Moves,
-    /// What the kept states take.
+    /// Where the kept ones are found by their parts.
+    pub homes: Homes,
+    /// What the kept states take, but for the first.
     pub bytes: usize,
     pub bound: Bound,
 }
 
 /// About what the state takes of memory.
-fn bytes_of(state: &State) -> usize {
+fn bytes_of(state: &State) -> usize
+    ensures { min (state_bytes state.now) (2 ^ 64 - 1) ≤ result }
+{
     let numbers = state
         .active()
         .len()
@@ -76,23 +85,26 @@ fn move_of(from: usize, number: usize, to: usize) -> Option<Move>
     Some(Move { from, number, to })
 }
 
-/// Whether the state of this number has the same parts.
-fn is_same(states: &[State], at: usize, state: &State) -> bool
-    ensures { result ≡ true → HasParts states.now at state.now }
+/// Whether the number is that of a kept state with the same parts.
+fn is_same(states: &[State], kept: usize, at: usize, state: &State) -> bool
+    ensures kept { result ≡ true → at < kept }
+    ensures same { result ≡ true → HasParts states.now at state.now }
 {
     match states.get(at) {
-        Some(known) => known.has_parts_of(state),
+        Some(known) => at < kept && known.has_parts_of(state),
         None => false,
     }
 }
 
-/// The one of the kept states with the same parts.
-fn find_same(states: &[State], kept: usize, state: &State) -> Option<usize>
+/// The kept state with the same parts, if it is found.
+fn find_same(states: &[State], kept: usize, homes: &Homes, state: &State) -> Option<usize>
     ensures kept { IfSome result (λ at. at < kept) }
     ensures same { IfSome result (λ at. HasParts states.now at state.now) }
 {
-    for at in 0..kept {
-        if is_same(states, at, state) {
+    let first = place_of(state);
+    for place in first..first.saturating_add(NEAR) {
+        let at = homes.at(place);
+        if is_same(states, kept, at, state) {
             return Some(at);
         }
     }
@@ -103,15 +115,15 @@ fn find_same(states: &[State], kept: usize, state: &State) -> Option<usize>
 fn child_of(
     alloc: Global,
     tree: &[PathState],
-    names: &[Name],
+    steps: &StepIndex,
     above: &State,
     number: usize,
 ) -> Result<State, Memory>
     ensures made { IfOk result (λ s. Climbs above.now.whole → IsMade tree.now s) }
-    ensures leads { IfOk result (λ s. HasNames tree.now names.now →
-        (kind : Kind) → IsNameNumber names.now kind number → MovesBelow tree.now above.now kind s) }
+    ensures leads { IfOk result (λ s. IsStepIndex tree.now steps.now →
+        (kind : Kind) → IsNameNumber steps.now.names.items kind number → MovesBelow tree.now above.now kind s) }
 {
-    let active = find_active(alloc, tree, names, number, above.active(), above.pending())?;
+    let active = find_active(alloc, tree, steps, number, above.active(), above.pending())?;
     let state = make_state(alloc, tree, active, above.pending(), above.whole())?;
     Ok(state)
 }
@@ -125,30 +137,52 @@ impl Remembered {
         first: State,
     ) -> Result<Remembered, Memory>
         ensures first { IfOk result (λ known. known.states.items ≡ first ∷ []) }
+        ensures bound { IfOk result (λ known. known.bound ≡ bound) }
         ensures right { IfOk result (λ known. (tree : List PathState) (names : List (List ℕ)) →
             IsMade tree first → AreRight tree names known) }
     {
-        let bytes = bytes_of(&first);
         let mut states = Vec::new(alloc);
         states.push(first)?;
         let moves = Moves::new(alloc, stride)?;
+        let homes = Homes::new(alloc)?;
         Ok(Remembered {
             states,
             kept: 1,
             moves,
-            bytes,
+            homes,
+            bytes: 0,
             bound,
         })
     }
 
+    /// The kept states.
+    pub(crate) fn kept_states(&self) -> &[State]
+        requires { self.now.kept ≤ length self.now.states.items }
+        ensures { result.now ≡ take self.now.kept self.now.states.items }
+    {
+        self.states.as_slice().split_at(self.kept).0
+    }
+
     /// Whether there is room for so many bytes more.
-    fn has_room(&self, bytes: usize) -> bool {
+    fn has_room(&self, bytes: usize) -> bool
+        ensures { result ≡ true → HasRoomForState self.now bytes }
+    {
         let taken = self.bytes.saturating_add(self.moves.bytes());
-        taken.saturating_add(bytes) <= self.bound.bytes
+        bytes < self.bound.bytes.saturating_sub(taken)
+    }
+
+    /// Whether there is room for twice as many slots.
+    fn may_grow(&self) -> bool
+        ensures { result ≡ true → HasRoomForState self.now (slot_bytes (length self.now.moves.slots.items)) }
+    {
+        self.has_room(self.moves.bytes())
     }
 
     /// Whether one more state may be kept, which takes so many bytes.
-    fn may_keep(&self, bytes: usize) -> bool {
+    fn may_keep(&self, bytes: usize) -> bool
+        ensures states { result ≡ true → self.now.kept < self.now.bound.states }
+        ensures room { result ≡ true → HasRoomForState self.now bytes }
+    {
         self.kept < self.bound.states && self.has_room(bytes)
     }
 
@@ -156,10 +190,12 @@ impl Remembered {
     fn remember(&mut self, alloc: Global, from: usize, number: usize, to: usize)
         ensures states { self.new.states ≡ self.old.states }
         ensures kept { self.new.kept ≡ self.old.kept }
+        ensures bound { self.new.bound ≡ self.old.bound }
+        ensures room { HasRoomLeft self.old → HasRoomLeft self.new }
         ensures moves { AddsMove self.old.moves self.new.moves from number to }
     {
         if let Some(one) = move_of(from, number, to) {
-            let may_grow = self.has_room(self.moves.bytes());
+            let may_grow = self.may_grow();
             self.moves.put(alloc, one, may_grow);
         }
     }
@@ -168,6 +204,8 @@ impl Remembered {
     fn add_last(&mut self, state: State) -> Result<usize, Memory>
         ensures kept { self.new.kept ≡ self.old.kept }
         ensures moves { self.new.moves ≡ self.old.moves }
+        ensures bytes { self.new.bytes ≡ self.old.bytes }
+        ensures bound { self.new.bound ≡ self.old.bound }
         ensures ok { OnOk result (self.new.states.items ≡ self.old.states.items ++ state ∷ []) }
         ensures number { IfOk result (λ to. to ≡ length self.old.states.items) }
         ensures err { OnErr result (self.new.states.items ≡ self.old.states.items) }
@@ -191,6 +229,7 @@ impl Remembered {
         ensures err { OnErr result (AreSame self.old self.new) }
     {
         let bytes = bytes_of(&state);
+        let place = place_of(&state);
         let is_room = self.may_keep(bytes);
         let to = self.add_last(state)?;
         if !is_room {
@@ -198,6 +237,7 @@ impl Remembered {
         }
         self.kept = self.states.len();
         self.bytes = self.bytes.saturating_add(bytes);
+        self.homes.put(place, to);
         self.remember(alloc, from, number, to);
         Ok(to)
     }
@@ -219,7 +259,7 @@ impl Remembered {
             let to = self.add_last(state)?;
             return Ok(to);
         }
-        match find_same(&self.states, self.kept, &state) {
+        match find_same(&self.states, self.kept, &self.homes, &state) {
             Some(to) => {
                 self.remember(alloc, from, number, to);
                 Ok(to)
@@ -237,16 +277,16 @@ impl Remembered {
         &mut self,
         alloc: Global,
         tree: &[PathState],
-        names: &[Name],
+        steps: &StepIndex,
         from: usize,
         number: usize,
     ) -> Result<usize, Memory>
         requires known { from < length self.old.states.items }
-        ensures ok { IfOk result (λ to. AreKnown tree.now names.now self.old →
-            LeadsOn tree.now names.now self.old self.new from number to) }
+        ensures ok { IfOk result (λ to. AreKnown tree.now steps.now self.old →
+            LeadsOn tree.now steps.now.names.items self.old self.new from number to) }
         ensures err { OnErr result (AreSame self.old self.new) }
     {
-        let state = child_of(alloc, tree, names, &self.states[from], number)?;
+        let state = child_of(alloc, tree, steps, &self.states[from], number)?;
         let to = self.add(alloc, from, number, state)?;
         Ok(to)
     }
@@ -257,19 +297,19 @@ impl Remembered {
         &mut self,
         alloc: Global,
         tree: &[PathState],
-        names: &[Name],
+        steps: &StepIndex,
         from: usize,
         number: usize,
     ) -> Result<usize, Memory>
         requires known { from < length self.old.states.items }
-        ensures ok { IfOk result (λ to. AreKnown tree.now names.now self.old →
-            LeadsOn tree.now names.now self.old self.new from number to) }
+        ensures ok { IfOk result (λ to. AreKnown tree.now steps.now self.old →
+            LeadsOn tree.now steps.now.names.items self.old self.new from number to) }
         ensures err { OnErr result (AreSame self.old self.new) }
     {
         match self.moves.find(from, number) {
             Some(to) => Ok(to),
             None => {
-                let to = self.make_child(alloc, tree, names, from, number)?;
+                let to = self.make_child(alloc, tree, steps, from, number)?;
                 Ok(to)
             }
         }
@@ -280,6 +320,8 @@ impl Remembered {
     pub(crate) fn forget(&mut self, number: usize)
         ensures kept { self.new.kept ≡ self.old.kept }
         ensures moves { self.new.moves ≡ self.old.moves }
+        ensures bytes { self.new.bytes ≡ self.old.bytes }
+        ensures bound { self.new.bound ≡ self.old.bound }
         ensures states { Forgets self.old self.new number }
     {
         if number >= self.kept {

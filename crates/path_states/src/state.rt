@@ -21,6 +21,7 @@ pub struct State {
     whole_here: Vec<u32>,
     given: Vec<u32>,
     roles: RoleSet,
+    whole_set: RoleSet,
     contexts: Vec<u32>,
     has_firsts: bool,
     is_over: bool,
@@ -40,6 +41,7 @@ impl Model for State {
       whole_here = s.whole_here.items;
       given = s.given.items;
       roles = s.roles;
+      whole_set = s.whole_set;
       contexts = s.contexts.items;
       has_firsts = s.has_firsts;
       is_over = s.is_over;
@@ -72,6 +74,7 @@ pub(crate) fn make_state(
     let whole = whole_with(alloc, tree, here, whole_above)?;
     let given = given_with(alloc, tree, here, whole.as_slice())?;
     let roles = set_of(alloc, given.as_slice())?;
+    let whole_set = set_of(alloc, whole.as_slice())?;
     let contexts = contexts_with(alloc, tree, here)?;
     let has_firsts = have_firsts(tree, here);
     let is_over = lead_nowhere(tree, here, pending.as_slice());
@@ -82,6 +85,7 @@ pub(crate) fn make_state(
         whole_here,
         given,
         roles,
+        whole_set,
         contexts,
         has_firsts,
         is_over,
@@ -135,6 +139,14 @@ impl State {
         ensures { result.now ≡ self.now.roles }
     {
         &self.roles
+    }
+
+    /// The roles of the whole subtrees in which the node lies, as a set.
+    #[inline(always)]
+    pub fn whole_set(&self) -> &RoleSet
+        ensures { result.now ≡ self.now.whole_set }
+    {
+        &self.whole_set
     }
 
     /// The roles of which the node is a context.

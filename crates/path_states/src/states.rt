@@ -1,18 +1,21 @@
 //! The states of the open nodes.
 ghost use Rattle.std.specs.Prelude.{◌≡◌, ◌∷◌, ◌++◌, ℕ, List, [], Some, option_map, slice_get, IfOk, IfSome, OnOk, OnErr};
 ghost use Rattle.gcx_base.specs.declared.kind.Kind.TheVariants.{Element, Text};
+ghost use Rattle.gcx_model.specs.Members.{In};
 ghost use Rattle.gcx_model.specs.Past.{IsNode};
 ghost use Rattle.gcx_model.specs.PlanView.{plan_tree};
 ghost use Rattle.path_states.specs.Names.{IsNameNumber};
 ghost use Rattle.path_states.specs.PathTree.{IsPathTree};
+ghost use Rattle.path_states.specs.Room.{IsWithinRoom};
 ghost use Rattle.path_states.specs.State.{StateView, IsMade, StartsAs};
 ghost use Rattle.path_states.specs.States.{Enters, last_state, outer_states};
 
-use crate::names::{names_of, number_in};
+use crate::branches::{StepIndex, index_of};
+use crate::names::number_in;
 use crate::paths::{PathTree, tree_of};
 use crate::remembered::{Bound, Remembered};
 use crate::state::{State, make_state};
-use gcx_base::{Kind, Memory, Name};
+use gcx_base::{Kind, Memory};
 use gcx_model::Plan;
 use std::alloc::Global;
 use std::marker::Model;
@@ -25,7 +28,7 @@ use std::marker::Model;
 #[derive(Drop)]
 pub struct PathStates {
     tree: PathTree,
-    names: Vec<Name>,
+    steps: StepIndex,
     known: Remembered,
     /// The numbers of the states of the open nodes around the innermost one.
     outer: Vec<usize>,
@@ -52,18 +55,19 @@ impl PathStates {
     /// That of the document node alone, for this plan.
     pub fn new(alloc: Global, plan: &Plan, bound: Bound) -> Result<PathStates, Memory>
         ensures tree { IfOk result (λ v. IsPathTree (plan_tree plan.now) v.tree) }
+        ensures most { IfOk result (λ v. (v.most_states ≡ bound.states) × (v.most_bytes ≡ bound.bytes)) }
         ensures first { IfOk result (λ v. (s : StateView) × (v.states ≡ s ∷ []) × StartsAs v.tree.states.items s) }
     {
         let tree = tree_of(alloc, plan)?;
-        let names = names_of(alloc, &tree.states)?;
+        let steps = index_of(alloc, &tree.states)?;
         let mut active = Vec::new(alloc);
         active.push(0)?;
         let first = make_state(alloc, &tree.states, active, &[], &[])?;
-        let stride = names.len().saturating_add(2);
+        let stride = steps.names.len().saturating_add(2);
         let known = Remembered::new(alloc, bound, stride, first)?;
         Ok(PathStates {
             tree,
-            names,
+            steps,
             known,
             outer: Vec::new(alloc),
             here: 0,
@@ -83,7 +87,7 @@ impl PathStates {
     pub fn number(&self, name: &[u8]) -> usize
         ensures { IsNameNumber self.now.names (Element name.now) result }
     {
-        number_in(&self.names, name)
+        number_in(&self.steps.names, name)
     }
 
     /// The number of texts.
@@ -91,7 +95,7 @@ impl PathStates {
     pub fn text(&self) -> usize
         ensures { (bytes : List ℕ) → IsNameNumber self.now.names (Text bytes) result }
     {
-        self.names.len() + 1
+        self.steps.names.len() + 1
     }
 
     /// The number of the name of an element, or that of texts. Takes no memory.
@@ -115,7 +119,7 @@ impl PathStates {
     {
         let to = self
             .known
-            .child(alloc, &self.tree.states, &self.names, self.here, number)?;
+            .child(alloc, &self.tree.states, &self.steps, self.here, number)?;
         self.outer.push(self.here)?;
         self.here = to;
         Ok(())
@@ -157,5 +161,13 @@ impl PathStates {
             Some(number) => Some(&self.known.states[*number]),
             None => None,
         }
+    }
+
+    /// The states that are remembered, and the number of slots for moves between them.
+    pub fn remembered(&self) -> (&[State], usize)
+        ensures made { (s : StateView) → In s result.0.now → IsMade self.now.tree.states.items s }
+        ensures within { IsWithinRoom self.now.most_states self.now.most_bytes result.0.now result.1 }
+    {
+        (self.known.kept_states(), self.known.moves.len())
     }
 }

@@ -62,7 +62,7 @@ module _ (past : Past) (is : IsPast past) (t : Token) where
       ∙ sym (ahead_takes past is t n o r)))
 
 -- the new node is the innermost, or the last text
-new_innermost : (P : Tree) (kind : Kind) → IsNode kind → (a : Node) → P.at ≡ Some a → (n : Node) → added (token_for kind) P ≡ n ∷ [] → IsLast (grow (token_for kind) P) (is_text kind) n
+pub new_innermost : (P : Tree) (kind : Kind) → IsNode kind → (a : Node) → P.at ≡ Some a → (n : Node) → added (token_for kind) P ≡ n ∷ [] → IsLast (grow (token_for kind) P) (is_text kind) n
 new_innermost P Document k a e n h = absurd k
 new_innermost P (Element v) k a e n h =
     let f : Under a (length P.nodes) (Element v) ∷ [] ≡ n ∷ [] = sym (ap (λ o. added_at o (Start v) P) e) ∙ h in

@@ -5,3 +5,4 @@ pub mod Moving
 pub mod Grown
 pub mod Places
 pub mod Feeding
+pub mod Entered

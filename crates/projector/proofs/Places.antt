@@ -1,7 +1,6 @@
 -- The places of open nodes in the rows of a buffer.
 use Rattle.std.proofs.Common.{◌≡◌, ◌==◌, ℕ, ◌≤◌, ◌<◌, Bool, true, false, cond, not, List, [], ◌∷◌, ◌++◌, map, refl, sym, ◌∙◌, ap, subst, inl, inr, ◌⊎◌, arith, Some, None, Option}
-use Rattle.std.specs.Prelude.{option_map, option_and_then, IfSome}
-use Rattle.std.specs.FinMap.{get}
+use Rattle.std.specs.Prelude.{option_map, IfSome}
 use Rattle.std.proofs.lemmas.Bool.{true≢false, false≢true, eq-eqb, ne_eqb}
 use Rattle.gcx_base.specs.declared.kind.Kind.{Kind}
 use Rattle.gcx_base.specs.declared.ids.Role.{Role}
@@ -18,12 +17,10 @@ use Rattle.tree_laws.proofs.Freeze.{within_self}
 use Rattle.past_laws.proofs.Bases.{is_grown}
 use Rattle.past_laws.proofs.Awaited.{within_low}
 use Rattle.node_store.specs.declared.store.Place.{Place}
-use Rattle.node_store.specs.Rows.{Entry, parent_of}
-use Rattle.buf_tree.specs.Row.{Row}
 use Rattle.gcx_base.specs.Kinds.{is_text}
 use Rattle.base_laws.proofs.Members.{from_map}
 use Rattle.buf_tree.specs.Rows.{shut_row}
-use Rattle.buf_tree.specs.Shape.{Store, Cell, num, Rising, Shape, at_place, at_serial, place_for, entry_in, with_at}
+use Rattle.buf_tree.specs.Shape.{Cell, num, Rising, at_place, at_serial, place_for, with_at}
 use Rattle.buf_tree.specs.Purge.{is_gone}
 use Rattle.buf_tree.specs.View.{View, Innermost, num_in, level_in, serial_at}
 use Rattle.buf_tree.specs.Calls.{Started, Closed, new_row, with_new}
@@ -152,20 +149,12 @@ module _ (v : View) (past : Past) (h : StandsFor v past) where
                 ∙ ap (option_map (λ (c : Cell). c.place)) (at_serial_is v.rows rising c.0 i.cell.row.parent c.1 (num_is ∙ sym parent)),
           )
 
--- what the store tells of the row at a place
-pub parent_is : (m : Store) (xs : List Cell) → Shape m xs → (c : Cell) → In c xs → parent_of m c.place ≡ place_for xs c.row
-parent_is m xs s c i = ap (option_and_then (λ (e : Entry Row). e.parent)) (s.gets c.place ∙ ap (option_map (entry_in xs)) (at_place_is xs s.apart c i))
+-- what the rows tell of the row at a place
+pub level_is : (xs : List Cell) → ((a b : Cell) → In a xs → In b xs → a.place ≡ b.place → a ≡ b) → (q : ℕ) → Innermost xs q → ((c : Cell) → In c xs → c.row.is_open ≡ true → c.row.level ≤ 1000) → level_in (at_place q xs) ≤ 1000
+level_is xs apart q i d = subst (λ (o : Option Cell). level_in o ≤ 1000) (sym (ap (λ p. at_place p xs) (sym i.place) ∙ at_place_is xs apart i.cell i.among)) (d i.cell i.among i.is_open)
 
-pub payload_is : (m : Store) (xs : List Cell) → Shape m xs → (c : Cell) → In c xs → (r : Row) → option_map (λ e. e.payload) (get m c.place) ≡ Some r → r ≡ c.row
-payload_is m xs s c i r e =
-    let f : Some c.row ≡ Some r = sym (ap (option_map (λ (e : Entry Row). e.payload)) (s.gets c.place ∙ ap (option_map (entry_in xs)) (at_place_is xs s.apart c i))) ∙ e in
-    cc
-
-pub level_is : (m : Store) (xs : List Cell) → Shape m xs → (q : ℕ) → Innermost xs q → ((c : Cell) → In c xs → c.row.is_open ≡ true → c.row.level ≤ 1000) → level_in (at_place q xs) ≤ 1000
-level_is m xs s q i d = subst (λ (o : Option Cell). level_in o ≤ 1000) (sym (ap (λ p. at_place p xs) (sym i.place) ∙ at_place_is xs s.apart i.cell i.among)) (d i.cell i.among i.is_open)
-
-pub serial_is : (m : Store) (xs : List Cell) → Shape m xs → (c : Cell) → In c xs → (q : ℕ) → c.place ≡ q → serial_at q xs ≡ num c
-serial_is m xs s c i q e = ap (λ (o : Option Cell). num_in o) (ap (λ p. at_place p xs) (sym e) ∙ at_place_is xs s.apart c i)
+pub serial_is : (xs : List Cell) → ((a b : Cell) → In a xs → In b xs → a.place ≡ b.place → a ≡ b) → (c : Cell) → In c xs → (q : ℕ) → c.place ≡ q → serial_at q xs ≡ num c
+serial_is xs apart c i q e = ap (λ (o : Option Cell). num_in o) (ap (λ p. at_place p xs) (sym e) ∙ at_place_is xs apart c i)
 
 -- the first row is that of the document node
 pub first_row : (xs : List Cell) → Rising xs → (c : Cell) → In c xs → num c ≡ 0 → head xs ≡ Some c

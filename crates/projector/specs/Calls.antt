@@ -1,5 +1,5 @@
 -- What a projector's calls made, a record or a statement for each call (this project's).
-use Rattle.std.specs.Prelude.{◌≡◌, true, List}
+use Rattle.std.specs.Prelude.{◌≡◌, true, List, length}
 use Rattle.gcx_base.specs.declared.ids.Role.{Role}
 use Rattle.gcx_model.specs.Tree.{Root, Token}
 use Rattle.gcx_model.specs.Core.{PlanTree, BodyTree}
@@ -12,6 +12,9 @@ use Rattle.buf_tree.specs.View.{View}
 use Rattle.buf_tree.specs.Calls.{Started, numbers}
 use Rattle.buf_tree.specs.Stands.{StandsFor}
 use Rattle.projector.specs.declared.projector.Fed.{Fed}
+use Rattle.projector.specs.declared.projector.Fed.TheVariants.{Opened, Closed}
+use Rattle.projector.specs.declared.projector.Tally.{Tally}
+use Rattle.projector.specs.declared.projector.Tally.TheVariants as tallies
 use Rattle.projector.specs.View.{ProjectorView}
 use Rattle.projector.specs.Projector.{Projects, Places, DoesBy, Changes}
 
@@ -32,3 +35,14 @@ pub record Feeds (stood : Past → Type 0) (p : ProjectorView) (v w : View) (t :
   pub place : Places p w
   pub fed : (past : Past) → StandsFor v past → stood past → may_come t past.tree ≡ true → DoesBy answer t past
   pub changes : Changes stood v w t answer
+
+-- the number of the roles alone
+abbrev pub tally_of : Fed → Tally
+tally_of (Opened s given) = tallies.Opened (length given)
+tally_of (Closed s) = tallies.Closed
+
+-- `feed_tallied`: the same, with the tally of what the token did
+pub record Tallies (stood : Past → Type 0) (p : ProjectorView) (v w : View) (t : Token) (tally : Tally) : Type 0 where
+  pub fed : Fed
+  pub feeds : Feeds stood p v w t fed
+  pub is : tally ≡ tally_of fed

@@ -1,5 +1,5 @@
 -- What a projector does to its matcher. This follows the code: private functions alone speak of it (this project's).
-use Rattle.std.specs.Prelude.{◌≡◌, ◌≤◌, ℕ, Bool, true, false, List, Option, Some, option_map}
+use Rattle.std.specs.Prelude.{◌≡◌, ◌≤◌, ℕ, Bool, true, false, List, length, Option, Some, option_map}
 use Rattle.gcx_base.specs.declared.ids.Role.{Role}
 use Rattle.gcx_base.specs.declared.kind.Kind.{Kind}
 use Rattle.gcx_base.specs.Kinds.{is_text}
@@ -8,11 +8,12 @@ use Rattle.gcx_model.specs.Growth.{may_come, level}
 use Rattle.gcx_model.specs.Held.{roles_given, roles_taken}
 use Rattle.gcx_model.specs.Past.{Past, Opens, IsLast, past_fed, past_grown, reopened, token_for}
 use Rattle.node_store.specs.declared.store.Place.{Place}
+use Rattle.matcher.specs.Calls.{GivesHere}
 use Rattle.matcher.specs.Matcher.{Stands}
 use Rattle.matcher.specs.View.{MatcherView}
 use Rattle.buf_tree.specs.View.{View}
-use Rattle.buf_tree.specs.Calls.{numbers}
-use Rattle.buf_tree.specs.Stands.{StandsFor}
+use Rattle.buf_tree.specs.Calls.{Opened as OpenedBelow, numbers}
+use Rattle.buf_tree.specs.Stands.{StandsFor, StandsOpened}
 use Rattle.projector.specs.Projector.{ahead_in, OpenedAlone}
 
 -- it has heard of all actions of the past
@@ -34,8 +35,31 @@ TellsTaken m given = (past : Past) (text : Bool) (n : Node) → Stands m past te
 pub record OpensBelow (m n : MatcherView) (v w : View) (q : ℕ) (kind : Kind) (x : Option Place × List Role) : Type 0 where
   pub matcher : (past : Past) → Stands m past false → may_come (token_for kind) past.tree ≡ true
       → ((p : Node) → past.tree.at ≡ Some p → level p ≤ 1000) → Stands n (past_grown (token_for kind) past) (is_text kind)
-  pub given : (past : Past) (a : Node) → Stands m past false → may_come (token_for kind) past.tree ≡ true → Opens past.tree (token_for kind) a
+  pub given : (past : Past) (a : Node) → Stands m past false → may_come (token_for kind) past.tree ≡ true → ((p : Node) → past.tree.at ≡ Some p → level p ≤ 1000) → Opens past.tree (token_for kind) a
       → numbers x.1 ≡ roles_given past.plan (grow (token_for kind) past.tree) a
   pub opened : OpenedAlone (HasHeard m) v w q (option_map (λ (p : Place). p.0) x.0) kind x.1
   pub stands : (past : Past) → StandsFor v past → HasHeard m past → may_come (token_for kind) past.tree ≡ true
       → StandsFor w (past_fed (token_for kind) past)
+
+-- the same, where it is given so many roles
+pub record OpensSome (m n : MatcherView) (v w : View) (q : ℕ) (kind : Kind) (place : Option Place) (count : ℕ) : Type 0 where
+  pub given : List Role
+  pub many : length given ≡ count
+  pub opens : OpensBelow m n v w q kind (place, given)
+
+-- Its innermost node, which is of the kind, was opened below the place q in the buffer, and is given so many roles.
+pub record OpensEntered (m : MatcherView) (v w : View) (q : ℕ) (kind : Kind) (place : Option Place) (count : ℕ) : Type 0 where
+  pub given : List Role
+  pub ahead : List Role
+  pub many : length given ≡ count
+  pub here : GivesHere m given
+  pub taken : TellsTaken m ahead
+  pub opened : OpenedBelow v w q (option_map (λ (p : Place). p.0) place) kind given ahead
+  pub stands : StandsOpened v w kind given ahead
+
+-- Its innermost node, which is of the kind, came behind a past for which the buffer stands.
+pub record MayOpenEntered (m : MatcherView) (v : View) (kind : Kind) : Type 0 where
+  pub past : Past
+  pub stands : StandsFor v past
+  pub may : may_come (token_for kind) past.tree ≡ true
+  pub entered : Stands m (past_grown (token_for kind) (ahead_in past.tree past.acts past)) (is_text kind)

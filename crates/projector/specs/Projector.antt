@@ -39,10 +39,11 @@ KeepsPlace None xs = (c : Cell) → In c xs → c.row.is_open ≡ true → num c
 abbrev pub Places : ProjectorView → View → Type 0
 Places p v = KeepsPlace p.at v.rows
 
--- the token may come behind a past for which the buffer stands
-pub record MayBeFed (v : View) (t : Token) : Type 0 where
+-- The token may come behind a past for which the buffer stands and the projector stood. `stood` says of which pasts it did.
+pub record MayBeFed (stood : Past → Type 0) (v : View) (t : Token) : Type 0 where
   pub past : Past
   pub stands : StandsFor v past
+  pub projects : stood past
   pub may : may_come t past.tree ≡ true
 
 -- What the token did: it opened the node of this number, which is given these roles, or closed the innermost open one.

@@ -4,4 +4,4 @@
 mod projector;
 mod signing;
 
-pub use projector::{Fed, Projector};
+pub use projector::{Fed, Projector, Tally};

@@ -1,5 +1,5 @@
 //! The projector.
-ghost use Rattle.std.specs.Prelude.{◌≡◌, ◌+◌, ◌<◌, ◌≤◌, ◌^◌, length, true, false, None, IfOk, OnErr, IfSome, IsSome, option_map};
+ghost use Rattle.std.specs.Prelude.{◌≡◌, ◌+◌, ◌<◌, ◌≤◌, ◌^◌, [], length, true, false, None, IfOk, OnErr, IfSome, IsSome, option_map};
 ghost use Rattle.gcx_base.specs.Kinds.{is_text};
 ghost use Rattle.gcx_model.specs.Tree.{Node, End};
 ghost use Rattle.gcx_model.specs.Members.{In};
@@ -10,11 +10,12 @@ ghost use Rattle.doc_reader.specs.Standing.{said_of};
 ghost use Rattle.matcher.specs.Matcher.{Stands};
 ghost use Rattle.node_store.specs.Rows.{parent_of};
 ghost use Rattle.buf_tree.specs.Shape.{Cell, Shape, at_place};
+ghost use Rattle.buf_tree.specs.Spread.{SameButRoles};
 ghost use Rattle.buf_tree.specs.View.{Innermost, level_in};
-ghost use Rattle.buf_tree.specs.Stands.{StandsFor};
+ghost use Rattle.buf_tree.specs.Stands.{StandsFor, past_told};
 ghost use Rattle.projector.specs.Projector.{Projects, KeepsPlace, Places, MayBeFed};
-ghost use Rattle.projector.specs.Calls.{BeginsFor, GivesDocument, Feeds};
-ghost use Rattle.projector.specs.Opening.{HasHeard, LeavesBelow, TellsTaken, OpensBelow};
+ghost use Rattle.projector.specs.Calls.{BeginsFor, GivesDocument, Feeds, Tallies, tally_of};
+ghost use Rattle.projector.specs.Opening.{HasHeard, LeavesBelow, MayOpenEntered, TellsTaken, OpensBelow, OpensEntered, OpensSome};
 
 use crate::signing::sign_all;
 use buf_tree::{Buffer, Row};
@@ -33,6 +34,28 @@ pub enum Fed {
     Opened(Serial, Given),
     /// The innermost open node was closed.
     Closed(Serial),
+}
+
+/// What a token did, with the number of the roles alone.
+#[derive(Clone, Copy, Debug)]
+pub enum Tally {
+    /// A node was opened and given so many roles.
+    Opened(u64),
+    /// The innermost open node was closed.
+    Closed,
+}
+
+impl Fed {
+    /// The same with the number of the roles alone.
+    #[inline(always)]
+    pub fn tally(&self) -> Tally
+        ensures { result ≡ tally_of self.now }
+    {
+        match self {
+            Fed::Opened(_, given) => Tally::Opened(given.items().len() as u64),
+            Fed::Closed(_) => Tally::Closed,
+        }
+    }
 }
 
 /// Feeds the tokens of a document to a buffer: it tells which roles each new node has. `Memory` is want of memory, and
@@ -80,7 +103,7 @@ impl Projector {
         token: Token,
     ) -> Result<Fed, Memory>
         requires place { Places self.old buffer.old }
-        requires may { MayBeFed buffer.old (said_of token) }
+        requires may { MayBeFed (Projects self.old) buffer.old (said_of token) }
         requires nodes { buffer.old.nodes ≤ 2 ^ 40 + 1 }
         requires depth { (c : Cell) → In c buffer.old.rows → c.row.is_open ≡ true → c.row.level ≤ 1000 }
         ensures feeds { IfOk result (λ fed. Feeds (Projects self.old) self.new buffer.old buffer.new (said_of token) fed) }
@@ -96,7 +119,59 @@ impl Projector {
         }
     }
 
+    /// The same, where the number of the roles is wanted alone: no list of them is made as a rule.
+    ///
+    /// After `Memory` the buffer is unchanged, and no further token may be fed.
+    #[inline(always)]
+    pub fn feed_tallied<N: NodeStore<Row>>(
+        &mut self,
+        alloc: Global,
+        buffer: &mut Buffer<N>,
+        token: Token,
+    ) -> Result<Tally, Memory>
+        requires place { Places self.old buffer.old }
+        requires may { MayBeFed (Projects self.old) buffer.old (said_of token) }
+        requires nodes { buffer.old.nodes ≤ 2 ^ 40 + 1 }
+        requires depth { (c : Cell) → In c buffer.old.rows → c.row.is_open ≡ true → c.row.level ≤ 1000 }
+        ensures feeds { IfOk result (Tallies (Projects self.old) self.new buffer.old buffer.new (said_of token)) }
+        ensures err { OnErr result (buffer.new ≡ buffer.old) }
+        ensures taken { buffer.new.taken ≤ buffer.old.taken + 2 ^ 64 }
+        ensures loans { buffer.new.loans ≡ buffer.old.loans }
+    {
+        sign_all(&mut self.matcher, buffer.waiting())?;
+        match token {
+            Token::Start(name) => self.tally_node(alloc, buffer, Kind::Element(name)),
+            Token::Text(text) => self.tally_node(alloc, buffer, Kind::Text(text)),
+            Token::End | Token::EndOfDocument => Ok(self.feed_end(buffer).tally()),
+        }
+    }
+
     /// Opens a node, where the matcher has heard of all statements.
+    #[inline(never)]
+    fn tally_node<N: NodeStore<Row>>(
+        &mut self,
+        alloc: Global,
+        buffer: &mut Buffer<N>,
+        kind: Kind,
+    ) -> Result<Tally, Memory>
+        requires place { Places self.old buffer.old }
+        requires may { MayBeFed (HasHeard self.old.matcher) buffer.old (token_for kind) }
+        requires kind { IsNode kind }
+        requires nodes { buffer.old.nodes ≤ 2 ^ 40 + 1 }
+        requires depth { (c : Cell) → In c buffer.old.rows → c.row.is_open ≡ true → c.row.level ≤ 1000 }
+        ensures feeds { IfOk result (Tallies (HasHeard self.old.matcher) self.new buffer.old buffer.new (token_for kind)) }
+        ensures err { OnErr result (buffer.new ≡ buffer.old) }
+        ensures taken { buffer.new.taken ≤ buffer.old.taken + 2 ^ 64 }
+        ensures loans { buffer.new.loans ≡ buffer.old.loans }
+    {
+        let text = kind.is_text();
+        let parent = innermost(buffer, self.at).place;
+        let (place, count) = open_tallied(&mut self.matcher, alloc, buffer, parent, kind)?;
+        go_to(&mut self.matcher, &mut self.at, text, place);
+        Ok(Tally::Opened(count))
+    }
+
+    /// The same with the list of its roles.
     fn feed_node<N: NodeStore<Row>>(
         &mut self,
         alloc: Global,
@@ -104,7 +179,7 @@ impl Projector {
         kind: Kind,
     ) -> Result<Fed, Memory>
         requires place { Places self.old buffer.old }
-        requires may { MayBeFed buffer.old (token_for kind) }
+        requires may { MayBeFed (HasHeard self.old.matcher) buffer.old (token_for kind) }
         requires kind { IsNode kind }
         requires nodes { buffer.old.nodes ≤ 2 ^ 40 + 1 }
         requires depth { (c : Cell) → In c buffer.old.rows → c.row.is_open ≡ true → c.row.level ≤ 1000 }
@@ -125,7 +200,7 @@ impl Projector {
     #[inline(always)]
     fn feed_end<N: NodeStore<Row>>(&mut self, buffer: &mut Buffer<N>) -> Fed
         requires place { Places self.old buffer.old }
-        requires may { MayBeFed buffer.old End }
+        requires may { MayBeFed (HasHeard self.old.matcher) buffer.old End }
         ensures feeds { Feeds (HasHeard self.old.matcher) self.new buffer.old buffer.new End result }
         ensures taken { buffer.new.taken ≡ buffer.old.taken }
         ensures loans { buffer.new.loans ≡ buffer.old.loans }
@@ -134,7 +209,7 @@ impl Projector {
         let place = here.place;
         let serial = here.payload().serial();
         let above = above(&here);
-        buffer.clear_waiting();
+        clear_waiting(buffer);
         buffer.close_node(place);
         go_up(&mut self.matcher, &mut self.at, above);
         Fed::Closed(serial)
@@ -184,6 +259,7 @@ fn open_below<N: NodeStore<Row>>(
     requires nodes { buffer.old.nodes ≤ 2 ^ 40 + 1 }
     requires depth { level_in (at_place parent.0 buffer.old.rows) ≤ 1000 }
     requires levels { (c : Cell) → In c buffer.old.rows → c.row.is_open ≡ true → c.row.level ≤ 1000 }
+    requires may { MayBeFed (HasHeard matcher.old) buffer.old (token_for kind) }
     ensures opens { IfOk result (λ x. OpensBelow matcher.old matcher.new buffer.old buffer.new parent.0 kind x) }
     ensures err { OnErr result (buffer.new ≡ buffer.old) }
     ensures taken { buffer.new.taken ≤ buffer.old.taken + 2 ^ 64 }
@@ -193,8 +269,99 @@ fn open_below<N: NodeStore<Row>>(
     let ahead = roles_ahead(matcher, alloc)?;
     let copy = given.copy(alloc)?;
     let place = buffer.open_node(alloc, parent, kind, copy, ahead)?;
-    buffer.clear_waiting();
+    clear_waiting(buffer);
     Ok((place, given))
+}
+
+/// The same, but of the roles it answers the number.
+#[inline(always)]
+fn open_tallied<N: NodeStore<Row>>(
+    matcher: &mut Matcher,
+    alloc: Global,
+    buffer: &mut Buffer<N>,
+    parent: Place,
+    kind: Kind,
+) -> Result<(Option<Place>, u64), Memory>
+    requires parent { Innermost buffer.old.rows parent.0 }
+    requires kind { IsNode kind }
+    requires nodes { buffer.old.nodes ≤ 2 ^ 40 + 1 }
+    requires depth { level_in (at_place parent.0 buffer.old.rows) ≤ 1000 }
+    requires levels { (c : Cell) → In c buffer.old.rows → c.row.is_open ≡ true → c.row.level ≤ 1000 }
+    requires may { MayBeFed (HasHeard matcher.old) buffer.old (token_for kind) }
+    ensures opens { IfOk result (λ x. OpensSome matcher.old matcher.new buffer.old buffer.new parent.0 kind x.0 x.1) }
+    ensures err { OnErr result (buffer.new ≡ buffer.old) }
+    ensures taken { buffer.new.taken ≤ buffer.old.taken + 2 ^ 64 }
+    ensures loans { buffer.new.loans ≡ buffer.old.loans }
+{
+    matcher.go(alloc, &kind)?;
+    let (place, count) = open_entered(matcher, alloc, buffer, parent, kind)?;
+    clear_waiting(buffer);
+    Ok((place, count))
+}
+
+/// Opens the matcher's innermost node below this place. Answers its place, if it is held, and how many roles it is given.
+#[inline(always)]
+fn open_entered<N: NodeStore<Row>>(
+    matcher: &Matcher,
+    alloc: Global,
+    buffer: &mut Buffer<N>,
+    parent: Place,
+    kind: Kind,
+) -> Result<(Option<Place>, u64), Memory>
+    requires parent { Innermost buffer.old.rows parent.0 }
+    requires kind { IsNode kind }
+    requires nodes { buffer.old.nodes ≤ 2 ^ 40 + 1 }
+    requires depth { level_in (at_place parent.0 buffer.old.rows) ≤ 1000 }
+    requires may { MayOpenEntered matcher.now buffer.old kind }
+    ensures opens { IfOk result (λ x. OpensEntered matcher.now buffer.old buffer.new parent.0 kind x.0 x.1) }
+    ensures err { OnErr result (buffer.new ≡ buffer.old) }
+    ensures taken { buffer.new.taken ≤ buffer.old.taken + 2 ^ 64 }
+    ensures loans { buffer.new.loans ≡ buffer.old.loans }
+{
+    match matcher.plain() {
+        Some((roles, count)) => {
+            let place = buffer.open_with(alloc, parent, kind, roles)?;
+            Ok((place, count as u64))
+        }
+        None => open_listed(matcher, alloc, buffer, parent, kind),
+    }
+}
+
+/// The same by a list of its roles, and of those that are taken back already.
+#[inline(never)]
+fn open_listed<N: NodeStore<Row>>(
+    matcher: &Matcher,
+    alloc: Global,
+    buffer: &mut Buffer<N>,
+    parent: Place,
+    kind: Kind,
+) -> Result<(Option<Place>, u64), Memory>
+    requires parent { Innermost buffer.old.rows parent.0 }
+    requires kind { IsNode kind }
+    requires nodes { buffer.old.nodes ≤ 2 ^ 40 + 1 }
+    requires depth { level_in (at_place parent.0 buffer.old.rows) ≤ 1000 }
+    requires may { MayOpenEntered matcher.now buffer.old kind }
+    ensures opens { IfOk result (λ x. OpensEntered matcher.now buffer.old buffer.new parent.0 kind x.0 x.1) }
+    ensures err { OnErr result (buffer.new ≡ buffer.old) }
+    ensures taken { buffer.new.taken ≤ buffer.old.taken + 2 ^ 64 }
+    ensures loans { buffer.new.loans ≡ buffer.old.loans }
+{
+    let given = matcher.given(alloc)?;
+    let early = roles_ahead(matcher, alloc)?;
+    let count = given.items().len() as u64;
+    let place = buffer.open_node(alloc, parent, kind, given, early)?;
+    Ok((place, count))
+}
+
+/// No statement waits any more.
+#[inline(always)]
+fn clear_waiting<N: NodeStore<Row>>(buffer: &mut Buffer<N>)
+    ensures cleared { buffer.new ≡ record buffer.old { waiting = [] } }
+    ensures stands { (past : Past) → StandsFor buffer.old past → StandsFor buffer.new (past_told past) }
+{
+    if !buffer.waiting().is_empty() {
+        buffer.clear_waiting();
+    }
 }
 
 /// The roles of the matcher's innermost node that are taken back already. A `usize` counts them.
@@ -214,7 +381,8 @@ fn innermost<'a, N: NodeStore<Row>>(buffer: &'a Buffer<N>, kept: Option<Place>) 
     requires place { KeepsPlace kept buffer.now.rows }
     requires node { (past : Past) × StandsFor buffer.now past × (n : Node) × (past.tree.at ≡ Some n) }
     ensures innermost { Innermost buffer.now.rows result.place.0 }
-    ensures store { Shape (N.rows result.store.now) buffer.now.rows }
+    ensures store { Shape (N.rows result.store.now) buffer.now.kept }
+    ensures alike { SameButRoles buffer.now.kept buffer.now.rows }
 {
     let place = match kept {
         Some(place) => place,

@@ -1,7 +1,9 @@
 -- What a write leaves beside a past: a buffer stands for the past behind it as before.
-use Rattle.std.proofs.Common.{◌≡◌, ℕ, suc, Bool, not, ◌&&◌, ◌||◌, List, [], ◌∷◌, ◌++◌, length, map, sym, ◌∙◌, ap}
+use Rattle.std.proofs.Common.{◌≡◌, ℕ, suc, Bool, not, ◌&&◌, ◌||◌, List, [], ◌∷◌, ◌++◌, length, map, sym, ◌∙◌, ap, Some, None, Option}
 use Rattle.std.specs.Prelude.{sum}
 use Rattle.std.specs.List.{filter}
+use Rattle.std.specs.Ordering.{nat_cmp}
+use Rattle.std.specs.FinSet.{from_list}
 use Rattle.std.proofs.Math.Bool.{or-false}
 use Rattle.std.proofs.Math.Path.{fun_ext}
 use Rattle.gcx_model.specs.Tree.{Node, serial_of, kind_of, within, Tree, is_open_at}
@@ -9,7 +11,7 @@ use Rattle.gcx_model.specs.Paths.{any, all, matches}
 use Rattle.gcx_model.specs.Members.{count}
 use Rattle.gcx_model.specs.Core.{OffTree, PlanTree}
 use Rattle.gcx_model.specs.Run.{Action, Wrote}
-use Rattle.gcx_model.specs.Held.{path_of, statement_of, given, is_off, signed, reaches, on_off, sum_taken}
+use Rattle.gcx_model.specs.Held.{path_of, statement_of, given, is_off, signed, reaches, on_off, held, sum_taken}
 use Rattle.gcx_model.specs.Growth.{level}
 use Rattle.gcx_model.specs.Points.{acted}
 use Rattle.gcx_model.specs.Past.{Past, past_acted, parent_serial}
@@ -17,7 +19,10 @@ use Rattle.move_laws.specs.Moves.{IsNext}
 use Rattle.past_laws.proofs.Awaited.{waiting_law}
 use Rattle.past_laws.proofs.PastForms.{past_acts}
 use Rattle.need_laws.proofs.Stays.{any-append}
+use Rattle.spread_laws.specs.Tops.{roles_kept}
+use Rattle.spread_laws.proofs.Acted.{kept_by_write}
 use Rattle.buf_tree.specs.View.{View, capped}
+use Rattle.buf_tree.specs.Spread.{SpreadView, kept_roles}
 use Rattle.buf_tree.specs.Stands.{Seen, told_row, StandsFor}
 use Rattle.pull_eval.specs.Position.{StandsAt}
 use Rattle.pull_eval.specs.Acting.{Beside}
@@ -56,10 +61,22 @@ signed_wrote A b = fun_ext (λ o. fun_ext (λ m. any-append (is_off o (serial_of
 pub sum_wrote : (plan : PlanTree) (P : Tree) (A : List Action) (b : List ℕ) → sum_taken plan P (A ++ Wrote b ∷ []) ≡ sum_taken plan P A
 sum_wrote plan P A b = ap (sum_by plan P) (signed_wrote A b)
 
+-- nor does it change what is kept
+kept_wrote : (s : Option SpreadView) (past : Past) (b : List ℕ)
+    → map (λ (n : Node). from_list {R = nat_cmp} (kept_roles s past n)) (held past.plan past.tree past.acts)
+    ≡ map (λ (n : Node). from_list {R = nat_cmp} (kept_roles s (past_acted (Wrote b) past) n)) (held past.plan past.tree (past.acts ++ Wrote b ∷ []))
+kept_wrote None past b =
+    ap (λ (sg : Signs). map (λ (n : Node). from_list {R = nat_cmp} (filter (live_by past.plan past.tree sg n) (count 0 (length past.plan.roles)))) (held_by past.plan past.tree sg)) (sym (signed_wrote past.acts b))
+kept_wrote (Some s) past b =
+    ap (λ (f : Node → List ℕ). map (λ (n : Node). from_list {R = nat_cmp} (f n)) (held past.plan past.tree past.acts)) (fun_ext (λ n. sym (kept_by_write past b n)))
+    ∙ ap (λ (sg : Signs). map (λ (n : Node). from_list {R = nat_cmp} (roles_kept (past_acted (Wrote b) past) n)) (held_by past.plan past.tree sg)) (sym (signed_wrote past.acts b))
+
 pub stands_wrote : (v : View) (past : Past) (b : List ℕ) → StandsFor v past → StandsFor v (past_acted (Wrote b) past)
 stands_wrote v past b s = record {
   is_past = (past_acts past s.is_past).0 b;
+  spread = s.spread;
   rows = s.rows ∙ ap (λ (sg : Signs). map (told_by past.plan past.tree sg) (held_by past.plan past.tree sg)) (sym (signed_wrote past.acts b));
+  kept = s.kept ∙ kept_wrote v.spread past b;
   waiting = s.waiting ∙ sym ((waiting_law past s.is_past).1 b);
   nodes = s.nodes;
 }

@@ -2,7 +2,7 @@
 use Rattle.std.proofs.Common.{◌≡◌, ◌≢◌, ℕ, ◌+◌, ◌<◌, ◌≤◌, true, false, cond, List, [], ◌∷◌, Option, Some, None, length, max, Fits, w64, refl, sym, ap, subst, ◌∙◌, inl, inr, arith, rules}
 use Rattle.std.specs.Prelude.{option_map, IsSome, IfSome}
 use Rattle.std.specs.FinMap as fin
-use Rattle.std.specs.List.{IsDistinct}
+use Rattle.std.specs.List.{AllByRecursion, IsDistinct}
 use Rattle.std.specs.Ordering.{nat_cmp}
 use Rattle.std.proofs.lemmas.Bool.{cases_eq, eq-eqb, ne_eqb}
 use Rattle.std.proofs.lemmas.List.{length-map}
@@ -13,7 +13,7 @@ use Rattle.node_store.proofs.Siblings.{listed_cases, not_listed}
 use Rattle.node_store.proofs.Maps.{get_same, get_other, gone_other, some_row, is_there, len_new}
 use Rattle.node_store.proofs.Trees.{tree_planted, tree_appended, len_appended}
 use Rattle.node_store.proofs.Held.{rows_is, sound_of, holds_planted, holds_appended}
-use Rattle.raw_nodes.specs.Spots.{Spot, same_ptr, places, found, updated}
+use Rattle.raw_nodes.specs.Spots.{Spot, same_ptr, places, found, updated, IsInSomeBlock}
 use Rattle.raw_nodes.specs.Nodes.{place_of, index_in, cells_of, Numbered, Chain, IsFree, IsStore, Keeps}
 use Rattle.raw_nodes.specs.Heaps.{IsHeap}
 use Rattle.raw_nodes.specs.Edits.{to_row, to_last, join_put}
@@ -106,7 +106,7 @@ module _ {T : Type 0} where
   pub chain_dead : (cells : List (Spot (Node T))) (l : Option Link) (fs : List ℕ) → Chain cells l fs → (k : ℕ) → is_listed k fs ≡ true → look cells k ≡ None
   chain_dead cells l [] c k listed = absurd (cc)
   chain_dead cells l (f ∷ fs) c k listed = elim (cases_eq f k) [
-    | inl fk ↦ ap (look cells) (sym fk) ∙ dead_look cells f c.1 c.4 c.5
+    | inl fk ↦ ap (look cells) (sym fk) ∙ dead_look cells f c.1 c.4 c.5.0
     | inr d ↦ chain_dead cells c.1.next fs c.6 k (listed_cases k f fs listed d)
   ]
 
@@ -117,6 +117,7 @@ module _ {T : Type 0} where
   heap_kept h arena heap same numbered =
       record {
         apart = subst (λ ps. IsDistinct same_ptr ps) (sym same) heap.apart;
+        placed = subst (AllByRecursion IsInSomeBlock) (sym same) heap.placed;
         table = same ∙ heap.table;
         blocks = heap.blocks;
         laid = same ∙ heap.laid;
@@ -152,7 +153,7 @@ module _ {T : Type 0} where
     pub dead_node : (n : Node T) × (found made link.ptr ≡ Some n) × (n.payload ≡ None) × Chain made n.next ready.later
     dead_node =
         let c = ready.free.chain in
-        (c.1, found_at made link.ptr ∙ c.4, c.5, c.6)
+        (c.1, found_at made link.ptr ∙ c.4, c.5.0, c.6)
 
     pub link_found : IsSome (found made link.ptr)
     link_found = subst (λ o. IsSome o) (sym dead_node.1) (search rules)

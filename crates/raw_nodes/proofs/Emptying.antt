@@ -1,9 +1,11 @@
 -- Places that are emptied one after another, and blocks that are freed.
-use Rattle.std.proofs.Common.{◌≡◌, ℕ, zero, suc, ◌+◌, ◌-◌, ◌<◌, List, [], ◌∷◌, ◌++◌, Option, Some, None, map, length, replicate, take, drop, set, refl, sym, ap, ◌∙◌, arith}
+use Rattle.std.proofs.Common.{◌≡◌, ℕ, zero, suc, ◌+◌, ◌-◌, ◌<◌, List, [], ◌∷◌, ◌++◌, Option, Some, None, map, length, replicate, take, drop, set, get_or, refl, sym, ap, subst, ◌∙◌, arith}
 use Rattle.std.proofs.lemmas.List.{length-append, length-map}
 use Rattle.std.proofs.Math.Seq.{drop-append_seam, take-append_seam}
 use denote.RawPtr.{Ptr}
+use Rattle.std.specs.List.{AllByRecursion}
 use Rattle.raw_nodes.specs.Places.{IsFilled}
+use Rattle.raw_nodes.specs.Nodes.{IsToldByLinks}
 use Rattle.raw_nodes.specs.Spots.{Spot, places, IsLast}
 use Rattle.raw_nodes.specs.Heaps.{IsBlock, AreBlocks, block_places}
 use Rattle.raw_nodes.specs.declared.node.Node.{Node}
@@ -43,6 +45,27 @@ module _ {X : Type 0} where
   take_mapped f (suc n) (x ∷ xs) = ap (λ ys. f x ∷ ys) (take_mapped f n xs)
 
 module _ {T : Type 0} where
+  pub emptying_told : (i : ℕ) (xs : List (Node T)) → AllByRecursion IsToldByLinks xs → (n : Node T) → get_or (emptying i xs) i None ≡ Some n → IsToldByLinks n
+  emptying_told zero [] all n is = absurd (cc)
+  emptying_told zero (x ∷ xs) all n is = let same : x ≡ n = search is in subst (λ m. IsToldByLinks m) same all.0
+  emptying_told (suc i) [] all n is = absurd (cc)
+  emptying_told (suc i) (x ∷ xs) all n is = emptying_told i xs all.1 n is
+
+  -- all cells tell what they hold
+  abbrev pub AreTold : List (Spot (Node T)) → Type 0
+  AreTold ss = AllByRecursion (λ s. IsToldByLinks s.held) ss
+
+  pub told_front : (n : ℕ) (ss : List (Spot (Node T))) → AreTold ss → AreTold (take n ss)
+  told_front zero ss h = tt
+  told_front (suc n) [] h = tt
+  told_front (suc n) (s ∷ ss) h = (h.0, told_front n ss h.1)
+
+  pub told_end : (n : ℕ) (ss : List (Spot (Node T))) → AreTold ss → AllByRecursion IsToldByLinks (map (λ s. s.held) (drop n ss))
+  told_end zero [] h = tt
+  told_end zero (s ∷ ss) h = (h.0, told_end zero ss h.1)
+  told_end (suc n) [] h = tt
+  told_end (suc n) (s ∷ ss) h = told_end n ss h.1
+
   -- how many cells the last block has
   pub last_long : (ss : List (Spot (Node T))) (ps : List Ptr) → IsLast ps ss → length (map (λ s. s.held) (drop (length ss - length ps) ss)) ≡ length ps
   last_long ss ps last =

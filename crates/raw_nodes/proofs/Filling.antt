@@ -16,7 +16,7 @@ module _ (T : Type 0) where
   abbrev pub filling : ℕ → ℕ → List Link → List (Option (Node T))
   filling zero k ls = replicate (length ls) None
   filling (suc i) k [] = []
-  filling (suc i) k (l ∷ ls) = Some (dead_node k (head_link ls)) ∷ filling i (suc k) ls
+  filling (suc i) k (l ∷ ls) = Some (dead_node k (Some l) (head_link ls)) ∷ filling i (suc k) ls
 
   pub filling_none : (i k : ℕ) (ls : List Link) → get_or (filling i k ls) i None ≡ None
   filling_none zero k [] = refl
@@ -29,20 +29,20 @@ module _ (T : Type 0) where
   filling_long (suc i) k [] = refl
   filling_long (suc i) k (l ∷ ls) = ap suc (filling_long i (suc k) ls)
 
-  pub filling_more : (i k : ℕ) (ls : List Link) → i < length ls → set (filling i k ls) i (Some (dead_node (k + i) (slice_get ls (suc i)))) ≡ filling (suc i) k ls
+  pub filling_more : (i k : ℕ) (ls : List Link) → i < length ls → set (filling i k ls) i (Some (dead_node (k + i) (slice_get ls i) (slice_get ls (suc i)))) ≡ filling (suc i) k ls
   filling_more zero k [] lt = absurd (omega arith)
-  filling_more zero k (l ∷ ls) lt = ap (λ n. Some n ∷ replicate (length ls) None) (λ j. dead_node (add_none k j) (sym (next_link ls) j))
+  filling_more zero k (l ∷ ls) lt = ap (λ n. Some n ∷ replicate (length ls) None) (λ j. dead_node (add_none k j) (Some l) (sym (next_link ls) j))
     where
       add_none : (k : ℕ) → k + 0 ≡ k
       add_none k = omega arith
   filling_more (suc i) k [] lt = absurd (omega arith)
   filling_more (suc i) k (l ∷ ls) lt =
       let shift : k + suc i ≡ suc k + i = omega arith in
-      ap (λ xs. Some (dead_node k (head_link ls)) ∷ xs) (ap (λ n. set (filling i (suc k) ls) i (Some (dead_node n (slice_get ls (suc i))))) shift ∙ filling_more i (suc k) ls (omega arith))
+      ap (λ xs. Some (dead_node k (Some l) (head_link ls)) ∷ xs) (ap (λ n. set (filling i (suc k) ls) i (Some (dead_node n (slice_get ls i) (slice_get ls (suc i))))) shift ∙ filling_more i (suc k) ls (omega arith))
 
   pub filling_all : (k : ℕ) (ls : List Link) → filling (length ls) k ls ≡ map Some (dead_nodes k ls)
   filling_all k [] = refl
-  filling_all k (l ∷ ls) = ap (λ xs. Some (dead_node k (head_link ls)) ∷ xs) (filling_all (suc k) ls)
+  filling_all k (l ∷ ls) = ap (λ xs. Some (dead_node k (Some l) (head_link ls)) ∷ xs) (filling_all (suc k) ls)
 
 moved : (p : Ptr) (a b c : ℕ) → a + b ≡ c → (p +ₚ a) +ₚ b ≡ p +ₚ c
 moved (block_ptr b o) x y z e = let same : o + x + y ≡ o + z = omega (arith, e) in ap (block_ptr b) same

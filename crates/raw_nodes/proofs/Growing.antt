@@ -2,9 +2,10 @@
 use Rattle.std.proofs.Common.{◌≡◌, ℕ, zero, suc, ◌+◌, ◌<◌, List, [], ◌∷◌, ◌++◌, Option, Some, map, length, drop, get_or, refl, sym, ap, subst, ◌∙◌, arith, append_assoc, append-nil}
 use Rattle.std.proofs.lemmas.List.{map-append, length-map}
 use Rattle.std.proofs.Math.Seq.{drop-append_seam}
+use Rattle.std.specs.List.{AllByRecursion}
 use denote.RawPtr.{Ptr, ◌+ₚ◌}
 use Rattle.raw_nodes.specs.Places.{somes}
-use Rattle.raw_nodes.specs.Spots.{Spot, places, spots, run_places, IsApart}
+use Rattle.raw_nodes.specs.Spots.{Spot, places, spots, run_places, IsApart, IsInSomeBlock}
 use Rattle.raw_nodes.specs.Nodes.{Numbered, dead_nodes, head_link}
 use Rattle.raw_nodes.specs.Heaps.{IsBlock, AreBlocks, block_places, IsHeap, Grows, addresses}
 use Rattle.raw_nodes.specs.declared.arena.Link.{Link}
@@ -41,6 +42,18 @@ numbered_dead : (T : Type 0) (k s : ℕ) (p : Ptr) (ls : List Link) → Numbered
 numbered_dead T k s p [] = tt
 numbered_dead T k s p (l ∷ ls) = (refl, numbered_dead T (suc k) s (p +ₚ s) ls)
 
+-- where the links lie that came behind the old ones
+pub new_addresses : (old new : List Link) (s : ℕ) (p : Ptr) (n : ℕ) → addresses new ≡ addresses old ++ run_places s p n → addresses (drop (length old) new) ≡ run_places s p n
+new_addresses old new s p n tabled =
+    drop_mapped (λ (l : Link). l.ptr) (length old) new
+    ∙ ap (drop (length old)) tabled
+    ∙ ap (λ k. drop k (addresses old ++ run_places s p n)) (sym (length-map old (λ (l : Link). l.ptr)))
+    ∙ drop-append_seam (addresses old) (run_places s p n)
+
+all_both : {X : Type 0} (P : X → Type 0) (xs ys : List X) → AllByRecursion P xs → AllByRecursion P ys → AllByRecursion P (xs ++ ys)
+all_both P [] ys a b = b
+all_both P (x ∷ xs) ys a b = (a.0, all_both P xs ys a.1 b)
+
 module _ {T : Type 0} where
   blocks_more : (bs : List (Block T)) (b : Block T) → AreBlocks bs → IsBlock b → AreBlocks (bs ++ b ∷ [])
   blocks_more [] b all one = (one, tt)
@@ -73,11 +86,7 @@ module _ {T : Type 0} where
     cells_are = celled ∙ ap (λ xs. old.arena.cells ++ spots s base xs) values
 
     link_places : addresses links ≡ run_places s base 256
-    link_places =
-        drop_mapped (λ (l : Link). l.ptr) (length old.links.items) new.links.items
-        ∙ ap (drop (length old.links.items)) tabled
-        ∙ ap (λ n. drop n (addresses old.links.items ++ run_places s base 256)) (sym (length-map old.links.items (λ (l : Link). l.ptr)))
-        ∙ drop-append_seam (addresses old.links.items) (run_places s base 256)
+    link_places = new_addresses old.links.items new.links.items s base 256 tabled
 
     pub links_long : length links ≡ 256
     links_long = sym (length-map links (λ (l : Link). l.ptr)) ∙ ap length link_places ∙ run_long s base 256
@@ -94,10 +103,11 @@ module _ {T : Type 0} where
     as_many : length old.arena.cells ≡ length old.links.items
     as_many = sym (length-map old.arena.cells (λ (t : Spot (Node T)). t.at)) ∙ ap length h.table ∙ length-map old.links.items (λ (l : Link). l.ptr)
 
-    pub grown : IsApart new.arena.cells → new.blocks.items ≡ old.blocks.items ++ b ∷ [] → b.run.at ≡ b.base.ptr → b.run.places ≡ places (spots s base (somes slots)) → b.deed.at ≡ b.base.ptr → b.deed.len ≡ 256 → IsHeap new
-    grown apart pushed at ps deed_at deed_len =
+    pub grown : IsApart new.arena.cells → AllByRecursion IsInSomeBlock (run_places s base 256) → new.blocks.items ≡ old.blocks.items ++ b ∷ [] → b.run.at ≡ b.base.ptr → b.run.places ≡ places (spots s base (somes slots)) → b.deed.at ≡ b.base.ptr → b.deed.len ≡ 256 → IsHeap new
+    grown apart placed pushed at ps deed_at deed_len =
         record {
           apart = apart;
+          placed = subst (AllByRecursion IsInSomeBlock) (sym all_places) (all_both IsInSomeBlock (places old.arena.cells) (run_places s base 256) h.placed placed);
           table = all_places ∙ ap (λ qs. qs ++ run_places s base 256) h.table ∙ sym tabled;
           blocks = subst AreBlocks (sym pushed) (blocks_more old.blocks.items b h.blocks (at, ap length (ps ∙ run_is) ∙ run_long s base 256, deed_at, deed_len));
           laid = all_places ∙ ap (λ qs. qs ++ run_places s base 256) h.laid ∙ ap (λ qs. block_places old.blocks.items ++ qs) (sym (ps ∙ run_is))

@@ -7,11 +7,14 @@ pub mod Found
 pub mod Growing
 pub mod Looks
 pub mod Memory
+pub mod Placed
 pub mod Pointers
 pub mod Reading
 pub mod Readying
 pub mod Runs
 pub mod Sharing
+pub mod Slotted
 pub mod Stored
+pub mod Told
 pub mod Updates
 pub mod Unlinking

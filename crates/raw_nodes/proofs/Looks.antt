@@ -190,7 +190,7 @@ module _ {T : Type 0} where
   pub chain_calm : (cells later : List (Spot (Node T))) → Calm cells later → (link : Option Link) (fs : List ℕ) → Chain cells link fs → Chain later link fs
   chain_calm cells later calm link [] c = c
   chain_calm cells later calm link (f ∷ fs) c =
-      (c.0, c.1, c.2, place_alike later cells c.0.ptr calm.places_same ∙ c.3, calm.dead f c.1 c.4 c.5, c.5, chain_calm cells later calm c.1.next fs c.6)
+      (c.0, c.1, c.2, place_alike later cells c.0.ptr calm.places_same ∙ c.3, calm.dead f c.1 c.4 c.5.0, c.5, chain_calm cells later calm c.1.next fs c.6)
 
   -- ---- neighbours are joined
 

@@ -1,5 +1,5 @@
 -- What the walks of the unsafe functions share. Assumes `Logic`.
---     word_had, word_made, mark_had, mark_made      a value of one pointer, and one of no bytes
+--     word_had, word_made, mark_had, mark_made      a value of one pointer, and one of no bytes        learns      what owned memory tells
 --     slot_out, slot_in, run_out, run_in, slot_seen, run_seen      one place or a run of places is taken out of the row, put back, or seen
 --     of_room, to_room      room for an array is a row of empty places
 use mathlib.Core.Path.{◌≡◌, refl, sym, ap, subst, ◌∙◌}
@@ -13,11 +13,11 @@ use seplogic.Ra.Ura.{Ura}
 use base.Fraction.{full_share}
 use mir.Syntax.{Ty, ty_array}
 use mir.Val.{Val, vstruct, vcons, vnil, of_list}
-use base.Logic.{SProp, ent, sep, emp, ex, guard, via}
+use base.Logic.{SProp, ent, sep, emp, ex, guard, via, fst∗}
 use base.Fml.{Fml, ftrue, fsep, fat, froom}
 use types.Logic.{Logic, sem}
-use contract.Monad.{fact, fact_i}
-use types.Kit.{Item, Goal, Seq, Step, step, prop, ‵, raw, some, ◌⊛◌, ◌$◌, ◌∵◌, !, qed, by, move, keep, drop as skip, use0, use1, use2, pick, split, check, show, frame, fsplit, fjoin, fpick, fpack, feq_i, feq_l, rewrite, done}
+use contract.Monad.{fact, fact_i, fact_use}
+use types.Kit.{Item, Goal, Seq, Step, step, prop, ⋆, ⊢++, ‵, raw, some, ◌⊛◌, ◌$◌, ◌∵◌, !, qed, by, move, keep, drop as skip, use0, use1, use2, pick, split, check, show, frame, fsplit, fjoin, fpick, fpack, feq_i, feq_l, rewrite, done}
 use denote.RattleType.{RattleType, Valss}
 use denote.Laws.{Typed, Is, shows}
 use denote.Param.{param, layout}
@@ -80,6 +80,14 @@ module _ {M : Type 1} {𝓤 : Ura M} {𝓛 : Logic 𝓤} {K : Type 0} {Γ : List
   pub mark_had : K → (E : El) (vs : List Val) → (vs ≡ mark ∷ [] → Seq K 𝓛 Γ G) → Seq K 𝓛 (‵ ((Mark E).own_val (tt, tt) vs) ∷ Γ) G
   mark_had t E vs k = fpick t (λ vss. fsplit t $ feq_l t (λ ev. fsplit t $ fpick t (λ uss. fsplit t $ feq_l t (λ e. skip t $ skip t $
       k (subst (λ (ws : List Val). vs ≡ vstruct (of_list (ws ++ [])) ∷ []) e ev)))))
+
+module _ {M : Type 1} {𝓤 : Ura M} {𝓛 : Logic 𝓤} {K : Type 0} {Γ : List (Item 𝓤)} {G : Goal 𝓤 𝓛.H} where
+  -- a fact is learned from the first n entries, which stay
+  pub learns : K → (n : ℕ) (φ : Type 0) → ent 𝓤 (⋆ 𝓛 (take n Γ)) (fact 𝓤 φ) → (φ → Seq K 𝓛 Γ G) → Seq K 𝓛 Γ G
+  learns t n φ shown k = record {
+    prf = fact_use 𝓤 φ (via 𝓤 (⋆ 𝓛 (take n Γ)) (subst (λ (Δ : List (Item 𝓤)). ent 𝓤 (⋆ 𝓛 Δ) (⋆ 𝓛 (take n Γ))) (take-append-drop n Γ)
+        (via 𝓤 _ (⊢++ 𝓛 (take n Γ) (drop n Γ)) (fst∗ 𝓤 (⋆ 𝓛 (take n Γ)) (⋆ 𝓛 (drop n Γ))))) shown) (λ x. (k x).prf);
+  }
 
 module _ {M : Type 1} {𝓤 : Ura M} {𝓛 : Logic 𝓤} {K : Type 0} {Γ : List (Item 𝓤)} where
   -- an `ensures` of two facts

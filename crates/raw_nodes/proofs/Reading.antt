@@ -14,7 +14,7 @@ use Rattle.raw_nodes.specs.declared.arena.Link.{Link}
 use Rattle.raw_nodes.specs.declared.node.Node.{Node}
 use Rattle.raw_nodes.specs.declared.rows.RawRows.{RawRows}
 use Rattle.raw_nodes.proofs.Blocks.{held_at, found_at}
-use Rattle.raw_nodes.proofs.Looks.{look_node, found_living}
+use Rattle.raw_nodes.proofs.Looks.{look_node, node_of, found_living}
 use Rattle.raw_nodes.proofs.Stored.{alive_of, parent_used, first_used, last_used, next_used, prev_used}
 use Rattle.raw_nodes.proofs.Readying.{keeps}
 
@@ -26,6 +26,12 @@ module _ {T : Type 0} where
   used_places : (rows : Rows T) (o : Option Place) (v : Option ℕ) → option_map (λ p. p.0) o ≡ v → ((j : ℕ) → v ≡ Some j → IsSome (fin.get rows j)) → IfSome o (λ p. IsSome (fin.get rows p.0))
   used_places rows None v e used = tt
   used_places rows (Some p) v e used = used p.0 (sym e)
+
+  -- a row's node, with its payload
+  pub row_node : (cells : List (Spot (Node T))) (k : ℕ) (link : Link) → place_of cells link.ptr ≡ k → IsSome (fin.get (rows_of (cells_of cells)) k) → (n : Node T) × (found cells link.ptr ≡ Some n) × IsSome n.payload
+  row_node cells k link at used =
+      let one = node_of cells k (alive_of cells k used) in
+      (one.0, found_at cells link.ptr ∙ ap (held_at cells) at ∙ one.1, one.2)
 
   module _ (r : RawRows T) (raw : IsRaw r) where
     abbrev cells : List (Spot (Node T))

@@ -67,7 +67,7 @@ module _ {T : Type 0} where
         let same : link ≡ c.0 = search c.2 in
         let at : f ≡ place_of cells link.ptr = sym (ap (λ l. place_of cells l.ptr) same ∙ c.3) in
         let lt = held_within cells f (subst (λ o. IsSome o) (sym c.4) (search rules)) in
-        let less = rows_less cells f lt (dead_look cells f c.1 c.4 c.5) in
+        let less = rows_less cells f lt (dead_look cells f c.1 c.4 c.5.0) in
         record {
           heap = raw.heap;
           later = later;

@@ -211,20 +211,20 @@ module _ {T : Type 0} where
       let lt : k < length cells = omega (arith, length-append ps (map (λ (m : Link). m.ptr) (l ∷ ls))) in
       let at : get_or (places cells) k l.ptr ≡ l.ptr =
       ap (λ qs. get_or qs k l.ptr) pe ∙ ap (λ j. get_or (ps ++ l.ptr ∷ map (λ m. m.ptr) ls) j l.ptr) (sym pl) ∙ at_seam ps l.ptr (map (λ m. m.ptr) ls) l.ptr in
-      let holds : held_at cells k ≡ Some (dead_node k (head_link ls)) =
+      let holds : held_at cells k ≡ Some (dead_node k (Some l) (head_link ls)) =
       held_by cells k ∙ ap (λ xs. get_or (map Some xs) k None) he ∙ ap (λ xs. get_or xs k None) (map-append Some hs (dead_nodes k (l ∷ ls)))
-      ∙ ap (λ j. get_or (map Some hs ++ Some (dead_node k (head_link ls)) ∷ map Some (dead_nodes (suc k) ls)) j None) (sym (length-map hs Some ∙ hl))
-      ∙ at_seam (map Some hs) (Some (dead_node k (head_link ls))) (map Some (dead_nodes (suc k) ls)) None in
+      ∙ ap (λ j. get_or (map Some hs ++ Some (dead_node k (Some l) (head_link ls)) ∷ map Some (dead_nodes (suc k) ls)) j None) (sym (length-map hs Some ∙ hl))
+      ∙ at_seam (map Some hs) (Some (dead_node k (Some l) (head_link ls))) (map Some (dead_nodes (suc k) ls)) None in
       let pl_more : length (ps ++ l.ptr ∷ []) ≡ suc k = omega (arith, length-append ps (l.ptr ∷ [])) in
-      let hl_more : length (hs ++ dead_node k (head_link ls) ∷ []) ≡ suc k = omega (arith, length-append hs (dead_node k (head_link ls) ∷ [])) in (
+      let hl_more : length (hs ++ dead_node k (Some l) (head_link ls) ∷ []) ≡ suc k = omega (arith, length-append hs (dead_node k (Some l) (head_link ls) ∷ [])) in (
         l,
-        dead_node k (head_link ls),
+        dead_node k (Some l) (head_link ls),
         refl,
         ap (place_of cells) (sym at) ∙ place_at cells k l.ptr apart lt,
         holds,
-        refl,
-        fresh_chain cells apart (ps ++ l.ptr ∷ []) (hs ++ dead_node k (head_link ls) ∷ []) (suc k) ls pl_more hl_more
-            (pe ∙ sym (append_assoc ps (l.ptr ∷ []) (map (λ m. m.ptr) ls))) (he ∙ sym (append_assoc hs (dead_node k (head_link ls) ∷ []) (dead_nodes (suc k) ls))),
+        (refl, refl),
+        fresh_chain cells apart (ps ++ l.ptr ∷ []) (hs ++ dead_node k (Some l) (head_link ls) ∷ []) (suc k) ls pl_more hl_more
+            (pe ∙ sym (append_assoc ps (l.ptr ∷ []) (map (λ m. m.ptr) ls))) (he ∙ sym (append_assoc hs (dead_node k (Some l) (head_link ls) ∷ []) (dead_nodes (suc k) ls))),
       )
 
   -- what stands behind the older cells is dead
@@ -232,7 +232,7 @@ module _ {T : Type 0} where
   dead_there [] k ls e j n is = absurd (cc)
   dead_there (s ∷ ss) k [] e j n is = absurd (cc)
   dead_there (s ∷ ss) k (l ∷ ls) e zero n is =
-      let here : s.held ≡ dead_node k (head_link ls) = ap (head_node s.held) e in
+      let here : s.held ≡ dead_node k (Some l) (head_link ls) = ap (head_node s.held) e in
       let same : s.held ≡ n = search is in
       ap (λ m. m.payload) (sym same ∙ here)
     where

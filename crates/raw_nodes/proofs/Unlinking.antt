@@ -3,7 +3,7 @@ use Rattle.std.proofs.Common.{◌≡◌, ◌≢◌, ◌==◌, ◌||◌, ℕ, ◌
 use Rattle.std.specs.Prelude.{option_map, IsSome, IfSome}
 use Rattle.std.specs.FinMap as fin
 use Rattle.std.proofs.lemmas.Bool.{cases_eq, eq-eqb, ne_eqb}
-use Rattle.node_store.specs.Rows.{Rows, Entry, with_payload, children_in, is_listed, children_of, changed_at, unlinked, parent_of, Distinct, IsTree}
+use Rattle.node_store.specs.Rows.{Rows, Entry, head_of, with_payload, children_in, is_listed, children_of, changed_at, unlinked, parent_of, Distinct, IsTree}
 use Rattle.node_store.specs.Links.{rows_of, linked_at, with_paid, altered, put, joined, Holds}
 use Rattle.node_store.proofs.Siblings.{or_right, false_of}
 use Rattle.node_store.proofs.Maps.{some_row, is_there, parent_at}
@@ -72,14 +72,17 @@ module _ {T : Type 0} where
           let d = some_row (fin.get rows_were j) (parent_used rows_were root_was tree k e has j under) in
           away rows_were root_was k e has childless tree j (parent_at rows_were k e has ∙ under) d.0 d.1
 
+      leaf_first : m.first ≡ None
+      leaf_first = unmapped_none (λ l. place_of were l.ptr) m.first (leaf_keeps.first ∙ ap head_of childless)
+
       abbrev out : List (Spot (Node T))
-      out = updated (to_dead old.free) old.heap.arena.cells link.ptr
+      out = updated (to_dead link old.free) old.heap.arena.cells link.ptr
 
       out_places : places out ≡ places were
-      out_places = places_updated (to_dead old.free) were link.ptr
+      out_places = places_updated (to_dead link old.free) were link.ptr
 
       out_look : look out ≡ put k None (look were)
-      out_look = (λ i j. look_updated (to_dead old.free) were link.ptr m there j i) ∙ ap (λ p. put p None (look were)) at
+      out_look = (λ i j. look_updated (to_dead link old.free) were link.ptr m there j i) ∙ ap (λ p. put p None (look were)) at
 
       lives_out : (l : Option Link) → ((j : ℕ) → index_in were l ≡ Some j → IsSome (fin.get rows_were j)) → ((j : ℕ) → index_in were l ≡ Some j → j ≢ k) → Lives out l
       lives_out l used apart = lives_put were out k None out_places out_look l (lives_were l used) apart
@@ -150,20 +153,20 @@ module _ {T : Type 0} where
           let bad : Some (linked_at rows_were k e) ≡ None = sym living ∙ chain_dead were old.free raw.store.dead.0 raw.store.dead.1.chain k listed in
           absurd (cc))
 
-      out_held : held_at out k ≡ Some (to_dead old.free m)
+      out_held : held_at out k ≡ Some (to_dead link old.free m)
       out_held =
-          ap (λ cs. held_at cs k) (sym (written_updated (to_dead old.free) were link.ptr m there))
-          ∙ held_same were link.ptr (to_dead old.free m) k (sym at) (held_within were k (subst (λ o. IsSome o) (sym leaf_held) (search rules)))
+          ap (λ cs. held_at cs k) (sym (written_updated (to_dead link old.free) were link.ptr m there))
+          ∙ held_same were link.ptr (to_dead link old.free m) k (sym at) (held_within were k (subst (λ o. IsSome o) (sym leaf_held) (search rules)))
 
       out_chain : Chain out (Some link) (k ∷ raw.store.dead.0)
       out_chain = (
         link,
-        to_dead old.free m,
+        to_dead link old.free m,
         refl,
         place_alike out were link.ptr out_places ∙ at,
         out_held,
-        refl,
-        chain_apart were out k out_places (λ j d. held_elsewhere (to_dead old.free) were link.ptr m there j (λ same. d (same ∙ at))) old.free raw.store.dead.0 not_free raw.store.dead.1.chain,
+        (refl, ap (λ o. is_some o || false) leaf_first),
+        chain_apart were out k out_places (λ j d. held_elsewhere (to_dead link old.free) were link.ptr m there j (λ same. d (same ∙ at))) old.free raw.store.dead.0 not_free raw.store.dead.1.chain,
       )
 
       listed_now : (j : ℕ) → j < length closed → look closed j ≡ None → is_listed j (k ∷ raw.store.dead.0) ≡ true
@@ -207,7 +210,7 @@ module _ {T : Type 0} where
             let counted = raw.store.count in
             record {
               heap = heap_kept old.heap arena raw.heap (ap places is ∙ closed_places)
-                  (subst (Numbered 0) (sym is) (closes.1.numbers (numbered_updated (to_dead old.free) (λ n. refl) were link.ptr raw.heap.numbered)));
+                  (subst (Numbered 0) (sym is) (closes.1.numbers (numbered_updated (to_dead link old.free) (λ n. refl) were link.ptr raw.heap.numbered)));
               store = subst (λ cs. IsStore cs (Some link) root (old.len - 1) old.most) (sym is)
                   (subst (λ r. IsStore closed (Some link) r (old.len - 1) old.most) (sym root_is)
                   (store_is closed (unlinked rows_were k) (Some link) root_now (old.len - 1) old.most closed_holds closed_tree count (omega (arith, fits, counted)) (k ∷ raw.store.dead.0) closed_free));

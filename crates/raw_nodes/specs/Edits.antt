@@ -22,8 +22,9 @@ module _ {T : Type 0} where
   abbrev pub to_row : Option Link → Option Link → T → Node T → Node T
   to_row parent prev x n = record { number = n.number; parent = parent; first = None; last = None; prev = prev; next = None; payload = Some x }
 
-  abbrev pub to_dead : Option Link → Node T → Node T
-  to_dead l n = record n { next = l; payload = None }
+  -- a dead cell in place of a row without children
+  abbrev pub to_dead : Link → Option Link → Node T → Node T
+  to_dead own next n = record n { last = Some own; next = next; payload = None }
 
   abbrev pub right_put : Option Link → Option Link → Option Link → List (Spot (Node T)) → List (Spot (Node T))
   right_put parent (Some l) right cells = updated (to_next right) cells l.ptr

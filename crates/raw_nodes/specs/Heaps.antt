@@ -2,7 +2,8 @@
 -- All definitions here are this project's.
 use Rattle.std.specs.Prelude.{◌≡◌, List, [], ◌∷◌, ◌++◌, map, length, Some}
 use denote.RawPtr.{Ptr}
-use Rattle.raw_nodes.specs.Spots.{Spot, places, IsApart}
+use Rattle.std.specs.List.{AllByRecursion}
+use Rattle.raw_nodes.specs.Spots.{Spot, places, IsApart, IsInSomeBlock}
 use Rattle.raw_nodes.specs.Nodes.{Numbered, dead_nodes, head_link}
 use Rattle.raw_nodes.specs.declared.arena.Link.{Link}
 use Rattle.raw_nodes.specs.declared.node.Node.{Node}
@@ -28,6 +29,7 @@ module _ {T : Type 0} where
 
   pub record IsHeap (h : Heap T) : Type 0 where
     pub apart : IsApart h.arena.cells
+    pub placed : AllByRecursion IsInSomeBlock (places h.arena.cells)
     pub table : places h.arena.cells ≡ addresses h.links.items
     pub blocks : AreBlocks h.blocks.items
     pub laid : places h.arena.cells ≡ block_places h.blocks.items

@@ -1,10 +1,13 @@
 pub mod Edits
 pub mod Heaps
 pub mod Lends
+pub mod MaybeLinks
 pub mod NodeLends
 pub mod Nodes
 pub mod Ownership
 pub mod Places
 pub mod Raw
+pub mod SlotLends
+pub mod Slots
 pub mod Spots
 pub mod Steps

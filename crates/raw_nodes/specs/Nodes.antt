@@ -1,6 +1,6 @@
 -- What the cells hold, as a store's cells are seen. This follows the code: only private functions and the store's model
 -- speak of it. All definitions here are this project's.
-use Rattle.std.specs.Prelude.{◌≡◌, ◌<◌, ℕ, suc, true, if◌then◌else◌, List, [], ◌∷◌, map, length, Option, Some, None, option_map, slice_index_or}
+use Rattle.std.specs.Prelude.{◌≡◌, ◌<◌, ◌||◌, ℕ, suc, Bool, true, false, not, is_some, if◌then◌else◌, List, [], ◌∷◌, map, length, Option, Some, None, option_map, slice_index_or}
 use Rattle.std.specs.FinMap as fin
 use denote.RawPtr.{Ptr}
 use Rattle.node_store.specs.Rows.{Distinct, is_listed}
@@ -22,8 +22,9 @@ head_link [] = None
 head_link (l ∷ ls) = Some l
 
 module _ {T : Type 0} where
-  abbrev pub dead_node : ℕ → Option Link → Node T
-  dead_node number next = record { number = number; parent = None; first = None; last = None; prev = None; next = next; payload = None }
+  -- a dead cell, which leads to itself as its last child and to the one that is used after it
+  abbrev pub dead_node : ℕ → Option Link → Option Link → Node T
+  dead_node number own next = record { number = number; parent = None; first = None; last = own; prev = None; next = next; payload = None }
 
   abbrev pub paid_node : Node T → T → Node T
   paid_node n x = record n { payload = Some x }
@@ -56,6 +57,17 @@ module _ {T : Type 0} where
     pub next : index_in cells n.next ≡ m.next
     pub payload : n.payload ≡ Some m.payload
 
+  -- the links are those of a row: there is a first child, or no last one
+  abbrev pub is_row : Node T → Bool
+  is_row n = is_some n.first || not (is_some n.last)
+
+  -- the links tell whether there is a payload
+  abbrev pub IsToldByLinks : Node T → Type 0
+  IsToldByLinks n = is_row n ≡ is_some n.payload
+
+  abbrev pub IsDeadCell : Node T → Type 0
+  IsDeadCell n = (n.payload ≡ None) × (is_row n ≡ false)
+
   -- each cell keeps its own number
   abbrev pub Numbered : ℕ → List (Spot (Node T)) → Type 0
   Numbered k [] = Unit {0}
@@ -65,12 +77,12 @@ module _ {T : Type 0} where
   abbrev pub Chain : List (Spot (Node T)) → Option Link → List ℕ → Type 0
   Chain cells link [] = link ≡ None
   Chain cells link (f ∷ fs) =
-      (l : Link) × (n : Node T) × (link ≡ Some l) × (place_of cells l.ptr ≡ f) × (node_at cells f ≡ Some n) × (n.payload ≡ None) × Chain cells n.next fs
+      (l : Link) × (n : Node T) × (link ≡ Some l) × (place_of cells l.ptr ≡ f) × (node_at cells f ≡ Some n) × IsDeadCell n × Chain cells n.next fs
 
   -- dead cells side by side, the first of which has this number, each linked to the next
   abbrev pub dead_nodes : ℕ → List Link → List (Node T)
   dead_nodes k [] = []
-  dead_nodes k (l ∷ ls) = dead_node k (head_link ls) ∷ dead_nodes (suc k) ls
+  dead_nodes k (l ∷ ls) = dead_node k (Some l) (head_link ls) ∷ dead_nodes (suc k) ls
 
   -- the free list has each dead cell once
   pub record IsFree (cells : List (Spot (Node T))) (free : Option Link) (fs : List ℕ) : Type 0 where

@@ -8,7 +8,7 @@ use base.Fml.{Lft, Fml, ftrue, fsep, flt, feq}
 use Rattle.std.specs.Mem.{type_size}
 use denote.RattleType.{RattleType}
 use denote.Sharing.{nothing, beside}
-use denote.RawPtr.{Ptr, block_ptr, null_ptr, lies_at, ◌+ₚ◌}
+use denote.RawPtr.{Ptr, block_ptr, null_ptr, InBlock, Testable, lies_at, ◌+ₚ◌}
 use denote.Struct.Lending.{lent_at}
 
 pub record Spot (X : Type 0) : Type 0 where
@@ -62,6 +62,10 @@ module _ {X : Type 0} where
 -- the pointer lies in a block
 abbrev pub IsIn : Ptr → Type 0
 IsIn p = (b : ℕ) × (o : ℕ) × (p ≡ block_ptr b o)
+
+-- the pointer lies in a block, and may be compared with null
+abbrev pub IsInSomeBlock : Ptr → Type 0
+IsInSomeBlock p = InBlock p × Testable p
 
 -- where the cell at the index lies
 abbrev pub cell_ptr : ℕ → Ptr → ℕ → Ptr

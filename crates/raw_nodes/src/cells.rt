@@ -2,12 +2,12 @@
 ghost use Rattle.std.specs.Prelude.{◌≡◌, ℕ, ◌<◌, List, Option, Some, None, map, length, take, drop, replicate, get_or, slice_set, IfOk, ⊤};
 ghost use Rattle.std.specs.Vec.Ownership.{FitsInBlock};
 ghost use base.Fml.{ftrue};
-ghost use denote.RawPtr.{Ptr};
+ghost use denote.RawPtr.{Ptr, count_of};
 ghost use Rattle.raw_nodes.specs.Places.{IsFilled};
 ghost use Rattle.raw_nodes.specs.Spots.{IsIn};
 ghost use Rattle.raw_nodes.specs.Ownership.{cells_own, cells_lent, deed_owns};
 
-use std::alloc::{AllocError, Allocator};
+use std::alloc::{AllocError, Allocator, Global};
 use std::marker::{Model, PhantomData};
 use std::mem::{align_of, size_of};
 
@@ -91,6 +91,14 @@ pub(crate) fn deallocate<T, A: Allocator>(
     unsafe {
         alloc.deallocate(base.ptr as *mut u8, len * size_of::<T>(), align_of::<T>());
     }
+}
+
+/// A block that `Global` gave begins where its pointer leads.
+pub(crate) fn located<T>(deed: Deed<T, Global>) -> Deed<T, Global>
+    ensures { (result ≡ deed) × (count_of deed.at ≡ 0) }
+{
+    let Deed { mark: _ } = deed;
+    Deed { mark: PhantomData }
 }
 
 impl<T> Cells<T> {

@@ -5,8 +5,10 @@ mod arena;
 mod cells;
 mod edit;
 mod heap;
+mod maybe_link;
 mod node;
 mod raw;
 mod rows;
+mod slot;
 
 pub use raw::RawNodes;

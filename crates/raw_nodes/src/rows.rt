@@ -3,8 +3,9 @@ ghost use Rattle.std.specs.Prelude.{◌≡◌, ◌<◌, ◌≤◌, ℕ, Some, No
 ghost use Rattle.std.specs.FinMap as fin;
 ghost use Rattle.node_store.specs.Rows.{Entry};
 ghost use Rattle.node_store.specs.Links.{linked_at};
-ghost use Rattle.raw_nodes.specs.Spots.{found};
+ghost use Rattle.raw_nodes.specs.Spots.{found, IsInSomeBlock};
 ghost use Rattle.raw_nodes.specs.Nodes.{place_of, index_in, Keeps};
+ghost use Rattle.raw_nodes.specs.declared.node.Node.{Node};
 ghost use Rattle.raw_nodes.specs.Raw.{raw_of, IsRaw};
 ghost use Rattle.raw_nodes.specs.Edits.{join_put};
 ghost use Rattle.raw_nodes.specs.Steps.{Ready, Appends, Plants, Unlinks, Closes};
@@ -12,6 +13,7 @@ ghost use Rattle.raw_nodes.specs.Steps.{Ready, Appends, Plants, Unlinks, Closes}
 use crate::arena::Link;
 use crate::edit::{join, set_dead, set_empty, set_last, set_row};
 use crate::heap::Heap;
+use crate::maybe_link::MaybeLink;
 use crate::node::Node;
 use node_store::{Place, Refused};
 use std::alloc::{AllocError, Global};
@@ -20,8 +22,8 @@ use std::alloc::{AllocError, Global};
 pub struct RawRows<T> {
     pub(crate) heap: Heap<T>,
     // The first dead cell, which links to the next.
-    pub(crate) free: Option<Link>,
-    pub(crate) root: Option<Link>,
+    pub(crate) free: MaybeLink,
+    pub(crate) root: MaybeLink,
     pub(crate) len: usize,
     pub(crate) most: usize,
 }
@@ -34,10 +36,11 @@ impl<T> RawRows<T> {
         ensures most { (raw_of result).most ≡ 0 }
         ensures cells { (raw_of result).cells ≡ 0 }
     {
+        let nothing = MaybeLink::none();
         RawRows {
             heap: Heap::new(alloc),
-            free: None,
-            root: None,
+            free: nothing,
+            root: nothing,
             len: 0,
             most: 0,
         }
@@ -80,22 +83,38 @@ impl<T> RawRows<T> {
         Place(self.heap.arena.follow(link).number)
     }
 
-    /// A dead cell: the first of the free list, or else that of a new block.
+    /// A dead cell: the first of the free list, or else that of a new block. Of the value only its bytes are read.
     #[inline(always)]
-    fn dead_cell(&mut self) -> Result<Link, AllocError>
+    fn dead_cell(&mut self, like: &mut T) -> Result<Link, AllocError>
         requires { IsRaw self.old }
         ensures ok { IfOk result (λ link. Ready self.old self.new link) }
         ensures err { OnErr result (IsRaw self.new × (raw_of self.new ≡ raw_of self.old)) }
         ensures spare { fin.len (raw_of self.old).rows < (raw_of self.old).cells → IsOk result }
+        ensures like { like.new ≡ like.old }
     {
-        match self.free {
+        match self.free.get() {
+            Some(cell) => Ok(cell),
+            None => self.heap.grow_like(like),
+        }
+    }
+
+    /// The same beside a row, of whose payload only the bytes are read.
+    #[inline(always)]
+    fn dead_cell_beside(&mut self, row: Link) -> Result<Link, AllocError>
+        requires raw { IsRaw self.old }
+        requires row { (n : Node T) × (found self.old.heap.arena.cells row.ptr ≡ Some n) × IsSome n.payload }
+        ensures ok { IfOk result (λ link. Ready self.old self.new link) }
+        ensures err { OnErr result (IsRaw self.new × (raw_of self.new ≡ raw_of self.old)) }
+        ensures spare { fin.len (raw_of self.old).rows < (raw_of self.old).cells → IsOk result }
+    {
+        match self.free.get() {
             Some(link) => Ok(link),
-            None => self.heap.grow(),
+            None => self.heap.grow_beside(row),
         }
     }
 
     /// Makes the root of an empty store.
-    pub(crate) fn plant(&mut self, payload: T) -> Result<Place, Refused<T>>
+    pub(crate) fn plant(&mut self, mut payload: T) -> Result<Place, Refused<T>>
         requires raw { IsRaw self.old }
         requires empty { (raw_of self.old).rows ≡ fin.empty }
         ensures raw { IsRaw self.new }
@@ -103,13 +122,14 @@ impl<T> RawRows<T> {
         ensures err { IfErr result (λ e. (e.payload ≡ payload) × (raw_of self.new ≡ raw_of self.old)) }
         ensures spare { fin.len (raw_of self.old).rows < (raw_of self.old).cells → IsOk result }
     {
-        match self.dead_cell() {
+        match self.dead_cell(&mut payload) {
             Ok(link) => {
                 let dead = self.heap.arena.follow(link);
                 let number = dead.number;
                 self.free = dead.next;
-                set_row(&mut self.heap.arena, link, None, None, payload);
-                self.root = Some(link);
+                let nothing = MaybeLink::none();
+                set_row(&mut self.heap.arena, link, nothing, nothing, payload);
+                self.root = MaybeLink::to(link);
                 self.len = 1;
                 self.most = self.most.max(1);
                 Ok(Place(number))
@@ -129,15 +149,16 @@ impl<T> RawRows<T> {
         ensures spare { fin.len (raw_of self.old).rows < (raw_of self.old).cells → IsOk result }
     {
         let up = self.link(parent);
-        match self.dead_cell() {
+        match self.dead_cell_beside(up) {
             Ok(link) => {
                 let dead = self.heap.arena.follow(link);
                 let number = dead.number;
                 self.free = dead.next;
                 let last = self.heap.arena.follow(up).last;
-                set_row(&mut self.heap.arena, link, Some(up), last, payload);
-                set_last(&mut self.heap.arena, up, Some(link));
-                join(&mut self.heap.arena, Some(up), last, Some(link));
+                let (above, added) = (MaybeLink::to(up), MaybeLink::to(link));
+                set_row(&mut self.heap.arena, link, above, last, payload);
+                set_last(&mut self.heap.arena, up, added);
+                join(&mut self.heap.arena, above, last, added);
                 self.len += 1;
                 self.most = self.most.max(self.len);
                 Ok(Place(number))
@@ -182,21 +203,16 @@ impl<T> RawRows<T> {
 
     // Makes the neighbours of a cell that is dead now neighbours of each other, and the cell the first of the free list.
     #[inline(always)]
-    fn close_gap(
-        &mut self,
-        link: Link,
-        parent: Option<Link>,
-        prev: Option<Link>,
-        next: Option<Link>,
-    )
+    fn close_gap(&mut self, link: Link, parent: MaybeLink, prev: MaybeLink, next: MaybeLink)
         requires parent { IfSome parent (λ l. IsSome (found self.old.heap.arena.cells l.ptr)) }
         requires left { IfSome prev (λ l. IsSome (found self.old.heap.arena.cells l.ptr)) }
         requires right { IfSome next (λ l. IsSome (found self.old.heap.arena.cells l.ptr)) }
+        requires placed { IsInSomeBlock link.ptr }
         requires some { 1 ≤ self.old.len }
         ensures cells { self.new.heap.arena.cells ≡ join_put parent prev next self.old.heap.arena.cells }
         ensures fields { Closes self.old self.new link parent }
     {
-        self.free = Some(link);
+        self.free = MaybeLink::to(link);
         join(&mut self.heap.arena, parent, prev, next);
         self.root = root_left(parent, self.root);
         self.len -= 1;
@@ -216,12 +232,12 @@ impl<T> RawRows<T> {
 
     /// The number of the cell that a link leads to, where it leads to a row.
     #[inline(always)]
-    pub(crate) fn place_at(&self, link: Option<Link>) -> Option<Place>
+    pub(crate) fn place_at(&self, link: MaybeLink) -> Option<Place>
         requires raw { IsRaw self.now }
         requires used { IfSome link (λ l. IsSome (fin.get (raw_of self.now).rows (place_of self.now.heap.arena.cells l.ptr))) }
         ensures { option_map (λ p. p.0) result ≡ index_in self.now.heap.arena.cells link }
     {
-        match link {
+        match link.get() {
             Some(link) => Some(self.place(link)),
             None => None,
         }
@@ -230,11 +246,11 @@ impl<T> RawRows<T> {
 
 // The root that stays where a row is taken out of the one below this parent.
 #[inline(always)]
-fn root_left(parent: Option<Link>, root: Option<Link>) -> Option<Link>
+fn root_left(parent: MaybeLink, root: MaybeLink) -> MaybeLink
     ensures { result ≡ (if is_some parent then root else None) }
 {
-    match parent {
+    match parent.get() {
         Some(_) => root,
-        None => None,
+        None => MaybeLink::none(),
     }
 }

@@ -25,7 +25,7 @@ pub same_one : (xs : List ℕ) (n : ℕ) → 0 < length xs → list_all (λ j. j
 same_one [] n some all = absurd (omega (arith, some))
 same_one (x ∷ xs) n some all = record {
   has = λ k. by k (n == k) refl;
-  high = λ h. (subst (λ z. 64 ≤ z) is h.0, tt);
+  high = λ h. (subst (λ z. 64 ≤ z) is h.0, refl, tt);
 }
   where
     parts : ((x == n) ≡ true) × (list_all (λ j. j == n) xs ≡ true)

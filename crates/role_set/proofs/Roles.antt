@@ -7,11 +7,12 @@ use Rattle.std.specs.Ordering.{nat_cmp}
 use Rattle.std.specs.Cmp.{nat_cmp_total, unsigned_tied}
 use Rattle.std.specs.FinSet.{FinSet, from_list_push, contains, insert, remove, empty, from_list, contains-insert, contains-remove, contains-from_list_nat, contains-empty, same_set, nat_cmp-IsAntisymmetric}
 use Rattle.std.proofs.lemmas.Map.Views.{any-filter_same}
+use Rattle.std.proofs.lemmas.Bool.{or_parts, or_from}
 use Rattle.std.proofs.lemmas.Bool.Decides.{nat_tests}
 use Rattle.std.proofs.lemmas.Nat.Bits.{bit_at-lt, bit_at-zero, same_from_bits_below}
-use Rattle.role_set.specs.Words.{has_bit, AddsBit, DropsBit, bits_below, roles_of, AllHigh}
+use Rattle.role_set.specs.Words.{has_bit, AddsBit, DropsBit, bits_below, roles_of, HighOnce}
 
-abbrev is_in : ℕ → List ℕ → Bool
+abbrev pub is_in : ℕ → List ℕ → Bool
 is_in q xs = list_any (λ k. k == q) xs
 
 -- ---- what a word has
@@ -20,7 +21,7 @@ above_step : (q k : ℕ) (rest : List ℕ) (b : Bool) → k < q → is_in q rest
 above_step q k rest true h none = let other : (k == q) ≡ false = grind (arith, nat_tests) in ap (λ e. e || is_in q rest) other ∙ none
 above_step q k rest false h none = none
 
-bits_above : (word w q : ℕ) → w ≤ q → is_in q (bits_below word w) ≡ false
+pub bits_above : (word w q : ℕ) → w ≤ q → is_in q (bits_below word w) ≡ false
 unfolding bits_below
 bits_above word zero q h = refl
 bits_above word (suc k) q h = above_step q k (bits_below word k) (has_bit word k) (omega arith) (bits_above word k q (omega arith))
@@ -45,7 +46,7 @@ bits_in word (suc k) q h = by (k == q) refl (λ below. bits_in word k q below)
         let below : q < k = grind (arith, nat_tests) in
         below_step q k (bits_below word k) (has_bit word k) (has_bit word q) below (earlier below)
 
-in_both : (q : ℕ) (xs ys : List ℕ) → is_in q (xs ++ ys) ≡ (is_in q xs || is_in q ys)
+pub in_both : (q : ℕ) (xs ys : List ℕ) → is_in q (xs ++ ys) ≡ (is_in q xs || is_in q ys)
 in_both q [] ys = refl
 in_both q (x ∷ xs) ys = by (x == q) (in_both q xs ys)
   where
@@ -65,11 +66,11 @@ low_member low high q h = members low high q ∙ ap (λ b. b || is_in q high) (b
 pub high_member : (low : ℕ) (high : List ℕ) (q : ℕ) → 64 ≤ q → contains (roles_of low high) q ≡ is_in q high
 high_member low high q h = members low high q ∙ ap (λ b. b || is_in q high) (bits_above low 64 q h)
 
-none_low : (high : List ℕ) (q : ℕ) → AllHigh high → q < 64 → is_in q high ≡ false
+pub none_low : (high : List ℕ) (q : ℕ) → HighOnce high → q < 64 → is_in q high ≡ false
 none_low [] q all h = refl
 none_low (n ∷ ns) q all h =
     let other : (n == q) ≡ false = grind (arith, nat_tests, all.0) in
-    ap (λ b. b || is_in q ns) other ∙ none_low ns q all.1 h
+    ap (λ b. b || is_in q ns) other ∙ none_low ns q all.2 h
 
 or-false : (a : Bool) → (a || false) ≡ a
 or-false true = refl
@@ -79,7 +80,7 @@ or-assoc : (a b c : Bool) → ((a || b) || c) ≡ (a || (b || c))
 or-assoc true b c = refl
 or-assoc false b c = refl
 
-pub low_bit : (low : ℕ) (high : List ℕ) (q : ℕ) → AllHigh high → q < 64 → contains (roles_of low high) q ≡ has_bit low q
+pub low_bit : (low : ℕ) (high : List ℕ) (q : ℕ) → HighOnce high → q < 64 → contains (roles_of low high) q ≡ has_bit low q
 low_bit low high q all h = low_member low high q h ∙ ap (λ b. has_bit low q || b) (none_low high q all h) ∙ or-false (has_bit low q)
 
 -- two sets with the same numbers below 64 and the same from there on
@@ -103,7 +104,7 @@ insert_low low more r high within adds = same_roles _ _
     (λ q h. let other : (q == r) ≡ false = grind (arith, nat_tests) in
     high_member more high q h ∙ sym (high_member low high q h) ∙ ap (λ b. b || contains (roles_of low high) q) (sym other) ∙ sym (inserted (roles_of low high) r q))
 
-pub remove_low : (low less r : ℕ) (high : List ℕ) → AllHigh high → r < 64 → DropsBit low r less → roles_of less high ≡ remove (roles_of low high) r
+pub remove_low : (low less r : ℕ) (high : List ℕ) → HighOnce high → r < 64 → DropsBit low r less → roles_of less high ≡ remove (roles_of low high) r
 remove_low low less r high all within drops = same_roles _ _
     (λ q h. low_bit less high q all h ∙ drops.bits q h ∙ ap (λ b. not (q == r) && b) (sym (low_bit low high q all h)) ∙ sym (removed (roles_of low high) r q))
     (λ q h. let other : (q == r) ≡ false = grind (arith, nat_tests) in
@@ -128,20 +129,32 @@ remove_high low r high above = same_roles _ _
 
 -- ---- the list
 
-pub all_high-push : (high : List ℕ) (r : ℕ) → AllHigh high → 64 ≤ r → AllHigh (high ++ r ∷ [])
-all_high-push [] r all h = (h, tt)
-all_high-push (n ∷ ns) r all h = (all.0, all_high-push ns r all.1 h)
+pub high_once-push : (high : List ℕ) (r : ℕ) → HighOnce high → 64 ≤ r → is_in r high ≡ false → HighOnce (high ++ r ∷ [])
+high_once-push [] r all h new = (h, refl, tt)
+high_once-push (n ∷ ns) r all h new =
+    let parts = or_parts (n == r) (is_in r ns) new in
+    let e : (n == r) ≡ false = parts.0 in
+    let other : (r == n) ≡ false = grind (arith, nat_tests) in
+    (all.0, in_both n ns (r ∷ []) ∙ or_from _ _ all.1 (or_from _ _ other refl), high_once-push ns r all.2 h parts.1)
 
-pub all_high-filter : (p : ℕ → Bool) (high : List ℕ) → AllHigh high → AllHigh (filter p high)
-all_high-filter p [] all = tt
-all_high-filter p (n ∷ ns) all = by (p n) (all_high-filter p ns all.1)
+not_kept : (p : ℕ → Bool) (n : ℕ) (ns : List ℕ) → is_in n ns ≡ false → is_in n (filter p ns) ≡ false
+not_kept p n [] e = refl
+not_kept p n (k ∷ ks) e = let parts = or_parts (k == n) (is_in n ks) e in by (p k) parts.0 (not_kept p n ks parts.1)
   where
-    by : (b : Bool) → AllHigh (filter p ns) → AllHigh (cond b (n ∷ filter p ns) (filter p ns))
-    by true rest = (all.0, rest)
+    by : (b : Bool) → (k == n) ≡ false → is_in n (filter p ks) ≡ false → is_in n (cond b (k ∷ filter p ks) (filter p ks)) ≡ false
+    by true other rest = or_from _ _ other rest
+    by false other rest = rest
+
+pub high_once-filter : (p : ℕ → Bool) (high : List ℕ) → HighOnce high → HighOnce (filter p high)
+high_once-filter p [] all = tt
+high_once-filter p (n ∷ ns) all = by (p n) (high_once-filter p ns all.2)
+  where
+    by : (b : Bool) → HighOnce (filter p ns) → HighOnce (cond b (n ∷ filter p ns) (filter p ns))
+    by true rest = (all.0, not_kept p n ns all.1, rest)
     by false rest = rest
 
 -- where no number is 64 or more the list is empty
-pub no_high : (low : ℕ) (high : List ℕ) → AllHigh high → ((k : ℕ) → contains (roles_of low high) k ≡ true → k < 64) → high ≡ []
+pub no_high : (low : ℕ) (high : List ℕ) → HighOnce high → ((k : ℕ) → contains (roles_of low high) k ≡ true → k < 64) → high ≡ []
 no_high low [] all none = refl
 no_high low (n ∷ ns) all none =
     let own : (n == n) ≡ true = search rules in
@@ -155,9 +168,9 @@ same_high low xs ys same = same_roles _ _
     (λ q h. low_member low xs q h ∙ ap (λ b. has_bit low q || b) (same q) ∙ sym (low_member low ys q h))
     (λ q h. high_member low xs q h ∙ same q ∙ sym (high_member low ys q h))
 
-above : (high : List ℕ) (k : ℕ) → AllHigh high → is_in k high ≡ true → 64 ≤ k
+above : (high : List ℕ) (k : ℕ) → HighOnce high → is_in k high ≡ true → 64 ≤ k
 above [] k all h = absurd (let no : true ≡ false = sym h in cc)
-above (n ∷ ns) k all h = by (n == k) refl (λ i. above ns k all.1 i) h
+above (n ∷ ns) k all h = by (n == k) refl (λ i. above ns k all.2 i) h
   where
     by : (b : Bool) → (n == k) ≡ b → (is_in k ns ≡ true → 64 ≤ k) → (b || is_in k ns) ≡ true → 64 ≤ k
     by true is later h = grind (arith, nat_tests, all.0)
@@ -177,7 +190,7 @@ all_are (n ∷ ns) q h =
     behind false c e = e
 
 -- where no number but q is 64 or more the list has no other
-pub all_one : (low : ℕ) (high : List ℕ) (q : ℕ) → AllHigh high → ((k : ℕ) → contains (roles_of low high) k ≡ true → (k < 64) ⊎ (k ≡ q)) → list_all (λ k. k == q) high ≡ true
+pub all_one : (low : ℕ) (high : List ℕ) (q : ℕ) → HighOnce high → ((k : ℕ) → contains (roles_of low high) k ≡ true → (k < 64) ⊎ (k ≡ q)) → list_all (λ k. k == q) high ≡ true
 all_one low high q all few = all_are high q (λ k i. by k (above high k all i) (few k (high_member low high k (above high k all i) ∙ i)))
   where
     by : (k : ℕ) → 64 ≤ k → (k < 64) ⊎ (k ≡ q) → k ≡ q
@@ -191,7 +204,7 @@ empty_roles = same_roles _ _
     (λ q h. low_member 0 [] q h ∙ ap (λ n. (n == 1) || false) (bit_at-zero q) ∙ sym (contains-empty nat_cmp q))
     (λ q h. high_member 0 [] q h ∙ sym (contains-empty nat_cmp q))
 
-pub parts_of_empty : (low : ℕ) (high : List ℕ) → low < 2 ^ 64 → AllHigh high → roles_of low high ≡ empty → (low ≡ 0) × (high ≡ [])
+pub parts_of_empty : (low : ℕ) (high : List ℕ) → low < 2 ^ 64 → HighOnce high → roles_of low high ≡ empty → (low ≡ 0) × (high ≡ [])
 parts_of_empty low high fits all is = (
   same_from_bits_below 64 low 0 fits (omega arith) (λ q h. zero_bit q h ∙ sym (bit_at-zero q)),
   no_high low high all (λ k has. absurd (let no : true ≡ false = sym has ∙ ap (λ s. contains s k) is ∙ contains-empty nat_cmp k in cc)),

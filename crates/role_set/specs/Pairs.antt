@@ -4,7 +4,7 @@ use Rattle.std.specs.Prelude.{◌≡◌, ◌==◌, ℕ, List, [], ◌∷◌}
 use Rattle.std.specs.List.{list_any}
 use Rattle.role_set.specs.declared.high_pair.HighPair.{HighPair}
 use Rattle.role_set.specs.declared.high_pair.HighPair.TheVariants.{Empty, Held, Signed, Each, Many}
-use Rattle.role_set.specs.Words.{high_numbers, IsHigh, AllHigh, roles_of}
+use Rattle.role_set.specs.Words.{high_numbers, IsHigh, HighOnce, roles_of}
 use Rattle.role_set.specs.NodeRoles.{NodeSets}
 
 abbrev pub held_numbers : HighPair → List ℕ
@@ -31,13 +31,13 @@ HasLists (Many lists) = IsHigh lists.value.held × IsHigh lists.value.signed
 
 pub record IsPair (pair : HighPair) : Type 0 where
   pub lists : HasLists pair
-  pub held : AllHigh (held_numbers pair)
-  pub signed : AllHigh (signed_numbers pair)
+  pub held : HighOnce (held_numbers pair)
+  pub signed : HighOnce (signed_numbers pair)
 
 -- the first list has the numbers of the second, perhaps fewer times
 pub record SameNumbers (xs ys : List ℕ) : Type 0 where
   pub has : (k : ℕ) → list_any (λ j. j == k) xs ≡ list_any (λ j. j == k) ys
-  pub high : AllHigh ys → AllHigh xs
+  pub high : HighOnce ys → HighOnce xs
 
 abbrev pub sets_of : ℕ → ℕ → HighPair → NodeSets
 sets_of held signed pair =

@@ -1,7 +1,7 @@
 //! The roles from 64 on.
 ghost use Rattle.std.specs.Prelude.{◌≡◌, ◌==◌, ◌<◌, ◌++◌, [], ◌∷◌, ◌↔◌, OnOk, OnErr, IfOk, IsOk, IsTrue, true, filter, not, length};
 ghost use Rattle.std.specs.List.{list_any};
-ghost use Rattle.role_set.specs.Words.{high_numbers, IsHigh};
+ghost use Rattle.role_set.specs.Words.{high_numbers, IsHigh, NumbersMeet};
 
 use gcx_base::Memory;
 use std::alloc::Global;
@@ -35,6 +35,28 @@ impl HighRoles {
             HighRoles::Empty => false,
             HighRoles::One(only) => *only == number,
             HighRoles::Many(numbers) => numbers.as_slice().contains(&number),
+        }
+    }
+
+    /// Whether one of the numbers is one of these.
+    pub(crate) fn meets(&self, roles: &HighRoles) -> bool
+        ensures { (result ≡ true) ↔ NumbersMeet (high_numbers self.now) (high_numbers roles.now) }
+    {
+        match self {
+            HighRoles::Empty => false,
+            HighRoles::One(only) => roles.has(*only),
+            HighRoles::Many(numbers) => has_one_of(roles, numbers.as_slice()),
+        }
+    }
+
+    /// How many numbers there are.
+    pub(crate) fn count(&self) -> u64
+        ensures { result ≡ length (high_numbers self.now) }
+    {
+        match self {
+            HighRoles::Empty => 0,
+            HighRoles::One(_) => 1,
+            HighRoles::Many(numbers) => numbers.len() as u64,
         }
     }
 
@@ -94,4 +116,16 @@ pub(crate) fn two(alloc: Global, first: u32, second: u32) -> Result<HighRoles, M
     numbers.push(first)?;
     numbers.push(second)?;
     Ok(HighRoles::Many(Box::new(alloc, numbers)?))
+}
+
+/// Whether the roles have one of these numbers.
+fn has_one_of(roles: &HighRoles, numbers: &[u32]) -> bool
+    ensures { (result ≡ true) ↔ NumbersMeet numbers.now (high_numbers roles.now) }
+{
+    for number in numbers {
+        if roles.has(*number) {
+            return true;
+        }
+    }
+    false
 }

@@ -1,7 +1,7 @@
 //! The held roles and the signed ones from 64 on.
 ghost use Rattle.std.specs.Prelude.{◌≡◌, ◌==◌, ◌<◌, ◌++◌, [], ◌∷◌, ◌↔◌, OnOk, OnErr, IfOk, IsOk, IsTrue, ℕ, true, filter, not, length};
 ghost use Rattle.std.specs.List.{list_all, list_any};
-ghost use Rattle.role_set.specs.Words.{high_numbers, IsHigh};
+ghost use Rattle.role_set.specs.Words.{high_numbers, IsHigh, NumbersMeet};
 ghost use Rattle.role_set.specs.Pairs.{held_numbers, signed_numbers, HasLists, SameNumbers};
 
 use crate::high::{HighRoles, many, two};
@@ -81,6 +81,30 @@ impl HighPair {
         }
     }
 
+    /// Whether one of these numbers is held.
+    pub(crate) fn meets(&self, roles: &HighRoles) -> bool
+        ensures { (result ≡ true) ↔ NumbersMeet (held_numbers self.now) (high_numbers roles.now) }
+    {
+        match self {
+            HighPair::Empty => false,
+            HighPair::Held(only) => roles.has(*only),
+            HighPair::Signed(_) => false,
+            HighPair::Each(only, _) => roles.has(*only),
+            HighPair::Many(lists) => lists.held.meets(roles),
+        }
+    }
+
+    /// How many are held.
+    pub(crate) fn count(&self) -> u64
+        ensures { result ≡ length (held_numbers self.now) }
+    {
+        match self {
+            HighPair::Empty | HighPair::Signed(_) => 0,
+            HighPair::Held(_) | HighPair::Each(_, _) => 1,
+            HighPair::Many(lists) => lists.held.count(),
+        }
+    }
+
     /// Makes the number a held one. Want of memory leaves all as it was.
     pub(crate) fn give(&mut self, alloc: Global, number: u32) -> Result<(), Memory>
         requires { HasLists self.old }
@@ -125,7 +149,7 @@ impl HighPair {
         Ok(())
     }
 
-    /// Takes the number out of the held ones.
+    /// Takes the number out of the held ones. Where no number is left the lists are given back.
     pub(crate) fn take(&mut self, number: u32)
         requires { HasLists self.old }
         ensures held { held_numbers self.new ≡ filter (λ k. not (k == number)) (held_numbers self.old) }
@@ -145,7 +169,12 @@ impl HighPair {
                     *self = HighPair::Signed(*signed);
                 }
             }
-            HighPair::Many(lists) => lists.held.remove(number),
+            HighPair::Many(lists) => {
+                lists.held.remove(number);
+                if lists.held.is_empty() && lists.signed.is_empty() {
+                    *self = HighPair::Empty;
+                }
+            }
         }
     }
 }

@@ -35,7 +35,7 @@ impl Model for RoleSet {
     ghost use Rattle.std.specs.Coded.{coded_ℕ};
     ghost use Rattle.std.specs.Prelude.{◌≡◌, ◌≤◌, true};
     ghost use Rattle.std.specs.List.{list_all};
-    ghost use Rattle.role_set.specs.Words.{roles_of, high_numbers, IsHigh, AllHigh};
+    ghost use Rattle.role_set.specs.Words.{roles_of, high_numbers, IsHigh, HighOnce};
 
     ghost Value = { set.FinSet nat_cmp };
 
@@ -43,7 +43,7 @@ impl Model for RoleSet {
 
     ghost view = { λ s. roles_of s.low (high_numbers s.high) };
 
-    ghost invariant = { λ s. IsHigh s.high × AllHigh (high_numbers s.high) };
+    ghost invariant = { λ s. IsHigh s.high × HighOnce (high_numbers s.high) };
 }
 
 impl RoleSet {

@@ -1,10 +1,10 @@
 //! The roles of a node, held and signed, as one value.
-ghost use Rattle.std.specs.Prelude.{◌≡◌, ◌<◌, ◌↔◌, ◌⊎◌, OnOk, OnErr, IfOk, IsOk, IsTrue, true, ℕ};
+ghost use Rattle.std.specs.Prelude.{◌≡◌, ◌<◌, ◌-◌, ◌^◌, ◌↔◌, ◌⊎◌, OnOk, OnErr, IfOk, IsOk, IsTrue, true, min, ℕ};
 ghost use Rattle.std.specs.FinSet as set;
 
 use crate::RoleSet;
 use crate::high_pair::HighPair;
-use crate::word::{WORD_BITS, has_bit, with_bit, without_bit};
+use crate::word::{WORD_BITS, has_bit, meet, with_bit, without_bit};
 use gcx_base::{Memory, Role};
 use std::alloc::Global;
 use std::marker::Model;
@@ -96,6 +96,24 @@ impl NodeRoles {
         ensures { IsTrue result ↔ self.now.held ≡ set.empty }
     {
         self.held == 0 && self.high.is_empty()
+    }
+
+    /// Whether one of these roles is held. Takes no memory.
+    #[inline(always)]
+    pub fn meets(&self, roles: &RoleSet) -> bool
+        ensures { (result ≡ true) ↔ ((k : ℕ) × (set.contains self.now.held k ≡ true) × (set.contains roles.now k ≡ true)) }
+    {
+        if meet(self.held, roles.low) {
+            return true;
+        }
+        self.high.meets(&roles.high)
+    }
+
+    /// How many roles are held, `u64::MAX` where that is less. Takes no memory.
+    pub fn count(&self) -> u64
+        ensures { result ≡ min (set.len self.now.held) (2 ^ 64 - 1) }
+    {
+        u64::from(self.held.count_ones()).saturating_add(self.high.count())
     }
 
     /// Makes the role a held one. One that is held isn't refused, nor is any below 64, nor the first held one from 64 on:

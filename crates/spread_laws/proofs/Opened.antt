@@ -92,7 +92,7 @@ module _ (P : Tree) (w : Grown P) where
 
 module _ (past : Past) (is : IsPast past) (s : OffTree) (i : In s (offs_in past.plan.body)) where
   -- the base's own role is given to the bases
-  own_given : (Q : Tree) (n : Node) → given past.plan Q n s.own ≡ hits 0 (path_of past.plan s.base) n
+  pub own_given : (Q : Tree) (n : Node) → given past.plan Q n s.own ≡ hits 0 (path_of past.plan s.base) n
   own_given Q n =
       let t = tells past is s i in
       ap (given past.plan Q n) (sym t.own_role)

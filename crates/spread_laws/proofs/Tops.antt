@@ -151,7 +151,7 @@ module _ (past : Past) (is : IsPast past) (n : Node) (j : In n past.tree.nodes) 
   kept_same h = ap (λ (c : Bool). cond c (on_off (λ (s : OffTree). is_top past s n) (statement_of past.plan r)) (live past.plan past.tree past.acts n r)) h
 
   -- those kept are live, and pass this test
-  kept_parts : is_kept_at past n r ≡ (live past.plan past.tree past.acts n r && (not (is_spread past.plan r) || is_kept_at past n r))
+  pub kept_parts : is_kept_at past n r ≡ (live past.plan past.tree past.acts n r && (not (is_spread past.plan r) || is_kept_at past n r))
   kept_parts =
       same_bools (is_kept_at past n r) (live past.plan past.tree past.acts n r && (not (is_spread past.plan r) || is_kept_at past n r))
       (λ h. and_from _ _ (kept_live h) (or_right _ _ h))

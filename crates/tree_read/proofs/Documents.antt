@@ -1,5 +1,5 @@
 -- A document's tree from the tokens of its reader.
-use Rattle.std.proofs.Common.{◌≡◌, ℕ, Bool, true, false, List, [], ◌∷◌, ◌++◌, map, None, refl, sym, ◌∙◌, ap, subst, arith, append_assoc}
+use Rattle.std.proofs.Common.{◌≡◌, ℕ, Bool, true, false, List, [], ◌∷◌, ◌++◌, map, None, refl, sym, ◌∙◌, ap, subst, arith, append_assoc, append-nil}
 use Rattle.std.proofs.lemmas.List.{map-append}
 use lib.Utf8.{encode}
 use Rattle.gcx_base.specs.declared.limits.Limits.{Limits}
@@ -43,7 +43,33 @@ taken_on a b c s t u x h waits on keeps tree = record {
   keeps = record { finished = keeps.finished ∙ h.keeps.finished; answer = keeps.answer ∙ h.keeps.answer };
 }
 
--- ---- refusals
+pub taken_none : (a : ReaderView) (s : Tree) → HasTaken a a s s
+taken_none a s = record {
+  tokens = [];
+  waits = refl;
+  tree_is = refl;
+  stands = λ lim bs ended given st. subst (λ (l : List Token). Stands a lim bs ended l) (sym (append-nil given)) st;
+  keeps = record { finished = refl; answer = refl };
+}
+
+-- ---- none waits any more
+
+pub all_taken : (ts : List Token) (a b : ReaderView) → waiting a ≡ ts ++ waiting b → waiting b ≡ [] → ts ≡ waiting a
+all_taken ts a b waits none = sym (waits ∙ ap (λ (l : List Token). ts ++ l) none ∙ append-nil ts)
+
+pub stands_all : (ts : List Token) (a b c : ReaderView) → waiting a ≡ ts ++ waiting b → waiting b ≡ []
+    → ((lim : Limits) (bs : List ℕ) (ended : Bool) (given : List Token) → Stands a lim bs ended given → Stands b lim bs ended (given ++ ts))
+    → ((lim : Limits) (bs : List ℕ) (ended : Bool) (given : List Token) → Stands b lim bs ended given → Stands c lim bs ended (given ++ []))
+    → (lim : Limits) (bs : List ℕ) (ended : Bool) (given : List Token) → Stands a lim bs ended given → Stands c lim bs ended (given ++ waiting a)
+stands_all ts a b c waits none so_far on lim bs ended given st =
+    subst (λ (l : List Token). Stands c lim bs ended (given ++ l)) (all_taken ts a b waits none)
+    (subst (λ (l : List Token). Stands c lim bs ended l) (append-nil (given ++ ts)) (on lim bs ended (given ++ ts) (so_far lim bs ended given st)))
+
+pub keeps_all : (a b c : ReaderView) → Keeps a b → Keeps b c → Keeps a c
+keeps_all a b c h k = record { finished = k.finished ∙ h.finished; answer = k.answer ∙ h.answer }
+
+pub grown_all : (a b : ReaderView) (s t : Tree) → HasTaken a b s t → waiting b ≡ [] → t ≡ grow_all (map said_of (waiting a)) s
+grown_all a b s t h none = subst (λ (l : List Token). t ≡ grow_all (map said_of l) s) (all_taken h.tokens a b h.waits none) h.tree_is
 
 -- ---- a piece, and the end
 

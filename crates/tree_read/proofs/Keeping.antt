@@ -1,5 +1,5 @@
 -- A document's tokens, kept in a list as its reader gives them.
-use Rattle.std.proofs.Common.{◌≡◌, ℕ, Bool, true, false, List, [], ◌∷◌, ◌++◌, map, Some, None, sym, ◌∙◌, ap, subst, append_assoc}
+use Rattle.std.proofs.Common.{◌≡◌, ℕ, Bool, true, false, List, [], ◌∷◌, ◌++◌, map, Some, None, sym, ◌∙◌, ap, refl, subst, append_assoc, append-nil}
 use Rattle.std.specs.declared.result.Result.TheVariants.{Ok}
 use Rattle.std.specs.Prelude.{⊤, Option}
 use Rattle.gcx_base.specs.declared.limits.Limits.{Limits}
@@ -10,7 +10,7 @@ use Rattle.gcx_model.specs.declared.fault.DocFault.{DocFault}
 use Rattle.doc_reader.specs.Standing.{ReaderView, Stands, Keeps, Accepted, GivesBy, answer_by, answer_of, waiting, said_of}
 use Rattle.doc_reader.specs.declared.token.Token.{Token}
 use Rattle.tree_read.specs.Document.{HasGiven, AreTokens}
-use Rattle.tree_read.proofs.Documents.{none_at_start, said_back}
+use Rattle.tree_read.proofs.Documents.{all_taken, none_at_start, said_back}
 
 -- These tokens were taken of a reader, and put behind the list.
 pub record HasKept (old new : ReaderView) (before after : List Token) : Type 0 where
@@ -30,6 +30,18 @@ kept_on a b c s t u x h waits on keeps list = record {
   stands = λ lim bs ended given st. subst (λ (l : List Token). Stands c lim bs ended l) (append_assoc given h.tokens (x ∷ [])) (on lim bs ended (given ++ h.tokens) (h.stands lim bs ended given st));
   keeps = record { finished = keeps.finished ∙ h.keeps.finished; answer = keeps.answer ∙ h.keeps.answer };
 }
+
+pub kept_none : (a : ReaderView) (s : List Token) → HasKept a a s s
+kept_none a s = record {
+  tokens = [];
+  waits = refl;
+  list_is = sym (append-nil s);
+  stands = λ lim bs ended given st. subst (λ (l : List Token). Stands a lim bs ended l) (sym (append-nil given)) st;
+  keeps = record { finished = refl; answer = refl };
+}
+
+pub kept_all : (a b : ReaderView) (s t : List Token) → HasKept a b s t → waiting b ≡ [] → t ≡ s ++ waiting a
+kept_all a b s t h none = subst (λ (l : List Token). t ≡ s ++ l) (all_taken h.tokens a b h.waits none) h.list_is
 
 -- ---- a piece, and the end
 

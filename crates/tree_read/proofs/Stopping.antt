@@ -45,6 +45,14 @@ read_on H K a b c count n buf sound h once some within short more =
       counted = omega (arith, h.counted, ap length (joined_push h.pieces (take n buf)), length-append (joined h.pieces) (take n buf), long);
     }
 
+-- ---- one read, told by the end that it comes to
+
+pub got_as : {E U : Type 0} (a b : SourceView) (n : ℕ) (buf : List ℕ) → ReadsSource {E = E} a b (Ok n) buf → ReadsSource {E = U} a b (Ok n) buf
+got_as a b n buf r = record { calls = r.calls; left = r.left; faults = record { later = r.faults.later; failed = r.faults.failed }; calm = r.calm }
+
+pub failed_as : {E U : Type 0} (e : E) (u : U) (a b : SourceView) (buf : List ℕ) → ReadsSource {E = E} a b (Err e) buf → ReadsSource {E = U} a b (Err u) buf
+failed_as e u a b buf r = record { calls = r.calls; left = r.left; faults = record { later = r.faults.later; failed = r.faults.failed }; calm = r.calm }
+
 -- ---- the ends of the reading
 
 pub stops_at_once : {T : Type 0} (Is : List ℕ → T → Type 0) (a : SourceView) → ReadsBy Is a a (Err end.Memory)

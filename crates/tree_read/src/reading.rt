@@ -1,6 +1,8 @@
 //! A document's tree from its bytes.
 ghost use Rattle.std.specs.Prelude.{◌≡◌, ◌≤◌, ◌++◌, [], ℕ, List, Some, Bool, true, false, map, OnOk, IfErr, IsErrOf};
+ghost use Rattle.std.specs.Io.{ReadsAtMost};
 ghost use Rattle.gcx_base.specs.declared.limits.Limits.{Limits};
+ghost use Rattle.gcx_io.specs.Calls.{ReadsSource};
 ghost use Rattle.gcx_model.specs.Tree.{grow_all};
 ghost use Rattle.doc_reader.specs.Standing.{IsOpen, Stands, Keeps, waiting, said_of};
 ghost use Rattle.doc_reader.specs.declared.token.Token.{Token as Given};
@@ -67,6 +69,21 @@ impl From<DocFault> for DocumentEnd {
     }
 }
 
+/// One read. One that fails is a fault.
+pub(crate) fn read_piece<S: Source>(
+    source: &mut S,
+    buf: &mut [u8; PIECE],
+) -> Result<usize, DocumentEnd>
+    ensures bound { ReadsAtMost result buf.new }
+    ensures fault { IfErr result (λ end. end ≡ DocumentEnd.Fault) }
+    ensures reads { ReadsSource (S.seen source.old) (S.seen source.new) result buf.new }
+    ensures kept { S.keeps source.old source.new }
+    ensures later { S.faults source.old ≤ S.faults source.new }
+{
+    let n = source.read(buf)?;
+    Ok(n)
+}
+
 /// Grows the tree by the tokens that wait.
 fn take_waiting(reader: &mut Reader, tree: &mut Tree) -> Result<(), Memory>
     ensures tree { OnOk result (tree.new ≡ grow_all (map said_of (waiting reader.old)) tree.old) }
@@ -121,7 +138,7 @@ pub fn read_tree<S: Source>(alloc: Global, source: &mut S) -> Result<Tree, Docum
     let mut buf = [0u8; PIECE];
     let mut count = 0;
     'reading: while count <= limits.bytes {
-        let n = source.read(&mut buf)?;
+        let n = read_piece(source, &mut buf)?;
         if n == 0 {
             take_end(&mut reader, &mut tree)?;
             return Ok(tree);

@@ -5,7 +5,7 @@ ghost use Rattle.doc_reader.specs.Standing.{IsOpen, Stands, Keeps, waiting, said
 ghost use Rattle.doc_reader.specs.declared.token.Token.{Token as Given};
 ghost use Rattle.tree_read.specs.Document.{HasGiven, AreTokens, EndsBy, ReadsTokens, SaysWhy};
 
-use crate::reading::{DocumentEnd, PIECE};
+use crate::reading::{DocumentEnd, PIECE, read_piece};
 use doc_reader::{Reader, Token};
 use gcx_base::{Limits, Memory};
 use gcx_io::Source;
@@ -72,7 +72,7 @@ pub fn read_tokens<S: Source>(alloc: Global, source: &mut S) -> Result<VecDeque<
     let mut buf = [0u8; PIECE];
     let mut count = 0;
     'reading: while count <= limits.bytes {
-        let n = source.read(&mut buf)?;
+        let n = read_piece(source, &mut buf)?;
         if n == 0 {
             keep_end(&mut reader, &mut tokens)?;
             return Ok(tokens);

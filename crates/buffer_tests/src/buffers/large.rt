@@ -17,9 +17,9 @@ fn is_told(
     script: &str,
     want: &str,
 ) -> Result<(), Fail> {
-    let got = told(alloc, SlabNodes::new(alloc), query, document, script)?;
+    let got = told(alloc, SlabNodes::new(alloc), query, document, script, true)?;
     assert_eq!(rt; got.as_str(), want);
-    let got = told(alloc, RawNodes::new(alloc), query, document, script)?;
+    let got = told(alloc, RawNodes::new(alloc), query, document, script, false)?;
     assert_eq!(rt; got.as_str(), want, "raw");
     Ok(())
 }

@@ -211,7 +211,7 @@ fn fed<N: NodeStore<Row> + Drop>(alloc: Global, nodes: N) -> Result<Buffer<N>, F
     let plan = plan_of(alloc, b"/a")?;
     let mut told = String::new(alloc);
     let document = b"<a><b>x</b><c><b/>x</c><b/></a>";
-    followed(alloc, &mut told, nodes, &plan, document, "12")
+    followed(alloc, &mut told, nodes, &plan, document, "12", false)
 }
 
 fn are_found<N: NodeStore<Row>>(

@@ -3,7 +3,7 @@ ghost use Rattle.std.specs.Prelude.{◌≡◌, ◌<◌, ◌≤◌, ℕ, true, If
 ghost use Rattle.std.specs.FinMap as map;
 ghost use Rattle.gcx_model.specs.Past.{IsNode};
 ghost use Rattle.buf_tree.specs.View.{InUse};
-ghost use Rattle.buffer_tests.specs.Passed.{IsTop};
+ghost use Rattle.buffer_tests.specs.Passed.{HasTop};
 
 use super::{MANY, first_row, row_behind};
 use buf_tree::{Buffer, Row};
@@ -91,7 +91,7 @@ fn may_follow(top: Top, serial: u64, nodes: u64) -> bool
 /// A buffer that has the document node.
 fn begun<N: NodeStore<Row> + Drop>(alloc: Global, nodes: N) -> Result<(Buffer<N>, Top), Fail>
     requires { N.rows nodes ≡ map.empty }
-    ensures { IfOk result (λ x. IsTop x.0.rows x.1.place.0 x.1.last) }
+    ensures { IfOk result (λ x. HasTop x.0 x.1.place.0 x.1.last) }
 {
     let mut given = Given::new(alloc);
     given.push(Role(0))?;
@@ -109,8 +109,8 @@ fn open_now<N: NodeStore<Row>>(
     top: Top,
     letter: u8,
 ) -> Result<Top, Fail>
-    requires { IsTop buffer.old.rows top.place.0 top.last }
-    ensures { IfOk result (λ t. IsTop buffer.new.rows t.place.0 t.last) }
+    requires { HasTop buffer.old top.place.0 top.last }
+    ensures { IfOk result (λ t. HasTop buffer.new t.place.0 t.last) }
 {
     let serial = buffer.nodes();
     if !may_follow(top, serial, MANY) {
@@ -146,8 +146,8 @@ fn open_late<N: NodeStore<Row>>(
     letter: u8,
     serial: u64,
 ) -> Result<Top, Fail>
-    requires { IsTop buffer.old.rows top.place.0 top.last }
-    ensures { IfOk result (λ t. IsTop buffer.new.rows t.place.0 t.last) }
+    requires { HasTop buffer.old top.place.0 top.last }
+    ensures { IfOk result (λ t. HasTop buffer.new t.place.0 t.last) }
 {
     if !may_follow(top, serial, buffer.nodes()) {
         return Err("not passed")?;
@@ -167,8 +167,8 @@ fn settle<N: NodeStore<Row>>(
     top: Top,
     passed: &[(u8, u64)],
 ) -> Result<Top, Fail>
-    requires { IsTop buffer.old.rows top.place.0 top.last }
-    ensures { IfOk result (λ t. IsTop buffer.new.rows t.place.0 t.last) }
+    requires { HasTop buffer.old top.place.0 top.last }
+    ensures { IfOk result (λ t. HasTop buffer.new t.place.0 t.last) }
 {
     let mut top = top;
     for element in passed {
@@ -183,7 +183,7 @@ fn pass<N: NodeStore<Row>>(
     passed: &mut Vec<(u8, u64)>,
     letter: u8,
 ) -> Result<(), Fail>
-    ensures { OnOk result ((p last : ℕ) → IsTop buffer.old.rows p last → IsTop buffer.new.rows p last) }
+    ensures { OnOk result ((p last : ℕ) → HasTop buffer.old p last → HasTop buffer.new p last) }
 {
     let serial = buffer.nodes();
     if serial > MANY {
@@ -204,8 +204,8 @@ fn take_letter<N: NodeStore<Row>>(
     passed: &mut Vec<(u8, u64)>,
     letter: u8,
 ) -> Result<Top, Fail>
-    requires { IsTop buffer.old.rows top.place.0 top.last }
-    ensures { IfOk result (λ t. IsTop buffer.new.rows t.place.0 t.last) }
+    requires { HasTop buffer.old top.place.0 top.last }
+    ensures { IfOk result (λ t. HasTop buffer.new t.place.0 t.last) }
 {
     if !has_role(letter) {
         pass(buffer, passed, letter)?;

@@ -58,7 +58,7 @@ fn begin(alloc: Global, plan: &Plan) -> Result<(Machine<'_, Plain>, Buffer<SlabN
 {
     let projector = Projector::new(alloc, plan)?;
     let given = projector.document(alloc)?;
-    let buffer = Buffer::new(alloc, SlabNodes::new(alloc), given)?;
+    let buffer = Buffer::new_spread(alloc, SlabNodes::new(alloc), given, plan)?;
     let machine = Machine::new(alloc, plan, Plain)?;
     Ok((machine, buffer))
 }

@@ -18,13 +18,13 @@ value-requires g c = c.requires.lefts _ (in_at c.args.lefts.now c.loop-member.me
 pub returns-then-branch : goal.returns-then-branch
 returns-then-branch g c P keep ns ms rl rr =
     passes_found c.args.buffer.now.rows (λ P keep os. Readable c.args.buffer.now.rows P keep c.args.rights.now os) (λ P os v. any (compare c.args.rel v) (map (node_value P) os)) c.args.lefts.now c.loop-member.member-index (record { serial = 0; place = 0 })
-    c.loop-member-test.true c.loop-member.invariant c.in_ok-left.left.now c.in_ok-left.ensures c.in_ok-holds_with_some.field-0
+    c.loop-member-test.true c.loop-member.invariant c.in_ok-left.left.now c.in_ok-left.ensures.value c.in_ok-holds_with_some.field-0
     (λ P keep os x. c.in_ok-holds_with_some.ensures P keep os x) c.if-branch.true P keep ns ms rl rr
 
 pub loop-member-preserved : goal.loop-member-preserved
 loop-member-preserved g c =
     passes_more c.args.buffer.now.rows (λ P keep os. Readable c.args.buffer.now.rows P keep c.args.rights.now os) (λ P os v. any (compare c.args.rel v) (map (node_value P) os)) c.args.lefts.now c.loop-member.member-index (record { serial = 0; place = 0 })
-    c.loop-member-test.true c.loop-member.invariant c.in_ok-left.left.now c.in_ok-left.ensures c.in_ok-holds_with_some.field-0
+    c.loop-member-test.true c.loop-member.invariant c.in_ok-left.left.now c.in_ok-left.ensures.value c.in_ok-holds_with_some.field-0
     (λ P keep os x. c.in_ok-holds_with_some.ensures P keep os x) c.if-branch.false
 
 pub returns : goal.returns

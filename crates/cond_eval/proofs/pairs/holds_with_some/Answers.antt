@@ -8,12 +8,12 @@ value-requires g c = c.requires _ (in_at c.args.set.now c.loop-member.member-ind
 
 pub returns-then-holds : goal.returns-then-holds
 returns-then-holds g c P keep ns r =
-    passes_found c.args.buffer.now.rows Alone (λ P os. compare c.args.rel (Bytes c.args.left.now)) c.args.set.now c.loop-member.member-index (record { serial = 0; place = 0 }) c.loop-member-test.true c.loop-member.invariant c.in_ok-right.right.now c.in_ok-right.ensures c.holds.result
+    passes_found c.args.buffer.now.rows Alone (λ P os. compare c.args.rel (Bytes c.args.left.now)) c.args.set.now c.loop-member.member-index (record { serial = 0; place = 0 }) c.loop-member-test.true c.loop-member.invariant c.in_ok-right.right.now c.in_ok-right.ensures.value c.holds.result
     (λ P keep os x. c.holds.ensures ∙ ap (rel_holds c.args.rel) c.compare_text.ensures) c.if-holds.true P keep ns [] r tt
 
 pub loop-member-preserved : goal.loop-member-preserved
 loop-member-preserved g c =
-    passes_more c.args.buffer.now.rows Alone (λ P os. compare c.args.rel (Bytes c.args.left.now)) c.args.set.now c.loop-member.member-index (record { serial = 0; place = 0 }) c.loop-member-test.true c.loop-member.invariant c.in_ok-right.right.now c.in_ok-right.ensures c.holds.result
+    passes_more c.args.buffer.now.rows Alone (λ P os. compare c.args.rel (Bytes c.args.left.now)) c.args.set.now c.loop-member.member-index (record { serial = 0; place = 0 }) c.loop-member-test.true c.loop-member.invariant c.in_ok-right.right.now c.in_ok-right.ensures.value c.holds.result
     (λ P keep os x. c.holds.ensures ∙ ap (rel_holds c.args.rel) c.compare_text.ensures) c.if-holds.false
 
 pub returns : goal.returns

@@ -10,12 +10,12 @@ value-requires g c = c.requires.used _ (in_at c.args.set.now c.loop-member.membe
 
 pub returns-then-satisfies : goal.returns-then-satisfies
 returns-then-satisfies g c P keep ns r =
-    passes_found c.args.buffer.now.rows Alone (λ P os v. any (compare c.args.rel v) (literal_value c.args.literal.now ∷ [])) c.args.set.now c.loop-member.member-index (record { serial = 0; place = 0 }) c.loop-member-test.true c.loop-member.invariant c.in_ok-left.left.now c.in_ok-left.ensures c.satisfies.result
+    passes_found c.args.buffer.now.rows Alone (λ P os v. any (compare c.args.rel v) (literal_value c.args.literal.now ∷ [])) c.args.set.now c.loop-member.member-index (record { serial = 0; place = 0 }) c.loop-member-test.true c.loop-member.invariant c.in_ok-left.left.now c.in_ok-left.ensures.value c.satisfies.result
     (λ P keep os x. c.satisfies.ensures ∙ or_none (compare c.args.rel (Bytes c.in_ok-left.left.now) (literal_value c.args.literal.now))) c.if-satisfies.true P keep ns [] r tt
 
 pub loop-member-preserved : goal.loop-member-preserved
 loop-member-preserved g c =
-    passes_more c.args.buffer.now.rows Alone (λ P os v. any (compare c.args.rel v) (literal_value c.args.literal.now ∷ [])) c.args.set.now c.loop-member.member-index (record { serial = 0; place = 0 }) c.loop-member-test.true c.loop-member.invariant c.in_ok-left.left.now c.in_ok-left.ensures c.satisfies.result
+    passes_more c.args.buffer.now.rows Alone (λ P os v. any (compare c.args.rel v) (literal_value c.args.literal.now ∷ [])) c.args.set.now c.loop-member.member-index (record { serial = 0; place = 0 }) c.loop-member-test.true c.loop-member.invariant c.in_ok-left.left.now c.in_ok-left.ensures.value c.satisfies.result
     (λ P keep os x. c.satisfies.ensures ∙ or_none (compare c.args.rel (Bytes c.in_ok-left.left.now) (literal_value c.args.literal.now))) c.if-satisfies.false
 
 pub returns : goal.returns

@@ -15,21 +15,26 @@ use Rattle.engine.proofs.Making.{actors_begin, given_begin}
 use Rattle.engine.proofs.TurnsFed.{reaches_none}
 use Rattle.engine.proofs.turns.actors_of.Goals as goal
 
+pub new_spread-requires-clause-given : goal.new_spread-requires-clause-given
+new_spread-requires-clause-given g c =
+    let q = c.requires.placed in
+    c.in_ok-given.ensures (opening_past (plan_tree c.args.plan.now)) (c.in_ok-projector.ensures.stands q.0 q.1 q.2)
+
 pub returns-clause-reaches : goal.returns-clause-reaches
 returns-clause-reaches g c =
     let pl = plan_tree c.args.plan.now in
     let p = c.in_ok-projector.projector in
-    let v = c.in_ok-new.field-0 in
-    let m = c.in_ok-new-2.field-0 in
+    let v = c.in_ok-new_spread.field-0 in
+    let m = c.in_ok-new.field-0 in
     let given = c.in_ok-given.given in
     let q = c.requires.placed in
     let projects : Projects p (opening_past pl) = c.in_ok-projector.ensures.stands q.0 q.1 q.2 in
     let roles : numbers given ≡ roles_given pl opening Root = c.in_ok-given.ensures (opening_past pl) projects in
-    let started = c.in_ok-new.ensures.started in
-    let stands = c.in_ok-new.ensures.stands q.0 pl q.1 q.2 roles in
-    let on : g.C.Conds.stands m.conds opening = subst (λ (z : g.row.C.Denot). g.C.Conds.stands z opening) (sym c.in_ok-new-2.ensures.conds) c.requires.conds in
+    let started = c.in_ok-new_spread.ensures.started in
+    let stands = c.in_ok-new_spread.ensures.stands in
+    let on : g.C.Conds.stands m.conds opening = subst (λ (z : g.row.C.Denot). g.C.Conds.stands z opening) (sym c.in_ok-new.ensures.conds) c.requires.conds in
     let actors : ActorsStand pl (g.C.Conds.stands m.conds) p m.position v opening 0
-    = actors_begin pl (g.C.Conds.stands m.conds) p m.position v given projects (c.in_ok-projector.ensures.place v given started) started stands (c.in_ok-new-2.ensures.stands v stands) on in
+    = actors_begin pl (g.C.Conds.stands m.conds) p m.position v given projects (c.in_ok-projector.ensures.place v given started) started stands (c.in_ok-new.ensures.stands v stands) on in
     let few : length given < 2 ^ 64 = search rules in
     let count : length c.items.result.now ≡ capped (sum_given pl opening) = ap length c.items.ensures.same ∙ given_begin pl given few roles in
     let made : ProjectorView → Actors g.row.N.Denot g.row.C.Denot

@@ -5,6 +5,7 @@ use Rattle.gcx_io.specs.Views.{ShelfView}
 use Rattle.gcx_model.specs.PlanView.{plan_tree}
 use Rattle.doc_reader.specs.Standing.{said_of}
 use Rattle.trace_check.specs.Judging.{trace_of}
+use Rattle.gcx_cmd.proofs.Attached.{missed_cause, missed_keeps, missed_one, opened_none, unopened_keeps}
 use Rattle.gcx_cmd.proofs.FileRead.{faults_seen, file_read}
 use Rattle.gcx_cmd.proofs.Judged.{judged_does, judged_fault, judged_memory}
 use Rattle.gcx_cmd.specs.CheckDoes.{TraceDoes}
@@ -13,6 +14,25 @@ use Rattle.gcx_cmd.specs.ReadEnd.{verdict}
 use Rattle.gcx_cmd.specs.Reads.{KeepsShelf}
 use Rattle.gcx_cmd.specs.declared.status.Status.{Status}
 use Rattle.gcx_cmd.proofs.checking.judge.Goals as goal
+
+pub returns-in-Err-Failed-clause-judges : goal.returns-in-Err-Failed-clause-judges
+returns-in-Err-Failed-clause-judges g c = inl (missed_one _ _ _ _ c.in-Err-Failed.ensures.attaches c.in-Err-Failed.field-0-is)
+
+pub returns-in-Err-Failed-clause-keeps : goal.returns-in-Err-Failed-clause-keeps
+returns-in-Err-Failed-clause-keeps g c =
+    let before = ap (λ (v : ShelfView). v.faults) (g.met.F.Shelf.sees c.args.files.now) in
+    let after = ap (λ (v : ShelfView). v.faults) (g.met.F.Shelf.sees c.attach.new.self) in
+    let later : (g.F.Shelf.seen c.args.files.now).faults ≤ (g.F.Shelf.seen c.attach.new.self).faults = omega (arith, c.attach.ensures.later, before, after) in
+    missed_keeps _ _ _ _ c.in-Err-Failed.ensures.attaches c.in-Err-Failed.field-0-is later
+
+pub returns-in-Err-Failed-clause-cause : goal.returns-in-Err-Failed-clause-cause
+returns-in-Err-Failed-clause-cause g c = λ is. missed_cause _ _ _ _ c.in-Err-Failed.ensures.attaches c.in-Err-Failed.field-0-is
+
+pub returns-in-Err-Memory-clause-judges : goal.returns-in-Err-Memory-clause-judges
+returns-in-Err-Memory-clause-judges g c = inl (opened_none _ _ _ _ c.in-Err-Memory.ensures.attaches c.in-Err-Memory.field-0-is)
+
+pub returns-in-Err-Memory-clause-keeps : goal.returns-in-Err-Memory-clause-keeps
+returns-in-Err-Memory-clause-keeps g c = unopened_keeps _ _ _ _ c.in-Err-Memory.ensures.attaches c.in-Err-Memory.field-0-is
 
 pub returns-clause-judges : goal.returns-clause-judges
 returns-clause-judges g c =

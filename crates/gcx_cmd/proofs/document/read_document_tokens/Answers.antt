@@ -1,11 +1,32 @@
-use Rattle.std.proofs.Common.{rules, ◌≡◌, ◌≤◌, ap, arith}
+use Rattle.std.proofs.Common.{rules, inl, ◌≡◌, ◌≤◌, ap, arith}
 use Rattle.std.specs.declared.result.Result.TheVariants.{Ok, Err}
+use Rattle.gcx_io.specs.Views.{ShelfView}
+use Rattle.gcx_cmd.proofs.Attached.{missed_cause, missed_keeps, missed_one, opened_none, unopened_keeps}
 use Rattle.gcx_cmd.proofs.FileRead.{faults_seen, file_read}
 use Rattle.gcx_cmd.proofs.Trees.{tokens_does, tokens_stop}
 use Rattle.gcx_cmd.specs.DocumentDoes.{TokensDoes}
 use Rattle.gcx_cmd.specs.Reads.{KeepsShelf}
 use Rattle.gcx_cmd.specs.ReadEnd.{document_status}
 use Rattle.gcx_cmd.proofs.document.read_document_tokens.Goals as goal
+
+pub returns-in-Err-Failed-clause-reads : goal.returns-in-Err-Failed-clause-reads
+returns-in-Err-Failed-clause-reads g c = inl (missed_one _ _ _ _ c.in-Err-Failed.ensures.attaches c.in-Err-Failed.field-0-is)
+
+pub returns-in-Err-Failed-clause-keeps : goal.returns-in-Err-Failed-clause-keeps
+returns-in-Err-Failed-clause-keeps g c =
+    let before = ap (λ (v : ShelfView). v.faults) (g.met.F.Shelf.sees c.args.files.now) in
+    let after = ap (λ (v : ShelfView). v.faults) (g.met.F.Shelf.sees c.attach.new.self) in
+    let later : (g.F.Shelf.seen c.args.files.now).faults ≤ (g.F.Shelf.seen c.attach.new.self).faults = omega (arith, c.attach.ensures.later, before, after) in
+    missed_keeps _ _ _ _ c.in-Err-Failed.ensures.attaches c.in-Err-Failed.field-0-is later
+
+pub returns-in-Err-Failed-clause-cause : goal.returns-in-Err-Failed-clause-cause
+returns-in-Err-Failed-clause-cause g c = λ is. missed_cause _ _ _ _ c.in-Err-Failed.ensures.attaches c.in-Err-Failed.field-0-is
+
+pub returns-in-Err-Memory-clause-reads : goal.returns-in-Err-Memory-clause-reads
+returns-in-Err-Memory-clause-reads g c = inl (opened_none _ _ _ _ c.in-Err-Memory.ensures.attaches c.in-Err-Memory.field-0-is)
+
+pub returns-in-Err-Memory-clause-keeps : goal.returns-in-Err-Memory-clause-keeps
+returns-in-Err-Memory-clause-keeps g c = unopened_keeps _ _ _ _ c.in-Err-Memory.ensures.attaches c.in-Err-Memory.field-0-is
 
 pub returns-in-Ok-read_tokens-clause-reads : goal.returns-in-Ok-read_tokens-clause-reads
 returns-in-Ok-read_tokens-clause-reads g c =

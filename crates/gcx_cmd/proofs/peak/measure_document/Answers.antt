@@ -1,14 +1,12 @@
 use Rattle.std.proofs.Common.{rules, ◌≡◌, inl, ◌≤◌, refl, ap, arith}
 use Rattle.std.specs.declared.result.Result.TheVariants.{Ok, Err}
 use Rattle.engine.specs.declared.report.Ended.TheVariants as end
-use Rattle.gcx_io.specs.Calls.{Attaches}
 use Rattle.gcx_io.specs.Causes.{Rose}
 use Rattle.gcx_io.specs.Views.{ShelfView}
-use Rattle.gcx_io.specs.declared.fault.AttachFault.TheVariants as attach
-use Rattle.gcx_cmd.proofs.Along.{misses_none}
+use Rattle.gcx_cmd.proofs.Attached.{missed_cause, missed_keeps, missed_one, opened_none, unopened_keeps}
 use Rattle.gcx_cmd.proofs.DocRuns.{ended_fault}
 use Rattle.gcx_cmd.proofs.FileRead.{faults_seen, file_read}
-use Rattle.gcx_cmd.proofs.Measures.{measures_ok, measures_stop, ended_ok, opens_none}
+use Rattle.gcx_cmd.proofs.Measures.{measures_ok, measures_stop, ended_ok}
 use Rattle.gcx_cmd.specs.Outside.{StoreView}
 use Rattle.gcx_cmd.specs.Reads.{KeepsShelf}
 use Rattle.gcx_cmd.specs.Runs.{DocumentMeasures, stored}
@@ -16,16 +14,23 @@ use Rattle.gcx_cmd.specs.Status.{ended_status}
 use Rattle.gcx_cmd.proofs.peak.measure_document.Goals as goal
 
 pub returns-in-Err-Failed-clause-measures : goal.returns-in-Err-Failed-clause-measures
-returns-in-Err-Failed-clause-measures g c = λ q is.
-    let attaches : Attaches c.args.name.now (g.F.Shelf.seen c.args.files.now) (g.F.Shelf.seen c.attach.new.self) (Err attach.Failed) =
-    rw c.in-Err-Failed.field-0-is at c.in-Err-Failed.ensures.attaches in
-    inl (refl, misses_none _ _ _ attaches.0)
+returns-in-Err-Failed-clause-measures g c = λ q is. inl (refl, missed_one _ _ _ _ c.in-Err-Failed.ensures.attaches c.in-Err-Failed.field-0-is)
 
 pub returns-in-Err-Memory-clause-measures : goal.returns-in-Err-Memory-clause-measures
-returns-in-Err-Memory-clause-measures g c = λ q is.
-    let same : Attaches c.args.name.now (g.F.Shelf.seen c.args.files.now) (g.F.Shelf.seen c.attach.new.self) (Err attach.Memory) =
-    rw c.in-Err-Memory.field-0-is at c.in-Err-Memory.ensures.attaches in
-    inl (refl, opens_none _ _ same)
+returns-in-Err-Memory-clause-measures g c = λ q is. inl (refl, opened_none _ _ _ _ c.in-Err-Memory.ensures.attaches c.in-Err-Memory.field-0-is)
+
+pub returns-in-Err-Failed-clause-keeps : goal.returns-in-Err-Failed-clause-keeps
+returns-in-Err-Failed-clause-keeps g c =
+    let before = ap (λ (v : ShelfView). v.faults) (g.met.F.Shelf.sees c.args.files.now) in
+    let after = ap (λ (v : ShelfView). v.faults) (g.met.F.Shelf.sees c.attach.new.self) in
+    let later : (g.F.Shelf.seen c.args.files.now).faults ≤ (g.F.Shelf.seen c.attach.new.self).faults = omega (arith, c.attach.ensures.later, before, after) in
+    missed_keeps _ _ _ _ c.in-Err-Failed.ensures.attaches c.in-Err-Failed.field-0-is later
+
+pub returns-in-Err-Failed-clause-cause : goal.returns-in-Err-Failed-clause-cause
+returns-in-Err-Failed-clause-cause g c = λ is. missed_cause _ _ _ _ c.in-Err-Failed.ensures.attaches c.in-Err-Failed.field-0-is
+
+pub returns-in-Err-Memory-clause-keeps : goal.returns-in-Err-Memory-clause-keeps
+returns-in-Err-Memory-clause-keeps g c = unopened_keeps _ _ _ _ c.in-Err-Memory.ensures.attaches c.in-Err-Memory.field-0-is
 
 pub returns-in-Ok-ended-clause-measures : goal.returns-in-Ok-ended-clause-measures
 returns-in-Ok-ended-clause-measures g c = λ q is.

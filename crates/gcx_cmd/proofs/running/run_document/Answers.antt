@@ -1,7 +1,8 @@
-use Rattle.std.proofs.Common.{rules, ◌≡◌, ◌≤◌, inl, ap, arith}
+use Rattle.std.proofs.Common.{rules, ◌≡◌, ◌≤◌, inl, refl, ap, arith}
 use Rattle.engine.specs.declared.report.Ended.TheVariants as end
 use Rattle.gcx_io.specs.Causes.{Rose}
 use Rattle.gcx_io.specs.Views.{ShelfView}
+use Rattle.gcx_cmd.proofs.Attached.{missed_cause, missed_keeps, missed_one, opened_none, unopened_keeps}
 use Rattle.gcx_cmd.proofs.DocRuns.{document_runs, ended_fault}
 use Rattle.gcx_cmd.proofs.FileRead.{faults_seen, file_read}
 use Rattle.gcx_cmd.specs.Outside.{outside}
@@ -9,6 +10,27 @@ use Rattle.gcx_cmd.specs.Reads.{KeepsShelf}
 use Rattle.gcx_cmd.specs.Runs.{DocumentRuns}
 use Rattle.gcx_cmd.specs.Status.{ended_status}
 use Rattle.gcx_cmd.proofs.running.run_document.Goals as goal
+
+pub returns-in-Err-Failed-clause-runs : goal.returns-in-Err-Failed-clause-runs
+returns-in-Err-Failed-clause-runs g c = λ q is.
+    inl (record { out = refl; err = refl; store = refl }, missed_one _ _ _ _ c.in-Err-Failed.ensures.attaches c.in-Err-Failed.field-0-is)
+
+pub returns-in-Err-Failed-clause-keeps : goal.returns-in-Err-Failed-clause-keeps
+returns-in-Err-Failed-clause-keeps g c =
+    let before = ap (λ (v : ShelfView). v.faults) (g.met.F.Shelf.sees c.args.files.now) in
+    let after = ap (λ (v : ShelfView). v.faults) (g.met.F.Shelf.sees c.attach.new.self) in
+    let later : (g.F.Shelf.seen c.args.files.now).faults ≤ (g.F.Shelf.seen c.attach.new.self).faults = omega (arith, c.attach.ensures.later, before, after) in
+    missed_keeps _ _ _ _ c.in-Err-Failed.ensures.attaches c.in-Err-Failed.field-0-is later
+
+pub returns-in-Err-Failed-clause-cause : goal.returns-in-Err-Failed-clause-cause
+returns-in-Err-Failed-clause-cause g c = λ is. missed_cause _ _ _ _ c.in-Err-Failed.ensures.attaches c.in-Err-Failed.field-0-is
+
+pub returns-in-Err-Memory-clause-runs : goal.returns-in-Err-Memory-clause-runs
+returns-in-Err-Memory-clause-runs g c = λ q is.
+    inl (record { out = refl; err = refl; store = refl }, opened_none _ _ _ _ c.in-Err-Memory.ensures.attaches c.in-Err-Memory.field-0-is)
+
+pub returns-in-Err-Memory-clause-keeps : goal.returns-in-Err-Memory-clause-keeps
+returns-in-Err-Memory-clause-keeps g c = unopened_keeps _ _ _ _ c.in-Err-Memory.ensures.attaches c.in-Err-Memory.field-0-is
 
 pub returns-clause-runs : goal.returns-clause-runs
 returns-clause-runs g c = λ q is.

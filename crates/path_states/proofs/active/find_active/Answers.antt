@@ -1,14 +1,23 @@
-use Rattle.std.proofs.Common.{ℕ, List, [], subst}
+use Rattle.std.proofs.Common.{ℕ, List, [], refl, subst}
+use Rattle.gcx_base.specs.declared.steps.Axis.TheVariants.{Child, Descendant}
 use Rattle.path_states.specs.Lists.{From, Gains}
 use Rattle.path_states.specs.Active.{Under, ActiveBelow, kids_of, below_of}
-use Rattle.path_states.proofs.Gaining.{gains_two, holds_from}
+use Rattle.path_states.specs.Branches.{steps_by}
+use Rattle.path_states.proofs.Branching.{from_as}
+use Rattle.path_states.proofs.Gaining.{gains_as, gains_two, holds_from}
 use Rattle.path_states.proofs.active.find_active.Goals as goal
 
 pub returns : goal.returns
-returns c = λ has kind is.
-    let Q : ℕ → Type 0 = From c.args.above.now (Under kids_of c.args.tree.now kind) in
-    let R : ℕ → Type 0 = From c.args.pending.now (Under below_of c.args.tree.now kind) in
-    holds_from c.try_below.new.active.items (ActiveBelow c.args.tree.now c.args.above.now c.args.pending.now kind)
-    (gains_two [] c.try_kids.new.active.items c.try_below.new.active.items Q R
-    (subst (λ (z : List ℕ). Gains z c.try_kids.new.active.items Q) c.new-active.ensures.items (c.in_ok-try_kids.ensures has kind is))
-    (c.in_ok-try_below.ensures has kind is))
+returns c = λ index kind is.
+    let tree = c.args.tree.now in
+    let above = c.args.above.now in
+    let pending = c.args.pending.now in
+    let Q : ℕ → Type 0 = From above (Under kids_of tree kind) in
+    let R : ℕ → Type 0 = From pending (Under below_of tree kind) in
+    let kids = gains_as c.new-active.result.items c.try_below_all.new.active.items (From above (Under (steps_by Child) tree kind)) Q (from_as (steps_by Child) kids_of tree kind (λ s. refl) above) (from_as kids_of (steps_by Child) tree kind (λ s. refl) above)
+    (c.in_ok-try_below_all.ensures index kind is) in
+    let below = gains_as c.try_below_all.new.active.items c.try_below_all-2.new.active.items (From pending (Under (steps_by Descendant) tree kind)) R (from_as (steps_by Descendant) below_of tree kind (λ s. refl) pending) (from_as below_of (steps_by Descendant) tree kind (λ s. refl) pending)
+    (c.in_ok-try_below_all-2.ensures index kind is) in
+    holds_from c.try_below_all-2.new.active.items (ActiveBelow tree above pending kind)
+    (gains_two [] c.try_below_all.new.active.items c.try_below_all-2.new.active.items Q R
+    (subst (λ (z : List ℕ). Gains z c.try_below_all.new.active.items Q) c.new-active.ensures.items kids) below)

@@ -1,7 +1,7 @@
 use Rattle.std.proofs.Common.{take}
 use Rattle.path_states.specs.Lists.{From}
-use Rattle.path_states.specs.Active.{GainsBy, Passes}
+use Rattle.path_states.specs.Active.{GainsBy, PassesTo}
 use Rattle.path_states.proofs.active.try_all.Given as goal
 
-abbrev pub invariant-loop-number : goal.invariant-loop-number
-invariant-loop-number l = GainsBy l.tree l.names l.name l.fn.active.items l.active.items (λ kind. From (take l.number-index l.numbers) (Passes l.tree kind))
+abbrev pub invariant-loop-branch : goal.invariant-loop-branch
+invariant-loop-branch l = GainsBy l.tree l.steps l.name l.fn.active.items l.active.items (λ kind. From (take l.branch-index l.branches) (PassesTo l.tree kind))

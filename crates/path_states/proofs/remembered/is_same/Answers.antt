@@ -1,8 +1,8 @@
 use Rattle.path_states.proofs.Looking.{read_at}
 use Rattle.path_states.proofs.remembered.is_same.Goals as goal
 
-pub returns-in-Some : goal.returns-in-Some
-returns-in-Some c = λ h. record {
+pub returns-then-at-kept-clause-same : goal.returns-then-at-kept-clause-same
+returns-then-at-kept-clause-same c = λ h. record {
   known = c.in-Some.known.now;
   is = read_at c.args.states.now c.args.at c.in-Some.known.now c.in-Some.ensures.lookup.3.0 c.in-Some.ensures.lookup.1;
   same = c.has_parts_of.ensures h;

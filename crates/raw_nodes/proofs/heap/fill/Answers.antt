@@ -1,7 +1,16 @@
-use Rattle.std.proofs.Common.{◌≡◌, ◌+◌, ◌<◌, Some, None, set, slice_index_or, sym, ap, ◌∙◌, arith, length, add-one}
+use Rattle.std.proofs.Common.{◌≡◌, ◌+◌, ◌<◌, Some, None, set, slice_index_or, sym, ap, subst, ◌∙◌, arith, length, add-one}
+use Rattle.std.specs.Prelude.{IfSome}
+use Rattle.raw_nodes.specs.Spots.{IsInSomeBlock}
 use Rattle.raw_nodes.specs.Nodes.{dead_node}
+use Rattle.raw_nodes.proofs.Placed.{link_placed}
 use Rattle.raw_nodes.proofs.Filling.{filling, filling_none, filling_long, filling_more, filling_all}
 use Rattle.raw_nodes.proofs.heap.fill.Goals as goal
+
+pub of-own-requires : goal.of-own-requires
+of-own-requires g c = subst (λ o. IfSome o (λ l. IsInSomeBlock l.ptr)) (sym c.link_at-this.ensures) (link_placed c.args.links.now c.loop-index.index c.requires.placed)
+
+pub of-next-requires : goal.of-next-requires
+of-next-requires g c = subst (λ o. IfSome o (λ l. IsInSomeBlock l.ptr)) (sym c.link_at-later.ensures) (link_placed c.args.links.now (c.loop-index.index + 1) c.requires.placed)
 
 pub write-requires : goal.write-requires
 write-requires g c =
@@ -13,13 +22,16 @@ write-requires g c =
 pub loop-index-preserved : goal.loop-index-preserved
 loop-index-preserved g c =
     let T = g.row.T.Denot in
-    let next = rw add-one at c.link_at-next.ensures in
+    let link = rw add-one at c.link_at-later.ensures in
+    let own = c.of-own.ensures ∙ c.link_at-this.ensures in
+    let next = c.of-next.ensures ∙ link in
     let wrote = filling_more T c.loop-index.index c.args.first c.args.links.now (omega arith) in (
       c.write.ensures.0 ∙ c.loop-index.invariant.0,
       rw add-one (c.write.ensures.1
           ∙ ap (λ xs. set xs c.loop-index.index (Some c.dead.result)) c.loop-index.invariant.1
-          ∙ ap (λ n. set (filling T c.loop-index.index c.args.first c.args.links.now) c.loop-index.index (Some n)) (c.dead.ensures ∙ ap (dead_node (c.args.first + c.loop-index.index)) next)
+          ∙ ap (λ n. set (filling T c.loop-index.index c.args.first c.args.links.now) c.loop-index.index (Some n)) (c.dead.ensures.node ∙ (λ i. dead_node (c.args.first + c.loop-index.index) (own i) (next i)))
           ∙ wrote),
+      c.dead.ensures.blank,
     )
 
 pub returns-clause-filled : goal.returns-clause-filled

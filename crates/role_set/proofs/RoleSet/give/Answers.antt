@@ -3,9 +3,9 @@ use Rattle.std.specs.Prelude.{Result, Ok, Err}
 use Rattle.gcx_base.specs.declared.memory.Memory.{Memory}
 use Rattle.std.proofs.Common.{[], ◌∷◌, ◌++◌, ap, sym, subst, ◌∙◌, ◌≡◌, true, false}
 use Rattle.std.specs.FinSet.{insert, contains}
-use Rattle.role_set.specs.Words.{roles_of, AllHigh, high_numbers}
+use Rattle.role_set.specs.Words.{roles_of, HighOnce, high_numbers}
 use Rattle.role_set.proofs.Sets.{insert_member}
-use Rattle.role_set.proofs.Roles.{insert_low, insert_high, high_member, no_high, all_high-push}
+use Rattle.role_set.proofs.Roles.{insert_low, insert_high, high_member, no_high, high_once-push}
 use Rattle.role_set.proofs.RoleSet.give.Goals as goal
 
 pub returns-then-role-lt-WORD_BITS-clause-ok : goal.returns-then-role-lt-WORD_BITS-clause-ok
@@ -17,9 +17,9 @@ returns-then-has-clause-ok c = insert_member _ _ (ap (λ s. contains s c.args.ro
 pub invariant_of-self-2 : goal.invariant_of-self-2
 invariant_of-self-2 c = (c.add.ensures.high, by c.add.result c.add.ensures.ok c.add.ensures.err)
   where
-    by : (r : Result (Unit {0}) Memory) → OnOk r (high_numbers c.add.new.self ≡ high_numbers c.self.inside.high ++ c.args.role.0 ∷ []) → OnErr r (high_numbers c.add.new.self ≡ high_numbers c.self.inside.high) → AllHigh (high_numbers c.add.new.self)
-    by (Ok u) ok err = subst AllHigh (sym ok) (all_high-push (high_numbers c.self.inside.high) c.args.role.0 c.self.invariant.1 c.if-role-lt-WORD_BITS.false)
-    by (Err e) ok err = subst AllHigh (sym err) c.self.invariant.1
+    by : (r : Result (Unit {0}) Memory) → OnOk r (high_numbers c.add.new.self ≡ high_numbers c.self.inside.high ++ c.args.role.0 ∷ []) → OnErr r (high_numbers c.add.new.self ≡ high_numbers c.self.inside.high) → HighOnce (high_numbers c.add.new.self)
+    by (Ok u) ok err = subst HighOnce (sym ok) (high_once-push (high_numbers c.self.inside.high) c.args.role.0 c.self.invariant.1 c.if-role-lt-WORD_BITS.false (sym c.has.ensures ∙ c.if-has.false))
+    by (Err e) ok err = subst HighOnce (sym err) c.self.invariant.1
 
 pub returns-clause-ok : goal.returns-clause-ok
 returns-clause-ok c = by c.add.result c.add.ensures.ok

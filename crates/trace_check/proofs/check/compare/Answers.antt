@@ -1,13 +1,24 @@
-use Rattle.std.proofs.Common.{◌≡◌, ℕ, ◌-◌, ◌≤◌, List, Ok, drop, take, length, rules, sym, subst, arith}
+use Rattle.std.proofs.Common.{◌≡◌, ℕ, ◌-◌, ◌<◌, ◌≤◌, List, Ok, drop, take, length, rules, sym, subst, arith}
 use Rattle.std.proofs.lemmas.List.{length-take-le}
 use Rattle.gcx_io.specs.Calls.{ReadsSource}
 use Rattle.trace_check.specs.Judging.{IsInCommon, JudgesSource}
 use Rattle.trace_check.specs.declared.checked.Checked.TheVariants as checked
-use Rattle.trace_check.proofs.Compared.{behind, compared_on, differs_here, fails_here}
+use Rattle.trace_check.proofs.Compared.{behind, compared_on, differs_here, ends_here, fails_here}
 use Rattle.trace_check.proofs.check.compare.Goals as goal
 
 pub returns-in_default-clause-judged : goal.returns-in_default-clause-judged
 returns-in_default-clause-judged g c = fails_here c.args.text.now _ _ _ _ _ _ c.reading.invariant.so_far c.in_default.ensures.reads
+
+pub returns-in_default-clause-kept : goal.returns-in_default-clause-kept
+returns-in_default-clause-kept g c = g.met.D.Source.keeps_on _ _ _ c.reading.invariant.kept c.in_default.ensures.kept
+
+pub returns-then-count-eq0-clause-judged : goal.returns-then-count-eq0-clause-judged
+returns-then-count-eq0-clause-judged g c =
+    let room : 0 < length c.read.new.buf = search rules in
+    ends_here c.args.text.now _ _ _ _ _ _ _ c.reading.invariant.so_far c.in-Ok.ensures.reads c.if-count-eq0.true room c.ended.ensures.stops c.ended.ensures.judged
+
+pub returns-then-count-eq0-clause-kept : goal.returns-then-count-eq0-clause-kept
+returns-then-count-eq0-clause-kept g c = g.met.D.Source.keeps_on _ _ _ c.reading.invariant.kept c.in-Ok.ensures.kept
 
 pub returns-then-same-count-clause-judged : goal.returns-then-same-count-clause-judged
 returns-then-same-count-clause-judged g c =
@@ -18,6 +29,9 @@ returns-then-same-count-clause-judged g c =
     = subst (λ (l : List ℕ). IsInCommon l (take c.in-Ok.count c.read.new.buf) c.common-same.result) rest c.common-same.ensures in
     subst (λ (n : ℕ). JudgesSource c.args.text.now (checked.No n) (g.D.Source.seen c.args.trace.now) (g.D.Source.seen c.read.new.self)) (sym c.next_line.ensures)
     (differs_here c.args.text.now _ _ _ _ _ _ _ c.reading.invariant.so_far c.in-Ok.ensures.reads some fits common c.if-same-count.true)
+
+pub returns-then-same-count-clause-kept : goal.returns-then-same-count-clause-kept
+returns-then-same-count-clause-kept g c = g.met.D.Source.keeps_on _ _ _ c.reading.invariant.kept c.in-Ok.ensures.kept
 
 pub reading-preserved : goal.reading-preserved
 reading-preserved g c =

@@ -18,7 +18,7 @@ reading-init g c =
     record {
       so_far = read_none (HasGrown c.new-reader.result c.in_ok-tree.tree) (g.S.Source.seen c.args.source.now) grown;
       is_open = c.new-reader.ensures.open;
-      kept = search rules;
+      kept = g.met.S.Source.keeps_same c.args.source.now;
       later = omega arith;
     }
 
@@ -31,8 +31,9 @@ returns-in_err-tree-clause-reads g c =
 
 pub returns-in_err-n-clause-reads : goal.returns-in_err-n-clause-reads
 returns-in_err-n-clause-reads g c =
-    let reads : ReadsDocument (g.S.Source.seen c.args.source.now) (g.S.Source.seen c.read.new.self) (Err end.Fault) =
+    let stops : ReadsDocument (g.S.Source.seen c.args.source.now) (g.S.Source.seen c.read_piece.new.source) (Err end.Fault) =
     stops_at_fault _ _ _ _ _ _ _ _ c.reading.invariant.so_far c.in_err-n.ensures.reads in
+    let reads : ReadsDocument (g.S.Source.seen c.args.source.now) (g.S.Source.seen c.read_piece.new.source) (Err c.in_err-n.field-0.0) = rw c.in_err-n.ensures.fault stops in
     let p = err_from_is_err_and c.from_residual-in_err-n.result c.from_residual-in_err-n.ensures.1 in
     rw (p.1, p.2) reads
 
@@ -40,8 +41,8 @@ pub returns-in_err-take_end-clause-reads : goal.returns-in_err-take_end-clause-r
 returns-in_err-take_end-clause-reads g c =
     let h = c.reading.invariant.so_far in
     let e = c.in_err-take_end.field-0.0 in
-    let room : 0 < length c.read.new.buf = search rules in
-    let reads : ReadsDocument (g.S.Source.seen c.args.source.now) (g.S.Source.seen c.read.new.self) (Err e) =
+    let room : 0 < length c.read_piece.new.buf = search rules in
+    let reads : ReadsDocument (g.S.Source.seen c.args.source.now) (g.S.Source.seen c.read_piece.new.source) (Err e) =
     stops_in_end (Unit {0}) _ _ _ _ _ _ _ _ _ e h c.in_ok-n.ensures.reads c.if-n-eq0.true room (c.in_err-take_end.ensures.whole _ h.holds)
     (λ is. c.in_err-take_end.ensures.read (ap Err is)) in
     let p = err_from_is_err_and c.from_residual-in_err-take_end.result c.from_residual-in_err-take_end.ensures.1 in
@@ -50,7 +51,7 @@ returns-in_err-take_end-clause-reads g c =
 pub returns-then-n-eq0-clause-reads : goal.returns-then-n-eq0-clause-reads
 returns-then-n-eq0-clause-reads g c =
     let h = c.reading.invariant.so_far in
-    let room : 0 < length c.read.new.buf = search rules in
+    let room : 0 < length c.read_piece.new.buf = search rules in
     ends_whole _ _ _ _ _ _ _ _ _ h c.in_ok-n.ensures.reads c.if-n-eq0.true room (c.in_ok-take_end.ensures.whole _ h.holds)
 
 pub returns-in_err-take_piece-clause-reads : goal.returns-in_err-take_piece-clause-reads
@@ -58,9 +59,9 @@ returns-in_err-take_piece-clause-reads g c =
     let h = c.reading.invariant.so_far in
     let e = c.in_err-take_piece.field-0.0 in
     let some : 1 ≤ c.in_ok-n.n = omega arith in
-    let fits : c.in_ok-n.n ≤ length c.read.new.buf = search rules in
-    let short : length c.read.new.buf ≤ 65536 = search rules in
-    let reads : ReadsDocument (g.S.Source.seen c.args.source.now) (g.S.Source.seen c.read.new.self) (Err e) =
+    let fits : c.in_ok-n.n ≤ length c.read_piece.new.buf = search rules in
+    let short : length c.read_piece.new.buf ≤ 65536 = search rules in
+    let reads : ReadsDocument (g.S.Source.seen c.args.source.now) (g.S.Source.seen c.read_piece.new.source) (Err e) =
     stops_in_piece (Unit {0}) _ _ _ _ _ _ _ _ _ e h c.in_ok-n.ensures.reads some fits short (c.in_err-take_piece.ensures.grown _ h.holds)
     (λ is. c.in_err-take_piece.ensures.read (ap Err is)) in
     let p = err_from_is_err_and c.from_residual-in_err-take_piece.result c.from_residual-in_err-take_piece.ensures.1 in
@@ -70,11 +71,23 @@ pub reading-preserved : goal.reading-preserved
 reading-preserved g c =
     let h = c.reading.invariant.so_far in
     let some : 1 ≤ c.in_ok-n.n = omega arith in
-    let fits : c.in_ok-n.n ≤ length c.read.new.buf = search rules in
-    let short : length c.read.new.buf ≤ 65536 = search rules in
+    let fits : c.in_ok-n.n ≤ length c.read_piece.new.buf = search rules in
+    let short : length c.read_piece.new.buf ≤ 65536 = search rules in
     record {
       so_far = read_on _ _ _ _ _ _ _ _ (λ bytes k. k.no_fault) h c.in_ok-n.ensures.reads some fits short (c.in_ok-take_piece.ensures.grown _ h.holds);
       is_open = c.in_ok-take_piece.ensures.open;
       kept = g.met.S.Source.keeps_on _ _ _ c.reading.invariant.kept c.in_ok-n.ensures.kept;
-      later = search rules;
+      later = omega (arith, c.reading.invariant.later, c.in_ok-n.ensures.later);
     }
+
+pub returns-in_err-n-clause-kept : goal.returns-in_err-n-clause-kept
+returns-in_err-n-clause-kept g c = g.met.S.Source.keeps_on _ _ _ c.reading.invariant.kept c.in_err-n.ensures.kept
+
+pub returns-in_err-take_end-clause-kept : goal.returns-in_err-take_end-clause-kept
+returns-in_err-take_end-clause-kept g c = g.met.S.Source.keeps_on _ _ _ c.reading.invariant.kept c.in_ok-n.ensures.kept
+
+pub returns-then-n-eq0-clause-kept : goal.returns-then-n-eq0-clause-kept
+returns-then-n-eq0-clause-kept g c = g.met.S.Source.keeps_on _ _ _ c.reading.invariant.kept c.in_ok-n.ensures.kept
+
+pub returns-in_err-take_piece-clause-kept : goal.returns-in_err-take_piece-clause-kept
+returns-in_err-take_piece-clause-kept g c = g.met.S.Source.keeps_on _ _ _ c.reading.invariant.kept c.in_ok-n.ensures.kept

@@ -1,7 +1,31 @@
-use Rattle.tree_read.proofs.Keeping.{kept_on}
+use Rattle.std.proofs.Common.{length, ap, arith}
+use Rattle.tree_read.proofs.Documents.{keeps_all, stands_all}
+use Rattle.tree_read.proofs.Keeping.{kept_all, kept_none, kept_on}
 use Rattle.tree_read.proofs.tokens.keep_waiting.Goals as goal
+
+pub tokens-init : goal.tokens-init
+tokens-init c = kept_none c.args.reader.now c.args.tokens.now.items
 
 pub tokens-preserved : goal.tokens-preserved
 tokens-preserved c =
     kept_on c.args.reader.now c.tokens.reader c.next.new.self c.args.tokens.now.items c.tokens.tokens.items c.push_back.new.self.items c.in-Some.token c.tokens.invariant
     c.in-Some.ensures.takes c.in-Some.ensures.stands c.in-Some.ensures.keeps c.in_ok-push_back.ensures.items
+
+pub tokens-smaller : goal.tokens-smaller
+tokens-smaller c = omega (arith, ap length c.in-Some.ensures.takes)
+
+pub returns-in_err-push_back-clause-keeps : goal.returns-in_err-push_back-clause-keeps
+returns-in_err-push_back-clause-keeps c = keeps_all _ _ _ c.tokens.invariant.keeps c.in-Some.ensures.keeps
+
+pub returns-clause-tokens : goal.returns-clause-tokens
+returns-clause-tokens c = kept_all _ _ _ _ c.tokens.invariant c.in_default.ensures.takes.0
+
+pub returns-clause-waiting : goal.returns-clause-waiting
+returns-clause-waiting c = c.in_default.ensures.takes.1
+
+pub returns-clause-stands : goal.returns-clause-stands
+returns-clause-stands c =
+    stands_all c.tokens.invariant.tokens _ _ _ c.tokens.invariant.waits c.in_default.ensures.takes.0 c.tokens.invariant.stands c.in_default.ensures.stands
+
+pub returns-clause-keeps : goal.returns-clause-keeps
+returns-clause-keeps c = keeps_all _ _ _ c.tokens.invariant.keeps c.in_default.ensures.keeps

@@ -24,8 +24,9 @@ reading-init g c =
 
 pub returns-in_err-n-clause-reads : goal.returns-in_err-n-clause-reads
 returns-in_err-n-clause-reads g c =
-    let reads : ReadsTokens (g.S.Source.seen c.args.source.now) (g.S.Source.seen c.read.new.self) (Err end.Fault) =
+    let stops : ReadsTokens (g.S.Source.seen c.args.source.now) (g.S.Source.seen c.read_piece.new.source) (Err end.Fault) =
     stops_at_fault _ _ _ _ _ _ _ _ c.reading.invariant.so_far c.in_err-n.ensures.reads in
+    let reads : ReadsTokens (g.S.Source.seen c.args.source.now) (g.S.Source.seen c.read_piece.new.source) (Err c.in_err-n.field-0.0) = rw c.in_err-n.ensures.fault stops in
     let p = err_from_is_err_and c.from_residual.result c.from_residual.ensures.1 in
     rw (p.1, p.2) reads
 
@@ -33,8 +34,8 @@ pub returns-in_err-keep_end-clause-reads : goal.returns-in_err-keep_end-clause-r
 returns-in_err-keep_end-clause-reads g c =
     let h = c.reading.invariant.so_far in
     let e = c.in_err-keep_end.field-0.0 in
-    let room : 0 < length c.read.new.buf = search rules in
-    let reads : ReadsTokens (g.S.Source.seen c.args.source.now) (g.S.Source.seen c.read.new.self) (Err e) =
+    let room : 0 < length c.read_piece.new.buf = search rules in
+    let reads : ReadsTokens (g.S.Source.seen c.args.source.now) (g.S.Source.seen c.read_piece.new.source) (Err e) =
     stops_in_end (Unit {0}) _ _ _ _ _ _ _ _ _ e h c.in_ok-n.ensures.reads c.if-n-eq0.true room (c.in_err-keep_end.ensures.whole _ h.holds)
     (λ is. c.in_err-keep_end.ensures.read (ap Err is)) in
     let p = err_from_is_err_and c.from_residual-in_err-keep_end.result c.from_residual-in_err-keep_end.ensures.1 in
@@ -43,7 +44,7 @@ returns-in_err-keep_end-clause-reads g c =
 pub returns-then-n-eq0-clause-reads : goal.returns-then-n-eq0-clause-reads
 returns-then-n-eq0-clause-reads g c =
     let h = c.reading.invariant.so_far in
-    let room : 0 < length c.read.new.buf = search rules in
+    let room : 0 < length c.read_piece.new.buf = search rules in
     ends_whole _ _ _ _ _ _ _ _ _ h c.in_ok-n.ensures.reads c.if-n-eq0.true room (c.in_ok-keep_end.ensures.whole _ h.holds)
 
 pub returns-in_err-keep_piece-clause-reads : goal.returns-in_err-keep_piece-clause-reads
@@ -51,9 +52,9 @@ returns-in_err-keep_piece-clause-reads g c =
     let h = c.reading.invariant.so_far in
     let e = c.in_err-keep_piece.field-0.0 in
     let some : 1 ≤ c.in_ok-n.n = omega arith in
-    let fits : c.in_ok-n.n ≤ length c.read.new.buf = search rules in
-    let short : length c.read.new.buf ≤ 65536 = search rules in
-    let reads : ReadsTokens (g.S.Source.seen c.args.source.now) (g.S.Source.seen c.read.new.self) (Err e) =
+    let fits : c.in_ok-n.n ≤ length c.read_piece.new.buf = search rules in
+    let short : length c.read_piece.new.buf ≤ 65536 = search rules in
+    let reads : ReadsTokens (g.S.Source.seen c.args.source.now) (g.S.Source.seen c.read_piece.new.source) (Err e) =
     stops_in_piece (Unit {0}) _ _ _ _ _ _ _ _ _ e h c.in_ok-n.ensures.reads some fits short (c.in_err-keep_piece.ensures.given _ h.holds)
     (λ is. c.in_err-keep_piece.ensures.read (ap Err is)) in
     let p = err_from_is_err_and c.from_residual-in_err-keep_piece.result c.from_residual-in_err-keep_piece.ensures.1 in
@@ -63,11 +64,23 @@ pub reading-preserved : goal.reading-preserved
 reading-preserved g c =
     let h = c.reading.invariant.so_far in
     let some : 1 ≤ c.in_ok-n.n = omega arith in
-    let fits : c.in_ok-n.n ≤ length c.read.new.buf = search rules in
-    let short : length c.read.new.buf ≤ 65536 = search rules in
+    let fits : c.in_ok-n.n ≤ length c.read_piece.new.buf = search rules in
+    let short : length c.read_piece.new.buf ≤ 65536 = search rules in
     record {
       so_far = read_on _ _ _ _ _ _ _ _ (λ bytes k. k.no_fault) h c.in_ok-n.ensures.reads some fits short (c.in_ok-keep_piece.ensures.given _ h.holds);
       is_open = c.in_ok-keep_piece.ensures.open;
       kept = g.met.S.Source.keeps_on _ _ _ c.reading.invariant.kept c.in_ok-n.ensures.kept;
-      later = search rules;
+      later = omega (arith, c.reading.invariant.later, c.in_ok-n.ensures.later);
     }
+
+pub returns-in_err-n-clause-kept : goal.returns-in_err-n-clause-kept
+returns-in_err-n-clause-kept g c = g.met.S.Source.keeps_on _ _ _ c.reading.invariant.kept c.in_err-n.ensures.kept
+
+pub returns-in_err-keep_end-clause-kept : goal.returns-in_err-keep_end-clause-kept
+returns-in_err-keep_end-clause-kept g c = g.met.S.Source.keeps_on _ _ _ c.reading.invariant.kept c.in_ok-n.ensures.kept
+
+pub returns-then-n-eq0-clause-kept : goal.returns-then-n-eq0-clause-kept
+returns-then-n-eq0-clause-kept g c = g.met.S.Source.keeps_on _ _ _ c.reading.invariant.kept c.in_ok-n.ensures.kept
+
+pub returns-in_err-keep_piece-clause-kept : goal.returns-in_err-keep_piece-clause-kept
+returns-in_err-keep_piece-clause-kept g c = g.met.S.Source.keeps_on _ _ _ c.reading.invariant.kept c.in_ok-n.ensures.kept

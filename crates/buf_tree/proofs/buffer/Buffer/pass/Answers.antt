@@ -6,7 +6,7 @@ use Rattle.buf_tree.proofs.PassedOpening.{passes_element, passes_text}
 use Rattle.buf_tree.proofs.buffer.Buffer.pass.Goals as goal
 
 pub invariant_of-self : goal.invariant_of-self
-invariant_of-self g c = kept_below _ _ _ _ _ _ (λ d i. let l = c.self.invariant.below d i in omega arith) c.self.invariant
+invariant_of-self g c = (kept_below _ _ _ _ _ _ (λ d i. let l = c.self.invariant.0.below d i in omega arith) c.self.invariant.0, c.self.invariant.1)
 
 pub returns-clause-more : goal.returns-clause-more
 returns-clause-more g c = ap one_passed c.self.view_is

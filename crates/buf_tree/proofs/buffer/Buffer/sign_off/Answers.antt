@@ -1,36 +1,65 @@
-use Rattle.std.proofs.Common.{refl, ◌∙◌, ap}
+use Rattle.std.proofs.Common.{sym, ◌∙◌, ap, subst}
+use Rattle.gcx_model.specs.declared.item.Off.{Off}
+use Rattle.buf_tree.specs.Stands.{Due}
+use Rattle.buf_tree.specs.Trail.{HasTrailRoom}
 use Rattle.buf_tree.specs.View.{View}
-use Rattle.buf_tree.proofs.Withdrawing.{withdrawn_by}
-use Rattle.buf_tree.proofs.Acting.{due_there, due_kept, due_taking, due_signed, due_behind}
+use Rattle.buf_tree.proofs.SignedViews.{there_due, kept_signed, covers_signed, taking_signed, covers_then, signed_then, stands_signed}
 use Rattle.buf_tree.proofs.buffer.Buffer.sign_off.Goals as goal
 
-pub has_other_base-others-requires-clause-there : goal.has_other_base-others-requires-clause-there
-has_other_base-others-requires-clause-there g c = due_there _ _ _ _ (ap (λ (v : View). v.rows) c.self.view_is) c.self.invariant.shape c.requires.due
+pub may_be_kept-others-requires-clause-nested : goal.may_be_kept-others-requires-clause-nested
+may_be_kept-others-requires-clause-nested g c = c.self.invariant.0.ordered.nested
+
+pub may_be_kept-others-requires-clause-there : goal.may_be_kept-others-requires-clause-there
+may_be_kept-others-requires-clause-there g c =
+    let due = subst (λ (v : View). Due v c.args.place.0 c.args.off.now) (sym c.self.view_is) c.requires.due in
+    there_due c.self.inside.spread _ _ _ _ _ _ _ _ _ _ c.args.off.now c.self.invariant.0 c.self.invariant.1 due
 
 pub sign-requires : goal.sign-requires
-sign-requires g c = due_there _ _ _ _ (ap (λ (v : View). v.rows) c.self.view_is) c.self.invariant.shape c.requires.due
+sign-requires g c =
+    let due = subst (λ (v : View). Due v c.args.place.0 c.args.off.now) (sym c.self.view_is) c.requires.due in
+    there_due c.self.inside.spread _ _ _ _ _ _ _ _ _ _ c.args.off.now c.self.invariant.0 c.self.invariant.1 due
 
 pub withdraw-taken-requires-clause-kept : goal.withdraw-taken-requires-clause-kept
-withdraw-taken-requires-clause-kept g c = (c.self.inside.count, due_kept _ _ _ _ c.args.off.now (ap (λ (v : View). v.rows) c.self.view_is) _ _ _ _ c.self.invariant c.in_ok-sign.ensures.ok c.requires.due)
+withdraw-taken-requires-clause-kept g c =
+    let due = subst (λ (v : View). Due v c.args.place.0 c.args.off.now) (sym c.self.view_is) c.requires.due in
+    (c.self.inside.count, kept_signed c.self.inside.spread _ _ _ _ _ _ _ _ _ _ _ c.args.off.now c.self.invariant.0 c.self.invariant.1 c.in_ok-sign.ensures.ok due)
+
+pub withdraw-taken-requires-clause-covers : goal.withdraw-taken-requires-clause-covers
+withdraw-taken-requires-clause-covers g c =
+    let due = subst (λ (v : View). Due v c.args.place.0 c.args.off.now) (sym c.self.view_is) c.requires.due in
+    covers_signed c.self.inside.spread _ _ _ _ _ _ _ _ _ _ _ c.args.off.now c.self.invariant.0 c.self.invariant.1 c.in_ok-sign.ensures.ok due
 
 pub withdraw-taken-requires-clause-taking : goal.withdraw-taken-requires-clause-taking
-withdraw-taken-requires-clause-taking g c = due_taking _ _ _ _ c.args.off.now (ap (λ (v : View). v.rows) c.self.view_is) _ _ _ _ c.self.invariant c.in_ok-sign.ensures.ok c.requires.due _ c.has_other_base-others.ensures
+withdraw-taken-requires-clause-taking g c =
+    let due = subst (λ (v : View). Due v c.args.place.0 c.args.off.now) (sym c.self.view_is) c.requires.due in
+    taking_signed c.self.inside.spread _ _ _ _ _ _ _ _ _ _ _ c.args.off.now c.self.invariant.0 c.self.invariant.1 c.in_ok-sign.ensures.ok due _ c.may_be_kept-others.ensures
 
 pub withdraw-taken-requires-clause-room : goal.withdraw-taken-requires-clause-room
-withdraw-taken-requires-clause-room g c o = (c.in_ok-prepare.ensures.tails o, c.in_ok-prepare.ensures.rels o, c.in_ok-prepare.ensures.again o)
+withdraw-taken-requires-clause-room g c o =
+    subst (λ (x : Off). HasTrailRoom x c.prepare.new.self) c.walked.ensures (c.in_ok-prepare.ensures.tails o, c.in_ok-prepare.ensures.rels o, c.in_ok-prepare.ensures.again o)
 
 pub invariant_of-self-2 : goal.invariant_of-self-2
-invariant_of-self-2 g c = c.withdraw-taken.ensures.kept _ (due_kept _ _ _ _ c.args.off.now (ap (λ (v : View). v.rows) c.self.view_is) _ _ _ _ c.self.invariant c.in_ok-sign.ensures.ok c.requires.due)
+invariant_of-self-2 g c =
+    let due = subst (λ (v : View). Due v c.args.place.0 c.args.off.now) (sym c.self.view_is) c.requires.due in
+    let kept = c.withdraw-taken.ensures.kept _ (kept_signed c.self.inside.spread _ _ _ _ _ _ _ _ _ _ _ c.args.off.now c.self.invariant.0 c.self.invariant.1 c.in_ok-sign.ensures.ok due) in (
+      kept,
+      covers_then c.self.inside.spread _ _ _ _ _ _ _ _ _ _ _ c.args.off.now c.self.invariant.0 c.self.invariant.1 c.in_ok-sign.ensures.ok due _ c.may_be_kept-others.ensures _ kept.shape _ _ c.withdraw-taken.ensures.withdrawn
+          c.withdraw-taken.ensures.spread _ _ _ _ _ c.saturating_add-self-inside.ensures c.in_ok-sign.ensures.most c.withdraw-taken.ensures.most c.withdraw-taken.ensures.loans,
+    )
 
 pub returns-clause-stands : goal.returns-clause-stands
-returns-clause-stands g c = due_behind _ _ _ _ c.args.off.now (ap (λ (v : View). v.rows) c.self.view_is) _ _ _ _ c.self.invariant c.in_ok-sign.ensures.ok c.requires.due _ c.has_other_base-others.ensures _ _ refl
-    (λ t. withdrawn_by c.self.inside.waiting.items c.self.inside.count _ _ _ _ t.loses _ _ c.self.inside.taken _ _ _ _ _ (c.withdraw-taken.ensures.withdrawn t) c.saturating_add-self-inside.ensures c.withdraw-taken.ensures.most c.withdraw-taken.ensures.loans)
-    (ap (λ (v : View). v.nodes) c.self.view_is) (ap (λ (v : View). v.waiting) c.self.view_is) c.requires.behind
+returns-clause-stands g c =
+    let due = subst (λ (v : View). Due v c.args.place.0 c.args.off.now) (sym c.self.view_is) c.requires.due in
+    let kept = c.withdraw-taken.ensures.kept _ (kept_signed c.self.inside.spread _ _ _ _ _ _ _ _ _ _ _ c.args.off.now c.self.invariant.0 c.self.invariant.1 c.in_ok-sign.ensures.ok due) in
+    stands_signed c.self.inside.spread _ _ _ _ _ _ _ _ _ _ _ c.args.off.now c.self.invariant.0 c.self.invariant.1 c.in_ok-sign.ensures.ok due _ c.may_be_kept-others.ensures _ kept.shape _ _ c.withdraw-taken.ensures.withdrawn
+    c.withdraw-taken.ensures.spread _ _ _ _ _ c.saturating_add-self-inside.ensures c.in_ok-sign.ensures.most c.withdraw-taken.ensures.most c.withdraw-taken.ensures.loans _ c.self.view_is c.requires.behind
 
 pub returns-clause-signed : goal.returns-clause-signed
-returns-clause-signed g c = due_signed _ _ _ _ c.args.off.now (ap (λ (v : View). v.rows) c.self.view_is) _ _ _ _ c.self.invariant c.in_ok-sign.ensures.ok c.requires.due _ c.has_other_base-others.ensures _ _ refl
-    (λ t. withdrawn_by c.self.inside.waiting.items c.self.inside.count _ _ _ _ t.loses _ _ c.self.inside.taken _ _ _ _ _ (c.withdraw-taken.ensures.withdrawn t) c.saturating_add-self-inside.ensures c.withdraw-taken.ensures.most c.withdraw-taken.ensures.loans)
-    (ap (λ (v : View). v.gone) c.self.view_is) (ap (λ (v : View). v.nodes) c.self.view_is) (ap (λ (v : View). v.taken) c.self.view_is) (c.in_ok-sign.ensures.most ∙ ap (λ (v : View). v.most) c.self.view_is)
+returns-clause-signed g c =
+    let due = subst (λ (v : View). Due v c.args.place.0 c.args.off.now) (sym c.self.view_is) c.requires.due in
+    let kept = c.withdraw-taken.ensures.kept _ (kept_signed c.self.inside.spread _ _ _ _ _ _ _ _ _ _ _ c.args.off.now c.self.invariant.0 c.self.invariant.1 c.in_ok-sign.ensures.ok due) in
+    signed_then c.self.inside.spread _ _ _ _ _ _ _ _ _ _ _ c.args.off.now c.self.invariant.0 c.self.invariant.1 c.in_ok-sign.ensures.ok due _ c.may_be_kept-others.ensures _ kept.shape _ _ c.withdraw-taken.ensures.withdrawn
+    c.withdraw-taken.ensures.spread _ _ _ _ _ c.saturating_add-self-inside.ensures c.in_ok-sign.ensures.most c.withdraw-taken.ensures.most c.withdraw-taken.ensures.loans _ _ c.self.view_is
 
 pub returns-clause-waiting : goal.returns-clause-waiting
 returns-clause-waiting g c = ap (λ (v : View). v.waiting) c.self.view_is

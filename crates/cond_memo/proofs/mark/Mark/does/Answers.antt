@@ -9,4 +9,4 @@ pub returns-in_ok-left-in-Some : goal.returns-in_ok-left-in-Some
 returns-in_ok-left-in-Some g c P keep m at kept =
     let ask = c.in-Some.ask in
     let whole = subst (λ (o : Option Ask). KeepsValue P keep o m) c.in-Some.is kept in
-    c.satisfies.ensures ∙ ap (λ (v : List ℕ). compare ask.rel (Bytes v) (literal_value ask.literal)) (c.in_ok-left-in-Some.ensures P keep m at whole) ∙ sym (ap (λ (o : Option Ask). does P o m) c.in-Some.is)
+    c.satisfies.ensures ∙ ap (λ (v : List ℕ). compare ask.rel (Bytes v) (literal_value ask.literal)) (c.in_ok-left-in-Some.ensures.value P keep m at whole) ∙ sym (ap (λ (o : Option Ask). does P o m) c.in-Some.is)

@@ -1,25 +1,26 @@
+use Rattle.buf_tree.proofs.KeptReading.{seen_stand_apart}
 use Rattle.cond_eval.proofs.Cursors.{shaped}
 use Rattle.cond_memo.proofs.MarkRows.{has_serial, has_used, still_out, still_open, is_shut}
 use Rattle.cond_memo.proofs.mark.Mark.shut_by_now.Goals as goal
 
 pub row_below-requires : goal.row_below-requires
-row_below-requires g c = record { shape = shaped (g.N.NodeStore.rows c.at.result.store.now) c.args.buffer.now.rows c.at.ensures.store }
+row_below-requires g c = record { shape = shaped (g.N.NodeStore.rows c.at.result.store.now) c.args.buffer.now.kept c.at.ensures.store }
 
 pub returns-in_err-row : goal.returns-in_err-row
 returns-in_err-row g c =
-    rw c.from_residual-in_err-row.ensures (still_out (g.N.NodeStore.rows c.at.result.store.now) c.args.buffer.now.rows c.at.ensures.store c.at.result.place c.args.node c.at.ensures.place c.args.self.now.waiting c.in_ok-waiting.waiting c.in_ok-waiting.was c.in_err-row.ensures)
+    rw c.from_residual-in_err-row.ensures (still_out (g.N.NodeStore.rows c.at.result.store.now) c.args.buffer.now.kept c.args.buffer.now.rows c.at.ensures.store c.at.ensures.alike c.at.result.place c.args.node c.at.ensures.place c.args.self.now.waiting c.in_ok-waiting.waiting c.in_ok-waiting.was c.in_err-row.ensures)
 
 pub is_closed-requires : goal.is_closed-requires
 is_closed-requires g c =
     has_used c.args.buffer.now.rows c.in_ok-waiting.waiting.0 c.in_ok-row.row.place.0
-    (has_serial (g.N.NodeStore.rows c.at.result.store.now) c.args.buffer.now.rows c.at.ensures.store c.in_ok-waiting.waiting.0 c.in_ok-row.row.place.0 c.in_ok-row.ensures.1)
+    (has_serial (g.N.NodeStore.rows c.at.result.store.now) c.args.buffer.now.kept c.args.buffer.now.rows c.at.ensures.store c.at.ensures.alike c.in_ok-waiting.waiting.0 c.in_ok-row.row.place.0 c.in_ok-row.ensures.1)
 
 pub returns-then-is_closed : goal.returns-then-is_closed
 returns-then-is_closed g c =
-    let h = has_serial (g.N.NodeStore.rows c.at.result.store.now) c.args.buffer.now.rows c.at.ensures.store c.in_ok-waiting.waiting.0 c.in_ok-row.row.place.0 c.in_ok-row.ensures.1 in
-    is_shut c.args.buffer.now.rows c.at.ensures.store.apart c.args.self.now.waiting c.in_ok-waiting.waiting c.in_ok-row.row.place.0 c.in_ok-waiting.was h c.is_closed.result (c.is_closed.ensures h.cell h.among h.place) c.if-is_closed.true
+    let h = has_serial (g.N.NodeStore.rows c.at.result.store.now) c.args.buffer.now.kept c.args.buffer.now.rows c.at.ensures.store c.at.ensures.alike c.in_ok-waiting.waiting.0 c.in_ok-row.row.place.0 c.in_ok-row.ensures.1 in
+    is_shut c.args.buffer.now.rows (seen_stand_apart (g.N.NodeStore.rows c.at.result.store.now) c.args.buffer.now.kept c.args.buffer.now.rows c.at.ensures.store c.at.ensures.alike) c.args.self.now.waiting c.in_ok-waiting.waiting c.in_ok-row.row.place.0 c.in_ok-waiting.was h c.is_closed.result (c.is_closed.ensures h.cell h.among h.place) c.if-is_closed.true
 
 pub returns-else-is_closed : goal.returns-else-is_closed
 returns-else-is_closed g c =
-    let h = has_serial (g.N.NodeStore.rows c.at.result.store.now) c.args.buffer.now.rows c.at.ensures.store c.in_ok-waiting.waiting.0 c.in_ok-row.row.place.0 c.in_ok-row.ensures.1 in
+    let h = has_serial (g.N.NodeStore.rows c.at.result.store.now) c.args.buffer.now.kept c.args.buffer.now.rows c.at.ensures.store c.at.ensures.alike c.in_ok-waiting.waiting.0 c.in_ok-row.row.place.0 c.in_ok-row.ensures.1 in
     still_open c.args.buffer.now.rows c.args.self.now.waiting c.in_ok-waiting.waiting c.in_ok-row.row.place.0 c.in_ok-waiting.was h c.is_closed.result (c.is_closed.ensures h.cell h.among h.place) c.if-is_closed.false c.args.node.0

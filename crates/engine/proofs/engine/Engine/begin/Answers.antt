@@ -8,6 +8,11 @@ use Rattle.buf_tree.specs.Calls.{numbers}
 use Rattle.engine.proofs.Making.{actors_begin, given_begin}
 use Rattle.engine.proofs.engine.Engine.begin.Goals as goal
 
+pub new_spread-requires-clause-given : goal.new_spread-requires-clause-given
+new_spread-requires-clause-given g c =
+    let q = c.requires.placed in
+    c.in_ok-given.ensures (opening_past (plan_tree c.args.plan.now)) (c.in_ok-projector.ensures.stands q.0 q.1 q.2)
+
 pub returns-clause-begins : goal.returns-clause-begins
 returns-clause-begins g c =
     let plan = plan_tree c.args.plan.now in
@@ -21,7 +26,7 @@ returns-clause-begins g c =
     let projects = c.in_ok-projector.ensures.stands core good placed in
     let roles : numbers given ≡ roles_given plan opening Root = c.in_ok-given.ensures (opening_past plan) projects in
     let started = c.in_ok-buffer.ensures.started in
-    let stands = c.in_ok-buffer.ensures.stands core plan good placed roles in
+    let stands = c.in_ok-buffer.ensures.stands in
     let beside = c.in_ok-machine.ensures.stands v stands in
     let on : g.C.Conds.stands m.conds opening = subst (λ (z : g.row.C.Denot). g.C.Conds.stands z opening) (sym c.in_ok-machine.ensures.conds) c.requires.conds in
     let few : length given < 2 ^ 64 = search rules in

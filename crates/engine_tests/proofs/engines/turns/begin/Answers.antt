@@ -1,7 +1,11 @@
+use Rattle.gcx_model.specs.Past.{opening_past}
+use Rattle.gcx_model.specs.PlanView.{plan_tree}
 use Rattle.engine_tests.proofs.engines.turns.begin.Goals as goal
 
+pub new_spread-requires-clause-given : goal.new_spread-requires-clause-given
+new_spread-requires-clause-given c =
+    let q = c.requires.placed in
+    c.in_ok-given.ensures (opening_past (plan_tree c.args.plan.now)) (c.in_ok-projector.ensures.stands q.0 q.1 q.2)
+
 pub returns : goal.returns
-returns c =
-    let q = c.in_ok-projector.ensures.stands c.requires.placed.0 c.requires.placed.1 c.requires.placed.2 in
-    let stands = c.in_ok-buffer.ensures.stands c.requires.placed.0 _ c.requires.placed.1 c.requires.placed.2 (c.in_ok-given.ensures _ q) in
-    c.in_ok-machine.ensures.stands _ stands c.in_ok-buffer.ensures.started.taken
+returns c = c.in_ok-machine.ensures.stands _ c.in_ok-buffer.ensures.stands c.in_ok-buffer.ensures.started.taken

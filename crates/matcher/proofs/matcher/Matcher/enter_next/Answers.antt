@@ -15,19 +15,19 @@ use Rattle.matcher.proofs.matcher.Matcher.enter_next.Goals as goal
 pub invariant_of-self-in-Some : goal.invariant_of-self-in-Some
 invariant_of-self-in-Some c =
     let d = subst (Advances c.self.inside.states c.advance.new.states c.self.inside.frames c.advance.new.frames c.args.number c.args.text) c.in-Some.is c.in_ok-next.ensures.done in
-    grown_together c.self.inside.states c.advance.new.states c.self.inside.frames c.advance.new.frames c.args.number c.in-Some.given c.self.invariant d.0 d.1
+    grown_together c.self.inside.states c.advance.new.states c.self.inside.frames c.advance.new.frames c.args.number d.1.found c.self.invariant d.0 d.1.frame
 
 pub returns-in-Some-clause-stands : goal.returns-in-Some-clause-stands
 returns-in-Some-clause-stands c =
     let d = subst (Advances c.self.inside.states c.advance.new.states c.self.inside.frames c.advance.new.frames c.args.number c.args.text) c.in-Some.is c.in_ok-next.ensures.done in
     subst (λ (m : MatcherView). StandsNext m (matcher_view c.advance.new.states c.advance.new.frames c.self.inside.idle c.args.text c.self.inside.signs.items) c.args.number c.args.text) c.self.view_is
-    (added_stands c.self.inside.states c.self.inside.frames c.self.inside.idle c.self.inside.text c.self.inside.signs.items c.self.invariant c.args.number c.args.text c.advance.new.states c.advance.new.frames c.in-Some.given d.0 d.1)
+    (added_stands c.self.inside.states c.self.inside.frames c.self.inside.idle c.self.inside.text c.self.inside.signs.items c.self.invariant c.args.number c.args.text c.advance.new.states c.advance.new.frames d.1.found d.0 d.1.frame)
 
 pub returns-in-Some-clause-given : goal.returns-in-Some-clause-given
 returns-in-Some-clause-given c =
     let d = subst (Advances c.self.inside.states c.advance.new.states c.self.inside.frames c.advance.new.frames c.args.number c.args.text) c.in-Some.is c.in_ok-next.ensures.done in
     subst (λ (m : MatcherView). GivesNext m c.args.number c.args.text c.in-Some.given) c.self.view_is
-    (added_given c.self.inside.states c.self.inside.frames c.self.inside.idle c.self.inside.text c.self.inside.signs.items c.self.invariant c.args.number c.args.text c.advance.new.states c.advance.new.frames c.in-Some.given d.0 d.1)
+    (added_given c.self.inside.states c.self.inside.frames c.self.inside.idle c.self.inside.text c.self.inside.signs.items c.self.invariant c.args.number c.args.text c.advance.new.states c.advance.new.frames d.1.found d.0 d.1.frame c.in-Some.given d.1.roles)
 
 -- ---- no path leads there
 

@@ -4,7 +4,7 @@ use Rattle.std.proofs.lemmas.Result.{err_from_is_err_and}
 use Rattle.gcx_base.specs.declared.memory.Memory.{Memory}
 use Rattle.gcx_base.specs.declared.steps.Step.{Step}
 use Rattle.gcx_model.specs.ItemView.{off_tree}
-use Rattle.matcher.specs.Calls.{KeepsStanding}
+use Rattle.matcher.specs.Calls.{KeepsStanding, StandsIn}
 use Rattle.matcher.specs.Matcher.{Stands}
 use Rattle.matcher.specs.View.{MatcherView, frames_of, matcher_view}
 use Rattle.matcher.specs.declared.signs.Sign.{Sign}
@@ -17,7 +17,7 @@ returns-in_err-put_sign-clause-err c =
     let p = err_from_is_err_and c.from_residual.result c.from_residual.ensures.1 in
     let f : List Sign → MatcherView = λ signs. matcher_view c.self.inside.states c.self.inside.frames c.self.inside.idle c.self.inside.text signs in
     subst (λ (r : Result (Unit {0}) Memory). OnErr r (KeepsStanding c.args.self.now (f c.put_sign.new.signs.items))) (sym (p.1 ∙ ap Err p.2))
-    (λ past text s. subst (λ (m : MatcherView). Stands m past text) (sym c.self.view_is ∙ ap f (sym c.in_err-put_sign.ensures.err)) s)
+    (λ s S. subst (λ (m : MatcherView). StandsIn m s) (sym c.self.view_is ∙ ap f (sym c.in_err-put_sign.ensures.err)) S)
 
 pub invariant_of-self-2 : goal.invariant_of-self-2
 invariant_of-self-2 c = (c.self.invariant.0 ∙ sym c.note_signed.ensures.count, subst (λ z. 0 < z) (sym c.note_signed.ensures.count) c.self.invariant.1)

@@ -1,6 +1,7 @@
 use Rattle.std.proofs.Common.{◌≡◌, ◌<◌, ◌++◌, ℕ, length, List, [], ◌∷◌, refl, sym, ◌∙◌, ap, subst, inl, arith, Ok, Err, Result}
 use Rattle.std.specs.Prelude.{OnErr}
 use Rattle.tree_laws.proofs.Lists.{In, In-right}
+use Rattle.path_states.specs.Open.{seen_with}
 use Rattle.path_states.specs.State.{StateView}
 use Rattle.path_states.specs.States.{StatesView, Enters, ForgetInOrder, states_at}
 use Rattle.path_states.proofs.Opening.{known_same, leads_more, leads_over, made_more, order_now, order_stays, state_at, states_more, stay, there_more, there_now}
@@ -19,8 +20,7 @@ invariant_of-self c =
     let same = c.in_err-to.ensures.err in
     let states = ap length same.states in
     record {
-      known = known_same s.tree.states.items s.names.items s.known c.child.new.self same c.self.invariant.known;
-      ordered = c.self.invariant.ordered;
+      known = known_same s.tree.states.items s.steps s.known c.child.new.self same c.self.invariant.known;
       there = λ n i. (let l = c.self.invariant.there n i in omega arith);
       order = subst (λ (z : ℕ). ForgetInOrder z (s.outer.items ++ s.here ∷ [])) (sym same.kept) c.self.invariant.order;
     }
@@ -29,13 +29,12 @@ pub invariant_of-self-in_err-push : goal.invariant_of-self-in_err-push
 invariant_of-self-in_err-push c =
     let s = c.self.inside in
     let tree = s.tree.states.items in
-    let names = s.names.items in
-    let l = leads_over c.deref.result.now c.self.inside.tree.states.items c.deref-2.result.now c.self.inside.names.items c.self.inside.known c.child.new.self c.self.inside.here c.args.number c.in_ok-to.to c.deref.ensures.value c.deref-2.ensures.value c.in_ok-to.ensures.ok c.self.invariant.known in
+    let names = s.steps.names.items in
+    let l = leads_over c.deref.result.now s.tree.states.items s.steps s.known c.child.new.self s.here c.args.number c.in_ok-to.to c.deref.ensures.value c.in_ok-to.ensures.ok c.self.invariant.known in
     let now = c.child.new.self in
     let items = c.in_err-push.ensures.items in
     record {
-      known = record { right = l.right; named = c.self.invariant.known.named };
-      ordered = c.self.invariant.ordered;
+      known = record { right = l.right; index = c.self.invariant.known.index };
       there = subst (λ (z : List ℕ). (n : ℕ) → In n (z ++ s.here ∷ []) → n < length now.states.items) (sym items) (there_now tree names s.known now s.outer.items s.here c.args.number c.in_ok-to.to l c.self.invariant.there c.self.invariant.order);
       order = subst (λ (z : List ℕ). ForgetInOrder now.kept (z ++ s.here ∷ [])) (sym items) (order_stays tree names s.known now s.outer.items s.here c.args.number c.in_ok-to.to l c.self.invariant.there c.self.invariant.order);
     }
@@ -44,24 +43,24 @@ pub returns-in_err-push-clause-err : goal.returns-in_err-push-clause-err
 returns-in_err-push-clause-err c =
     let s = c.self.inside in
     let now = c.child.new.self in
-    let l = leads_over c.deref.result.now c.self.inside.tree.states.items c.deref-2.result.now c.self.inside.names.items c.self.inside.known c.child.new.self c.self.inside.here c.args.number c.in_ok-to.to c.deref.ensures.value c.deref-2.ensures.value c.in_ok-to.ensures.ok c.self.invariant.known in
+    let l = leads_over c.deref.result.now s.tree.states.items s.steps s.known c.child.new.self s.here c.args.number c.in_ok-to.to c.deref.ensures.value c.in_ok-to.ensures.ok c.self.invariant.known in
     let states : states_at now.states.items (c.push.new.self.items ++ s.here ∷ []) ≡ states_at s.known.states.items (s.outer.items ++ s.here ∷ []) =
     ap (λ (z : List ℕ). states_at now.states.items (z ++ s.here ∷ [])) c.in_err-push.ensures.items
-    ∙ stay s.tree.states.items s.names.items s.known now s.outer.items s.here c.args.number c.in_ok-to.to l c.self.invariant.there c.self.invariant.order in
-    on_err c.from_residual-in_err-push.result (ap (λ (ss : List StateView). record { tree = s.tree; names = s.names.items; states = ss }) states ∙ c.self.view_is)
+    ∙ stay s.tree.states.items s.steps.names.items s.known now s.outer.items s.here c.args.number c.in_ok-to.to l c.self.invariant.there c.self.invariant.order in
+    on_err c.from_residual-in_err-push.result (ap (seen_with s.tree s.steps.names.items (states_at now.states.items (c.push.new.self.items ++ s.here ∷ []))) l.bound
+    ∙ (ap (λ (ss : List StateView). seen_with s.tree s.steps.names.items ss s.known.bound) states ∙ c.self.view_is))
 
 pub invariant_of-self-2 : goal.invariant_of-self-2
 invariant_of-self-2 c =
     let s = c.self.inside in
     let tree = s.tree.states.items in
-    let names = s.names.items in
-    let l = leads_over c.deref.result.now c.self.inside.tree.states.items c.deref-2.result.now c.self.inside.names.items c.self.inside.known c.child.new.self c.self.inside.here c.args.number c.in_ok-to.to c.deref.ensures.value c.deref-2.ensures.value c.in_ok-to.ensures.ok c.self.invariant.known in
+    let names = s.steps.names.items in
+    let l = leads_over c.deref.result.now s.tree.states.items s.steps s.known c.child.new.self s.here c.args.number c.in_ok-to.to c.deref.ensures.value c.in_ok-to.ensures.ok c.self.invariant.known in
     let now = c.child.new.self in
     let to = c.in_ok-to.to in
     let items = c.in_ok-push.ensures.items in
     record {
-      known = record { right = l.right; named = c.self.invariant.known.named };
-      ordered = c.self.invariant.ordered;
+      known = record { right = l.right; index = c.self.invariant.known.index };
       there = subst (λ (z : List ℕ). (n : ℕ) → In n (z ++ to ∷ []) → n < length now.states.items) (sym items) (there_more tree names s.known now s.outer.items s.here c.args.number to l c.self.invariant.there c.self.invariant.order);
       order = subst (λ (z : List ℕ). ForgetInOrder now.kept (z ++ to ∷ [])) (sym items) (order_now tree names s.known now s.outer.items s.here c.args.number to l c.self.invariant.there c.self.invariant.order);
     }
@@ -70,18 +69,19 @@ pub returns-clause-entered : goal.returns-clause-entered
 returns-clause-entered c =
     let s = c.self.inside in
     let tree = s.tree.states.items in
-    let names = s.names.items in
-    let l = leads_over c.deref.result.now c.self.inside.tree.states.items c.deref-2.result.now c.self.inside.names.items c.self.inside.known c.child.new.self c.self.inside.here c.args.number c.in_ok-to.to c.deref.ensures.value c.deref-2.ensures.value c.in_ok-to.ensures.ok c.self.invariant.known in
+    let names = s.steps.names.items in
+    let l = leads_over c.deref.result.now s.tree.states.items s.steps s.known c.child.new.self s.here c.args.number c.in_ok-to.to c.deref.ensures.value c.in_ok-to.ensures.ok c.self.invariant.known in
     let now = c.child.new.self in
     let to = c.in_ok-to.to in
     let state = state_at now.states.items to in
     let states : states_at now.states.items (c.push.new.self.items ++ to ∷ []) ≡ states_at s.known.states.items (s.outer.items ++ s.here ∷ []) ++ state ∷ [] =
     ap (λ (z : List ℕ). states_at now.states.items (z ++ to ∷ [])) c.in_ok-push.ensures.items
     ∙ states_more tree names s.known now s.outer.items s.here c.args.number to l c.self.invariant.there c.self.invariant.order in
-    let view : StatesView = record { tree = s.tree; names = names; states = states_at now.states.items (c.push.new.self.items ++ to ∷ []) } in
+    let all = states_at now.states.items (c.push.new.self.items ++ to ∷ []) in
+    let view : StatesView = seen_with s.tree names all now.bound in
     subst (λ (v : StatesView). Enters v view c.args.number) c.self.view_is (record {
       state = state;
-      is = ap (λ (ss : List StateView). record { tree = s.tree; names = names; states = ss }) states;
+      is = ap (seen_with s.tree names all) l.bound ∙ ap (λ (ss : List StateView). seen_with s.tree names ss s.known.bound) states;
       made = made_more tree names s.known now s.outer.items s.here c.args.number to l c.self.invariant.there c.self.invariant.order;
       leads = leads_more tree names s.known now s.outer.items s.here c.args.number to l c.self.invariant.there c.self.invariant.order;
     })

@@ -1,5 +1,5 @@
 use Rattle.std.proofs.Common.{◌≡◌, ◌++◌, ℕ, List, [], ◌∷◌, ◌∙◌, ap, subst}
-use Rattle.path_states.specs.Names.{HasNames}
+use Rattle.path_states.specs.Branches.{IsStepIndex}
 use Rattle.path_states.specs.State.{StateView, Gathers, IsMade}
 use Rattle.path_states.specs.States.{states_at}
 use Rattle.path_states.specs.declared.paths.PathState.{PathState}
@@ -9,15 +9,17 @@ use Rattle.path_states.proofs.states.PathStates.new.Goals as goal
 pub invariant_of-result : goal.invariant_of-result
 invariant_of-result c =
     let tree = c.in_ok-tree.tree.states.items in
-    let names = c.in_ok-names.names.items in
+    let names = c.in_ok-steps.steps.names.items in
     let made = subst (λ (z : List PathState). IsMade z c.in_ok-first.first) c.deref-2.ensures.value (c.in_ok-first.ensures.made tt) in
     let start = first_open c.in_ok-known.known c.in_ok-first.first c.new-2.result.items c.in_ok-known.ensures.first c.new-2.ensures.items in
     record {
-      known = record { right = c.in_ok-known.ensures.right tree names made; named = subst (λ (z : List PathState). HasNames z names) c.deref.ensures.value c.in_ok-names.ensures.all };
-      ordered = c.in_ok-names.ensures.ordered;
+      known = record { right = c.in_ok-known.ensures.right tree names made; index = subst (λ (z : List PathState). IsStepIndex z c.in_ok-steps.steps) c.deref.ensures.value c.in_ok-steps.ensures };
       there = start.0;
       order = start.1;
     }
+
+pub returns-clause-most : goal.returns-clause-most
+returns-clause-most c = (ap (λ z. z.states) c.in_ok-known.ensures.bound, ap (λ z. z.bytes) c.in_ok-known.ensures.bound)
 
 pub returns-clause-first : goal.returns-clause-first
 returns-clause-first c =

@@ -3,9 +3,9 @@ use Rattle.std.specs.Prelude.{Ok, IfOk}
 use Rattle.gcx_model.specs.Tree.{Token, Start, Chars, End}
 use Rattle.doc_reader.specs.Standing.{said_of}
 use Rattle.projector.specs.View.{ProjectorView}
-use Rattle.projector.specs.Projector.{Projects, Places}
+use Rattle.projector.specs.Projector.{MayBeFed, Projects, Places}
 use Rattle.projector.specs.Calls.{Feeds}
-use Rattle.projector.proofs.Feeding.{feeds_heard}
+use Rattle.projector.proofs.Feeding.{feeds_heard, may_heard}
 use Rattle.projector.proofs.projector.Projector.feed_token.Goals as goal
 
 pub feed_node-requires-clause-place : goal.feed_node-requires-clause-place
@@ -16,6 +16,21 @@ feed_node-requires-in-Text-clause-place g c = subst (λ (p : ProjectorView). Pla
 
 pub feed_end-requires-clause-place : goal.feed_end-requires-clause-place
 feed_end-requires-clause-place g c = subst (λ (p : ProjectorView). Places p c.args.buffer.now) (sym c.self.view_is) c.requires.place
+
+pub feed_node-requires-clause-may : goal.feed_node-requires-clause-may
+feed_node-requires-clause-may g c =
+    may_heard c.args.self.now c.self.inside.matcher c.sign_all.new.matcher c.args.buffer.now c.waiting.result.now (Start c.in-Start.name) (ap (λ (p : ProjectorView). p.matcher) c.self.view_is) c.waiting.ensures
+    c.in_ok-sign_all.ensures (subst (λ (t : Token). MayBeFed (Projects c.args.self.now) c.args.buffer.now t) (ap said_of c.in-Start.is) c.requires.may)
+
+pub feed_node-requires-in-Text-clause-may : goal.feed_node-requires-in-Text-clause-may
+feed_node-requires-in-Text-clause-may g c =
+    may_heard c.args.self.now c.self.inside.matcher c.sign_all.new.matcher c.args.buffer.now c.waiting.result.now (Chars c.in-Text.text) (ap (λ (p : ProjectorView). p.matcher) c.self.view_is) c.waiting.ensures
+    c.in_ok-sign_all.ensures (subst (λ (t : Token). MayBeFed (Projects c.args.self.now) c.args.buffer.now t) (ap said_of c.in-Text.is) c.requires.may)
+
+pub feed_end-requires-clause-may : goal.feed_end-requires-clause-may
+feed_end-requires-clause-may g c =
+    may_heard c.args.self.now c.self.inside.matcher c.sign_all.new.matcher c.args.buffer.now c.waiting.result.now End (ap (λ (p : ProjectorView). p.matcher) c.self.view_is) c.waiting.ensures
+    c.in_ok-sign_all.ensures (subst (λ (t : Token). MayBeFed (Projects c.args.self.now) c.args.buffer.now t) (elim c.in-End.is [ inl e ↦ ap said_of e | inr e ↦ ap said_of e ]) c.requires.may)
 
 pub returns-in-Start-clause-feeds : goal.returns-in-Start-clause-feeds
 returns-in-Start-clause-feeds g c =

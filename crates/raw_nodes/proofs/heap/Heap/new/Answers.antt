@@ -1,5 +1,6 @@
 use Rattle.std.proofs.Common.{◌≡◌, [], sym, ap, ◌∙◌, subst}
-use Rattle.raw_nodes.specs.Spots.{IsApart, places}
+use Rattle.std.specs.List.{AllByRecursion}
+use Rattle.raw_nodes.specs.Spots.{IsApart, IsInSomeBlock, places}
 use Rattle.raw_nodes.specs.Nodes.{Numbered}
 use Rattle.raw_nodes.specs.Heaps.{addresses, AreBlocks, block_places}
 use Rattle.raw_nodes.specs.declared.node.Node.{Node}
@@ -11,6 +12,7 @@ returns-clause-heap g c =
     let none : c.new.result.cells ≡ [] = c.new.ensures in
     record {
       apart = subst IsApart (sym none) (none_apart (Node g.row.T.Denot));
+      placed = subst (λ cells. AllByRecursion IsInSomeBlock (places cells)) (sym none) tt;
       table = ap places none ∙ sym (ap addresses c.new-3.ensures.items);
       blocks = subst AreBlocks (sym c.new-2.ensures.items) tt;
       laid = ap places none ∙ sym (ap block_places c.new-2.ensures.items);

@@ -7,22 +7,22 @@ use Rattle.raw_nodes.proofs.rows.RawRows.dead_cell.Goals as goal
 
 pub returns-in-Some-clause-ok : goal.returns-in-Some-clause-ok
 returns-in-Some-clause-ok g c =
-    let is : c.args.self.now.free ≡ Some c.in-Some.link = search rules in
-    ready_old c.args.self.now c.requires c.in-Some.link is
+    let is : c.args.self.now.free ≡ Some c.in-Some.cell = search rules in
+    ready_old c.args.self.now c.requires c.in-Some.cell is
 
 pub returns-in-None-clause-ok : goal.returns-in-None-clause-ok
 returns-in-None-clause-ok g c =
     let new : RawRows g.row.T.Denot =
     record {
-      heap = c.grow.new.self;
+      heap = c.grow_like.new.self;
       free = c.args.self.now.free;
       root = c.args.self.now.root;
       len = c.args.self.now.len;
       most = c.args.self.now.most;
     } in
     let is : c.args.self.now.free ≡ None = search rules in
-    ok_more (λ link. Grows c.args.self.now.heap c.grow.new.self link) (λ link. Ready c.args.self.now new link) c.grow.result
-    (λ link grows. ready_new c.args.self.now c.requires new link is c.grow.ensures.heap grows (refl, refl, refl)) c.grow.ensures.ok
+    ok_more (λ link. Grows c.args.self.now.heap c.grow_like.new.self link) (λ link. Ready c.args.self.now new link) c.grow_like.result
+    (λ link grows. ready_new c.args.self.now c.requires new link is c.grow_like.ensures.heap grows (refl, refl, refl)) c.grow_like.ensures.ok
 
 pub returns-in-None-clause-spare : goal.returns-in-None-clause-spare
 returns-in-None-clause-spare g c =

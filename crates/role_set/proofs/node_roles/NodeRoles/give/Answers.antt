@@ -5,10 +5,10 @@ use Rattle.std.proofs.Common.{[], ◌∷◌, ◌++◌, ap, sym, subst, refl, ◌
 use Rattle.std.specs.FinSet.{insert, contains}
 use Rattle.role_set.specs.NodeRoles.{NodeSets}
 use Rattle.role_set.specs.Pairs.{held_numbers, sets_of}
-use Rattle.role_set.specs.Words.{roles_of, AllHigh}
+use Rattle.role_set.specs.Words.{roles_of, HighOnce}
 use Rattle.role_set.proofs.Pairs.{same_sets}
 use Rattle.role_set.proofs.Sets.{insert_member}
-use Rattle.role_set.proofs.Roles.{insert_low, insert_high, high_member, no_high, all_high-push}
+use Rattle.role_set.proofs.Roles.{insert_low, insert_high, high_member, no_high, high_once-push}
 use Rattle.role_set.proofs.node_roles.NodeRoles.give.Goals as goal
 
 pub returns-then-role-lt-WORD_BITS-clause-ok : goal.returns-then-role-lt-WORD_BITS-clause-ok
@@ -29,13 +29,14 @@ invariant_of-self-2 c =
     record {
       lists = c.give.ensures.lists;
       held = by c.give.result c.give.ensures.ok c.give.ensures.err;
-      signed = subst AllHigh (sym c.give.ensures.signed) c.self.invariant.signed;
+      signed = subst HighOnce (sym c.give.ensures.signed) c.self.invariant.signed;
     }
   where
     by : (r : Result (Unit {0}) Memory) → OnOk r (held_numbers c.give.new.self ≡ held_numbers c.self.inside.high ++ c.args.role.0 ∷ [])
-        → OnErr r (held_numbers c.give.new.self ≡ held_numbers c.self.inside.high) → AllHigh (held_numbers c.give.new.self)
-    by (Ok u) ok err = subst AllHigh (sym ok) (all_high-push (held_numbers c.self.inside.high) c.args.role.0 c.self.invariant.held c.if-role-lt-WORD_BITS.false)
-    by (Err e) ok err = subst AllHigh (sym err) c.self.invariant.held
+        → OnErr r (held_numbers c.give.new.self ≡ held_numbers c.self.inside.high) → HighOnce (held_numbers c.give.new.self)
+    by (Ok u) ok err = subst HighOnce (sym ok) (high_once-push (held_numbers c.self.inside.high) c.args.role.0 c.self.invariant.held c.if-role-lt-WORD_BITS.false
+        (sym c.has.ensures ∙ c.if-has.false))
+    by (Err e) ok err = subst HighOnce (sym err) c.self.invariant.held
 
 pub returns-clause-ok : goal.returns-clause-ok
 returns-clause-ok c = by c.give.result c.give.ensures.ok

@@ -1,7 +1,7 @@
 use Rattle.std.proofs.Common.{ap, sym, subst, inl, ◌∙◌}
 use Rattle.std.proofs.lemmas.Bool.{false≢true}
 use Rattle.std.specs.FinSet.{contains}
-use Rattle.role_set.specs.Words.{roles_of, AllHigh, high_numbers}
+use Rattle.role_set.specs.Words.{roles_of, HighOnce, high_numbers}
 use Rattle.role_set.proofs.Pairs.{same_sets}
 use Rattle.role_set.proofs.Roles.{empty_roles, same_high, all_one}
 use Rattle.role_set.proofs.node_roles.NodeRoles.of.Goals as goal
@@ -11,7 +11,7 @@ invariant_of-result c =
     record {
       lists = c.in_ok-high.ensures.lists;
       held = c.in_ok-high.ensures.held.high c.roles.invariant.1;
-      signed = subst AllHigh (sym c.in_ok-high.ensures.signed) tt;
+      signed = subst HighOnce (sym c.in_ok-high.ensures.signed) tt;
     }
 
 pub returns-clause-ok : goal.returns-clause-ok

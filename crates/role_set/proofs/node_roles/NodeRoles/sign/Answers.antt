@@ -5,10 +5,10 @@ use Rattle.std.proofs.Common.{[], ◌∷◌, ◌++◌, ap, sym, subst, refl, ◌
 use Rattle.std.specs.FinSet.{insert, contains}
 use Rattle.role_set.specs.NodeRoles.{NodeSets}
 use Rattle.role_set.specs.Pairs.{signed_numbers, sets_of}
-use Rattle.role_set.specs.Words.{roles_of, AllHigh}
+use Rattle.role_set.specs.Words.{roles_of, HighOnce}
 use Rattle.role_set.proofs.Pairs.{same_sets}
 use Rattle.role_set.proofs.Sets.{insert_member}
-use Rattle.role_set.proofs.Roles.{insert_low, insert_high, high_member, no_high, all_high-push}
+use Rattle.role_set.proofs.Roles.{insert_low, insert_high, high_member, no_high, high_once-push}
 use Rattle.role_set.proofs.node_roles.NodeRoles.sign.Goals as goal
 
 pub returns-then-role-lt-WORD_BITS-clause-ok : goal.returns-then-role-lt-WORD_BITS-clause-ok
@@ -27,14 +27,15 @@ pub invariant_of-self-2 : goal.invariant_of-self-2
 invariant_of-self-2 c =
     record {
       lists = c.sign.ensures.lists;
-      held = subst AllHigh (sym c.sign.ensures.held) c.self.invariant.held;
+      held = subst HighOnce (sym c.sign.ensures.held) c.self.invariant.held;
       signed = by c.sign.result c.sign.ensures.ok c.sign.ensures.err;
     }
   where
     by : (r : Result (Unit {0}) Memory) → OnOk r (signed_numbers c.sign.new.self ≡ signed_numbers c.self.inside.high ++ c.args.role.0 ∷ [])
-        → OnErr r (signed_numbers c.sign.new.self ≡ signed_numbers c.self.inside.high) → AllHigh (signed_numbers c.sign.new.self)
-    by (Ok u) ok err = subst AllHigh (sym ok) (all_high-push (signed_numbers c.self.inside.high) c.args.role.0 c.self.invariant.signed c.if-role-lt-WORD_BITS.false)
-    by (Err e) ok err = subst AllHigh (sym err) c.self.invariant.signed
+        → OnErr r (signed_numbers c.sign.new.self ≡ signed_numbers c.self.inside.high) → HighOnce (signed_numbers c.sign.new.self)
+    by (Ok u) ok err = subst HighOnce (sym ok) (high_once-push (signed_numbers c.self.inside.high) c.args.role.0 c.self.invariant.signed c.if-role-lt-WORD_BITS.false
+        (sym c.is_signed.ensures ∙ c.if-is_signed.false))
+    by (Err e) ok err = subst HighOnce (sym err) c.self.invariant.signed
 
 pub returns-clause-ok : goal.returns-clause-ok
 returns-clause-ok c = by c.sign.result c.sign.ensures.ok

@@ -2,9 +2,9 @@ use Rattle.std.proofs.Common.{ap, sym, subst, ◌∙◌}
 use Rattle.std.specs.FinSet.{remove}
 use Rattle.role_set.specs.NodeRoles.{NodeSets}
 use Rattle.role_set.specs.Pairs.{held_numbers}
-use Rattle.role_set.specs.Words.{roles_of, AllHigh}
+use Rattle.role_set.specs.Words.{roles_of, HighOnce}
 use Rattle.role_set.proofs.Pairs.{same_sets}
-use Rattle.role_set.proofs.Roles.{remove_low, remove_high, all_high-filter}
+use Rattle.role_set.proofs.Roles.{remove_low, remove_high, high_once-filter}
 use Rattle.role_set.proofs.node_roles.NodeRoles.take.Goals as goal
 
 pub returns-then-role-lt-WORD_BITS : goal.returns-then-role-lt-WORD_BITS
@@ -24,6 +24,6 @@ pub invariant_of-self-else-role-lt-WORD_BITS : goal.invariant_of-self-else-role-
 invariant_of-self-else-role-lt-WORD_BITS c =
     record {
       lists = c.take.ensures.lists;
-      held = subst AllHigh (sym c.take.ensures.held) (all_high-filter _ (held_numbers c.self.inside.high) c.self.invariant.held);
-      signed = subst AllHigh (sym c.take.ensures.signed) c.self.invariant.signed;
+      held = subst HighOnce (sym c.take.ensures.held) (high_once-filter _ (held_numbers c.self.inside.high) c.self.invariant.held);
+      signed = subst HighOnce (sym c.take.ensures.signed) c.self.invariant.signed;
     }

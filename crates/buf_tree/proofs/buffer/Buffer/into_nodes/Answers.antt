@@ -1,0 +1,9 @@
+use Rattle.std.proofs.Common.{subst}
+use Rattle.buf_tree.specs.Spread.{SameButRoles}
+use Rattle.buf_tree.specs.View.{View}
+use Rattle.buf_tree.proofs.SeenReading.{alike}
+use Rattle.buf_tree.proofs.Spreading.{upward}
+use Rattle.buf_tree.proofs.buffer.Buffer.into_nodes.Goals as goal
+
+pub returns-clause-alike : goal.returns-clause-alike
+returns-clause-alike g c = subst (λ (v : View). SameButRoles v.kept v.rows) c.self.view_is (alike c.self.inside.spread _ (upward _ c.self.invariant.0.shape.rising c.self.invariant.0.shape.up))

@@ -1,0 +1,43 @@
+//! What tokens did, in numbers.
+ghost use Rattle.std.specs.Prelude.{◌≡◌};
+ghost use Rattle.engine.specs.Going.{counted, is_quiet, roles_in};
+
+use crate::engine::Counts;
+use buf_tree::{Buffer, Row};
+use node_store::NodeStore;
+use projector::Tally;
+
+/// The counts with what a token did, behind which so many rows are held.
+#[inline(always)]
+pub(crate) fn count(counts: Counts, tally: Tally, held: u64) -> Counts
+    ensures { result ≡ counted counts tally held }
+{
+    Counts {
+        peak: counts.peak.max(held),
+        given: counts.given.saturating_add(roles_of(tally)),
+        ..counts
+    }
+}
+
+/// How many roles the token gave.
+#[inline(always)]
+pub(crate) fn roles_of(tally: Tally) -> u128
+    ensures { result ≡ roles_in tally }
+{
+    match tally {
+        Tally::Opened(count) => count as u128,
+        Tally::Closed => 0,
+    }
+}
+
+/// Whether no action is possible behind the token that wasn't before it: the token gave no role, or closed a node that
+/// left at once, so that no role was live there.
+#[inline(always)]
+pub(crate) fn is_quiet<N: NodeStore<Row>>(tally: Tally, buffer: &Buffer<N>) -> bool
+    ensures { result ≡ is_quiet tally buffer.now }
+{
+    match tally {
+        Tally::Opened(count) => count == 0,
+        Tally::Closed => !buffer.gone().is_empty(),
+    }
+}

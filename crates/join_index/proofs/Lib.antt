@@ -1,0 +1,11 @@
+pub mod Distinct
+pub mod Finding
+pub mod Gathering
+pub mod Halving
+pub mod Leaf
+pub mod Listing
+pub mod Members
+pub mod Others
+pub mod Paths
+pub mod Reading
+pub mod Walks

@@ -1,0 +1,105 @@
+-- A condition that is answered as marks do: the lists stay. And what the parts of a condition tell of it.
+use Rattle.std.proofs.Common.{◌≡◌, List, None, refl, sym, ap, subst, ◌∙◌}
+use Rattle.gcx_base.specs.declared.ids.VarId.{VarId}
+use Rattle.gcx_base.specs.declared.rel.Rel.{Rel}
+use Rattle.gcx_base.specs.declared.steps.Step.{Step}
+use Rattle.gcx_model.specs.Tree.{Tree}
+use Rattle.gcx_model.specs.Core.{OperandTree, CondTree, Always, Exists, Not}
+use Rattle.gcx_model.specs.CondView.{core_cond_tree, operand_tree}
+use Rattle.gcx_model.specs.declared.cond.Cond.{Cond}
+use Rattle.gcx_model.specs.declared.cond.Cond as code
+use Rattle.gcx_model.specs.declared.cond.Operand.{Operand}
+use Rattle.gcx_model.specs.declared.truth.Truth.{Truth}
+use Rattle.gcx_model.specs.declared.truth.Truth.TheVariants.{True}
+use Rattle.gcx_model.specs.Truth.{Env, negate, truth}
+use Rattle.buf_tree.specs.View.{View}
+use Rattle.cond_eval.specs.Bindings.{Bindings}
+use Rattle.cond_eval.specs.Asking.{Asked, IsLeaf, MayAskOver, Over}
+use Rattle.cond_eval.specs.Comparing.{comparison}
+use Rattle.cond_eval.proofs.Parts.{asked_not, fold_Exists}
+use Rattle.cond_memo.specs.Marks.{AreMarks}
+use Rattle.join_index.specs.declared.equality.Equality.{Equality}
+use Rattle.join_index.specs.Equalities.{HasEquality}
+use Rattle.join_index.specs.Index.{AreLists, HaveMoved, IndexView, IsIndex, IsOuterClosed, IsReached, Reaches, Tells, changes, raised}
+use Rattle.join_index.specs.Lookups.{LooksUp, MarksTell}
+use Rattle.join_index.proofs.Gathering.{fold_True}
+use Rattle.join_index.proofs.Listing.{changes_none, goes_also, goes_none, moved_none}
+
+module _ (v : View) (bound : Bindings) (k : IndexView) (c : CondTree) where
+  pub may_marks : MayAskOver v (IsIndex k) bound c → MayAskOver v (AreMarks k.marked) bound c
+  may_marks m = record { tree = m.tree; env = m.env; stand = (m.stand.0.0, m.stand.1); asked = m.asked }
+
+  -- no equality of the plan with a closed outer node is reached
+  abbrev pub ReachesNone : Type 0
+  ReachesNone = (P : Tree) (env : Env) → Over v.nodes (IsIndex k) P → Asked v.rows bound c P env
+      → (l r : OperandTree) → Reaches l r c env P → HasEquality k.equalities l r → IsOuterClosed l r env P → ⊥
+
+  pub marks_tell : (l : IndexView) (t : Truth) → MarksTell v bound c k l t → ReachesNone → Tells v bound c k l t
+  marks_tell l t told none = record {
+    answers = λ P env over a. let r = told.answers P env (over.0.0, over.1) a in (r.0, ((r.1.0, subst (λ (qs : List Equality). AreLists qs P) (sym told.equalities) over.0.1), r.1.1));
+    goes = record {
+      moved = subst (λ (qs : List Equality). HaveMoved bound may k.equalities qs) (sym told.equalities) (moved_none bound may k.equalities);
+      built = told.built ∙ sym (ap (λ (qs : List Equality). raised k.built (changes k.equalities qs)) told.equalities ∙ ap (raised k.built) (changes_none k.equalities));
+    };
+    kept = λ P env over a x y reached has closed. absurd (none P env over a x y reached has closed);
+  }
+    where
+      may : OperandTree → OperandTree → Type 0
+      may = IsReached v (IsIndex k) bound c
+
+-- ---- a comparison
+
+module _ (v : View) (bound : Bindings) (left : Operand) (rel : Rel) (right : Operand) (c : CondTree) (is : c ≡ comparison left rel right) where
+  pub is_leaf : IsLeaf c
+  is_leaf = subst IsLeaf (sym is) tt
+
+  -- none is told by a look-up
+  module _ (k l : IndexView) (none : LooksUp v bound left rel right k l None) where
+    pub may_still : MayAskOver v (IsIndex k) bound c → MayAskOver v (IsIndex l) bound c
+    may_still m = subst (λ (z : IndexView). MayAskOver v (IsIndex z) bound c) (sym none.0) m
+
+    pub told_marks : (m : IndexView) (t : Truth) → MarksTell v bound c l m t → Tells v bound c k m t
+    told_marks m t told = marks_tell v bound k c m t (subst (λ (z : IndexView). MarksTell v bound c z m t) none.0 told) reached
+      where
+        reached : ReachesNone v bound k c
+        reached P env over a x y is_reached has closed =
+            let e : Reaches x y (comparison left rel right) env P = subst (λ (z : CondTree). Reaches x y z env P) is is_reached in
+            none.1 e.1 (subst (λ (z : OperandTree). HasEquality k.equalities z (operand_tree right)) (sym e.0) (subst (λ (z : OperandTree). HasEquality k.equalities x z) (sym e.2) has)) P env over
+            (subst (λ (z : CondTree). Asked v.rows bound z P env) is a)
+            (subst (λ (z : OperandTree). IsOuterClosed z (operand_tree right) env P) (sym e.0) (subst (λ (z : OperandTree). IsOuterClosed x z env P) (sym e.2) closed))
+
+-- ---- the other kinds
+
+module _ (v : View) (bound : Bindings) (k : IndexView) (c : Cond) where
+  pub always_tells : c ≡ code.True → Tells v bound (core_cond_tree c) k k True
+  always_tells e = subst (λ (z : CondTree). Tells v bound z k k True) (sym (ap core_cond_tree e ∙ fold_True)) (record {
+    answers = λ P env over a. (refl, over);
+    goes = goes_none bound (IsReached v (IsIndex k) bound Always) k;
+    kept = λ P env over a l r reached has closed. absurd reached;
+  })
+
+  module _ (x : VarId) (steps : List Step) (e : c ≡ code.Exists x steps) where
+    exists_is : core_cond_tree c ≡ Exists x.0 steps
+    exists_is = ap core_cond_tree e ∙ fold_Exists x steps
+
+    pub exists_leaf : IsLeaf (core_cond_tree c)
+    exists_leaf = subst IsLeaf (sym exists_is) tt
+
+    pub exists_tells : (l : IndexView) (t : Truth) → MarksTell v bound (core_cond_tree c) k l t → Tells v bound (core_cond_tree c) k l t
+    exists_tells l t told = marks_tell v bound k (core_cond_tree c) l t told (λ P env over a x y reached has closed. subst (λ (z : CondTree). Reaches x y z env P) exists_is reached)
+
+  module _ (d : CondTree) (e : core_cond_tree c ≡ Not d) where
+    still : (l r : OperandTree) → IsReached v (IsIndex k) bound d l r → IsReached v (IsIndex k) bound (core_cond_tree c) l r
+    still l r w P env over a =
+        let b = w P env over (asked_not v.rows bound P env d (subst (λ (z : CondTree). Asked v.rows bound z P env) e a)) in
+        (subst (λ (z : CondTree). Reaches l r z env P) (sym e) b.0, b.1)
+
+    pub not_tells : (l : IndexView) (t u : Truth) → u ≡ negate t → Tells v bound d k l t → Tells v bound (core_cond_tree c) k l u
+    not_tells l t u is tells = record {
+      answers = λ P env over a.
+          let r = tells.answers P env over (asked_not v.rows bound P env d (subst (λ (z : CondTree). Asked v.rows bound z P env) e a)) in
+          (is ∙ (ap negate r.0 ∙ ap (λ (z : CondTree). truth z env P) (sym e)), r.1);
+      goes = goes_also bound (IsReached v (IsIndex k) bound d) (IsReached v (IsIndex k) bound (core_cond_tree c)) still k l tells.goes;
+      kept = λ P env over a l r reached has closed.
+          tells.kept P env over (asked_not v.rows bound P env d (subst (λ (z : CondTree). Asked v.rows bound z P env) e a)) l r (subst (λ (z : CondTree). Reaches l r z env P) e reached) has closed;
+    }

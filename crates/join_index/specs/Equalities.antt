@@ -1,0 +1,60 @@
+-- The equalities of a plan (this project's: an equality of two paths with different variables is answered by look-ups).
+use Rattle.std.specs.Prelude.{◌≡◌, ◌≢◌, ◌⊎◌, ◌↔◌, List, None}
+use Rattle.gcx_base.specs.declared.rel.Rel.TheVariants.{Eq}
+use Rattle.gcx_model.specs.Members.{In}
+use Rattle.gcx_model.specs.Core.{OperandTree, Path, Str, Num, CondTree, CondTrees, Always, Exists, Compare, Not, All, Any, no_cond, more_conds, ItemTree, BodyTree, Write, Copy, For, If, Off, Nil, Then}
+use Rattle.join_index.specs.declared.equality.Side.{Side}
+use Rattle.join_index.specs.declared.equality.Equality.{Equality}
+
+-- the path of a side
+abbrev pub path_of : Side → OperandTree
+path_of s = Path s.var.0 s.steps
+
+-- two paths whose variables differ
+abbrev pub AreApart : (left right : OperandTree) → Type 0
+AreApart (Path x p) (Path y q) = x ≢ y
+AreApart (Path x p) (Str b) = ⊥
+AreApart (Path x p) (Num u) = ⊥
+AreApart (Str b) r = ⊥
+AreApart (Num u) r = ⊥
+
+-- the condition, the body has the equality of these two
+abbrev mutual
+  pub CondHas : (left right : OperandTree) → CondTree → Type 0
+  CondHas l r Always = ⊥
+  CondHas l r (Exists x steps) = ⊥
+  CondHas l r (Compare left rel right) = (left ≡ l) × (rel ≡ Eq) × (right ≡ r)
+  CondHas l r (Not c) = CondHas l r c
+  CondHas l r (All cs) = SomeHas l r cs
+  CondHas l r (Any cs) = SomeHas l r cs
+
+  pub SomeHas : (left right : OperandTree) → CondTrees → Type 0
+  SomeHas l r no_cond = ⊥
+  SomeHas l r (more_conds c cs) = CondHas l r c ⊎ SomeHas l r cs
+
+abbrev mutual
+  pub ItemHas : (left right : OperandTree) → ItemTree → Type 0
+  ItemHas l r (Write b) = ⊥
+  ItemHas l r (Copy x) = ⊥
+  ItemHas l r (For x y step d) = BodyHas l r d
+  ItemHas l r (If c d e) = CondHas l r c ⊎ (BodyHas l r d ⊎ BodyHas l r e)
+  ItemHas l r (Off o) = ⊥
+
+  pub BodyHas : (left right : OperandTree) → BodyTree → Type 0
+  BodyHas l r Nil = ⊥
+  BodyHas l r (Then i d) = ItemHas l r i ⊎ BodyHas l r d
+
+-- the equality of these two is in the list
+pub record HasEquality (qs : List Equality) (l r : OperandTree) : Type 0 where
+  pub equality : Equality
+  pub among : In equality qs
+  pub left : path_of equality.left ≡ l
+  pub right : path_of equality.right ≡ r
+
+-- none has a list yet
+abbrev pub NoneKept : List Equality → Type 0
+NoneKept qs = (q : Equality) → In q qs → q.list ≡ None
+
+-- the list grows by these equalities, where their variables differ
+abbrev pub Gathers : (before now : List Equality) → (has : OperandTree → OperandTree → Type 0) → Type 0
+Gathers before now has = (l r : OperandTree) → HasEquality now l r ↔ (HasEquality before l r ⊎ (has l r × AreApart l r))

@@ -1,0 +1,138 @@
+-- What an index keeps, and what it tells of an open tree.
+use Rattle.std.specs.Prelude.{◌≡◌, ◌⊎◌, ◌+◌, ◌-◌, ◌^◌, ◌==◌, ℕ, zero, suc, Bool, true, false, cond, min, ltb, List, [], ◌∷◌, Option, Some, None, option_map}
+use Rattle.std.specs.FinMap.{get}
+use Rattle.gcx_base.specs.declared.rel.Rel.TheVariants.{Eq}
+use Rattle.gcx_model.specs.Tree.{Tree, is_closed}
+use Rattle.gcx_model.specs.Members.{In}
+use Rattle.gcx_model.specs.Core.{OperandTree, Path, Str, Num, CondTree, CondTrees, Always, Exists, Compare, Not, All, Any, no_cond, more_conds}
+use Rattle.gcx_model.specs.declared.truth.Truth.{Truth}
+use Rattle.gcx_model.specs.declared.truth.Truth.TheVariants.{True, False}
+use Rattle.gcx_model.specs.Truth.{Env, truth}
+use Rattle.pass_laws.specs.ValueLists.{IsListOf}
+use Rattle.buf_tree.specs.View.{View}
+use Rattle.cond_eval.specs.Bindings.{Bindings}
+use Rattle.cond_eval.specs.Asking.{Asked, Over, AnswersOver}
+use Rattle.cond_memo.specs.Marks.{AreMarks}
+use Rattle.cond_memo.specs.declared.marked.Marked.{Marked}
+use Rattle.join_index.specs.declared.equality.Side.{Side}
+use Rattle.join_index.specs.declared.equality.Listed.{Listed}
+use Rattle.join_index.specs.declared.equality.Equality.{Equality}
+use Rattle.join_index.specs.Equalities.{HasEquality, path_of}
+
+-- marks, the equalities with their lists, and how many lists were made
+pub record IndexView : Type 0 where
+  pub marked : Marked
+  pub equalities : List Equality
+  pub built : ℕ
+
+-- the path whose variable has the smaller number
+abbrev pub outer_of : Equality → Side
+outer_of q = cond (ltb q.left.var.0 q.right.var.0) q.left q.right
+
+-- and the other one
+abbrev pub inner_of : Equality → Side
+inner_of q = cond (ltb q.left.var.0 q.right.var.0) q.right q.left
+
+-- Index stands for: each kept list is that of the distinct values of the outer path at the node of its serial, which is closed
+abbrev pub AreLists : List Equality → Tree → Type 0
+AreLists qs P = (q : Equality) → In q qs → (l : Listed) → q.list ≡ Some l → IsListOf P (outer_of q).steps l.of.0 l.values
+
+abbrev pub IsIndex : IndexView → Tree → Type 0
+IsIndex k P = AreMarks k.marked P × AreLists k.equalities P
+
+-- ---- which lists are kept
+
+-- the serial of the node whose list is kept
+abbrev pub serial_kept : Equality → Option ℕ
+serial_kept q = option_map (λ (l : Listed). l.of.0) q.list
+
+-- that of the node to which a variable is bound
+abbrev pub serial_bound : Bindings → ℕ → Option ℕ
+serial_bound bound x = option_map (λ b. b.1) (get bound x)
+
+-- the truth of the condition comes to the equality of these two: the members before it let it come
+abbrev mutual
+  pub Reaches : (left right : OperandTree) → CondTree → Env → Tree → Type 0
+  Reaches l r Always env P = ⊥
+  Reaches l r (Exists x steps) env P = ⊥
+  Reaches l r (Compare left rel right) env P = (left ≡ l) × (rel ≡ Eq) × (right ≡ r)
+  Reaches l r (Not c) env P = Reaches l r c env P
+  Reaches l r (All cs) env P = ReachesAll l r cs env P
+  Reaches l r (Any cs) env P = ReachesAny l r cs env P
+
+  pub ReachesAll : (left right : OperandTree) → CondTrees → Env → Tree → Type 0
+  ReachesAll l r no_cond env P = ⊥
+  ReachesAll l r (more_conds c cs) env P = Reaches l r c env P ⊎ ((truth c env P ≡ True) × ReachesAll l r cs env P)
+
+  pub ReachesAny : (left right : OperandTree) → CondTrees → Env → Tree → Type 0
+  ReachesAny l r no_cond env P = ⊥
+  ReachesAny l r (more_conds c cs) env P = Reaches l r c env P ⊎ ((truth c env P ≡ False) × ReachesAny l r cs env P)
+
+-- the list of the equality of these two is that of the node to which its outer variable is bound
+pub record IsKept (bound : Bindings) (qs : List Equality) (l r : OperandTree) : Type 0 where
+  pub equality : Equality
+  pub among : In equality qs
+  pub left : path_of equality.left ≡ l
+  pub right : path_of equality.right ≡ r
+  pub kept : serial_kept equality ≡ serial_bound bound (outer_of equality).var.0
+
+-- the variable of a path
+abbrev pub var_of : OperandTree → ℕ
+var_of (Path x steps) = x
+var_of (Str b) = 0
+var_of (Num u) = 0
+
+-- the node of the outer one of two paths takes no more nodes
+abbrev pub IsOuterClosed : (left right : OperandTree) → Env → Tree → Type 0
+IsOuterClosed l r env P = is_closed P (env (min (var_of l) (var_of r))) ≡ true
+
+-- so it is of each equality of the plan that was reached with a closed outer node
+abbrev pub Keeps : View → (stands : Tree → Type 0) → Bindings → CondTree → (before now : List Equality) → Type 0
+Keeps v stands bound c before now = (P : Tree) (env : Env) → Over v.nodes stands P → Asked v.rows bound c P env
+    → (l r : OperandTree) → Reaches l r c env P → HasEquality before l r → IsOuterClosed l r env P → IsKept bound now l r
+
+-- ---- how many lists were made
+
+abbrev pub same_serial : Option ℕ → Option ℕ → Bool
+same_serial None None = true
+same_serial None (Some t) = false
+same_serial (Some s) None = false
+same_serial (Some s) (Some t) = s == t
+
+-- over each tree and environment for which the condition is asked its truth comes to the equality of these two, and the outer node is closed
+abbrev pub IsReached : View → (stands : Tree → Type 0) → Bindings → CondTree → (left right : OperandTree) → Type 0
+IsReached v stands bound c l r = (P : Tree) (env : Env) → Over v.nodes stands P → Asked v.rows bound c P env → Reaches l r c env P × IsOuterClosed l r env P
+
+-- The equalities are the same. A list that is another one is of an equality that may get one, and that of the node to which the outer variable is bound.
+pub record Moves (bound : Bindings) (may : OperandTree → OperandTree → Type 0) (q p : Equality) : Type 0 where
+  pub left : p.left ≡ q.left
+  pub right : p.right ≡ q.right
+  pub list : (serial_kept p ≡ serial_kept q) ⊎ ((serial_kept p ≡ serial_bound bound (outer_of q).var.0) × may (path_of q.left) (path_of q.right))
+
+abbrev pub HaveMoved : Bindings → (may : OperandTree → OperandTree → Type 0) → (before now : List Equality) → Type 0
+HaveMoved bound may [] [] = Unit {0}
+HaveMoved bound may [] (p ∷ ps) = ⊥
+HaveMoved bound may (q ∷ qs) [] = ⊥
+HaveMoved bound may (q ∷ qs) (p ∷ ps) = Moves bound may q p × HaveMoved bound may qs ps
+
+-- how many lists are other ones
+abbrev pub changes : (before now : List Equality) → ℕ
+changes [] ps = 0
+changes (q ∷ qs) [] = 0
+changes (q ∷ qs) (p ∷ ps) = cond (same_serial (serial_kept q) (serial_kept p)) (changes qs ps) (suc (changes qs ps))
+
+-- a count that rose so many times. It stands still at its end.
+abbrev pub raised : (count times : ℕ) → ℕ
+raised count zero = count
+raised count (suc n) = min (raised count n + 1) (2 ^ 64 - 1)
+
+-- what a question changes
+pub record Goes (bound : Bindings) (may : OperandTree → OperandTree → Type 0) (k l : IndexView) : Type 0 where
+  pub moved : HaveMoved bound may k.equalities l.equalities
+  pub built : l.built ≡ raised k.built (changes k.equalities l.equalities)
+
+-- what a question of the condition tells, and what it changes
+pub record Tells (v : View) (bound : Bindings) (c : CondTree) (k l : IndexView) (t : Truth) : Type 0 where
+  pub answers : AnswersOver v (IsIndex k) (IsIndex l) bound c t
+  pub goes : Goes bound (IsReached v (IsIndex k) bound c) k l
+  pub kept : Keeps v (IsIndex k) bound c k.equalities l.equalities

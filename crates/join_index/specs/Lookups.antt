@@ -1,0 +1,77 @@
+-- What each call on an equality tells. Private functions alone speak of it, but for the names.
+use Rattle.std.specs.Prelude.{◌≡◌, ◌⊎◌, ℕ, Bool, true, false, not, List, map, take, Option, Some, None}
+use Rattle.gcx_base.specs.declared.rel.Rel.{Rel}
+use Rattle.gcx_base.specs.declared.rel.Rel.TheVariants.{Eq}
+use Rattle.gcx_base.specs.declared.steps.Step.{Step}
+use Rattle.gcx_model.specs.Tree.{Node, serial_of, Tree, is_closed}
+use Rattle.gcx_model.specs.Paths.{value}
+use Rattle.gcx_model.specs.Members.{In}
+use Rattle.gcx_model.specs.Core.{CondTree, OperandTree}
+use Rattle.gcx_model.specs.Truth.{Env}
+use Rattle.gcx_model.specs.CondView.{operand_tree}
+use Rattle.gcx_model.specs.declared.cond.Operand.{Operand}
+use Rattle.gcx_model.specs.declared.truth.Truth.{Truth}
+use Rattle.pass_laws.specs.ValueLists.{IsListOf, IsFoundIn}
+use Rattle.buf_tree.specs.Shape.{Cell}
+use Rattle.buf_tree.specs.View.{View}
+use Rattle.cond_eval.specs.Bindings.{Bindings}
+use Rattle.cond_eval.specs.Asking.{AnswersOver, Asked, Over}
+use Rattle.cond_eval.specs.Reads.{NodeAt}
+use Rattle.cond_eval.specs.Comparing.{comparison, KeepsMatches, Readable}
+use Rattle.cond_eval.specs.declared.sets.Member.{Member}
+use Rattle.cond_memo.specs.Marks.{AreMarks}
+use Rattle.join_index.specs.declared.equality.Listed.{Listed}
+use Rattle.join_index.specs.declared.equality.Equality.{Equality}
+use Rattle.join_index.specs.Equalities.{HasEquality, path_of}
+use Rattle.join_index.specs.Index.{IndexView, IsIndex, IsOuterClosed, Tells, outer_of, same_serial, serial_kept}
+
+-- the texts are the values of the members' nodes
+abbrev pub AreValues : List Cell → List Member → List (List ℕ) → Type 0
+AreValues rows ms vs = (P : Tree) (keep : Node → Bool) (ns : List Node) → Readable rows P keep ms ns → vs ≡ map (value P) ns
+
+-- whether one of the members' nodes has a value of the list
+abbrev pub Finds : List Cell → List Member → (vs : List (List ℕ)) → Bool → Type 0
+Finds rows ms vs true = (P : Tree) (keep : Node → Bool) (ns : List Node) → Readable rows P keep ms ns → (m : Node) × In m ns × In (value P m) vs
+Finds rows ms vs false = (P : Tree) (keep : Node → Bool) (ns : List Node) → Readable rows P keep ms ns → (m : Node) → In m ns → In (value P m) vs → ⊥
+
+-- of the first members none has one
+abbrev pub NoneOf : List Cell → List Member → (vs : List (List ℕ)) → (seen : ℕ) → Type 0
+NoneOf rows ms vs i = (P : Tree) (keep : Node → Bool) (ns : List Node) → Readable rows P keep ms ns → (m : Node) → In m (take i ns) → In (value P m) vs → ⊥
+
+-- it is the equality of these two
+abbrev pub IsOf : Equality → (left right : OperandTree) → Type 0
+IsOf q l r = (path_of q.left ≡ l) × (path_of q.right ≡ r)
+
+-- the list is that of the values at the node of the row at the place, where that is closed
+abbrev pub ListsAt : List Cell → (p : ℕ) → List Step → (vs : List (List ℕ)) → Type 0
+ListsAt rows p steps vs = (P : Tree) (keep : Node → Bool) (n : Node) → NodeAt rows P keep p n → KeepsMatches P keep n steps → is_closed P n ≡ true → IsListOf P steps (serial_of n) vs
+
+-- The list of the node of the row at the place is kept; whether it was made.
+pub record KeepsList (rows : List Cell) (p of : ℕ) (q r : Equality) (made : Bool) : Type 0 where
+  pub left : r.left ≡ q.left
+  pub right : r.right ≡ q.right
+  pub list : Listed
+  pub kept : r.list ≡ Some list
+  pub serial : list.of.0 ≡ of
+  pub made_so : made ≡ not (same_serial (serial_kept q) (Some of))
+  pub told : (q.list ≡ Some list) ⊎ ListsAt rows p (outer_of q).steps list.values
+
+abbrev pub FoundIs : Tree → Node → List Step → (vs : List (List ℕ)) → Bool → Type 0
+FoundIs P n steps vs true = IsFoundIn P n steps vs
+FoundIs P n steps vs false = IsFoundIn P n steps vs → ⊥
+
+-- whether a closed match of the node of the row at the place has a value of the list
+abbrev pub TellsFound : List Cell → (p : ℕ) → List Step → (vs : List (List ℕ)) → Bool → Type 0
+TellsFound rows p steps vs b = (P : Tree) (keep : Node → Bool) (n : Node) → NodeAt rows P keep p n → KeepsMatches P keep n steps → FoundIs P n steps vs b
+
+-- What is told of a comparison: its truth; or none, since it is no equality of the plan, or its outer node is open.
+abbrev pub LooksUp : View → Bindings → (left : Operand) → Rel → (right : Operand) → (k l : IndexView) → Option Truth → Type 0
+LooksUp v bound left rel right k l (Some t) = Tells v bound (comparison left rel right) k l t
+LooksUp v bound left rel right k l None = (l ≡ k) × (rel ≡ Eq → HasEquality k.equalities (operand_tree left) (operand_tree right)
+    → (P : Tree) (env : Env) → Over v.nodes (IsIndex k) P → Asked v.rows bound (comparison left rel right) P env → IsOuterClosed (operand_tree left) (operand_tree right) env P → ⊥)
+
+-- what marks tell of a condition without parts: the lists stay
+pub record MarksTell (v : View) (bound : Bindings) (c : CondTree) (k l : IndexView) (t : Truth) : Type 0 where
+  pub answers : AnswersOver v (AreMarks k.marked) (AreMarks l.marked) bound c t
+  pub equalities : l.equalities ≡ k.equalities
+  pub built : l.built ≡ k.built

@@ -1,0 +1,140 @@
+-- The matcher's innermost node, opened in the buffer.
+use Rattle.std.proofs.Common.{◌≡◌, ℕ, suc, ◌≤◌, true, false, List, [], ◌∷◌, length, refl, sym, ◌∙◌, ap, subst, inr, arith, eqb, Some, Option}
+use Rattle.std.specs.Prelude.{option_map}
+use Rattle.std.specs.Ordering.{nat_cmp}
+use Rattle.std.specs.FinSet.{FinSet, from_list}
+use Rattle.std.proofs.lemmas.Bool.{eqb-true}
+use Rattle.gcx_base.specs.Kinds.{is_text}
+use Rattle.gcx_base.specs.declared.ids.Role.{Role}
+use Rattle.gcx_base.specs.declared.kind.Kind.{Kind}
+use Rattle.gcx_model.specs.Tree.{Node, Token, grow}
+use Rattle.gcx_model.specs.Growth.{may_come, level}
+use Rattle.gcx_model.specs.Held.{roles_given}
+use Rattle.gcx_model.specs.Members.{In}
+use Rattle.gcx_model.specs.Past.{Past, IsNode, Opens, past_grown, token_for}
+use Rattle.node_store.specs.declared.store.Place.{Place}
+use Rattle.matcher.specs.Calls.{GivesHere, GivesPlainly, StandsBehind}
+use Rattle.matcher.specs.Matcher.{Stands}
+use Rattle.matcher.specs.View.{MatcherView}
+use Rattle.buf_tree.specs.declared.ahead.Ahead.{Ahead}
+use Rattle.buf_tree.specs.Calls.{Opened, less, new_roles, numbers}
+use Rattle.buf_tree.specs.PassedCalls.{LeftTo, MayOpenWith, OpenedWith, StandsWith}
+use Rattle.buf_tree.specs.Shape.{Cell}
+use Rattle.buf_tree.specs.Stands.{GivenTo, StandsFor, StandsOpened, past_told}
+use Rattle.buf_tree.specs.View.{View}
+use Rattle.buf_tree.proofs.LeftViews.{stands_told}
+use Rattle.buf_tree.proofs.WithRoles.{left_given, opened_from}
+use Rattle.projector.specs.Opening.{HasHeard, MayOpenEntered, OpensBelow, OpensEntered, TellsTaken}
+use Rattle.projector.specs.Projector.{ahead_in, MayBeFed}
+use Rattle.projector.proofs.Feeding.{shallow_one}
+use Rattle.projector.proofs.Grown.{behind, given_to, heard_here, new_innermost, opened_node}
+use Rattle.projector.proofs.Pasts.{is_open}
+use Rattle.projector.proofs.Places.{shallow}
+
+-- ---- nothing waits
+
+pub none_waits : (ws : List Ahead) → eqb (length ws) 0 ≡ true → ws ≡ []
+none_waits [] e = refl
+none_waits (w ∷ ws) e = let f : suc (length ws) ≡ 0 = eqb-true (suc (length ws)) 0 e in absurd (omega arith)
+
+pub told_stands : (v : View) (past : Past) → v.waiting ≡ [] → StandsFor v past → StandsFor v (past_told past)
+told_stands v past e h = stands_told v v (ap (λ (ws : List Ahead). record v { waiting = ws }) e) past h
+
+-- ---- what the matcher tells of the new node is what the buffer asks
+
+pub enters_by : (m n : MatcherView) (kind : Kind) → StandsBehind m n kind
+    → (past : Past) → Stands m past false → may_come (token_for kind) past.tree ≡ true → ((p : Node) → past.tree.at ≡ Some p → level p ≤ 1000) → Stands n (past_grown (token_for kind) past) (is_text kind)
+enters_by m n kind f past S may low = f (past, false) S (refl, (may, low))
+
+module _ (m n : MatcherView) (v : View) (kind : Kind) (k : IsNode kind) (given ahead : List Role)
+    (enters : (past : Past) → Stands m past false → may_come (token_for kind) past.tree ≡ true → ((p : Node) → past.tree.at ≡ Some p → level p ≤ 1000) → Stands n (past_grown (token_for kind) past) (is_text kind))
+    (gives : (past : Past) (a : Node) → Stands m past false → may_come (token_for kind) past.tree ≡ true → ((p : Node) → past.tree.at ≡ Some p → level p ≤ 1000) → Opens past.tree (token_for kind) a
+    → numbers given ≡ roles_given past.plan (grow (token_for kind) past.tree) a)
+    (takes : TellsTaken n ahead) (levels : (c : Cell) → In c v.rows → c.row.is_open ≡ true → c.row.level ≤ 1000) where
+  pub gives_to : (past : Past) → StandsFor v past → HasHeard m past → may_come (token_for kind) past.tree ≡ true → GivenTo past (token_for kind) given ahead
+  gives_to past h heard may =
+      let t = token_for kind in
+      let a = is_open past.tree t may in
+      let q = ahead_in past.tree past.acts past in
+      let s = heard_here m past a.0 a.1 heard in
+      let low = shallow_one past.tree a.0 a.1 (shallow v past h a.0 a.1 levels) in
+      let st = enters q s may low in
+      given_to past h.is_past kind k may given ahead (λ b o. gives q b s may low o) (λ b i. takes (past_grown t q) (is_text kind) b st i)
+
+  pub opens_below : (between w : View) (q : ℕ) (place : Option Place) → Opened v between q (option_map (λ (p : Place). p.0) place) kind given ahead → StandsOpened v between kind given ahead → w ≡ record between { waiting = [] }
+      → ((past : Past) → StandsFor between past → StandsFor w (past_told past)) → OpensBelow m n v w q kind (place, given)
+  opens_below between w q place opened stands cleared told = record {
+    matcher = enters;
+    given = gives;
+    opened = record {
+      ahead = ahead;
+      between = between;
+      opened = opened;
+      cleared = cleared;
+      taken = λ past b h heard may o. (gives_to past h heard may b (opened_node past h.is_past kind k may b o)).1;
+    };
+    stands = λ past h heard may. told (past_grown (token_for kind) past) (stands past h may (gives_to past h heard may));
+  }
+
+-- the roles of the innermost node are those of the node that was entered
+pub entered_gives : (m n : MatcherView) (kind : Kind) → IsNode kind → (given : List Role)
+    → ((past : Past) → Stands m past false → may_come (token_for kind) past.tree ≡ true → ((p : Node) → past.tree.at ≡ Some p → level p ≤ 1000) → Stands n (past_grown (token_for kind) past) (is_text kind)) → GivesHere n given
+    → (past : Past) (a : Node) → Stands m past false → may_come (token_for kind) past.tree ≡ true → ((p : Node) → past.tree.at ≡ Some p → level p ≤ 1000) → Opens past.tree (token_for kind) a
+    → numbers given ≡ roles_given past.plan (grow (token_for kind) past.tree) a
+entered_gives m n kind k given enters here past a S may low o =
+    let b = is_open past.tree (token_for kind) may in
+    let alone = sym (behind (token_for kind) past.tree) ∙ opened_node past S.is_past kind k may a o in
+    here (past_grown (token_for kind) past) (is_text kind) a (enters past S may low) (new_innermost past.tree kind k b.0 b.1 a alone)
+
+-- so these are the roles that the buffer asks for
+pub entered_to : (m : MatcherView) (v : View) (kind : Kind) → IsNode kind → (given ahead : List Role) → (e : MayOpenEntered m v kind) → GivesHere m given → TellsTaken m ahead → GivenTo e.past (token_for kind) given ahead
+entered_to m v kind k given ahead e here taken =
+    let t = token_for kind in
+    let past = e.past in
+    let is = e.stands.is_past in
+    let b = is_open past.tree t e.may in
+    let q = ahead_in past.tree past.acts past in
+    given_to past is kind k e.may given ahead
+    (λ n o. here (past_grown t q) (is_text kind) n e.entered (new_innermost past.tree kind k b.0 b.1 n (sym (behind t past.tree) ∙ opened_node past is kind k e.may n o)))
+    (λ n i. taken (past_grown t q) (is_text kind) n e.entered i)
+
+-- the matcher entered it
+pub entered_behind : (m n : MatcherView) (v : View) (kind : Kind)
+    → ((past : Past) → Stands m past false → may_come (token_for kind) past.tree ≡ true → ((p : Node) → past.tree.at ≡ Some p → level p ≤ 1000) → Stands n (past_grown (token_for kind) past) (is_text kind))
+    → ((c : Cell) → In c v.rows → c.row.is_open ≡ true → c.row.level ≤ 1000) → MayBeFed (HasHeard m) v (token_for kind) → MayOpenEntered n v kind
+entered_behind m n v kind enters levels e =
+    let a = is_open e.past.tree (token_for kind) e.may in
+    record {
+      past = e.past;
+      stands = e.stands;
+      may = e.may;
+      entered = enters (ahead_in e.past.tree e.past.acts e.past) (heard_here m e.past a.0 a.1 e.projects) e.may (shallow_one e.past.tree a.0 a.1 (shallow v e.past e.stands a.0 a.1 levels));
+    }
+
+-- ---- opened by the set of its roles
+
+none_less : (xs : List ℕ) → less xs [] ≡ xs
+none_less [] = refl
+none_less (x ∷ xs) = ap (λ (z : List ℕ). x ∷ z) (none_less xs)
+
+-- a node that is given these roles has them, where none is taken in advance
+plain_roles : (m : MatcherView) (roles : FinSet nat_cmp) (count : ℕ) → (g : GivesPlainly m roles count) → roles ≡ new_roles g.gives.given []
+plain_roles m roles count g = g.gives.is ∙ ap (λ (z : List ℕ). from_list {R = nat_cmp} z) (sym (none_less (numbers g.gives.given)))
+
+plain_left : (m : MatcherView) (roles : FinSet nat_cmp) (count : ℕ) → (g : GivesPlainly m roles count) → (past : Past) (t : Token) → GivenTo past t g.gives.given [] → LeftTo past t roles
+plain_left m roles count g past t to = subst (λ (s : FinSet nat_cmp). LeftTo past t s) (sym (plain_roles m roles count g)) (left_given past t g.gives.given [] to)
+
+pub entered_plainly : (m : MatcherView) (v w : View) (q : ℕ) (kind : Kind) (place : Option Place) (roles : FinSet nat_cmp) (count : ℕ) → GivesPlainly m roles count → OpenedWith v w q (option_map (λ (p : Place). p.0) place) kind roles 0
+    → StandsWith v w kind roles → OpensEntered m v w q kind place count
+entered_plainly m v w q kind place roles count g opened stands = record {
+  given = g.gives.given;
+  ahead = [];
+  many = g.gives.many;
+  here = g.gives.here;
+  taken = g.ahead;
+  opened = opened_from v w q (option_map (λ (p : Place). p.0) place) kind roles 0 g.gives.given [] opened (plain_roles m roles count g) refl;
+  stands = λ past h may to. stands past h may (plain_left m roles count g past (token_for kind) to);
+}
+
+pub may_open_with : (m : MatcherView) (v : View) (kind : Kind) → IsNode kind → (roles : FinSet nat_cmp) (count : ℕ) → GivesPlainly m roles count → MayOpenEntered m v kind → MayOpenWith v (token_for kind) roles
+may_open_with m v kind k roles count g e = inr (e.past, e.stands, e.may, plain_left m roles count g e.past (token_for kind) (entered_to m v kind k g.gives.given [] e g.gives.here g.ahead))

@@ -1,0 +1,54 @@
+use Rattle.std.proofs.Common.{sym, ap, subst, inl, inr}
+use Rattle.std.specs.Prelude.{Ok, IfOk}
+use Rattle.gcx_model.specs.Tree.{Token, Start, Chars, End}
+use Rattle.doc_reader.specs.Standing.{said_of}
+use Rattle.projector.specs.View.{ProjectorView}
+use Rattle.projector.specs.Projector.{MayBeFed, Projects, Places}
+use Rattle.projector.specs.Calls.{Tallies}
+use Rattle.projector.proofs.Feeding.{may_heard, tallies_heard}
+use Rattle.projector.proofs.projector.Projector.feed_tallied.Goals as goal
+
+pub tally_node-requires-clause-place : goal.tally_node-requires-clause-place
+tally_node-requires-clause-place g c = subst (λ (p : ProjectorView). Places p c.args.buffer.now) (sym c.self.view_is) c.requires.place
+
+pub tally_node-requires-in-Text-clause-place : goal.tally_node-requires-in-Text-clause-place
+tally_node-requires-in-Text-clause-place g c = subst (λ (p : ProjectorView). Places p c.args.buffer.now) (sym c.self.view_is) c.requires.place
+
+pub feed_end-requires-clause-place : goal.feed_end-requires-clause-place
+feed_end-requires-clause-place g c = subst (λ (p : ProjectorView). Places p c.args.buffer.now) (sym c.self.view_is) c.requires.place
+
+pub tally_node-requires-clause-may : goal.tally_node-requires-clause-may
+tally_node-requires-clause-may g c =
+    may_heard c.args.self.now c.self.inside.matcher c.sign_all.new.matcher c.args.buffer.now c.waiting.result.now (Start c.in-Start.name) (ap (λ (p : ProjectorView). p.matcher) c.self.view_is) c.waiting.ensures
+    c.in_ok-sign_all.ensures (subst (λ (t : Token). MayBeFed (Projects c.args.self.now) c.args.buffer.now t) (ap said_of c.in-Start.is) c.requires.may)
+
+pub tally_node-requires-in-Text-clause-may : goal.tally_node-requires-in-Text-clause-may
+tally_node-requires-in-Text-clause-may g c =
+    may_heard c.args.self.now c.self.inside.matcher c.sign_all.new.matcher c.args.buffer.now c.waiting.result.now (Chars c.in-Text.text) (ap (λ (p : ProjectorView). p.matcher) c.self.view_is) c.waiting.ensures
+    c.in_ok-sign_all.ensures (subst (λ (t : Token). MayBeFed (Projects c.args.self.now) c.args.buffer.now t) (ap said_of c.in-Text.is) c.requires.may)
+
+pub feed_end-requires-clause-may : goal.feed_end-requires-clause-may
+feed_end-requires-clause-may g c =
+    may_heard c.args.self.now c.self.inside.matcher c.sign_all.new.matcher c.args.buffer.now c.waiting.result.now End (ap (λ (p : ProjectorView). p.matcher) c.self.view_is) c.waiting.ensures
+    c.in_ok-sign_all.ensures (subst (λ (t : Token). MayBeFed (Projects c.args.self.now) c.args.buffer.now t) (elim c.in-End.is [ inl e ↦ ap said_of e | inr e ↦ ap said_of e ]) c.requires.may)
+
+pub returns-in-Start-clause-feeds : goal.returns-in-Start-clause-feeds
+returns-in-Start-clause-feeds g c =
+    subst (λ (t : Token). IfOk c.tally_node.result (λ y. Tallies (Projects c.args.self.now) c.tally_node.new.self c.args.buffer.now c.tally_node.new.buffer t y))
+    (sym (ap said_of c.in-Start.is))
+    (tallies_heard c.args.self.now c.tally_node.new.self c.self.inside.matcher c.sign_all.new.matcher c.args.buffer.now c.tally_node.new.buffer c.waiting.result.now (Start c.in-Start.name) c.tally_node.result
+    (ap (λ (p : ProjectorView). p.matcher) c.self.view_is) c.waiting.ensures c.in_ok-sign_all.ensures c.tally_node.ensures.feeds)
+
+pub returns-in-Text-clause-feeds : goal.returns-in-Text-clause-feeds
+returns-in-Text-clause-feeds g c =
+    subst (λ (t : Token). IfOk c.tally_node-in-Text.result (λ y. Tallies (Projects c.args.self.now) c.tally_node-in-Text.new.self c.args.buffer.now c.tally_node-in-Text.new.buffer t y))
+    (sym (ap said_of c.in-Text.is))
+    (tallies_heard c.args.self.now c.tally_node-in-Text.new.self c.self.inside.matcher c.sign_all.new.matcher c.args.buffer.now c.tally_node-in-Text.new.buffer c.waiting.result.now (Chars c.in-Text.text) c.tally_node-in-Text.result
+    (ap (λ (p : ProjectorView). p.matcher) c.self.view_is) c.waiting.ensures c.in_ok-sign_all.ensures c.tally_node-in-Text.ensures.feeds)
+
+pub returns-in-End-clause-feeds : goal.returns-in-End-clause-feeds
+returns-in-End-clause-feeds g c =
+    subst (λ (t : Token). Tallies (Projects c.args.self.now) c.feed_end.new.self c.args.buffer.now c.feed_end.new.buffer t c.tally.result)
+    (sym (elim c.in-End.is [ inl e ↦ ap said_of e | inr e ↦ ap said_of e ]))
+    (tallies_heard c.args.self.now c.feed_end.new.self c.self.inside.matcher c.sign_all.new.matcher c.args.buffer.now c.feed_end.new.buffer c.waiting.result.now End (Ok c.tally.result)
+    (ap (λ (p : ProjectorView). p.matcher) c.self.view_is) c.waiting.ensures c.in_ok-sign_all.ensures (record { fed = c.feed_end.result; feeds = c.feed_end.ensures.feeds; is = c.tally.ensures }))
