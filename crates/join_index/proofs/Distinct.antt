@@ -14,7 +14,7 @@ use Rattle.std.proofs.lemmas.List.Sorted.{Contains-permutation, IsPermutation-sy
 use Rattle.std.proofs.lemmas.Slice.Eq.{bytes_eq-Decides}
 use Rattle.std.proofs.lemmas.Map.Text.{is_eq-slice_cmp}
 use Rattle.gcx_model.specs.Members.{In}
-use Rattle.join_index.specs.Rising.{IsBefore, Rises}
+use Rattle.join_index.specs.Rising.{IsBelowByBytes, RisesByBytes}
 
 abbrev pub is_before : (one other : List ℕ) → Bool
 is_before one other = is_lt (slice_cmp nat_cmp one other)
@@ -22,18 +22,18 @@ is_before one other = is_lt (slice_cmp nat_cmp one other)
 pub weak : IsStrictWeakOrder is_before
 weak = ranks_by nat_list_cmp_total (λ (x : List ℕ). x)
 
-below : (v w : List ℕ) (vs : List (List ℕ)) → In w vs → AllByRecursion (λ y. slice_cmp nat_cmp v y ≡ Less) vs → IsBefore v w
+below : (v w : List ℕ) (vs : List (List ℕ)) → In w vs → AllByRecursion (λ y. slice_cmp nat_cmp v y ≡ Less) vs → IsBelowByBytes v w
 below v w [] i a = absurd i
-below v w (x ∷ vs) (inl e) a = subst (λ (z : List ℕ). IsBefore v z) e a.0
+below v w (x ∷ vs) (inl e) a = subst (λ (z : List ℕ). IsBelowByBytes v z) e a.0
 below v w (x ∷ vs) (inr i) a = below v w vs i a.1
 
-pub rises_strictly : (vs : List (List ℕ)) → IsStrictlySortedBy (slice_cmp nat_cmp) vs → Rises vs
+pub rises_strictly : (vs : List (List ℕ)) → IsStrictlySortedBy (slice_cmp nat_cmp) vs → RisesByBytes vs
 unfolding IsStrictlySortedBy
 rises_strictly [] s = tt
 rises_strictly (v ∷ vs) s = ((λ w i. below v w vs i s.0), rises_strictly vs s.1)
 
 -- ordered texts, each once
-pub distinct_rise : (xs ys : List (List ℕ)) → IsSorted (slice_cmp nat_cmp) xs → ys ≡ dedup bytes_eq xs → Rises ys
+pub distinct_rise : (xs ys : List (List ℕ)) → IsSorted (slice_cmp nat_cmp) xs → ys ≡ dedup bytes_eq xs → RisesByBytes ys
 distinct_rise xs ys s e =
     rises_strictly ys (subst (λ (z : List (List ℕ)). IsStrictlySortedBy (slice_cmp nat_cmp) z) (sym e) (IsStrictlySortedBy-dedup nat_list_cmp_total (λ x y. sym (is_eq-slice_cmp x y)) xs s))
 

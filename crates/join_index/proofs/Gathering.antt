@@ -25,35 +25,35 @@ use Rattle.gcx_model.proofs.Folds.{fold_For, fold_If}
 use Rattle.gcx_model.specs.Tree.{Tree}
 use Rattle.join_index.specs.declared.equality.Listed.{Listed}
 use Rattle.join_index.specs.declared.equality.Equality.{Equality}
-use Rattle.join_index.specs.Equalities.{AreApart, BodyHas, CondHas, Gathers, HasEquality, ItemHas, NoneKept, SomeHas}
+use Rattle.join_index.specs.Equalities.{VariablesDiffer, BodyHas, CondHas, GathersAll, HasEquality, ItemHas, NoneKept, SomeHas}
 use Rattle.join_index.specs.Index.{AreLists}
 use Rattle.join_index.specs.Lookups.{IsOf}
 
 -- nothing is added
-pub gathers_none : (qs : List Equality) (has : OperandTree → OperandTree → Type 0) → ((l r : OperandTree) → has l r → ⊥) → Gathers qs qs has
+pub gathers_none : (qs : List Equality) (has : OperandTree → OperandTree → Type 0) → ((l r : OperandTree) → has l r → ⊥) → GathersAll qs qs has
 gathers_none qs has isnt l r = ((λ h. inl h), back)
   where
-    back : HasEquality qs l r ⊎ (has l r × AreApart l r) → HasEquality qs l r
+    back : HasEquality qs l r ⊎ (has l r × VariablesDiffer l r) → HasEquality qs l r
     back (inl h) = h
     back (inr p) = absurd (isnt l r p.0)
 
 -- first these, then those
-pub gathers_on : (qs rs ps : List Equality) (f g h : OperandTree → OperandTree → Type 0) → ((l r : OperandTree) → h l r ↔ (f l r ⊎ g l r)) → Gathers qs rs f → Gathers rs ps g → Gathers qs ps h
+pub gathers_on : (qs rs ps : List Equality) (f g h : OperandTree → OperandTree → Type 0) → ((l r : OperandTree) → h l r ↔ (f l r ⊎ g l r)) → GathersAll qs rs f → GathersAll rs ps g → GathersAll qs ps h
 gathers_on qs rs ps f g h both a b l r = (λ k. there ((b l r).0 k), back)
   where
-    first : HasEquality qs l r ⊎ (f l r × AreApart l r) → HasEquality qs l r ⊎ (h l r × AreApart l r)
+    first : HasEquality qs l r ⊎ (f l r × VariablesDiffer l r) → HasEquality qs l r ⊎ (h l r × VariablesDiffer l r)
     first (inl j) = inl j
     first (inr p) = inr ((both l r).1 (inl p.0), p.1)
 
-    there : HasEquality rs l r ⊎ (g l r × AreApart l r) → HasEquality qs l r ⊎ (h l r × AreApart l r)
+    there : HasEquality rs l r ⊎ (g l r × VariablesDiffer l r) → HasEquality qs l r ⊎ (h l r × VariablesDiffer l r)
     there (inl i) = first ((a l r).0 i)
     there (inr p) = inr ((both l r).1 (inr p.0), p.1)
 
-    part : AreApart l r → f l r ⊎ g l r → HasEquality ps l r
+    part : VariablesDiffer l r → f l r ⊎ g l r → HasEquality ps l r
     part apart (inl x) = (b l r).1 (inl ((a l r).1 (inr (x, apart))))
     part apart (inr y) = (b l r).1 (inr (y, apart))
 
-    back : HasEquality qs l r ⊎ (h l r × AreApart l r) → HasEquality ps l r
+    back : HasEquality qs l r ⊎ (h l r × VariablesDiffer l r) → HasEquality ps l r
     back (inl k) = (b l r).1 (inl ((a l r).1 (inl k)))
     back (inr p) = part p.1 ((both l r).0 p.0)
 
@@ -89,25 +89,25 @@ body_last [] x l r = (there, back)
 body_last (y ∷ ys) x l r = body_later y ys x l r (body_last ys x l r)
 
 abbrev pub GathersItems : (before now : List Equality) → List Item → Type 0
-GathersItems before now items = Gathers before now (λ l r. BodyHas l r (body_of (map item_tree items)))
+GathersItems before now items = GathersAll before now (λ l r. BodyHas l r (body_of (map item_tree items)))
 
 pub items_none : (qs : List Equality) → GathersItems qs qs []
 items_none qs = gathers_none qs (λ l r. BodyHas l r tree.Nil) (λ l r h. h)
 
 -- one item more
 pub items_more : (items : List Item) (i : ℕ) (item : Item) (before now more : List Equality) → i < length items → item ≡ get_or items i item
-    → GathersItems before now (take i items) → Gathers now more (λ l r. ItemHas l r (item_tree item)) → GathersItems before more (take (i + 1) items)
+    → GathersItems before now (take i items) → GathersAll now more (λ l r. ItemHas l r (item_tree item)) → GathersItems before more (take (i + 1) items)
 items_more items i item before now more low is a b =
     let longer : take (i + 1) items ≡ take i items ++ item ∷ [] = take_more items i item low ∙ ap (λ (z : Item). take i items ++ z ∷ []) (sym is) in
     let trees : map item_tree (take (i + 1) items) ≡ map item_tree (take i items) ++ item_tree item ∷ [] = ap (map item_tree) longer ∙ map-append item_tree (take i items) (item ∷ []) in
-    subst (λ (z : List ItemTree). Gathers before more (λ l r. BodyHas l r (body_of z))) (sym trees)
+    subst (λ (z : List ItemTree). GathersAll before more (λ l r. BodyHas l r (body_of z))) (sym trees)
     (gathers_on before now more (λ l r. BodyHas l r (body_of (map item_tree (take i items)))) (λ l r. ItemHas l r (item_tree item)) (λ l r. BodyHas l r (body_of (map item_tree (take i items) ++ item_tree item ∷ [])))
     (body_last (map item_tree (take i items)) (item_tree item)) a b)
 
 pub items_all : (items : List Item) (i : ℕ) (body : Body) (before now : List Equality) → length items ≤ i → map item_tree items ≡ map item_tree body.members.items
-    → GathersItems before now (take i items) → Gathers before now (λ l r. BodyHas l r (body_tree body))
+    → GathersItems before now (take i items) → GathersAll before now (λ l r. BodyHas l r (body_tree body))
 items_all items i body before now h trees a =
-    subst (λ (z : List ItemTree). Gathers before now (λ l r. BodyHas l r (body_of z))) (ap (map item_tree) (take_all i items h) ∙ trees) a
+    subst (λ (z : List ItemTree). GathersAll before now (λ l r. BodyHas l r (body_of z))) (ap (map item_tree) (take_all i items h) ∙ trees) a
 
 -- what an item has
 pub in_Write : (i : Item) (b : List ℕ) → i ≡ item.Write b → item_tree i ≡ tree.Write b
@@ -134,12 +134,12 @@ in_For i var from step body e = ap item_tree e ∙ fold_For var from step body
 pub in_If : (i : Item) (cond : Cond) (this other : Body) → i ≡ item.If cond this other → item_tree i ≡ tree.If (core_cond_tree cond) (body_tree this) (body_tree other)
 in_If i cond this other e = ap item_tree e ∙ fold_If cond this other
 
-pub item_none : (i : Item) (t : ItemTree) (qs : List Equality) → item_tree i ≡ t → ((l r : OperandTree) → ItemHas l r t → ⊥) → Gathers qs qs (λ l r. ItemHas l r (item_tree i))
-item_none i t qs e isnt = subst (λ (z : ItemTree). Gathers qs qs (λ l r. ItemHas l r z)) (sym e) (gathers_none qs (λ l r. ItemHas l r t) isnt)
+pub item_none : (i : Item) (t : ItemTree) (qs : List Equality) → item_tree i ≡ t → ((l r : OperandTree) → ItemHas l r t → ⊥) → GathersAll qs qs (λ l r. ItemHas l r (item_tree i))
+item_none i t qs e isnt = subst (λ (z : ItemTree). GathersAll qs qs (λ l r. ItemHas l r z)) (sym e) (gathers_none qs (λ l r. ItemHas l r t) isnt)
 
 -- the condition, and then both branches
-pub item_if : (c : CondTree) (d e : BodyTree) (qs rs ps ss : List Equality) → Gathers qs rs (λ l r. CondHas l r c) → Gathers rs ps (λ l r. BodyHas l r d) → Gathers ps ss (λ l r. BodyHas l r e)
-    → Gathers qs ss (λ l r. ItemHas l r (tree.If c d e))
+pub item_if : (c : CondTree) (d e : BodyTree) (qs rs ps ss : List Equality) → GathersAll qs rs (λ l r. CondHas l r c) → GathersAll rs ps (λ l r. BodyHas l r d) → GathersAll ps ss (λ l r. BodyHas l r e)
+    → GathersAll qs ss (λ l r. ItemHas l r (tree.If c d e))
 item_if c d e qs rs ps ss f g h =
     gathers_on qs rs ss (λ l r. CondHas l r c) (λ l r. BodyHas l r d ⊎ BodyHas l r e) (λ l r. ItemHas l r (tree.If c d e)) (λ l r. (λ z. z, λ z. z)) f
     (gathers_on rs ps ss (λ l r. BodyHas l r d) (λ l r. BodyHas l r e) (λ l r. BodyHas l r d ⊎ BodyHas l r e) (λ l r. (λ z. z, λ z. z)) g h)
@@ -176,27 +176,27 @@ some_last [] x l r = (there, back)
 some_last (y ∷ ys) x l r = some_later y ys x l r (some_last ys x l r)
 
 abbrev pub GathersConds : (before now : List Equality) → List Cond → Type 0
-GathersConds before now conds = Gathers before now (λ l r. SomeHas l r (core_conds_of (map core_cond_tree conds)))
+GathersConds before now conds = GathersAll before now (λ l r. SomeHas l r (core_conds_of (map core_cond_tree conds)))
 
 pub conds_none : (qs : List Equality) → GathersConds qs qs []
 conds_none qs = gathers_none qs (λ l r. SomeHas l r tree.no_cond) (λ l r h. h)
 
 pub conds_more : (conds : List Cond) (i : ℕ) (c : Cond) (before now more : List Equality) → i < length conds → c ≡ get_or conds i c
-    → GathersConds before now (take i conds) → Gathers now more (λ l r. CondHas l r (core_cond_tree c)) → GathersConds before more (take (i + 1) conds)
+    → GathersConds before now (take i conds) → GathersAll now more (λ l r. CondHas l r (core_cond_tree c)) → GathersConds before more (take (i + 1) conds)
 conds_more conds i c before now more low is a b =
     let longer : take (i + 1) conds ≡ take i conds ++ c ∷ [] = take_more conds i c low ∙ ap (λ (z : Cond). take i conds ++ z ∷ []) (sym is) in
     let trees : map core_cond_tree (take (i + 1) conds) ≡ map core_cond_tree (take i conds) ++ core_cond_tree c ∷ [] = ap (map core_cond_tree) longer ∙ map-append core_cond_tree (take i conds) (c ∷ []) in
-    subst (λ (z : List CondTree). Gathers before more (λ l r. SomeHas l r (core_conds_of z))) (sym trees)
+    subst (λ (z : List CondTree). GathersAll before more (λ l r. SomeHas l r (core_conds_of z))) (sym trees)
     (gathers_on before now more (λ l r. SomeHas l r (core_conds_of (map core_cond_tree (take i conds)))) (λ l r. CondHas l r (core_cond_tree c)) (λ l r. SomeHas l r (core_conds_of (map core_cond_tree (take i conds) ++ core_cond_tree c ∷ [])))
     (some_last (map core_cond_tree (take i conds)) (core_cond_tree c)) a b)
 
 pub conds_all : (conds : List Cond) (i : ℕ) (trees : List CondTree) (before now : List Equality) → length conds ≤ i → map core_cond_tree conds ≡ trees
-    → GathersConds before now (take i conds) → Gathers before now (λ l r. SomeHas l r (core_conds_of trees))
+    → GathersConds before now (take i conds) → GathersAll before now (λ l r. SomeHas l r (core_conds_of trees))
 conds_all conds i trees before now h e a =
-    subst (λ (z : List CondTree). Gathers before now (λ l r. SomeHas l r (core_conds_of z))) (ap (map core_cond_tree) (take_all i conds h) ∙ e) a
+    subst (λ (z : List CondTree). GathersAll before now (λ l r. SomeHas l r (core_conds_of z))) (ap (map core_cond_tree) (take_all i conds h) ∙ e) a
 
-pub cond_none : (c : Cond) (t : CondTree) (qs : List Equality) → core_cond_tree c ≡ t → ((l r : OperandTree) → CondHas l r t → ⊥) → Gathers qs qs (λ l r. CondHas l r (core_cond_tree c))
-cond_none c t qs e isnt = subst (λ (z : CondTree). Gathers qs qs (λ l r. CondHas l r z)) (sym e) (gathers_none qs (λ l r. CondHas l r t) isnt)
+pub cond_none : (c : Cond) (t : CondTree) (qs : List Equality) → core_cond_tree c ≡ t → ((l r : OperandTree) → CondHas l r t → ⊥) → GathersAll qs qs (λ l r. CondHas l r (core_cond_tree c))
+cond_none c t qs e isnt = subst (λ (z : CondTree). GathersAll qs qs (λ l r. CondHas l r z)) (sym e) (gathers_none qs (λ l r. CondHas l r t) isnt)
 
 pub fold_True : core_cond_tree code.True ≡ tree.Always
 fold_True = search (rules, cond_lemmas)
@@ -211,10 +211,10 @@ abbrev pub IsEquality : Rel → (left right : OperandTree) → OperandTree → O
 IsEquality rel left right l r = (left ≡ l) × (rel ≡ Eq) × (right ≡ r)
 
 -- it is there already
-pub already_there : (qs : List Equality) (rel : Rel) (left right : OperandTree) → HasEquality qs left right → Gathers qs qs (IsEquality rel left right)
+pub already_there : (qs : List Equality) (rel : Rel) (left right : OperandTree) → HasEquality qs left right → GathersAll qs qs (IsEquality rel left right)
 already_there qs rel left right has l r = ((λ h. inl h), back)
   where
-    back : HasEquality qs l r ⊎ (IsEquality rel left right l r × AreApart l r) → HasEquality qs l r
+    back : HasEquality qs l r ⊎ (IsEquality rel left right l r × VariablesDiffer l r) → HasEquality qs l r
     back (inl h) = h
     back (inr p) =
         subst (λ (z : OperandTree). HasEquality qs z r) p.0.0
@@ -240,21 +240,21 @@ in_either (x ∷ qs) q p (inr i) = next (in_either qs q p i)
     next (inr e) = inr e
 
 -- it is added
-pub one_added : (qs ps : List Equality) (q : Equality) (rel : Rel) (left right : OperandTree) → ps ≡ qs ++ q ∷ [] → IsOf q left right → AreApart left right → rel ≡ Eq → Gathers qs ps (IsEquality rel left right)
-one_added qs ps q rel left right e is apart eq = subst (λ (z : List Equality). Gathers qs z (IsEquality rel left right)) (sym e) go
+pub one_added : (qs ps : List Equality) (q : Equality) (rel : Rel) (left right : OperandTree) → ps ≡ qs ++ q ∷ [] → IsOf q left right → VariablesDiffer left right → rel ≡ Eq → GathersAll qs ps (IsEquality rel left right)
+one_added qs ps q rel left right e is apart eq = subst (λ (z : List Equality). GathersAll qs z (IsEquality rel left right)) (sym e) go
   where
-    go : Gathers qs (qs ++ q ∷ []) (IsEquality rel left right)
+    go : GathersAll qs (qs ++ q ∷ []) (IsEquality rel left right)
     go l r = (λ h. there h (in_either qs q h.equality h.among), back)
       where
-        there : (h : HasEquality (qs ++ q ∷ []) l r) → In h.equality qs ⊎ (q ≡ h.equality) → HasEquality qs l r ⊎ (IsEquality rel left right l r × AreApart l r)
+        there : (h : HasEquality (qs ++ q ∷ []) l r) → In h.equality qs ⊎ (q ≡ h.equality) → HasEquality qs l r ⊎ (IsEquality rel left right l r × VariablesDiffer l r)
         there h (inl i) = inl (record { equality = h.equality; among = i; left = h.left; right = h.right })
         there h (inr s) =
             let was : IsOf h.equality left right = subst (λ (z : Equality). IsOf z left right) s is in
             let a : left ≡ l = sym was.0 ∙ h.left in
             let b : right ≡ r = sym was.1 ∙ h.right in
-            inr ((a, eq, b), subst (λ (z : OperandTree). AreApart z r) a (subst (λ (z : OperandTree). AreApart left z) b apart))
+            inr ((a, eq, b), subst (λ (z : OperandTree). VariablesDiffer z r) a (subst (λ (z : OperandTree). VariablesDiffer left z) b apart))
 
-        back : HasEquality qs l r ⊎ (IsEquality rel left right l r × AreApart l r) → HasEquality (qs ++ q ∷ []) l r
+        back : HasEquality qs l r ⊎ (IsEquality rel left right l r × VariablesDiffer l r) → HasEquality (qs ++ q ∷ []) l r
         back (inl h) = record { equality = h.equality; among = in_front qs q h.equality h.among; left = h.left; right = h.right }
         back (inr p) = record { equality = q; among = in_last qs q; left = is.0 ∙ p.0.0; right = is.1 ∙ p.0.2 }
 
@@ -266,8 +266,8 @@ none_added qs ps q e none before p i = go (in_either qs q p (subst (λ (z : List
     go (inr s) = ap (λ (z : Equality). z.list) (sym s) ∙ none
 
 -- what was made of two operands
-pub made_is : (o : Option Equality) (q : Equality) (l r : OperandTree) → o ≡ Some q → MatchOption o (AreApart l r → ⊥) (λ p. IsOf p l r × AreApart l r × (p.list ≡ None)) → IsOf q l r × AreApart l r × (q.list ≡ None)
-made_is o q l r e m = subst (λ (z : Option Equality). MatchOption z (AreApart l r → ⊥) (λ p. IsOf p l r × AreApart l r × (p.list ≡ None))) e m
+pub made_is : (o : Option Equality) (q : Equality) (l r : OperandTree) → o ≡ Some q → MatchOption o (VariablesDiffer l r → ⊥) (λ p. IsOf p l r × VariablesDiffer l r × (p.list ≡ None)) → IsOf q l r × VariablesDiffer l r × (q.list ≡ None)
+made_is o q l r e m = subst (λ (z : Option Equality). MatchOption z (VariablesDiffer l r → ⊥) (λ p. IsOf p l r × VariablesDiffer l r × (p.list ≡ None))) e m
 
 -- what a test of the relation tells
 pub rel_is : (rel : Rel) → false ≡ not (sameb rel_type rel Eq) → rel ≡ Eq

@@ -13,7 +13,7 @@ use Rattle.std.proofs.lemmas.List.{get_or_default}
 use Rattle.std.proofs.lemmas.Grind.{pow_more}
 use Rattle.std.proofs.lemmas.Map.Lookups.{exact_bytes}
 use Rattle.gcx_model.specs.Members.{In}
-use Rattle.join_index.specs.Rising.{IsBefore, Rises, IsEnough}
+use Rattle.join_index.specs.Rising.{IsBelowByBytes, RisesByBytes, IsEnough}
 
 -- the value of this number, or else none
 abbrev pub at : List (List ℕ) → ℕ → List ℕ
@@ -29,34 +29,34 @@ in_at [] v i = absurd i
 in_at (w ∷ vs) v (inl e) = (0, omega arith, e)
 in_at (w ∷ vs) v (inr i) = let r = in_at vs v i in let l = r.1 in (suc r.0, omega arith, r.2)
 
-pub rises_at : (vs : List (List ℕ)) → Rises vs → (i j : ℕ) → i < j → j < length vs → IsBefore (at vs i) (at vs j)
+pub rises_at : (vs : List (List ℕ)) → RisesByBytes vs → (i j : ℕ) → i < j → j < length vs → IsBelowByBytes (at vs i) (at vs j)
 rises_at [] r i j l m = absurd (omega arith)
 rises_at (v ∷ vs) r i zero l m = absurd (omega arith)
 rises_at (v ∷ vs) r zero (suc j) l m = r.0 (at vs j) (at_in vs j (omega arith))
 rises_at (v ∷ vs) r (suc i) (suc j) l m = rises_at vs r.1 i j (omega arith) (omega arith)
 
-before_trans : (u v w : List ℕ) → IsBefore u v → IsBefore v w → IsBefore u w
+before_trans : (u v w : List ℕ) → IsBelowByBytes u v → IsBelowByBytes v w → IsBelowByBytes u w
 before_trans u v w a b = nat_list_cmp_total.trans u v w a b
 
 -- greater is before, the other way round
-behind : (u v : List ℕ) → slice_cmp nat_cmp u v ≡ Greater → IsBefore v u
+behind : (u v : List ℕ) → slice_cmp nat_cmp u v ≡ Greater → IsBelowByBytes v u
 behind u v e = nat_list_cmp_total.antisymm v u ∙ ap ordering_reverse e
 
-not_before_itself : (v : List ℕ) → IsBefore v v → ⊥
+not_before_itself : (v : List ℕ) → IsBelowByBytes v v → ⊥
 not_before_itself v h = let e : ◌≡◌ {A = Ordering} Less Equal = sym h ∙ tied_itself nat_list_cmp_total v in absurd (cc)
 
 -- what is left lies between; the steps so far
 pub record Halves (vs : List (List ℕ)) (v : List ℕ) (from to before now : ℕ) : Type 0 where
   pub least : from ≤ to
   pub most : to ≤ length vs
-  pub lows : (i : ℕ) → i < from → IsBefore (at vs i) v
-  pub highs : (i : ℕ) → to ≤ i → i < length vs → IsBefore v (at vs i)
+  pub lows : (i : ℕ) → i < from → IsBelowByBytes (at vs i) v
+  pub highs : (i : ℕ) → to ≤ i → i < length vs → IsBelowByBytes v (at vs i)
   pub steps : ℕ
   pub taken : now ≡ before + steps
   pub few : (2 ^ steps) * (to - from) ≤ length vs
   pub enough : IsEnough (length vs) steps
 
-module _ (vs : List (List ℕ)) (rises : Rises vs) (v : List ℕ) (from to before now : ℕ) (h : Halves vs v from to before now) (some : from < to) where
+module _ (vs : List (List ℕ)) (rises : RisesByBytes vs) (v : List ℕ) (from to before now : ℕ) (h : Halves vs v from to before now) (some : from < to) where
   abbrev q : ℕ
   q = 2 ^ h.steps
 
@@ -91,9 +91,9 @@ module _ (vs : List (List ℕ)) (rises : Rises vs) (v : List ℕ) (from to befor
       enough = one_more;
     }
       where
-        below : (i : ℕ) → i < middle + 1 → (i < middle) ⊎ (middle ≤ i) → IsBefore (at vs i) v
+        below : (i : ℕ) → i < middle + 1 → (i < middle) ⊎ (middle ≤ i) → IsBelowByBytes (at vs i) v
         below i m (inl k) = before_trans (at vs i) (at vs middle) v (rises_at vs rises i middle k (let f = h.most in omega arith)) e
-        below i m (inr k) = let is : middle ≡ i = omega arith in subst (λ (j : ℕ). IsBefore (at vs j) v) is e
+        below i m (inr k) = let is : middle ≡ i = omega arith in subst (λ (j : ℕ). IsBelowByBytes (at vs j) v) is e
 
     pub halves_below : slice_cmp nat_cmp (at vs middle) v ≡ Greater → 2 * (middle - from) ≤ to - from → Halves vs v from middle before (suc now)
     halves_below e l = record {
@@ -107,9 +107,9 @@ module _ (vs : List (List ℕ)) (rises : Rises vs) (v : List ℕ) (from to befor
       enough = one_more;
     }
       where
-        above : (i : ℕ) → middle ≤ i → i < length vs → (middle < i) ⊎ (i ≤ middle) → IsBefore v (at vs i)
+        above : (i : ℕ) → middle ≤ i → i < length vs → (middle < i) ⊎ (i ≤ middle) → IsBelowByBytes v (at vs i)
         above i m k (inl g) = before_trans v (at vs middle) (at vs i) (behind (at vs middle) v e) (rises_at vs rises middle i g k)
-        above i m k (inr g) = let is : middle ≡ i = omega arith in subst (λ (j : ℕ). IsBefore v (at vs j)) is (behind (at vs middle) v e)
+        above i m k (inr g) = let is : middle ≡ i = omega arith in subst (λ (j : ℕ). IsBelowByBytes v (at vs j)) is (behind (at vs middle) v e)
 
     pub halves_found : slice_cmp nat_cmp (at vs middle) v ≡ Equal → In v vs
     halves_found e = subst (λ (w : List ℕ). In w vs) (exact_bytes (at vs middle) v e) (at_in vs middle (let f = h.most in omega arith))
@@ -120,8 +120,8 @@ halves_none vs v from to before now h l i = go (in_at vs v i)
   where
     go : (k : ℕ) × (k < length vs) × (at vs k ≡ v) → ⊥
     go (k, m, e) = elim (cases_lt k from) [
-      | inl a ↦ not_before_itself v (subst (λ (w : List ℕ). IsBefore w v) e (h.lows k a))
-      | inr a ↦ not_before_itself v (subst (λ (w : List ℕ). IsBefore v w) e (h.highs k (omega arith) m))
+      | inl a ↦ not_before_itself v (subst (λ (w : List ℕ). IsBelowByBytes w v) e (h.lows k a))
+      | inr a ↦ not_before_itself v (subst (λ (w : List ℕ). IsBelowByBytes v w) e (h.highs k (omega arith) m))
     ]
 
 -- so few steps stay below the end

@@ -26,8 +26,8 @@ use Rattle.cond_eval.proofs.Telling.{IsPlace, in_left, in_right, keeps_left, kee
 use Rattle.join_index.specs.declared.equality.Side.{Side}
 use Rattle.join_index.specs.declared.equality.Listed.{Listed}
 use Rattle.join_index.specs.declared.equality.Equality.{Equality}
-use Rattle.join_index.specs.Equalities.{path_of}
-use Rattle.join_index.specs.Index.{Goes, IndexView, IsIndex, IsOuterClosed, IsReached, Tells, inner_of, outer_of, raised, same_serial, serial_bound, serial_kept, var_of}
+use Rattle.join_index.specs.Equalities.{path_of_side}
+use Rattle.join_index.specs.Index.{GoesAfterQuestion, IndexView, IsIndex, IsOuterClosed, IsReached, TellsTruthOf, inner_of, outer_of, raised, same_serial, serial_bound, serial_kept, variable_of}
 use Rattle.join_index.specs.Lookups.{FoundIs, IsOf, KeepsList, TellsFound}
 use Rattle.join_index.proofs.Listing.{IsList, at_in, changes_one, moved_one, outer_moved, set_has, set_lists}
 
@@ -35,24 +35,24 @@ use Rattle.join_index.proofs.Listing.{IsList, at_in, changes_one, moved_one, out
 
 module _ (l r : Side) where
   abbrev pair : CondTree
-  pair = Compare (path_of l) Eq (path_of r)
+  pair = Compare (path_of_side l) Eq (path_of_side r)
 
   outer_row : (b : Bool) → In (side_of (cond b l r).var.0 (cond b l r).steps) (cond_rows pair)
-  outer_row true = in_left l.var.0 l.steps Eq (path_of r)
-  outer_row false = in_right r.var.0 r.steps Eq (path_of l)
+  outer_row true = in_left l.var.0 l.steps Eq (path_of_side r)
+  outer_row false = in_right r.var.0 r.steps Eq (path_of_side l)
 
   inner_row : (b : Bool) → In (side_of (cond b r l).var.0 (cond b r l).steps) (cond_rows pair)
-  inner_row true = in_right r.var.0 r.steps Eq (path_of l)
-  inner_row false = in_left l.var.0 l.steps Eq (path_of r)
+  inner_row true = in_right r.var.0 r.steps Eq (path_of_side l)
+  inner_row false = in_left l.var.0 l.steps Eq (path_of_side r)
 
   module _ (rows : List Cell) (bound : Bindings) (P : Tree) (env : Env) (a : Asked rows bound pair P env) where
     outer_keeps : (b : Bool) → KeepsMatches P a.keep (env (cond b l r).var.0) (cond b l r).steps
-    outer_keeps true = keeps_left rows bound P env l.var.0 l.steps Eq (path_of r) a
-    outer_keeps false = keeps_right rows bound P env r.var.0 r.steps Eq (path_of l) a
+    outer_keeps true = keeps_left rows bound P env l.var.0 l.steps Eq (path_of_side r) a
+    outer_keeps false = keeps_right rows bound P env r.var.0 r.steps Eq (path_of_side l) a
 
     inner_keeps : (b : Bool) → KeepsMatches P a.keep (env (cond b r l).var.0) (cond b r l).steps
-    inner_keeps true = keeps_right rows bound P env r.var.0 r.steps Eq (path_of l) a
-    inner_keeps false = keeps_left rows bound P env l.var.0 l.steps Eq (path_of r) a
+    inner_keeps true = keeps_right rows bound P env r.var.0 r.steps Eq (path_of_side l) a
+    inner_keeps false = keeps_left rows bound P env l.var.0 l.steps Eq (path_of_side r) a
 
   comes : (P : Tree) (env : Env) (b found : Bool) → BothCome P env (cond b l r).var.0 (cond b r l).var.0 (cond b l r).steps (cond b r l).steps found
       → truth pair env P ≡ settle found (is_closed P (env (cond b r l).var.0))
@@ -73,7 +73,7 @@ outer_is q = side_var (ltb q.left.var.0 q.right.var.0) q.left q.right ∙ smalle
 
 module _ (v : View) (bound : Bindings) (q : Equality) where
   abbrev c : CondTree
-  c = Compare (path_of q.left) Eq (path_of q.right)
+  c = Compare (path_of_side q.left) Eq (path_of_side q.right)
 
   abbrev b : Bool
   b = ltb q.left.var.0 q.right.var.0
@@ -126,7 +126,7 @@ module _ (v : View) (bound : Bindings) (k : IndexView) (i : ℕ) (q r : Equality
       turned false = refl
 
   module _ (closed : Bool) (shut : (d : Cell) → In d v.rows → d.place ≡ p → true ≡ not d.row.is_open) (told : (d : Cell) → In d v.rows → d.place ≡ other → closed ≡ not d.row.is_open) where
-    module _ (P : Tree) (env : Env) (is : IsIndex k P) (a : Asked v.rows bound (Compare (path_of q.left) Eq (path_of q.right)) P env) where
+    module _ (P : Tree) (env : Env) (is : IsIndex k P) (a : Asked v.rows bound (Compare (path_of_side q.left) Eq (path_of_side q.right)) P env) where
       abbrev x : ℕ
       x = (outer_of q).var.0
 
@@ -178,7 +178,7 @@ module _ (v : View) (bound : Bindings) (k : IndexView) (i : ℕ) (q r : Equality
           go true w = law.0 w
           go false w = law.1 w
 
-      pub answered : settle found closed ≡ truth (Compare (path_of q.left) Eq (path_of q.right)) env P
+      pub answered : settle found closed ≡ truth (Compare (path_of_side q.left) Eq (path_of_side q.right)) env P
       answered =
           ap (settle found) (shut_told v.rows other closed told P a.keep (env y) at_other)
           ∙ sym (comes q.left q.right P env (ltb q.left.var.0 q.right.var.0) found both)
@@ -187,49 +187,49 @@ module _ (v : View) (bound : Bindings) (k : IndexView) (i : ℕ) (q r : Equality
       stands = (is.0, set_lists k.equalities i r P is.1 is_list)
 
     abbrev pair_of : CondTree
-    pair_of = Compare (path_of q.left) Eq (path_of q.right)
+    pair_of = Compare (path_of_side q.left) Eq (path_of_side q.right)
 
-    reached : IsReached v (IsIndex k) bound pair_of (path_of q.left) (path_of q.right)
+    reached : IsReached v (IsIndex k) bound pair_of (path_of_side q.left) (path_of_side q.right)
     reached P env over a = ((refl, refl, refl), subst (λ (n : ℕ). is_closed P (env n) ≡ true) (outer_is q) (closed_outer P env over.0 a))
 
-    goes : Goes bound (IsReached v (IsIndex k) bound pair_of) k now
+    goes : GoesAfterQuestion bound (IsReached v (IsIndex k) bound pair_of) k now
     goes = record {
       moved = moved_one bound (IsReached v (IsIndex k) bound pair_of) k.equalities i q r at (record { left = lists.left; right = lists.right; list = inr (kept_is ∙ bound_is, reached) });
       built = ap (raised k.built) (times ∙ sym (changes_one k.equalities i q r at));
     }
 
-    pub looks : Tells v bound pair_of k now (settle found closed)
+    pub looks : TellsTruthOf v bound pair_of k now (settle found closed)
     looks = record {
       answers = λ P env over a. (answered P env over.0 a, (stands P env over.0 a, over.1));
       goes = goes;
       kept = λ P env over a l o reached has shut. record {
         equality = r;
         among = set_has k.equalities i q r at;
-        left = ap path_of lists.left ∙ reached.0;
-        right = ap path_of lists.right ∙ reached.2;
+        left = ap path_of_side lists.left ∙ reached.0;
+        right = ap path_of_side lists.right ∙ reached.2;
         kept = kept_is ∙ (bound_is ∙ ap (λ (s : Side). serial_bound bound s.var.0) (sym same_outer));
       };
     }
 
 -- of the operands
-pub looks_for : (v : View) (bound : Bindings) (left right : Operand) (q : Equality) → IsOf q (operand_tree left) (operand_tree right) → (k l : IndexView) (t : Truth) → Tells v bound (Compare (path_of q.left) Eq (path_of q.right)) k l t → Tells v bound (comparison left Eq right) k l t
+pub looks_for : (v : View) (bound : Bindings) (left right : Operand) (q : Equality) → IsOf q (operand_tree left) (operand_tree right) → (k l : IndexView) (t : Truth) → TellsTruthOf v bound (Compare (path_of_side q.left) Eq (path_of_side q.right)) k l t → TellsTruthOf v bound (comparison left Eq right) k l t
 looks_for v bound left right q is k l t tells =
-    subst (λ (z : OperandTree). Tells v bound (Compare z Eq (operand_tree right)) k l t) is.0
-    (subst (λ (z : OperandTree). Tells v bound (Compare (path_of q.left) Eq z) k l t) is.1 tells)
+    subst (λ (z : OperandTree). TellsTruthOf v bound (Compare z Eq (operand_tree right)) k l t) is.0
+    (subst (λ (z : OperandTree). TellsTruthOf v bound (Compare (path_of_side q.left) Eq z) k l t) is.1 tells)
 
 -- ---- where nothing is told: the outer variable is bound, and its node is open
 
 module _ (v : View) (bound : Bindings) (left right : Operand) (q : Equality) (is : IsOf q (operand_tree left) (operand_tree right)) where
-  asked_pair : (P : Tree) (env : Env) → Asked v.rows bound (comparison left Eq right) P env → Asked v.rows bound (Compare (path_of q.left) Eq (path_of q.right)) P env
+  asked_pair : (P : Tree) (env : Env) → Asked v.rows bound (comparison left Eq right) P env → Asked v.rows bound (Compare (path_of_side q.left) Eq (path_of_side q.right)) P env
   asked_pair P env a =
-      subst (λ (z : OperandTree). Asked v.rows bound (Compare z Eq (path_of q.right)) P env) (sym is.0)
+      subst (λ (z : OperandTree). Asked v.rows bound (Compare z Eq (path_of_side q.right)) P env) (sym is.0)
       (subst (λ (z : OperandTree). Asked v.rows bound (Compare (operand_tree left) Eq z) P env) (sym is.1) a)
 
   outer_closed : (P : Tree) (env : Env) → IsOuterClosed (operand_tree left) (operand_tree right) env P → is_closed P (env (outer_of q).var.0) ≡ true
   outer_closed P env c =
       subst (λ (z : ℕ). is_closed P (env z) ≡ true) (sym (outer_is q))
-      (subst (λ (z : OperandTree). is_closed P (env (min (var_of z) q.right.var.0)) ≡ true) (sym is.0)
-      (subst (λ (z : OperandTree). is_closed P (env (min (var_of (operand_tree left)) (var_of z))) ≡ true) (sym is.1) c))
+      (subst (λ (z : OperandTree). is_closed P (env (min (variable_of z) q.right.var.0)) ≡ true) (sym is.0)
+      (subst (λ (z : OperandTree). is_closed P (env (min (variable_of (operand_tree left)) (variable_of z))) ≡ true) (sym is.1) c))
 
   pub open_outer : (p of : ℕ) → Some (p, of) ≡ get bound (outer_of q).var.0 → ((d : Cell) → In d v.rows → d.place ≡ p → false ≡ not d.row.is_open)
       → (P : Tree) (env : Env) → Asked v.rows bound (comparison left Eq right) P env → IsOuterClosed (operand_tree left) (operand_tree right) env P → ⊥

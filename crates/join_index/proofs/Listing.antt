@@ -10,8 +10,8 @@ use Rattle.cond_eval.specs.Bindings.{Bindings}
 use Rattle.join_index.specs.declared.equality.Side.{Side}
 use Rattle.join_index.specs.declared.equality.Listed.{Listed}
 use Rattle.join_index.specs.declared.equality.Equality.{Equality}
-use Rattle.join_index.specs.Equalities.{HasEquality, path_of}
-use Rattle.join_index.specs.Index.{AreLists, HaveMoved, IndexView, IsKept, Moves, Goes, changes, outer_of, raised, same_serial, serial_bound, serial_kept}
+use Rattle.join_index.specs.Equalities.{HasEquality, path_of_side}
+use Rattle.join_index.specs.Index.{AreLists, HaveMoved, IndexView, HasItsList, ChangesList, GoesAfterQuestion, changes, outer_of, raised, same_serial, serial_bound, serial_kept}
 
 -- ---- members
 
@@ -38,7 +38,7 @@ same_itself : (s : Option ℕ) → same_serial s s ≡ true
 same_itself None = refl
 same_itself (Some s) = eq-eqb s s refl
 
-moves_none : (bound : Bindings) (may : OperandTree → OperandTree → Type 0) (q : Equality) → Moves bound may q q
+moves_none : (bound : Bindings) (may : OperandTree → OperandTree → Type 0) (q : Equality) → ChangesList bound may q q
 moves_none bound may q = record { left = refl; right = refl; list = inl refl }
 
 pub moved_none : (bound : Bindings) (may : OperandTree → OperandTree → Type 0) (qs : List Equality) → HaveMoved bound may qs qs
@@ -49,9 +49,9 @@ pub changes_none : (qs : List Equality) → changes qs qs ≡ 0
 changes_none [] = refl
 changes_none (q ∷ qs) = ap (λ b. cond b (changes qs qs) (suc (changes qs qs))) (same_itself (serial_kept q)) ∙ changes_none qs
 
-pub moved_one : (bound : Bindings) (may : OperandTree → OperandTree → Type 0) (qs : List Equality) (i : ℕ) (q r : Equality) → slice_get qs i ≡ Some q → Moves bound may q r → HaveMoved bound may qs (slice_set qs i r)
+pub moved_one : (bound : Bindings) (may : OperandTree → OperandTree → Type 0) (qs : List Equality) (i : ℕ) (q r : Equality) → slice_get qs i ≡ Some q → ChangesList bound may q r → HaveMoved bound may qs (slice_set qs i r)
 moved_one bound may [] i q r e m = absurd (cc)
-moved_one bound may (x ∷ qs) zero q r e m = let f : x ≡ q = cc in (subst (λ (z : Equality). Moves bound may z r) (sym f) m, moved_none bound may qs)
+moved_one bound may (x ∷ qs) zero q r e m = let f : x ≡ q = cc in (subst (λ (z : Equality). ChangesList bound may z r) (sym f) m, moved_none bound may qs)
 moved_one bound may (x ∷ qs) (suc i) q r e m = (moves_none bound may x, moved_one bound may qs i q r e m)
 
 pub changes_one : (qs : List Equality) (i : ℕ) (q r : Equality) → slice_get qs i ≡ Some q → changes qs (slice_set qs i r) ≡ cond (same_serial (serial_kept q) (serial_kept r)) 0 1
@@ -70,20 +70,20 @@ pub outer_moved : (q r : Equality) → r.left ≡ q.left → r.right ≡ q.right
 outer_moved q r e f = side_moved q.left q.right r.left r.right e f
 
 module _ (bound : Bindings) (may : OperandTree → OperandTree → Type 0) where
-  moves_on : (q r p : Equality) → Moves bound may q r → Moves bound may r p → Moves bound may q p
+  moves_on : (q r p : Equality) → ChangesList bound may q r → ChangesList bound may r p → ChangesList bound may q p
   moves_on q r p m k = record { left = k.left ∙ m.left; right = k.right ∙ m.right; list = second k.list }
     where
-      first : serial_kept p ≡ serial_kept r → (serial_kept r ≡ serial_kept q) ⊎ ((serial_kept r ≡ serial_bound bound (outer_of q).var.0) × may (path_of q.left) (path_of q.right))
-          → (serial_kept p ≡ serial_kept q) ⊎ ((serial_kept p ≡ serial_bound bound (outer_of q).var.0) × may (path_of q.left) (path_of q.right))
+      first : serial_kept p ≡ serial_kept r → (serial_kept r ≡ serial_kept q) ⊎ ((serial_kept r ≡ serial_bound bound (outer_of q).var.0) × may (path_of_side q.left) (path_of_side q.right))
+          → (serial_kept p ≡ serial_kept q) ⊎ ((serial_kept p ≡ serial_bound bound (outer_of q).var.0) × may (path_of_side q.left) (path_of_side q.right))
       first e (inl f) = inl (e ∙ f)
       first e (inr f) = inr (e ∙ f.0, f.1)
 
-      second : (serial_kept p ≡ serial_kept r) ⊎ ((serial_kept p ≡ serial_bound bound (outer_of r).var.0) × may (path_of r.left) (path_of r.right))
-          → (serial_kept p ≡ serial_kept q) ⊎ ((serial_kept p ≡ serial_bound bound (outer_of q).var.0) × may (path_of q.left) (path_of q.right))
+      second : (serial_kept p ≡ serial_kept r) ⊎ ((serial_kept p ≡ serial_bound bound (outer_of r).var.0) × may (path_of_side r.left) (path_of_side r.right))
+          → (serial_kept p ≡ serial_kept q) ⊎ ((serial_kept p ≡ serial_bound bound (outer_of q).var.0) × may (path_of_side q.left) (path_of_side q.right))
       second (inl e) = first e m.list
       second (inr e) = inr (
         e.0 ∙ ap (λ (s : Side). serial_bound bound s.var.0) (outer_moved q r m.left m.right),
-        subst (λ (s : Side). may (path_of s) (path_of q.right)) m.left (subst (λ (s : Side). may (path_of r.left) (path_of s)) m.right e.1),
+        subst (λ (s : Side). may (path_of_side s) (path_of_side q.right)) m.left (subst (λ (s : Side). may (path_of_side r.left) (path_of_side s)) m.right e.1),
       )
 
   pub moved_on : (qs rs ps : List Equality) → HaveMoved bound may qs rs → HaveMoved bound may rs ps → HaveMoved bound may qs ps
@@ -95,13 +95,13 @@ module _ (bound : Bindings) (may : OperandTree → OperandTree → Type 0) where
   moved_on (q ∷ qs) (r ∷ rs) (p ∷ ps) m k = (moves_on q r p m.0 k.0, moved_on qs rs ps m.1 k.1)
 
   module _ (also : OperandTree → OperandTree → Type 0) (more : (l r : OperandTree) → may l r → also l r) where
-    moves_also : (q p : Equality) → Moves bound may q p → Moves bound also q p
+    moves_also : (q p : Equality) → ChangesList bound may q p → ChangesList bound also q p
     moves_also q p m = record { left = m.left; right = m.right; list = go m.list }
       where
-        go : (serial_kept p ≡ serial_kept q) ⊎ ((serial_kept p ≡ serial_bound bound (outer_of q).var.0) × may (path_of q.left) (path_of q.right))
-            → (serial_kept p ≡ serial_kept q) ⊎ ((serial_kept p ≡ serial_bound bound (outer_of q).var.0) × also (path_of q.left) (path_of q.right))
+        go : (serial_kept p ≡ serial_kept q) ⊎ ((serial_kept p ≡ serial_bound bound (outer_of q).var.0) × may (path_of_side q.left) (path_of_side q.right))
+            → (serial_kept p ≡ serial_kept q) ⊎ ((serial_kept p ≡ serial_bound bound (outer_of q).var.0) × also (path_of_side q.left) (path_of_side q.right))
         go (inl e) = inl e
-        go (inr e) = inr (e.0, more (path_of q.left) (path_of q.right) e.1)
+        go (inr e) = inr (e.0, more (path_of_side q.left) (path_of_side q.right) e.1)
 
     moved_also : (qs ps : List Equality) → HaveMoved bound may qs ps → HaveMoved bound also qs ps
     moved_also [] [] m = tt
@@ -109,7 +109,7 @@ module _ (bound : Bindings) (may : OperandTree → OperandTree → Type 0) where
     moved_also (q ∷ qs) [] m = absurd m
     moved_also (q ∷ qs) (p ∷ ps) m = (moves_also q p m.0, moved_also qs ps m.1)
 
-    pub goes_also : (k l : IndexView) → Goes bound may k l → Goes bound also k l
+    pub goes_also : (k l : IndexView) → GoesAfterQuestion bound may k l → GoesAfterQuestion bound also k l
     goes_also k l g = record { moved = moved_also k.equalities l.equalities g.moved; built = g.built }
 
 -- of two steps at most one changes the serial, since what becomes s stays
@@ -138,10 +138,10 @@ add_up w f s x y z (inr p) h =
     go false = omega arith
 
 -- the serial alone
-serial_moved : (bound : Bindings) (may : OperandTree → OperandTree → Type 0) (q p : Equality) → Moves bound may q p → (serial_kept p ≡ serial_kept q) ⊎ (serial_kept p ≡ serial_bound bound (outer_of q).var.0)
+serial_moved : (bound : Bindings) (may : OperandTree → OperandTree → Type 0) (q p : Equality) → ChangesList bound may q p → (serial_kept p ≡ serial_kept q) ⊎ (serial_kept p ≡ serial_bound bound (outer_of q).var.0)
 serial_moved bound may q p m = elim m.list [ inl e ↦ inl e | inr e ↦ inr e.0 ]
 
-serial_later : (bound : Bindings) (may : OperandTree → OperandTree → Type 0) (q r p : Equality) → Moves bound may q r → Moves bound may r p → (serial_kept p ≡ serial_kept r) ⊎ (serial_kept p ≡ serial_bound bound (outer_of q).var.0)
+serial_later : (bound : Bindings) (may : OperandTree → OperandTree → Type 0) (q r p : Equality) → ChangesList bound may q r → ChangesList bound may r p → (serial_kept p ≡ serial_kept r) ⊎ (serial_kept p ≡ serial_bound bound (outer_of q).var.0)
 serial_later bound may q r p m k = elim (serial_moved bound may r p k) [
   | inl e ↦ inl e
   | inr e ↦ inr (e ∙ ap (λ (s : Side). serial_bound bound s.var.0) (outer_moved q r m.left m.right))
@@ -164,10 +164,10 @@ raised_on b n (suc m) = ap (λ k. min (k + 1) (2 ^ 64 - 1)) (raised_on b n m) �
     more : (n m : ℕ) → suc (n + m) ≡ n + suc m
     more n m = omega arith
 
-pub goes_none : (bound : Bindings) (may : OperandTree → OperandTree → Type 0) (k : IndexView) → Goes bound may k k
+pub goes_none : (bound : Bindings) (may : OperandTree → OperandTree → Type 0) (k : IndexView) → GoesAfterQuestion bound may k k
 goes_none bound may k = record { moved = moved_none bound may k.equalities; built = sym (ap (raised k.built) (changes_none k.equalities)) }
 
-pub goes_on : (bound : Bindings) (may : OperandTree → OperandTree → Type 0) (k l m : IndexView) → Goes bound may k l → Goes bound may l m → Goes bound may k m
+pub goes_on : (bound : Bindings) (may : OperandTree → OperandTree → Type 0) (k l m : IndexView) → GoesAfterQuestion bound may k l → GoesAfterQuestion bound may l m → GoesAfterQuestion bound may k m
 goes_on bound may k l m f g = record {
   moved = moved_on bound may k.equalities l.equalities m.equalities f.moved g.moved;
   built = g.built ∙ (ap (λ b. raised b (changes l.equalities m.equalities)) f.built ∙ (raised_on k.built (changes k.equalities l.equalities) (changes l.equalities m.equalities)
@@ -182,31 +182,31 @@ has_next q qs l r h = record { equality = h.equality; among = inr h.among; left 
 pub has_moved : (bound : Bindings) (may : OperandTree → OperandTree → Type 0) (qs ps : List Equality) → HaveMoved bound may qs ps → (l r : OperandTree) → HasEquality qs l r → HasEquality ps l r
 has_moved bound may qs ps m l r h = go qs ps m h.equality h.among h.left h.right
   where
-    go : (qs ps : List Equality) → HaveMoved bound may qs ps → (q : Equality) → In q qs → path_of q.left ≡ l → path_of q.right ≡ r → HasEquality ps l r
+    go : (qs ps : List Equality) → HaveMoved bound may qs ps → (q : Equality) → In q qs → path_of_side q.left ≡ l → path_of_side q.right ≡ r → HasEquality ps l r
     go [] ps m q i e f = absurd i
     go (x ∷ qs) [] m q i e f = absurd m
     go (x ∷ qs) (p ∷ ps) m q (inl s) e f = record {
       equality = p;
       among = inl refl;
-      left = ap path_of (m.0.left ∙ ap (λ (z : Equality). z.left) s) ∙ e;
-      right = ap path_of (m.0.right ∙ ap (λ (z : Equality). z.right) s) ∙ f;
+      left = ap path_of_side (m.0.left ∙ ap (λ (z : Equality). z.left) s) ∙ e;
+      right = ap path_of_side (m.0.right ∙ ap (λ (z : Equality). z.right) s) ∙ f;
     }
     go (x ∷ qs) (p ∷ ps) m q (inr i) e f = has_next p ps l r (go qs ps m.1 q i e f)
 
-kept_next : (bound : Bindings) (q : Equality) (qs : List Equality) (l r : OperandTree) → IsKept bound qs l r → IsKept bound (q ∷ qs) l r
+kept_next : (bound : Bindings) (q : Equality) (qs : List Equality) (l r : OperandTree) → HasItsList bound qs l r → HasItsList bound (q ∷ qs) l r
 kept_next bound q qs l r h = record { equality = h.equality; among = inr h.among; left = h.left; right = h.right; kept = h.kept }
 
-pub kept_moved : (bound : Bindings) (may : OperandTree → OperandTree → Type 0) (qs ps : List Equality) → HaveMoved bound may qs ps → (l r : OperandTree) → IsKept bound qs l r → IsKept bound ps l r
+pub kept_moved : (bound : Bindings) (may : OperandTree → OperandTree → Type 0) (qs ps : List Equality) → HaveMoved bound may qs ps → (l r : OperandTree) → HasItsList bound qs l r → HasItsList bound ps l r
 kept_moved bound may qs ps m l r h = go qs ps m h.equality h.among h.left h.right h.kept
   where
-    go : (qs ps : List Equality) → HaveMoved bound may qs ps → (q : Equality) → In q qs → path_of q.left ≡ l → path_of q.right ≡ r → serial_kept q ≡ serial_bound bound (outer_of q).var.0 → IsKept bound ps l r
+    go : (qs ps : List Equality) → HaveMoved bound may qs ps → (q : Equality) → In q qs → path_of_side q.left ≡ l → path_of_side q.right ≡ r → serial_kept q ≡ serial_bound bound (outer_of q).var.0 → HasItsList bound ps l r
     go [] ps m q i e f k = absurd i
     go (x ∷ qs) [] m q i e f k = absurd m
     go (x ∷ qs) (p ∷ ps) m q (inl s) e f k = record {
       equality = p;
       among = inl refl;
-      left = ap path_of (m.0.left ∙ ap (λ (z : Equality). z.left) s) ∙ e;
-      right = ap path_of (m.0.right ∙ ap (λ (z : Equality). z.right) s) ∙ f;
+      left = ap path_of_side (m.0.left ∙ ap (λ (z : Equality). z.left) s) ∙ e;
+      right = ap path_of_side (m.0.right ∙ ap (λ (z : Equality). z.right) s) ∙ f;
       kept = now;
     }
       where

@@ -20,7 +20,7 @@ use Rattle.cond_eval.proofs.Parts.{asked_not, fold_Exists}
 use Rattle.cond_memo.specs.Marks.{AreMarks}
 use Rattle.join_index.specs.declared.equality.Equality.{Equality}
 use Rattle.join_index.specs.Equalities.{HasEquality}
-use Rattle.join_index.specs.Index.{AreLists, HaveMoved, IndexView, IsIndex, IsOuterClosed, IsReached, Reaches, Tells, changes, raised}
+use Rattle.join_index.specs.Index.{AreLists, HaveMoved, IndexView, IsIndex, IsOuterClosed, IsReached, ReachesEquality, TellsTruthOf, changes, raised}
 use Rattle.join_index.specs.Lookups.{LooksUp, MarksTell}
 use Rattle.join_index.proofs.Gathering.{fold_True}
 use Rattle.join_index.proofs.Listing.{changes_none, goes_also, goes_none, moved_none}
@@ -32,9 +32,9 @@ module _ (v : View) (bound : Bindings) (k : IndexView) (c : CondTree) where
   -- no equality of the plan with a closed outer node is reached
   abbrev pub ReachesNone : Type 0
   ReachesNone = (P : Tree) (env : Env) → Over v.nodes (IsIndex k) P → Asked v.rows bound c P env
-      → (l r : OperandTree) → Reaches l r c env P → HasEquality k.equalities l r → IsOuterClosed l r env P → ⊥
+      → (l r : OperandTree) → ReachesEquality l r c env P → HasEquality k.equalities l r → IsOuterClosed l r env P → ⊥
 
-  pub marks_tell : (l : IndexView) (t : Truth) → MarksTell v bound c k l t → ReachesNone → Tells v bound c k l t
+  pub marks_tell : (l : IndexView) (t : Truth) → MarksTell v bound c k l t → ReachesNone → TellsTruthOf v bound c k l t
   marks_tell l t told none = record {
     answers = λ P env over a. let r = told.answers P env (over.0.0, over.1) a in (r.0, ((r.1.0, subst (λ (qs : List Equality). AreLists qs P) (sym told.equalities) over.0.1), r.1.1));
     goes = record {
@@ -58,12 +58,12 @@ module _ (v : View) (bound : Bindings) (left : Operand) (rel : Rel) (right : Ope
     pub may_still : MayAskOver v (IsIndex k) bound c → MayAskOver v (IsIndex l) bound c
     may_still m = subst (λ (z : IndexView). MayAskOver v (IsIndex z) bound c) (sym none.0) m
 
-    pub told_marks : (m : IndexView) (t : Truth) → MarksTell v bound c l m t → Tells v bound c k m t
+    pub told_marks : (m : IndexView) (t : Truth) → MarksTell v bound c l m t → TellsTruthOf v bound c k m t
     told_marks m t told = marks_tell v bound k c m t (subst (λ (z : IndexView). MarksTell v bound c z m t) none.0 told) reached
       where
         reached : ReachesNone v bound k c
         reached P env over a x y is_reached has closed =
-            let e : Reaches x y (comparison left rel right) env P = subst (λ (z : CondTree). Reaches x y z env P) is is_reached in
+            let e : ReachesEquality x y (comparison left rel right) env P = subst (λ (z : CondTree). ReachesEquality x y z env P) is is_reached in
             none.1 e.1 (subst (λ (z : OperandTree). HasEquality k.equalities z (operand_tree right)) (sym e.0) (subst (λ (z : OperandTree). HasEquality k.equalities x z) (sym e.2) has)) P env over
             (subst (λ (z : CondTree). Asked v.rows bound z P env) is a)
             (subst (λ (z : OperandTree). IsOuterClosed z (operand_tree right) env P) (sym e.0) (subst (λ (z : OperandTree). IsOuterClosed x z env P) (sym e.2) closed))
@@ -71,8 +71,8 @@ module _ (v : View) (bound : Bindings) (left : Operand) (rel : Rel) (right : Ope
 -- ---- the other kinds
 
 module _ (v : View) (bound : Bindings) (k : IndexView) (c : Cond) where
-  pub always_tells : c ≡ code.True → Tells v bound (core_cond_tree c) k k True
-  always_tells e = subst (λ (z : CondTree). Tells v bound z k k True) (sym (ap core_cond_tree e ∙ fold_True)) (record {
+  pub always_tells : c ≡ code.True → TellsTruthOf v bound (core_cond_tree c) k k True
+  always_tells e = subst (λ (z : CondTree). TellsTruthOf v bound z k k True) (sym (ap core_cond_tree e ∙ fold_True)) (record {
     answers = λ P env over a. (refl, over);
     goes = goes_none bound (IsReached v (IsIndex k) bound Always) k;
     kept = λ P env over a l r reached has closed. absurd reached;
@@ -85,21 +85,21 @@ module _ (v : View) (bound : Bindings) (k : IndexView) (c : Cond) where
     pub exists_leaf : IsLeaf (core_cond_tree c)
     exists_leaf = subst IsLeaf (sym exists_is) tt
 
-    pub exists_tells : (l : IndexView) (t : Truth) → MarksTell v bound (core_cond_tree c) k l t → Tells v bound (core_cond_tree c) k l t
-    exists_tells l t told = marks_tell v bound k (core_cond_tree c) l t told (λ P env over a x y reached has closed. subst (λ (z : CondTree). Reaches x y z env P) exists_is reached)
+    pub exists_tells : (l : IndexView) (t : Truth) → MarksTell v bound (core_cond_tree c) k l t → TellsTruthOf v bound (core_cond_tree c) k l t
+    exists_tells l t told = marks_tell v bound k (core_cond_tree c) l t told (λ P env over a x y reached has closed. subst (λ (z : CondTree). ReachesEquality x y z env P) exists_is reached)
 
   module _ (d : CondTree) (e : core_cond_tree c ≡ Not d) where
     still : (l r : OperandTree) → IsReached v (IsIndex k) bound d l r → IsReached v (IsIndex k) bound (core_cond_tree c) l r
     still l r w P env over a =
         let b = w P env over (asked_not v.rows bound P env d (subst (λ (z : CondTree). Asked v.rows bound z P env) e a)) in
-        (subst (λ (z : CondTree). Reaches l r z env P) (sym e) b.0, b.1)
+        (subst (λ (z : CondTree). ReachesEquality l r z env P) (sym e) b.0, b.1)
 
-    pub not_tells : (l : IndexView) (t u : Truth) → u ≡ negate t → Tells v bound d k l t → Tells v bound (core_cond_tree c) k l u
+    pub not_tells : (l : IndexView) (t u : Truth) → u ≡ negate t → TellsTruthOf v bound d k l t → TellsTruthOf v bound (core_cond_tree c) k l u
     not_tells l t u is tells = record {
       answers = λ P env over a.
           let r = tells.answers P env over (asked_not v.rows bound P env d (subst (λ (z : CondTree). Asked v.rows bound z P env) e a)) in
           (is ∙ (ap negate r.0 ∙ ap (λ (z : CondTree). truth z env P) (sym e)), r.1);
       goes = goes_also bound (IsReached v (IsIndex k) bound d) (IsReached v (IsIndex k) bound (core_cond_tree c)) still k l tells.goes;
       kept = λ P env over a l r reached has closed.
-          tells.kept P env over (asked_not v.rows bound P env d (subst (λ (z : CondTree). Asked v.rows bound z P env) e a)) l r (subst (λ (z : CondTree). Reaches l r z env P) e reached) has closed;
+          tells.kept P env over (asked_not v.rows bound P env d (subst (λ (z : CondTree). Asked v.rows bound z P env) e a)) l r (subst (λ (z : CondTree). ReachesEquality l r z env P) e reached) has closed;
     }

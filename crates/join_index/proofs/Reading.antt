@@ -17,7 +17,7 @@ use Rattle.cond_eval.specs.Comparing.{AreClosed, Readable}
 use Rattle.cond_eval.specs.declared.sets.Member.{Member}
 use Rattle.cond_eval.proofs.Comparisons.{closed_read, read_at, same_length}
 use Rattle.cond_eval.proofs.Rows.{grown_tree}
-use Rattle.join_index.specs.Lookups.{AreValues, Finds, ListsAt, NoneOf, TellsFound}
+use Rattle.join_index.specs.Lookups.{AreValues, FindsValue, ListsAt, NoneOf, TellsFound}
 
 map-last : {X Y : Type 0} (f : X → Y) (xs : List X) (y : X) → map f (xs ++ y ∷ []) ≡ map f xs ++ f y ∷ []
 map-last f [] y = refl
@@ -45,7 +45,7 @@ module _ (rows : List Cell) (ms : List Member) (i : ℕ) where
       let same = same_length ms ns r.nodes.serials in
       on P keep ns r ∙ ap (map (value P)) (take_all i ns (omega arith))
 
-  pub none_all : (vs : List (List ℕ)) → length ms ≤ i → NoneOf rows ms vs i → Finds rows ms vs false
+  pub none_all : (vs : List (List ℕ)) → length ms ≤ i → NoneOf rows ms vs i → FindsValue rows ms vs false
   none_all vs h on P keep ns r m k =
       let same = same_length ms ns r.nodes.serials in
       on P keep ns r m (subst (λ (z : List Node). In m z) (sym (take_all i ns (omega arith))) k)
@@ -58,7 +58,7 @@ module _ (rows : List Cell) (ms : List Member) (i : ℕ) where
         e ∙ (ap (λ l. l ++ v ∷ []) (on P keep ns r) ∙ (ap (λ w. map (value P) (take i ns) ++ w ∷ []) (is P keep n t.at t.whole)
         ∙ (sym (map-last (value P) (take i ns) n) ∙ sym (ap (map (value P)) t.turn.taken))))
 
-    pub found_here : (vs : List (List ℕ)) → In v vs → Finds rows ms vs true
+    pub found_here : (vs : List (List ℕ)) → In v vs → FindsValue rows ms vs true
     found_here vs k P keep ns r =
         let t = read_at rows P keep ms ns i d r h in
         (t.turn.node, t.turn.among, subst (λ (w : List ℕ). In w vs) (is P keep t.turn.node t.at t.whole) k)
@@ -108,7 +108,7 @@ module _ (rows : List Cell) (p : ℕ) (steps : List Step) (set : List Member) (c
           (same v).1 (subst (λ (z : List (List ℕ)). In v z) (sym all) (subst (λ (w : List ℕ). In w (map (value P) ms)) m.2 i))
 
   -- whether one of the values is found
-  pub tells_found : (vs : List (List ℕ)) (b : Bool) → Finds rows set vs b → TellsFound rows p steps vs b
+  pub tells_found : (vs : List (List ℕ)) (b : Bool) → FindsValue rows set vs b → TellsFound rows p steps vs b
   tells_found vs true f P keep n at kept =
       let ms = filter (is_closed P) (matches P (serial_of n) steps) in
       let m = f P keep ms (closed_read rows p steps set closed P keep n at kept) in

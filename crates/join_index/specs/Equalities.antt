@@ -7,16 +7,16 @@ use Rattle.join_index.specs.declared.equality.Side.{Side}
 use Rattle.join_index.specs.declared.equality.Equality.{Equality}
 
 -- the path of a side
-abbrev pub path_of : Side → OperandTree
-path_of s = Path s.var.0 s.steps
+abbrev pub path_of_side : Side → OperandTree
+path_of_side s = Path s.var.0 s.steps
 
 -- two paths whose variables differ
-abbrev pub AreApart : (left right : OperandTree) → Type 0
-AreApart (Path x p) (Path y q) = x ≢ y
-AreApart (Path x p) (Str b) = ⊥
-AreApart (Path x p) (Num u) = ⊥
-AreApart (Str b) r = ⊥
-AreApart (Num u) r = ⊥
+abbrev pub VariablesDiffer : (left right : OperandTree) → Type 0
+VariablesDiffer (Path x p) (Path y q) = x ≢ y
+VariablesDiffer (Path x p) (Str b) = ⊥
+VariablesDiffer (Path x p) (Num u) = ⊥
+VariablesDiffer (Str b) r = ⊥
+VariablesDiffer (Num u) r = ⊥
 
 -- the condition, the body has the equality of these two
 abbrev mutual
@@ -48,13 +48,13 @@ abbrev mutual
 pub record HasEquality (qs : List Equality) (l r : OperandTree) : Type 0 where
   pub equality : Equality
   pub among : In equality qs
-  pub left : path_of equality.left ≡ l
-  pub right : path_of equality.right ≡ r
+  pub left : path_of_side equality.left ≡ l
+  pub right : path_of_side equality.right ≡ r
 
 -- none has a list yet
 abbrev pub NoneKept : List Equality → Type 0
 NoneKept qs = (q : Equality) → In q qs → q.list ≡ None
 
 -- the list grows by these equalities, where their variables differ
-abbrev pub Gathers : (before now : List Equality) → (has : OperandTree → OperandTree → Type 0) → Type 0
-Gathers before now has = (l r : OperandTree) → HasEquality now l r ↔ (HasEquality before l r ⊎ (has l r × AreApart l r))
+abbrev pub GathersAll : (before now : List Equality) → (has : OperandTree → OperandTree → Type 0) → Type 0
+GathersAll before now has = (l r : OperandTree) → HasEquality now l r ↔ (HasEquality before l r ⊎ (has l r × VariablesDiffer l r))

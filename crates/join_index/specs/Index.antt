@@ -17,7 +17,7 @@ use Rattle.cond_memo.specs.declared.marked.Marked.{Marked}
 use Rattle.join_index.specs.declared.equality.Side.{Side}
 use Rattle.join_index.specs.declared.equality.Listed.{Listed}
 use Rattle.join_index.specs.declared.equality.Equality.{Equality}
-use Rattle.join_index.specs.Equalities.{HasEquality, path_of}
+use Rattle.join_index.specs.Equalities.{HasEquality, path_of_side}
 
 -- marks, the equalities with their lists, and how many lists were made
 pub record IndexView : Type 0 where
@@ -52,44 +52,44 @@ serial_bound bound x = option_map (λ b. b.1) (get bound x)
 
 -- the truth of the condition comes to the equality of these two: the members before it let it come
 abbrev mutual
-  pub Reaches : (left right : OperandTree) → CondTree → Env → Tree → Type 0
-  Reaches l r Always env P = ⊥
-  Reaches l r (Exists x steps) env P = ⊥
-  Reaches l r (Compare left rel right) env P = (left ≡ l) × (rel ≡ Eq) × (right ≡ r)
-  Reaches l r (Not c) env P = Reaches l r c env P
-  Reaches l r (All cs) env P = ReachesAll l r cs env P
-  Reaches l r (Any cs) env P = ReachesAny l r cs env P
+  pub ReachesEquality : (left right : OperandTree) → CondTree → Env → Tree → Type 0
+  ReachesEquality l r Always env P = ⊥
+  ReachesEquality l r (Exists x steps) env P = ⊥
+  ReachesEquality l r (Compare left rel right) env P = (left ≡ l) × (rel ≡ Eq) × (right ≡ r)
+  ReachesEquality l r (Not c) env P = ReachesEquality l r c env P
+  ReachesEquality l r (All cs) env P = ReachesAll l r cs env P
+  ReachesEquality l r (Any cs) env P = ReachesAny l r cs env P
 
   pub ReachesAll : (left right : OperandTree) → CondTrees → Env → Tree → Type 0
   ReachesAll l r no_cond env P = ⊥
-  ReachesAll l r (more_conds c cs) env P = Reaches l r c env P ⊎ ((truth c env P ≡ True) × ReachesAll l r cs env P)
+  ReachesAll l r (more_conds c cs) env P = ReachesEquality l r c env P ⊎ ((truth c env P ≡ True) × ReachesAll l r cs env P)
 
   pub ReachesAny : (left right : OperandTree) → CondTrees → Env → Tree → Type 0
   ReachesAny l r no_cond env P = ⊥
-  ReachesAny l r (more_conds c cs) env P = Reaches l r c env P ⊎ ((truth c env P ≡ False) × ReachesAny l r cs env P)
+  ReachesAny l r (more_conds c cs) env P = ReachesEquality l r c env P ⊎ ((truth c env P ≡ False) × ReachesAny l r cs env P)
 
 -- the list of the equality of these two is that of the node to which its outer variable is bound
-pub record IsKept (bound : Bindings) (qs : List Equality) (l r : OperandTree) : Type 0 where
+pub record HasItsList (bound : Bindings) (qs : List Equality) (l r : OperandTree) : Type 0 where
   pub equality : Equality
   pub among : In equality qs
-  pub left : path_of equality.left ≡ l
-  pub right : path_of equality.right ≡ r
+  pub left : path_of_side equality.left ≡ l
+  pub right : path_of_side equality.right ≡ r
   pub kept : serial_kept equality ≡ serial_bound bound (outer_of equality).var.0
 
 -- the variable of a path
-abbrev pub var_of : OperandTree → ℕ
-var_of (Path x steps) = x
-var_of (Str b) = 0
-var_of (Num u) = 0
+abbrev pub variable_of : OperandTree → ℕ
+variable_of (Path x steps) = x
+variable_of (Str b) = 0
+variable_of (Num u) = 0
 
 -- the node of the outer one of two paths takes no more nodes
 abbrev pub IsOuterClosed : (left right : OperandTree) → Env → Tree → Type 0
-IsOuterClosed l r env P = is_closed P (env (min (var_of l) (var_of r))) ≡ true
+IsOuterClosed l r env P = is_closed P (env (min (variable_of l) (variable_of r))) ≡ true
 
 -- so it is of each equality of the plan that was reached with a closed outer node
-abbrev pub Keeps : View → (stands : Tree → Type 0) → Bindings → CondTree → (before now : List Equality) → Type 0
-Keeps v stands bound c before now = (P : Tree) (env : Env) → Over v.nodes stands P → Asked v.rows bound c P env
-    → (l r : OperandTree) → Reaches l r c env P → HasEquality before l r → IsOuterClosed l r env P → IsKept bound now l r
+abbrev pub KeepsLists : View → (stands : Tree → Type 0) → Bindings → CondTree → (before now : List Equality) → Type 0
+KeepsLists v stands bound c before now = (P : Tree) (env : Env) → Over v.nodes stands P → Asked v.rows bound c P env
+    → (l r : OperandTree) → ReachesEquality l r c env P → HasEquality before l r → IsOuterClosed l r env P → HasItsList bound now l r
 
 -- ---- how many lists were made
 
@@ -101,19 +101,19 @@ same_serial (Some s) (Some t) = s == t
 
 -- over each tree and environment for which the condition is asked its truth comes to the equality of these two, and the outer node is closed
 abbrev pub IsReached : View → (stands : Tree → Type 0) → Bindings → CondTree → (left right : OperandTree) → Type 0
-IsReached v stands bound c l r = (P : Tree) (env : Env) → Over v.nodes stands P → Asked v.rows bound c P env → Reaches l r c env P × IsOuterClosed l r env P
+IsReached v stands bound c l r = (P : Tree) (env : Env) → Over v.nodes stands P → Asked v.rows bound c P env → ReachesEquality l r c env P × IsOuterClosed l r env P
 
 -- The equalities are the same. A list that is another one is of an equality that may get one, and that of the node to which the outer variable is bound.
-pub record Moves (bound : Bindings) (may : OperandTree → OperandTree → Type 0) (q p : Equality) : Type 0 where
+pub record ChangesList (bound : Bindings) (may : OperandTree → OperandTree → Type 0) (q p : Equality) : Type 0 where
   pub left : p.left ≡ q.left
   pub right : p.right ≡ q.right
-  pub list : (serial_kept p ≡ serial_kept q) ⊎ ((serial_kept p ≡ serial_bound bound (outer_of q).var.0) × may (path_of q.left) (path_of q.right))
+  pub list : (serial_kept p ≡ serial_kept q) ⊎ ((serial_kept p ≡ serial_bound bound (outer_of q).var.0) × may (path_of_side q.left) (path_of_side q.right))
 
 abbrev pub HaveMoved : Bindings → (may : OperandTree → OperandTree → Type 0) → (before now : List Equality) → Type 0
 HaveMoved bound may [] [] = Unit {0}
 HaveMoved bound may [] (p ∷ ps) = ⊥
 HaveMoved bound may (q ∷ qs) [] = ⊥
-HaveMoved bound may (q ∷ qs) (p ∷ ps) = Moves bound may q p × HaveMoved bound may qs ps
+HaveMoved bound may (q ∷ qs) (p ∷ ps) = ChangesList bound may q p × HaveMoved bound may qs ps
 
 -- how many lists are other ones
 abbrev pub changes : (before now : List Equality) → ℕ
@@ -127,12 +127,12 @@ raised count zero = count
 raised count (suc n) = min (raised count n + 1) (2 ^ 64 - 1)
 
 -- what a question changes
-pub record Goes (bound : Bindings) (may : OperandTree → OperandTree → Type 0) (k l : IndexView) : Type 0 where
+pub record GoesAfterQuestion (bound : Bindings) (may : OperandTree → OperandTree → Type 0) (k l : IndexView) : Type 0 where
   pub moved : HaveMoved bound may k.equalities l.equalities
   pub built : l.built ≡ raised k.built (changes k.equalities l.equalities)
 
 -- what a question of the condition tells, and what it changes
-pub record Tells (v : View) (bound : Bindings) (c : CondTree) (k l : IndexView) (t : Truth) : Type 0 where
+pub record TellsTruthOf (v : View) (bound : Bindings) (c : CondTree) (k l : IndexView) (t : Truth) : Type 0 where
   pub answers : AnswersOver v (IsIndex k) (IsIndex l) bound c t
-  pub goes : Goes bound (IsReached v (IsIndex k) bound c) k l
-  pub kept : Keeps v (IsIndex k) bound c k.equalities l.equalities
+  pub goes : GoesAfterQuestion bound (IsReached v (IsIndex k) bound c) k l
+  pub kept : KeepsLists v (IsIndex k) bound c k.equalities l.equalities

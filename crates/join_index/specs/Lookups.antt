@@ -22,17 +22,17 @@ use Rattle.cond_eval.specs.declared.sets.Member.{Member}
 use Rattle.cond_memo.specs.Marks.{AreMarks}
 use Rattle.join_index.specs.declared.equality.Listed.{Listed}
 use Rattle.join_index.specs.declared.equality.Equality.{Equality}
-use Rattle.join_index.specs.Equalities.{HasEquality, path_of}
-use Rattle.join_index.specs.Index.{IndexView, IsIndex, IsOuterClosed, Tells, outer_of, same_serial, serial_kept}
+use Rattle.join_index.specs.Equalities.{HasEquality, path_of_side}
+use Rattle.join_index.specs.Index.{IndexView, IsIndex, IsOuterClosed, TellsTruthOf, outer_of, same_serial, serial_kept}
 
 -- the texts are the values of the members' nodes
 abbrev pub AreValues : List Cell → List Member → List (List ℕ) → Type 0
 AreValues rows ms vs = (P : Tree) (keep : Node → Bool) (ns : List Node) → Readable rows P keep ms ns → vs ≡ map (value P) ns
 
 -- whether one of the members' nodes has a value of the list
-abbrev pub Finds : List Cell → List Member → (vs : List (List ℕ)) → Bool → Type 0
-Finds rows ms vs true = (P : Tree) (keep : Node → Bool) (ns : List Node) → Readable rows P keep ms ns → (m : Node) × In m ns × In (value P m) vs
-Finds rows ms vs false = (P : Tree) (keep : Node → Bool) (ns : List Node) → Readable rows P keep ms ns → (m : Node) → In m ns → In (value P m) vs → ⊥
+abbrev pub FindsValue : List Cell → List Member → (vs : List (List ℕ)) → Bool → Type 0
+FindsValue rows ms vs true = (P : Tree) (keep : Node → Bool) (ns : List Node) → Readable rows P keep ms ns → (m : Node) × In m ns × In (value P m) vs
+FindsValue rows ms vs false = (P : Tree) (keep : Node → Bool) (ns : List Node) → Readable rows P keep ms ns → (m : Node) → In m ns → In (value P m) vs → ⊥
 
 -- of the first members none has one
 abbrev pub NoneOf : List Cell → List Member → (vs : List (List ℕ)) → (seen : ℕ) → Type 0
@@ -40,7 +40,7 @@ NoneOf rows ms vs i = (P : Tree) (keep : Node → Bool) (ns : List Node) → Rea
 
 -- it is the equality of these two
 abbrev pub IsOf : Equality → (left right : OperandTree) → Type 0
-IsOf q l r = (path_of q.left ≡ l) × (path_of q.right ≡ r)
+IsOf q l r = (path_of_side q.left ≡ l) × (path_of_side q.right ≡ r)
 
 -- the list is that of the values at the node of the row at the place, where that is closed
 abbrev pub ListsAt : List Cell → (p : ℕ) → List Step → (vs : List (List ℕ)) → Type 0
@@ -66,7 +66,7 @@ TellsFound rows p steps vs b = (P : Tree) (keep : Node → Bool) (n : Node) → 
 
 -- What is told of a comparison: its truth; or none, since it is no equality of the plan, or its outer node is open.
 abbrev pub LooksUp : View → Bindings → (left : Operand) → Rel → (right : Operand) → (k l : IndexView) → Option Truth → Type 0
-LooksUp v bound left rel right k l (Some t) = Tells v bound (comparison left rel right) k l t
+LooksUp v bound left rel right k l (Some t) = TellsTruthOf v bound (comparison left rel right) k l t
 LooksUp v bound left rel right k l None = (l ≡ k) × (rel ≡ Eq → HasEquality k.equalities (operand_tree left) (operand_tree right)
     → (P : Tree) (env : Env) → Over v.nodes (IsIndex k) P → Asked v.rows bound (comparison left rel right) P env → IsOuterClosed (operand_tree left) (operand_tree right) env P → ⊥)
 

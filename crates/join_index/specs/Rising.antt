@@ -6,13 +6,13 @@ use Rattle.std.specs.declared.cmp.Ordering.TheVariants.{Less}
 use Rattle.gcx_model.specs.Members.{In}
 
 -- v stands before w, by bytes
-abbrev pub IsBefore : List ℕ → List ℕ → Type 0
-IsBefore v w = slice_cmp nat_cmp v w ≡ Less
+abbrev pub IsBelowByBytes : List ℕ → List ℕ → Type 0
+IsBelowByBytes v w = slice_cmp nat_cmp v w ≡ Less
 
 -- each stands before the later ones
-abbrev pub Rises : List (List ℕ) → Type 0
-Rises [] = Unit {0}
-Rises (v ∷ vs) = ((w : List ℕ) → In w vs → IsBefore v w) × Rises vs
+abbrev pub RisesByBytes : List (List ℕ) → Type 0
+RisesByBytes [] = Unit {0}
+RisesByBytes (v ∷ vs) = ((w : List ℕ) → In w vs → IsBelowByBytes v w) × RisesByBytes vs
 
 -- a number of steps that is enough to find a value among n
 abbrev pub IsEnough : (n steps : ℕ) → Type 0

@@ -3,7 +3,7 @@ ghost use Rattle.std.specs.Prelude.{◌≡◌, map, OnOk};
 ghost use Rattle.gcx_base.specs.declared.rel.Rel.TheVariants.{Eq};
 ghost use Rattle.gcx_model.specs.CondView.{core_cond_tree, operand_tree};
 ghost use Rattle.gcx_model.specs.ItemView.{body_tree, item_tree};
-ghost use Rattle.join_index.specs.Equalities.{BodyHas, CondHas, Gathers, ItemHas, NoneKept};
+ghost use Rattle.join_index.specs.Equalities.{BodyHas, CondHas, GathersAll, ItemHas, NoneKept};
 
 use crate::equality::{Equality, find};
 use gcx_base::{Memory, Rel};
@@ -13,7 +13,7 @@ use std::alloc::Global;
 /// Adds the equalities of the body that aren't there yet.
 #[cycle(find_equalities)]
 pub(crate) fn put_body(alloc: Global, found: &mut Vec<Equality>, body: &Body) -> Result<(), Memory>
-    ensures all { OnOk result (Gathers found.old.items found.new.items (λ l r. BodyHas l r (body_tree body.now))) }
+    ensures all { OnOk result (GathersAll found.old.items found.new.items (λ l r. BodyHas l r (body_tree body.now))) }
     ensures none { OnOk result (NoneKept found.old.items → NoneKept found.new.items) }
 {
     for item in body.items() {
@@ -25,7 +25,7 @@ pub(crate) fn put_body(alloc: Global, found: &mut Vec<Equality>, body: &Body) ->
 /// Adds those of the item.
 #[cycle(find_equalities)]
 fn put_item(alloc: Global, found: &mut Vec<Equality>, item: &Item) -> Result<(), Memory>
-    ensures all { OnOk result (Gathers found.old.items found.new.items (λ l r. ItemHas l r (item_tree item.now))) }
+    ensures all { OnOk result (GathersAll found.old.items found.new.items (λ l r. ItemHas l r (item_tree item.now))) }
     ensures none { OnOk result (NoneKept found.old.items → NoneKept found.new.items) }
 {
     match item {
@@ -41,7 +41,7 @@ fn put_item(alloc: Global, found: &mut Vec<Equality>, item: &Item) -> Result<(),
 
 /// Adds those of the condition.
 fn put_cond(alloc: Global, found: &mut Vec<Equality>, cond: &Cond) -> Result<(), Memory>
-    ensures all { OnOk result (Gathers found.old.items found.new.items (λ l r. CondHas l r (core_cond_tree cond.now))) }
+    ensures all { OnOk result (GathersAll found.old.items found.new.items (λ l r. CondHas l r (core_cond_tree cond.now))) }
     ensures none { OnOk result (NoneKept found.old.items → NoneKept found.new.items) }
 {
     match cond {
@@ -65,7 +65,7 @@ fn put_comparison(
     rel: Rel,
     right: &Operand,
 ) -> Result<(), Memory>
-    ensures all { OnOk result (Gathers found.old.items found.new.items
+    ensures all { OnOk result (GathersAll found.old.items found.new.items
         (λ l r. (operand_tree left.now ≡ l) × (rel ≡ Eq) × (operand_tree right.now ≡ r))) }
     ensures none { OnOk result (NoneKept found.old.items → NoneKept found.new.items) }
 {

@@ -3,9 +3,9 @@ ghost use Rattle.std.specs.Prelude.{◌≡◌, ◌↔◌, Bool, true, not, Some,
 ghost use Rattle.gcx_model.specs.CondView.{operand_tree};
 ghost use Rattle.buf_tree.specs.Shape.{Cell};
 ghost use Rattle.cond_eval.specs.Comparing.{AreInUse, IsNodeRow};
-ghost use Rattle.join_index.specs.Equalities.{AreApart, HasEquality, path_of};
+ghost use Rattle.join_index.specs.Equalities.{VariablesDiffer, HasEquality, path_of_side};
 ghost use Rattle.join_index.specs.Index.{inner_of, outer_of, same_serial, serial_kept};
-ghost use Rattle.join_index.specs.Lookups.{AreValues, Finds, IsOf, ListsAt, KeepsList, TellsFound};
+ghost use Rattle.join_index.specs.Lookups.{AreValues, FindsValue, IsOf, ListsAt, KeepsList, TellsFound};
 
 use crate::values::{Probes, Values};
 use buf_tree::{Buffer, Row};
@@ -49,7 +49,7 @@ impl Side {
 
     /// Whether the operand is this path.
     fn is_path(&self, operand: &Operand) -> bool
-        ensures { result ≡ true ↔ path_of self.now ≡ operand_tree operand.now }
+        ensures { result ≡ true ↔ path_of_side self.now ≡ operand_tree operand.now }
     {
         match operand {
             Operand::Path { var, steps } => {
@@ -67,9 +67,10 @@ impl Equality {
         left: &Operand,
         right: &Operand,
     ) -> Result<Option<Equality>, Memory>
-        ensures { IfOk result (λ made. MatchOption made (AreApart (operand_tree left.now) (operand_tree right.now) → ⊥)
+        ensures { IfOk result (λ made. MatchOption made
+            (VariablesDiffer (operand_tree left.now) (operand_tree right.now) → ⊥)
             (λ q. IsOf q (operand_tree left.now) (operand_tree right.now)
-            × AreApart (operand_tree left.now) (operand_tree right.now) × (q.list ≡ None))) }
+            × VariablesDiffer (operand_tree left.now) (operand_tree right.now) × (q.list ≡ None))) }
     {
         let (
             Operand::Path { var, steps },
@@ -230,7 +231,7 @@ fn is_found<N: NodeStore<Row>>(
     values: &Values,
 ) -> Result<bool, Memory>
     requires { AreInUse buffer.now.rows set.now }
-    ensures { IfOk result (λ found. Finds buffer.now.rows set.now values.now found) }
+    ensures { IfOk result (λ found. FindsValue buffer.now.rows set.now values.now found) }
 {
     let mut room = Vec::new(alloc);
     for member in set {

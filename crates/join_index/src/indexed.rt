@@ -6,8 +6,8 @@ ghost use Rattle.gcx_model.specs.PlanView.{plan_tree};
 ghost use Rattle.gcx_model.specs.Tree.{Tree};
 ghost use Rattle.cond_eval.specs.Asking.{AnswersOver, IsLeaf, MayAskOver};
 ghost use Rattle.cond_eval.specs.Comparing.{comparison};
-ghost use Rattle.join_index.specs.Equalities.{AreApart, BodyHas, HasEquality};
-ghost use Rattle.join_index.specs.Index.{Goes, IsIndex, IsReached, Keeps, Tells, raised};
+ghost use Rattle.join_index.specs.Equalities.{VariablesDiffer, BodyHas, HasEquality};
+ghost use Rattle.join_index.specs.Index.{GoesAfterQuestion, IsIndex, IsReached, KeepsLists, TellsTruthOf, raised};
 ghost use Rattle.join_index.specs.Lookups.{LooksUp, MarksTell};
 
 use crate::comparisons::put_body;
@@ -45,7 +45,7 @@ impl Indexed {
     pub fn new(alloc: Global, plan: &Plan) -> Result<Indexed, Memory>
         ensures fresh { IfOk result (λ k. (P : Tree) → IsIndex k P) }
         ensures all { IfOk result (λ k. (l r : OperandTree) → HasEquality k.equalities l r
-            ↔ (BodyHas l r (plan_tree plan.now).body × AreApart l r)) }
+            ↔ (BodyHas l r (plan_tree plan.now).body × VariablesDiffer l r)) }
         ensures built { IfOk result (λ k. k.built ≡ 0) }
     {
         let mut equalities = Vec::new(alloc);
@@ -112,7 +112,7 @@ impl Indexed {
     ) -> Result<Truth, Memory>
         requires cond { core_cond_tree cond.now ≡ comparison left.now rel right.now }
         requires may { MayAskOver buffer.now (IsIndex self.old) env.now (core_cond_tree cond.now) }
-        ensures { IfOk result (λ t. Tells buffer.now env.now (core_cond_tree cond.now) self.old self.new t) }
+        ensures { IfOk result (λ t. TellsTruthOf buffer.now env.now (core_cond_tree cond.now) self.old self.new t) }
     {
         match self.looked_up(alloc, env, buffer, left, rel, right)? {
             Some(truth) => Ok(truth),
@@ -145,7 +145,7 @@ impl Indexed {
         buffer: &Buffer<N>,
     ) -> Result<Truth, Memory>
         requires { MayAskOver buffer.now (IsIndex self.old) env.now (core_cond_tree cond.now) }
-        ensures { IfOk result (λ t. Tells buffer.now env.now (core_cond_tree cond.now) self.old self.new t) }
+        ensures { IfOk result (λ t. TellsTruthOf buffer.now env.now (core_cond_tree cond.now) self.old self.new t) }
     {
         match cond {
             Cond::True => Ok(Truth::True),
@@ -201,9 +201,9 @@ impl Conds for Indexed {
         requires { MayAskOver buffer.now (IsIndex self.old) env.now (core_cond_tree cond.now) }
         ensures answers { IfOk result (λ t. AnswersOver buffer.now (IsIndex self.old) (IsIndex self.new)
             env.now (core_cond_tree cond.now) t) }
-        ensures kept { IfOk result (λ _. Keeps buffer.now (IsIndex self.old) env.now (core_cond_tree cond.now)
+        ensures kept { IfOk result (λ _. KeepsLists buffer.now (IsIndex self.old) env.now (core_cond_tree cond.now)
             self.old.equalities self.new.equalities) }
-        ensures goes { IfOk result (λ _. Goes env.now
+        ensures goes { IfOk result (λ _. GoesAfterQuestion env.now
             (IsReached buffer.now (IsIndex self.old) env.now (core_cond_tree cond.now)) self.old self.new) }
     {
         self.asked(alloc, cond, env, buffer)

@@ -58,13 +58,13 @@ pub struct Values {
 
 impl Model for Values {
     ghost use Rattle.std.specs.Prelude.{List, ℕ};
-    ghost use Rattle.join_index.specs.Rising.{Rises};
+    ghost use Rattle.join_index.specs.Rising.{RisesByBytes};
 
     ghost Value = { List (List ℕ) };
 
     ghost view = { λ v. v.texts.items };
 
-    ghost invariant = { λ v. Rises v.texts.items };
+    ghost invariant = { λ v. RisesByBytes v.texts.items };
 }
 
 impl Values {

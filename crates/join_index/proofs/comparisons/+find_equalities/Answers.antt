@@ -4,7 +4,7 @@ use Rattle.std.proofs.lemmas.Result.{on_ok_weaker}
 use Rattle.gcx_model.specs.Core.{ItemTree}
 use Rattle.gcx_model.specs.CondView.{core_cond_tree}
 use Rattle.gcx_model.specs.ItemView.{body_tree}
-use Rattle.join_index.specs.Equalities.{Gathers, ItemHas}
+use Rattle.join_index.specs.Equalities.{GathersAll, ItemHas}
 use Rattle.join_index.proofs.Gathering.{in_Copy, in_For, in_If, in_Off, in_Write, item_if, item_none, items_all, items_more, items_none}
 use Rattle.join_index.proofs.comparisons.+find_equalities.Goals as goal
 
@@ -19,7 +19,7 @@ put_item-returns-in-Write-clause-all t c = elim c.in-Write.is [
 
 pub put_item-returns-in-For-clause-all : goal.put_item-returns-in-For-clause-all
 put_item-returns-in-For-clause-all t c =
-    subst (λ (z : ItemTree). OnOk c.put_body.result (Gathers c.args.found.now.items c.put_body.new.found.items (λ l r. ItemHas l r z)))
+    subst (λ (z : ItemTree). OnOk c.put_body.result (GathersAll c.args.found.now.items c.put_body.new.found.items (λ l r. ItemHas l r z)))
     (sym (in_For _ c.in-For.var c.in-For.from c.in-For.step c.in-For.body c.in-For.is)) c.put_body.ensures.all
 
 pub put_body-loop-item-init : goal.put_body-loop-item-init
@@ -38,7 +38,7 @@ put_body-returns-clause-all t c =
 pub put_item-returns-in_ok-put_body-in-If-clause-all : goal.put_item-returns-in_ok-put_body-in-If-clause-all
 put_item-returns-in_ok-put_body-in-If-clause-all t c =
     on_ok_weaker c.put_body-in-If-2.result
-    (λ last. subst (λ (z : ItemTree). Gathers c.args.found.now.items c.put_body-in-If-2.new.found.items (λ l r. ItemHas l r z))
+    (λ last. subst (λ (z : ItemTree). GathersAll c.args.found.now.items c.put_body-in-If-2.new.found.items (λ l r. ItemHas l r z))
     (sym (in_If c.args.item.now c.in-If.cond c.in-If.then c.in-If.other c.in-If.is))
     (item_if (core_cond_tree c.in-If.cond) (body_tree c.in-If.then) (body_tree c.in-If.other) c.args.found.now.items c.put_cond.new.found.items c.put_body-in-If.new.found.items c.put_body-in-If-2.new.found.items
     c.in_ok-put_cond-in-If.ensures.all c.in_ok-put_body-in-If.ensures.all last))

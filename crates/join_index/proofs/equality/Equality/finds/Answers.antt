@@ -6,7 +6,7 @@ use Rattle.cond_eval.specs.declared.sets.Member.{Member}
 use Rattle.join_index.specs.declared.equality.Listed.{Listed}
 use Rattle.join_index.specs.declared.equality.Side.{Side}
 use Rattle.join_index.specs.Index.{inner_of}
-use Rattle.join_index.specs.Lookups.{Finds}
+use Rattle.join_index.specs.Lookups.{FindsValue}
 use Rattle.join_index.proofs.Finding.{same_list}
 use Rattle.join_index.proofs.Reading.{tells_found}
 use Rattle.join_index.proofs.equality.Equality.finds.Goals as goal
@@ -22,6 +22,6 @@ returns-in_ok-set-in-Some g c =
     let closed : AreClosed rows c.args.place.0 (inner_of c.args.self.now).steps set = subst (λ (z : List Step). AreClosed rows c.args.place.0 z set) steps c.in_ok-set-in-Some.ensures.closed in
     IfOk-weaker c.is_found.result _ _
     (λ found f l is. tells_found rows c.args.place.0 (inner_of c.args.self.now).steps set closed l.values found
-    (subst (λ (z : Listed). Finds rows set z.values found) (same_list c.args.self.now.list c.in-Some.list l c.in-Some.is is)
-    (subst (λ (z : List Member). Finds rows z c.in-Some.list.values found) c.deref.ensures.value f)))
+    (subst (λ (z : Listed). FindsValue rows set z.values found) (same_list c.args.self.now.list c.in-Some.list l c.in-Some.is is)
+    (subst (λ (z : List Member). FindsValue rows z c.in-Some.list.values found) c.deref.ensures.value f)))
     c.is_found.ensures

@@ -11,7 +11,7 @@ use Rattle.cond_eval.proofs.Comparisons.{row_used}
 use Rattle.join_index.specs.declared.equality.Equality.{Equality}
 use Rattle.join_index.specs.declared.equality.Listed.{Listed}
 use Rattle.join_index.specs.declared.equality.Side.{Side}
-use Rattle.join_index.specs.Index.{IndexView, IsIndex, Tells, inner_of, outer_of, raised}
+use Rattle.join_index.specs.Index.{IndexView, IsIndex, TellsTruthOf, inner_of, outer_of, raised}
 use Rattle.join_index.specs.Lookups.{KeepsList, TellsFound}
 use Rattle.join_index.proofs.Finding.{get_below, same_get, set_get}
 use Rattle.join_index.proofs.Gathering.{rel_is}
@@ -130,10 +130,10 @@ returns g c =
     (same_get (slice_set items i r) i r c.index-3.result.now (set_get items i q r at) c.index-3.ensures) c.in_ok-found.ensures in
     let shut : true ≡ c.is_closed.result = search rules in
     let now : IndexView = record { marked = k.marked; equalities = slice_set items i r; built = c.risen-self-inside.result } in
-    let told : Tells v bound (comparison c.args.left.now Eq c.args.right.now) k now (settle found c.is_closed-2.result) =
-    subst (λ (n : ℕ). Tells v bound (comparison c.args.left.now Eq c.args.right.now) k (record { marked = k.marked; equalities = slice_set items i r; built = n }) (settle found c.is_closed-2.result)) (sym c.risen-self-inside.ensures)
+    let told : TellsTruthOf v bound (comparison c.args.left.now Eq c.args.right.now) k now (settle found c.is_closed-2.result) =
+    subst (λ (n : ℕ). TellsTruthOf v bound (comparison c.args.left.now Eq c.args.right.now) k (record { marked = k.marked; equalities = slice_set items i r; built = n }) (settle found c.is_closed-2.result)) (sym c.risen-self-inside.ensures)
     (looks_for v bound c.args.left.now c.args.right.now q is k (record { marked = k.marked; equalities = slice_set items i r; built = raised k.built (cond c.in_ok-made.made 1 0) }) (settle found c.is_closed-2.result)
     (looks v bound k i q r c.in-Some-get.outer.0 c.in-Some-get.of.0 c.in-Some-get-2.inner.0 c.in-Some-get-2.field-0-1.0 c.in_ok-made.made found at outer inner lists tells c.is_closed-2.result (λ d j p. shut ∙ c.is_closed.ensures d j p) c.is_closed-2.ensures)) in
-    subst (λ (z : IndexView). Tells v bound (comparison c.args.left.now c.args.rel c.args.right.now) z now c.settle.result) c.self.view_is
-    (subst (λ (z : Rel). Tells v bound (comparison c.args.left.now z c.args.right.now) k now c.settle.result) (sym (rel_is c.args.rel c.if-ne.ensures))
-    (subst (λ (t : Truth). Tells v bound (comparison c.args.left.now Eq c.args.right.now) k now t) (sym c.settle.ensures) told))
+    subst (λ (z : IndexView). TellsTruthOf v bound (comparison c.args.left.now c.args.rel c.args.right.now) z now c.settle.result) c.self.view_is
+    (subst (λ (z : Rel). TellsTruthOf v bound (comparison c.args.left.now z c.args.right.now) k now c.settle.result) (sym (rel_is c.args.rel c.if-ne.ensures))
+    (subst (λ (t : Truth). TellsTruthOf v bound (comparison c.args.left.now Eq c.args.right.now) k now t) (sym c.settle.ensures) told))

@@ -1,7 +1,7 @@
 use Rattle.std.proofs.Common.{◌≡◌, ◌+◌, ◌-◌, ◌/◌, ℕ, suc, List, length, refl, sym, ◌∙◌, ap, subst, arith}
 use Rattle.std.specs.Ordering.{nat_cmp}
 use Rattle.std.specs.Cmp.Lexicographic.{slice_cmp}
-use Rattle.join_index.specs.Rising.{Rises}
+use Rattle.join_index.specs.Rising.{RisesByBytes}
 use Rattle.join_index.proofs.Halving.{Halves, half_low, half_high, half_left, half_right, halves_above, halves_below, halves_found, halves_none, one_more, steps_low, kept_at}
 use Rattle.join_index.proofs.values.Values.contains.Goals as goal
 
@@ -20,7 +20,7 @@ pub returns-in-Equal-clause-found : goal.returns-in-Equal-clause-found
 returns-in-Equal-clause-found c =
     let h = c.halves.invariant in
     let k = kept_at c.self.inside.texts.items c.args.self.now c.self.view_is (c.halves.from + (c.halves.to - c.halves.from) / 2) c.index.result.now c.index.ensures (half_high c.halves.from c.halves.to c.halves-test.true) h.most in (
-      (λ e. halves_found c.args.self.now (subst (λ (x : List (List ℕ)). Rises x) c.self.view_is c.self.invariant) c.args.value.now c.halves.from c.halves.to c.args.probes.now c.halves.probes h c.halves-test.true
+      (λ e. halves_found c.args.self.now (subst (λ (x : List (List ℕ)). RisesByBytes x) c.self.view_is c.self.invariant) c.args.value.now c.halves.from c.halves.to c.args.probes.now c.halves.probes h c.halves-test.true
           (c.halves.from + (c.halves.to - c.halves.from) / 2) (half_low c.halves.from c.halves.to) (half_high c.halves.from c.halves.to c.halves-test.true)
           (ap (λ (x : List ℕ). slice_cmp nat_cmp x c.args.value.now) (sym k) ∙ sym c.in-Equal.ensures.order)),
       (λ i. refl),
@@ -31,14 +31,14 @@ returns-in-Equal-clause-steps c =
     let h = c.halves.invariant in
     let o = c.in-Equal.ensures.one in
     let t = h.taken in
-    (suc h.steps, omega arith, one_more c.args.self.now (subst (λ (x : List (List ℕ)). Rises x) c.self.view_is c.self.invariant) c.args.value.now c.halves.from c.halves.to c.args.probes.now c.halves.probes h c.halves-test.true)
+    (suc h.steps, omega arith, one_more c.args.self.now (subst (λ (x : List (List ℕ)). RisesByBytes x) c.self.view_is c.self.invariant) c.args.value.now c.halves.from c.halves.to c.args.probes.now c.halves.probes h c.halves-test.true)
 
 pub halves-preserved-in-Less : goal.halves-preserved-in-Less
 halves-preserved-in-Less c =
     let h = c.halves.invariant in
     let k = kept_at c.self.inside.texts.items c.args.self.now c.self.view_is (c.halves.from + (c.halves.to - c.halves.from) / 2) c.index.result.now c.index.ensures (half_high c.halves.from c.halves.to c.halves-test.true) h.most in
     subst (λ (x : ℕ). Halves c.args.self.now c.args.value.now (c.halves.from + (c.halves.to - c.halves.from) / 2 + 1) c.halves.to c.args.probes.now x) (sym c.in-Less.ensures.one)
-    (halves_above c.args.self.now (subst (λ (x : List (List ℕ)). Rises x) c.self.view_is c.self.invariant) c.args.value.now c.halves.from c.halves.to c.args.probes.now c.halves.probes h c.halves-test.true
+    (halves_above c.args.self.now (subst (λ (x : List (List ℕ)). RisesByBytes x) c.self.view_is c.self.invariant) c.args.value.now c.halves.from c.halves.to c.args.probes.now c.halves.probes h c.halves-test.true
     (c.halves.from + (c.halves.to - c.halves.from) / 2) (half_low c.halves.from c.halves.to) (half_high c.halves.from c.halves.to c.halves-test.true)
     (ap (λ (x : List ℕ). slice_cmp nat_cmp x c.args.value.now) (sym k) ∙ sym c.in-Less.ensures.order) (half_left c.halves.from c.halves.to))
 
@@ -47,7 +47,7 @@ halves-preserved c =
     let h = c.halves.invariant in
     let k = kept_at c.self.inside.texts.items c.args.self.now c.self.view_is (c.halves.from + (c.halves.to - c.halves.from) / 2) c.index.result.now c.index.ensures (half_high c.halves.from c.halves.to c.halves-test.true) h.most in
     subst (λ (x : ℕ). Halves c.args.self.now c.args.value.now c.halves.from (c.halves.from + (c.halves.to - c.halves.from) / 2) c.args.probes.now x) (sym c.in-Greater.ensures.one)
-    (halves_below c.args.self.now (subst (λ (x : List (List ℕ)). Rises x) c.self.view_is c.self.invariant) c.args.value.now c.halves.from c.halves.to c.args.probes.now c.halves.probes h c.halves-test.true
+    (halves_below c.args.self.now (subst (λ (x : List (List ℕ)). RisesByBytes x) c.self.view_is c.self.invariant) c.args.value.now c.halves.from c.halves.to c.args.probes.now c.halves.probes h c.halves-test.true
     (c.halves.from + (c.halves.to - c.halves.from) / 2) (half_low c.halves.from c.halves.to) (half_high c.halves.from c.halves.to c.halves-test.true)
     (ap (λ (x : List ℕ). slice_cmp nat_cmp x c.args.value.now) (sym k) ∙ sym c.in-Greater.ensures.order) (half_right c.halves.from c.halves.to))
 
