@@ -3,7 +3,6 @@ use Rattle.std.proofs.Common.{◌≡◌, ◌==◌, ℕ, Bool, true, false, cond,
 use Rattle.std.specs.Prelude.{◌↔◌, IsSome, is_some}
 use Rattle.std.specs.Ordering.{nat_cmp}
 use Rattle.std.specs.FinMap.{get}
-use Rattle.std.specs.FinSet as set
 use Rattle.std.specs.FinSet.{from_list, remove, retain, contains}
 use Rattle.std.proofs.lemmas.Bool.{false≢true}
 use Rattle.gcx_base.specs.declared.steps.Step.{Step}

@@ -35,6 +35,7 @@ pub mod PassedRows
 pub mod OwnPlaces
 pub mod PassedOpening
 pub mod PassedEnds
+pub mod Parents
 pub mod OpenRows
 pub mod WithRoles
 pub mod LateRows
@@ -54,6 +55,7 @@ pub mod Recovering
 pub mod Dropping
 pub mod OpenedRoles
 pub mod SeenHas
+pub mod RoleAbove
 pub mod Recounts
 pub mod SpreadSweeps
 pub mod SeenReading

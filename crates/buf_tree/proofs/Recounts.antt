@@ -13,8 +13,8 @@ use Rattle.tree_laws.proofs.Lists.{In, filter_same}
 use Rattle.node_store.specs.Rows.{Entry, changed_at, paid_by}
 use Rattle.buf_tree.specs.Row.{Row}
 use Rattle.buf_tree.specs.Rows.{untaken}
-use Rattle.buf_tree.specs.Shape.{Store, Cell, num, cells, Shaped}
-use Rattle.buf_tree.specs.Recount.{Recounted, CoveredAnew, KeptAbove, is_lost, span_on}
+use Rattle.buf_tree.specs.Shape.{Store, Cell, num, cells, Shaped, AtPlace}
+use Rattle.buf_tree.specs.Recount.{Recounted, CoveredAnew, KeptAbove, TellsParent, is_lost, span_on}
 use Rattle.buf_tree.specs.Spread.{SpreadView, is_spread_in, seen_rows, TellsCovered}
 use Rattle.buf_tree.specs.Sweep.{taken_by, LosesBy}
 use Rattle.buf_tree.specs.Walk.{Nested, Inside, Within, BehindIn, high_at}
@@ -34,7 +34,7 @@ use Rattle.buf_tree.proofs.Upto.{Alike}
 
 -- what the span of the rows before h becomes at h, whatever the test tells from there on
 abbrev pub SpanReady : List Cell → (Cell → Bool) → (base h : Cell) → Option ℕ → Type 0
-SpanReady xs keeps base h o = (test : Cell → Bool) → ((a : Cell) → In a xs → num a < num h → test a ≡ keeps a) → SpanAt xs test base h (span_on o (num h) h.row.parent (test h))
+SpanReady xs keeps base h o = (test : Cell → Bool) → ((a : Cell) → In a xs → num a < num h → test a ≡ keeps a) → (up : ℕ) → TellsParent up h → SpanAt xs test base h (span_on o (num h) up (test h))
 
 abbrev pub has_role : ℕ → Cell → Bool
 has_role k a = set.contains a.row.roles k
@@ -154,9 +154,6 @@ module _ (s : Option SpreadView) (m0 : Store) (s0 : Shaped m0) (nest0 : Nested (
       row_serial : r.serial ≡ num h
       row_serial = ap (λ (x : Row). x.serial) (sym is_row) ∙ sym (now_alike w.lost k_ h row.0 row.2).serial
 
-      row_parent : r.parent ≡ h.row.parent
-      row_parent = ap (λ (x : Row). x.parent) (sym is_row) ∙ sym (now_alike w.lost k_ h row.0 row.2).parent
-
       row_has : set.contains r.roles k_ ≡ has_role k_ h
       row_has = ap (λ (x : Row). set.contains x.roles k_) (sym is_row) ∙ now_has_role s m0 s0 nest0 off others w.base m w.lost h i within counting p at
 
@@ -205,6 +202,13 @@ module _ (s : Option SpreadView) (m0 : Store) (s0 : Shaped m0) (nest0 : Nested (
         -- nothing is lost above a row before h
         as_before : (d : Cell) → num d < num h → (a : Cell) → In a xs → Within xs a d → lose_at (num h) (r' == 1) w.lost a ≡ w.lost a
         as_before d l a j x = lose_other (num h) (r' == 1) w.lost a (λ e. let z = within_low xs a d x in omega arith)
+
+        -- what is told of the rows then is told of those of m0
+        pub turned_up : (q up : ℕ) → AtPlace (cells m1) q (TellsParent up) → AtPlace xs q (TellsParent up)
+        turned_up q up says d j e inner =
+            let y = there d j in
+            let a = now_alike lost k_ d y.0 y.2 in
+            says y.0 y.1 (sym a.place ∙ e) (λ z. inner (a.serial ∙ z)) ∙ sym a.parent
 
         -- the row behind it is next
         module _ (o : Option ℕ) (after : (c x : Cell) → In c (cells m1) → In x (cells m1) → c.place ≡ place → x.place ≡ p → BehindIn (cells m1) (Inside (cells m1) c) (num x) o) where
@@ -255,7 +259,10 @@ module _ (s : Option SpreadView) (m0 : Store) (s0 : Shaped m0) (nest0 : Nested (
 
         -- ---- what is told at the row
 
-        module _ (kept : Bool) (has : kept ≡ set.contains r.roles off.role.0) (before' now' : Option ℕ) (b_is : before' ≡ span_on before r.serial r.parent kept) (n_is : now' ≡ span_on now r.serial r.parent (kept && (r' == 0))) where
+        module _ (up : ℕ) (tells_up : AtPlace xs p (TellsParent up)) (kept : Bool) (has : kept ≡ set.contains r.roles off.role.0) (before' now' : Option ℕ) (b_is : before' ≡ span_on before r.serial up kept) (n_is : now' ≡ span_on now r.serial up (kept && (r' == 0))) where
+          up_is : TellsParent up h
+          up_is = tells_up h i at
+
           none_is : not (r' == 1) ≡ (r' == 0)
           none_is = elim (cases_eq r' 1) [
             | inl e ↦ ap (λ (z : ℕ). not (z == 1)) e ∙ sym (ap (λ (z : ℕ). z == 0) e)
@@ -266,11 +273,11 @@ module _ (s : Option SpreadView) (m0 : Store) (s0 : Shaped m0) (nest0 : Nested (
           keeps_here = (λ t. sym (has ∙ row_has) t && not (lose_here h (r' == 1) w.lost h_not t)) ∙ ap (λ b. kept && b) none_is
 
           had : SpanAt xs (has_role k_) w.base h before'
-          had = subst (λ (o : Option ℕ). SpanAt xs (has_role k_) w.base h o) (sym (b_is ∙ (λ t. span_on before (row_serial t) (row_parent t) ((has ∙ row_has) t)))) (w.walk.6 (has_role k_) (λ a j l. refl))
+          had = subst (λ (o : Option ℕ). SpanAt xs (has_role k_) w.base h o) (sym (b_is ∙ (λ t. span_on before (row_serial t) up ((has ∙ row_has) t)))) (w.walk.6 (has_role k_) (λ a j l. refl) up up_is)
 
           has_it : SpanAt xs (keeps_now lost k_) w.base h now'
-          has_it = subst (λ (o : Option ℕ). SpanAt xs (keeps_now lost k_) w.base h o) (sym (n_is ∙ (λ t. span_on now (row_serial t) (row_parent t) (sym keeps_here t))))
-              (w.walk.7 (keeps_now lost k_) (λ a j l. ap (λ b. set.contains a.row.roles k_ && not b) (lose_other (num h) (r' == 1) w.lost a (λ e. omega arith))))
+          has_it = subst (λ (o : Option ℕ). SpanAt xs (keeps_now lost k_) w.base h o) (sym (n_is ∙ (λ t. span_on now (row_serial t) up (sym keeps_here t))))
+              (w.walk.7 (keeps_now lost k_) (λ a j l. ap (λ b. set.contains a.row.roles k_ && not b) (lose_other (num h) (r' == 1) w.lost a (λ e. omega arith))) up up_is)
 
           abbrev gone_here : Bool
           gone_here = is_some before' && is_none now'
@@ -344,7 +351,7 @@ module _ (s : Option SpreadView) (m0 : Store) (s0 : Shaped m0) (nest0 : Nested (
                   just x j l = none_between s m0 s0 nest0 off others w.base m1 lost (num h) then low_then g b.1 b.3 b.4 b.5 x j l
 
                   ready : (keeps : Cell → Bool) (z : Option ℕ) → SpanAt xs keeps w.base h z → SpanReady xs keeps w.base g z
-                  ready keeps z sp test same = span_next xs s0.rising test w.base h g i b.1 b.4 just b.3 z (span_same xs s0.rising keeps w.base test h (λ a j x. same a j (let y = within_low xs a h x in let v = b.4 in omega arith)) z sp)
+                  ready keeps z sp test same up says = subst (λ u. SpanAt xs test w.base g (span_on z (num g) u (test g))) (sym (says (λ v. let l = b.3.behind in omega arith))) (span_next xs s0.rising test w.base h g i b.1 b.4 just b.3 z (span_same xs s0.rising keeps w.base test h (λ a j x. same a j (let y = within_low xs a h x in let v = b.4 in omega arith)) z sp))
 
                   next_row : CoveredAnew s m1 m2 (Some q) → Recounts s m0 m2 off others place (Some q) before' now' n'
                   next_row cov = record {

@@ -1,7 +1,8 @@
 -- What the store tells of the rows that contracts see, where these have roles from above too.
-use Rattle.std.proofs.Common.{◌≡◌, ◌≤◌, ℕ, zero, suc, Bool, false, List, [], ◌∷◌, length, map, not, refl, sym, ◌∙◌, ap, subst, inl, inr, Some, None, Option}
+use Rattle.std.proofs.Common.{◌≡◌, ◌≤◌, ◌&&◌, ◌||◌, ℕ, zero, suc, Bool, List, [], ◌∷◌, length, map, not, refl, sym, ◌∙◌, ap, subst, inl, inr, Some, None, Option}
 use Rattle.std.specs.Prelude.{option_map, IsSome, MatchOption}
 use Rattle.std.specs.FinMap.{get}
+use Rattle.std.specs.FinSet.{contains}
 use Rattle.std.proofs.lemmas.List.{length-map}
 use Rattle.gcx_base.specs.declared.steps.Axis.{Axis}
 use Rattle.gcx_base.specs.declared.steps.Axis.TheVariants.{Child, Descendant}
@@ -12,12 +13,12 @@ use Rattle.gcx_model.specs.Paths.{head}
 use Rattle.node_store.specs.Rows.{Entry, IsTree}
 use Rattle.node_store.specs.declared.store.Place.{Place}
 use Rattle.buf_tree.specs.Row.{Row}
-use Rattle.buf_tree.specs.Shape.{Store, Cell, num, cells, at_place, Shaped}
+use Rattle.buf_tree.specs.Shape.{Store, Cell, num, cells, at_place, AtPlace, Shaped}
 use Rattle.buf_tree.specs.View.{InUse, num_in, serial_at}
 use Rattle.buf_tree.specs.Match.{IsChild, Rises, Lies, Reached, Unreached, FirstReached, FindsAbove, FindsBehind, SerialFound, IsFrom, GoesFrom}
 use Rattle.buf_tree.specs.Spread.{SpreadView, is_spread_in, seen_rows, SameButRoles, bare_cell}
 use Rattle.buf_tree.specs.Ways.{LeadsBy, is_waiting}
-use Rattle.buf_tree.proofs.Lifting.{seen_is, seen_in, seen_from, seen_apart, node_of_kept, waits_same}
+use Rattle.buf_tree.proofs.Lifting.{seen_is, seen_in, seen_from, seen_apart, node_of_kept}
 use Rattle.buf_tree.proofs.Reading.{used, row_at, root_is}
 use Rattle.buf_tree.proofs.Shaping.{at_place_is}
 use Rattle.buf_tree.proofs.Spreading.{Upward, upward, spread_cell}
@@ -150,10 +151,14 @@ module _ (m : Store) (shape : Shaped m) (s : Option SpreadView) (rs : List Cell)
   pub open_seen : (p : ℕ) (c : Cell) → In c rs → c.place ≡ p → (r : Row) → option_map (λ (e : Entry Row). e.payload) (get m p) ≡ Some r → not r.is_open ≡ not c.row.is_open
   open_seen p c i e r h = let x = row_seen p c i e r h in ap (λ (q : Row). not q.is_open) (sym x.2) ∙ ap (λ (z : Cell). not z.row.is_open) x.1
 
-  pub waits_seen : (o : Off) → is_spread_in s o.own.0 ≡ false → (p : ℕ) (c : Cell) → In c rs → c.place ≡ p → (r : Row) → option_map (λ (e : Entry Row). e.payload) (get m p) ≡ Some r → is_waiting r o ≡ is_waiting c.row o
-  waits_seen o plain p c i e r h =
+  -- where it is known whether it has the base's own role
+  pub waits_seen : (o : Off) (p : ℕ) (c : Cell) → In c rs → c.place ≡ p → (r : Row) → option_map (λ (e : Entry Row). e.payload) (get m p) ≡ Some r → (b : Bool) → AtPlace (seen_rows s (cells m)) p (λ d. b ≡ contains d.row.roles o.own.0)
+      → ((b || contains r.signed o.own.0) && not (contains r.signed o.role.0)) ≡ is_waiting c.row o
+  waits_seen o p c i e r h b law =
       let x = row_seen p c i e r h in
-      ap (λ (q : Row). is_waiting q o) (sym x.2) ∙ sym (waits_same s (cells m) up o plain x.0) ∙ ap (λ (z : Cell). is_waiting z.row o) x.1
+      let same : r.signed ≡ c.row.signed = ap (λ (q : Row). q.signed) (sym x.2) ∙ ap (λ (z : Cell). z.row.signed) x.1 in
+      let has : b ≡ contains c.row.roles o.own.0 = law c (subst (λ (zs : List Cell). In c zs) (sym is) i) e in
+      λ t. (has t || contains (same t) o.own.0) && not (contains (same t) o.role.0)
 
   pub above_seen : (p : ℕ) (step : Step) (after : ℕ) (r : Option Place) → FindsAbove (cells m) p step after r → FindsAbove rs p step after r
   above_seen p step after r h = subst (λ (zs : List Cell). FindsAbove zs p step after r) is (finds_above s (cells m) up p step after r h)

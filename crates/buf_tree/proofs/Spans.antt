@@ -5,7 +5,7 @@ use Rattle.std.specs.FinSet.{contains}
 use Rattle.std.proofs.lemmas.Bool.{false≢true, cases_Bool, cases_lt, leb-true, false_from_ne_true}
 use Rattle.gcx_model.specs.Members.{In}
 use Rattle.buf_tree.specs.Shape.{Cell, num, Rising}
-use Rattle.buf_tree.specs.Recount.{span_else, span_on, KeptAbove}
+use Rattle.buf_tree.specs.Recount.{span_else, span_on, KeptAbove, TellsParent}
 use Rattle.buf_tree.specs.Walk.{Inside, Within}
 use Rattle.buf_tree.proofs.Shaping.{rising_same}
 
@@ -37,11 +37,11 @@ module _ (xs : List Cell) (rise : Rising xs) (keeps : Cell → Bool) (base : Cel
       go false e = λ a j w k. elim w [ inl f ↦ false≢true (sym e ∙ ap keeps (sym f) ∙ k) | inr n ↦ none a j n k ]
 
   -- at the base
-  pub span_base : In base xs → (k : ℕ) → ((c : Cell) → In c xs → num c < num base → keeps c ≡ contains c.row.roles k) → (o : Option ℕ) → KeptAbove xs k base o → SpanAt xs keeps base base (span_on o (num base) base.row.parent (keeps base))
-  span_base i k is None none = span_alone base i (λ a j n h. none a j n (sym (is a j n.behind) ∙ h))
-  span_base i k is (Some s) (a, j, e, n, h) = elim (below_or s base.row.parent) [
+  pub span_base : In base xs → (k : ℕ) → ((c : Cell) → In c xs → num c < num base → keeps c ≡ contains c.row.roles k) → (o : Option ℕ) → KeptAbove xs k base o → (up : ℕ) → TellsParent up base → SpanAt xs keeps base base (span_on o (num base) up (keeps base))
+  span_base i k is None none up tells = span_alone base i (λ a j n h. none a j n (sym (is a j n.behind) ∙ h))
+  span_base i k is (Some s) (a, j, e, n, h) up tells = elim (below_or s up) [
     | inl b ↦ subst (λ z. SpanAt xs keeps base base (cond z (Some s) (span_else (num base) (keeps base)))) (sym b.0) (a, j, e, inr n, is a j n.behind ∙ h, inl n)
-    | inr b ↦ absurd (let l = n.block base i n.behind (omega arith) in let f = b.1 in omega arith)
+    | inr b ↦ absurd (let l = n.block base i n.behind (omega arith) in let f = b.1 in let y = n.behind in let z = tells (λ v. omega arith) in omega arith)
   ]
 
   -- at the row h just behind t, both of the base's subtree

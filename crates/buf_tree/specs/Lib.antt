@@ -14,6 +14,6 @@ pub mod Sweep
 pub mod Withdraw
 pub mod Spread
 pub mod Recount
-pub mod Tops
 pub mod Loose
 pub mod PassedCalls
+pub mod Tops

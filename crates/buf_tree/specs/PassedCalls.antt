@@ -8,6 +8,7 @@ use Rattle.gcx_model.specs.Held.{roles_given, roles_taken}
 use Rattle.gcx_model.specs.Members.{In}
 use Rattle.gcx_model.specs.Past.{Past, past_grown, token_for}
 use Rattle.gcx_model.specs.Tree.{Node, Token, grow}
+use Rattle.spread_laws.specs.Tops.{roles_kept}
 use Rattle.buf_tree.specs.Row.{Row}
 use Rattle.buf_tree.specs.Calls.{less, with_new, gone_new, most_new}
 use Rattle.buf_tree.specs.Loose.{Passed, cells_passed, StandsLoosely}
@@ -40,6 +41,16 @@ LeftTo past t roles = (n : Node) → drop (length past.tree.nodes) (grow t past.
 -- Where roles are spread, the token may come behind one past at least for which the buffer stands, and these are left to the node.
 abbrev pub MayOpenWith : View → Token → set.FinSet nat_cmp → Type 0
 MayOpenWith v t roles = (v.spread ≡ None) ⊎ ((past : Past) × StandsFor v past × (may_come t past.tree ≡ true) × LeftTo past t roles)
+
+-- of the roles of the node that the token opens these are kept at it, where roles are spread
+abbrev pub KeptTo : Past → Token → set.FinSet nat_cmp → Type 0
+KeptTo past t kept = (n : Node) → drop (length past.tree.nodes) (grow t past.tree).nodes ≡ n ∷ []
+    → kept ≡ set.from_list (roles_kept (past_grown t past) n)
+
+-- The same as `MayOpenWith`, and behind that past these are kept at the node.
+abbrev pub MayOpenKept : View → Token → (given kept : set.FinSet nat_cmp) → Type 0
+MayOpenKept v t given kept = (v.spread ≡ None)
+    ⊎ ((past : Past) × StandsFor v past × (may_come t past.tree ≡ true) × LeftTo past t given × KeptTo past t kept)
 
 -- from v to w such a node came: for each past for which v stands, w stands for that with the node
 abbrev pub StandsWith : (v w : View) → Kind → set.FinSet nat_cmp → Type 0

@@ -60,6 +60,10 @@ abbrev pub span_on : Option ℕ → (serial parent : ℕ) → (keeps : Bool) →
 span_on None serial parent keeps = span_else serial keeps
 span_on (Some top) serial parent keeps = cond (leb top parent) (Some top) (span_else serial keeps)
 
+-- the number is the serial of c's parent, if it has one
+abbrev pub TellsParent : ℕ → Cell → Type 0
+TellsParent k c = (num c ≡ 0 → ⊥) → k ≡ c.row.parent
+
 -- a row above c that keeps the role k has this serial, or there is none
 abbrev pub KeptAbove : List Cell → (k : ℕ) → Cell → Option ℕ → Type 0
 KeptAbove xs k c None = (a : Cell) → In a xs → Inside xs a c → set.contains a.row.roles k ≡ true → ⊥

@@ -7,13 +7,17 @@ use Rattle.gcx_model.specs.Core.{OffTree, VarRowTree}
 use Rattle.gcx_model.specs.Held.{paths_from}
 use Rattle.gcx_model.specs.ItemView.{off_tree}
 use Rattle.gcx_model.specs.Members.{In}
+use Rattle.gcx_model.specs.Past.{token_for}
 use Rattle.gcx_model.specs.Paths.{hits}
 use Rattle.gcx_base.specs.declared.kind.Kind.{Kind}
 use Rattle.gcx_model.specs.Tree.{Node, Under, serial_of, above}
 use Rattle.gcx_model.specs.Variables.{all_child}
+use Rattle.buf_tree.specs.PassedCalls.{MayOpenWith}
 use Rattle.buf_tree.specs.Row.{Row}
+use Rattle.buf_tree.specs.Rows.{is_bare}
 use Rattle.buf_tree.specs.Shape.{Cell}
 use Rattle.buf_tree.specs.Spread.{is_spread_in, SpreadView}
+use Rattle.buf_tree.specs.View.{View}
 use Rattle.buf_tree.specs.Ways.{NodeOf, is_waiting}
 
 -- the statement's steps lead to n, a new child of p, from a row of p or of a node above it, of a base at which the statement isn't signed
@@ -46,10 +50,16 @@ pub record StaysAt (xs : List Cell) (tops : List (Option Off)) (roles : set.FinS
   pub others : (r : ℕ) → slice_index_or tops r None ≡ None → stays r ≡ true
   pub at_tops : (r : ℕ) (top : Off) → slice_index_or tops r None ≡ Some top → (stays r ≡ true) ↔ IsNewTop xs top roles p n
 
--- Of the roles of a new child of the row at the place, of this kind, these are kept at it: all of them where no role is spread.
-abbrev pub KeptOf : Option SpreadView → List Cell → (place : ℕ) → Kind → (roles kept : set.FinSet nat_cmp) → Type 0
-KeptOf None xs place kind roles kept = kept ≡ roles
-KeptOf (Some s) xs place kind roles kept = ForNew xs place kind (λ p n. (stays : ℕ → Bool) → StaysAt xs s.tops roles p n stays → kept ≡ set.retain roles stays)
+-- Of the roles of a new child of the row at the place, of this kind and serial, these are kept at it: all of them where no role is spread.
+abbrev pub KeptOf : Option SpreadView → List Cell → (place : ℕ) → Kind → (serial : ℕ) → (roles kept : set.FinSet nat_cmp) → Type 0
+KeptOf None xs place kind serial roles kept = kept ≡ roles
+KeptOf (Some s) xs place kind serial roles kept = (p : Node) → NodeOf xs place p → serial_of p < serial → (stays : ℕ → Bool) → StaysAt xs s.tops roles p (Under p serial kind) stays → kept ≡ set.retain roles stays
+
+-- A node is opened below the row at the place: it may come with these roles, of which these are kept at it, and `bare` says whether it is gone at once.
+pub record OpensAs (v : View) (place : ℕ) (kind : Kind) (bare : Bool) (roles kept : set.FinSet nat_cmp) : Type 0 where
+  pub gone : bare ≡ is_bare kind roles
+  pub may : MayOpenWith v (token_for kind) roles
+  pub keeps : KeptOf v.spread v.kept place kind v.nodes roles kept
 
 -- the roles without the statement's, unless it stays
 abbrev pub kept_by : Option Off → (stays : ℕ → Bool) → set.FinSet nat_cmp → set.FinSet nat_cmp

@@ -25,11 +25,12 @@ ghost use Rattle.gcx_model.specs.Past.{opening_past, token_for};
 
 use crate::ahead::Ahead;
 use crate::edits::{is_spare, leave, plant_row, settle, shut, untake};
+use crate::recount::has_role;
 use crate::row::Row;
 use crate::search::after;
 use crate::spread::Spread;
 use crate::trail::Trail;
-use crate::upward::is_waiting;
+use crate::upward::waits;
 use gcx_base::{Kind, Memory, Role, Serial};
 use gcx_model::{Given, Off, Plan};
 use node_store::{At, NodeStore, Place};
@@ -261,14 +262,14 @@ impl<N: NodeStore<Row>> Buffer<N> {
         self.nodes.payload(place).is_closed()
     }
 
-    /// Whether the statement is due at the node of the row at the place, if it is one of the plan: the role of its base,
-    /// which isn't spread, is at the node, live or signed, and the statement isn't signed there. Takes no memory.
+    /// Whether the statement is due at the node of the row at the place, if it is one of the plan: the role of its base is
+    /// at the node, live or signed, and the statement isn't signed there. Takes no memory.
     pub fn is_due(&self, place: Place, off: &Off) -> bool
-        requires used { InUse self.now.rows place.0 }
-        requires spread { is_spread_in self.now.spread off.now.own.0 ≡ false }
+        requires { InUse self.now.rows place.0 }
         ensures { (c : Cell) → In c self.now.rows → c.place ≡ place.0 → result ≡ is_waiting c.row off.now }
     {
-        is_waiting(self.nodes.payload(place), off)
+        let is_live = has_role(&self.nodes, &self.spread, place, off.own);
+        waits(self.nodes.payload(place), off, is_live)
     }
 
     /// A cursor over the store, at the row at the place. Takes no memory.

@@ -1,12 +1,13 @@
 //! A statement that takes its role from whole subtrees, where roles are spread: which tops it leaves, and how many rows
-//! lose the role with the others.
+//! lose the role with the others; and whether a row has a role, with those from above.
 ghost use Rattle.std.specs.Prelude.{◌≡◌, ◌+◌, ◌≤◌, ◌<◌, ◌^◌, ℕ, Bool, true, Option, Some, None, IsSome, length, option_map, is_some, is_none, ◌&&◌};
 ghost use Rattle.std.specs.FinMap as map;
+ghost use Rattle.std.specs.FinSet as set;
 ghost use Rattle.gcx_model.specs.Members.{In};
 ghost use Rattle.gcx_model.specs.Tree.{Tree};
-ghost use Rattle.buf_tree.specs.Recount.{Recounted, KeptAbove, CoveredAnew, span_on};
-ghost use Rattle.buf_tree.specs.Shape.{Cell, cells, Shaped};
-ghost use Rattle.buf_tree.specs.Spread.{TellsCovered, is_spread_in};
+ghost use Rattle.buf_tree.specs.Recount.{Recounted, KeptAbove, CoveredAnew, TellsParent, span_on};
+ghost use Rattle.buf_tree.specs.Shape.{AtPlace, Cell, cells, Shaped};
+ghost use Rattle.buf_tree.specs.Spread.{TellsCovered, is_spread_in, seen_rows};
 ghost use Rattle.buf_tree.specs.Sweep.{LosesBy};
 ghost use Rattle.buf_tree.specs.Trail.{HasTrailRoom};
 ghost use Rattle.buf_tree.specs.Walk.{Nested, Within};
@@ -15,7 +16,7 @@ ghost use Rattle.buf_tree.specs.Ways.{TreeOf};
 use crate::edits::cover;
 use crate::row::Row;
 use crate::search::after;
-use crate::spread::Spread;
+use crate::spread::{Spread, is_spread};
 use crate::sweep::withdraw;
 use crate::trail::Trail;
 use gcx_base::Role;
@@ -78,22 +79,61 @@ fn kept_above<N: NodeStore<Row>>(nodes: &N, place: Place, role: Role) -> Option<
     None
 }
 
-/// The row at the place says again whether some row above it keeps a spread role.
-fn recover<N: NodeStore<Row>>(nodes: &mut N, spread: &Spread, at: Option<Place>)
+/// Whether the node has the role: one that is spread is kept at its row, or at one above it.
+pub(crate) fn has_role<N: NodeStore<Row>>(
+    nodes: &N,
+    spread: &Option<Spread>,
+    place: Place,
+    role: Role,
+) -> bool
+    requires shape { Shaped (N.rows nodes.now) }
+    requires nested { Nested (cells (N.rows nodes.now)) }
+    requires there { IsSome (map.get (N.rows nodes.now) place.0) }
+    ensures { AtPlace (seen_rows spread.now (cells (N.rows nodes.now))) place.0 (λ c.
+        result ≡ set.contains c.row.roles role.0) }
+{
+    if nodes.payload(place).has(role) {
+        return true;
+    }
+    if !is_spread(spread, role) {
+        return false;
+    }
+    kept_above(nodes, place, role).is_some()
+}
+
+/// The row at the place says again whether some row above it keeps a spread role. Answers the serial of its parent.
+fn recover<N: NodeStore<Row>>(nodes: &mut N, spread: &Spread, at: Option<Place>) -> u64
     requires shape { Shaped (N.rows nodes.old) }
     requires used { (p : ℕ) → option_map (λ q. q.0) at ≡ Some p → IsSome (map.get (N.rows nodes.old) p) }
     ensures covered { CoveredAnew (Some spread.now) (N.rows nodes.old) (N.rows nodes.new) (option_map (λ p. p.0) at) }
+    ensures parent { (p : ℕ) → option_map (λ q. q.0) at ≡ Some p
+        → AtPlace (cells (N.rows nodes.old)) p (TellsParent result) }
     ensures most { N.most_held nodes.new ≡ N.most_held nodes.old }
     ensures loans { N.loans nodes.new ≡ N.loans nodes.old }
 {
     let Some(place) = at else {
-        return;
+        return 0;
     };
     let Some(parent) = nodes.parent(place) else {
-        return;
+        return 0;
     };
-    let covered = nodes.payload(parent).covers(spread.roles());
+    let above = nodes.payload(parent);
+    let serial = above.serial().0;
+    let covered = above.covers(spread.roles());
     cover(nodes, place, covered);
+    serial
+}
+
+/// The serial of the parent of the row at the place, and 0 of the document node.
+fn parent_serial<N: NodeStore<Row>>(nodes: &N, place: Place) -> u64
+    requires shape { Shaped (N.rows nodes.now) }
+    requires there { IsSome (map.get (N.rows nodes.now) place.0) }
+    ensures { AtPlace (cells (N.rows nodes.now)) place.0 (TellsParent result) }
+{
+    match nodes.parent(place) {
+        Some(parent) => nodes.payload(parent).serial().0,
+        None => 0,
+    }
 }
 
 /// Takes the role of `top` from the tops of the base's subtree to which no other base leads, and answers how many rows
@@ -130,11 +170,11 @@ pub(crate) fn recount<N: NodeStore<Row>>(
         has: above,
     };
     let mut lost = 0;
+    let mut parent = parent_serial(&*nodes, place);
     let mut at = Some(place);
     'rows: while let Some(here) = at {
         let row = nodes.payload(here);
         let serial = row.serial().0;
-        let parent = row.parent();
         let kept = row.has(top.role);
         let taken = withdraw(nodes, top, here, others, trail);
         spans.go_on(serial, parent, kept, kept && taken == 0);
@@ -142,7 +182,7 @@ pub(crate) fn recount<N: NodeStore<Row>>(
             lost += 1;
         }
         at = after(&*nodes, place, here);
-        recover(nodes, spread, at);
+        parent = recover(nodes, spread, at);
     }
     lost
 }

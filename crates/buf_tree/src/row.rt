@@ -1,20 +1,22 @@
 //! What the buffer keeps of a node.
 ghost use Rattle.std.specs.Prelude.{◌≡◌, ◌≤◌, ◌↔◌, ◌⊎◌, not, true, false, IsTrue, OnOk, OnErr};
 ghost use Rattle.std.specs.FinSet as set;
+ghost use Rattle.std.specs.Ordering.{nat_cmp};
 ghost use Rattle.buf_tree.specs.Rows.{is_bare, Meet, document_row, below_row, covered_by, shut_row, untaken, signed_for};
 ghost use Rattle.buf_tree.specs.Spread.{capped64};
 
 use gcx_base::{Kind, Memory, Role, Serial};
 use role_set::{NodeRoles, RoleSet};
 use std::marker::Model;
+use std::snapshot::Snapshot;
 
 /// A node of the buffer, seen as its number and that of its parent, how deep it lies, whether it is open, what it is, its
 /// roles, and those whose statements were carried out at it.
 #[derive(Drop)]
 pub struct Row {
     serial: u64,
-    /// Of the document node 0.
-    parent: u64,
+    /// What clauses see as the serial of its parent, of the document node 0. It takes no room: the store's link leads there.
+    parent: Snapshot<u64>,
     level: u32,
     is_open: bool,
     /// Whether some row above keeps a spread role.
@@ -33,7 +35,7 @@ impl Model for Row {
 
     ghost view = { λ r. record {
       serial = r.serial;
-      parent = r.parent;
+      parent = r.parent.value;
       level = r.level;
       is_open = r.is_open;
       kind = r.kind;
@@ -51,7 +53,7 @@ impl Row {
     {
         Row {
             serial: 0,
-            parent: 0,
+            parent: Snapshot::of(&0),
             level: 0,
             is_open: true,
             covered: false,
@@ -70,7 +72,7 @@ impl Row {
     {
         Row {
             serial,
-            parent: self.serial,
+            parent: Snapshot::of(&self.serial),
             level: self.level + 1,
             is_open: !kind.is_text(),
             covered,
@@ -85,14 +87,6 @@ impl Row {
         ensures { result.0 ≡ self.now.serial }
     {
         Serial(self.serial)
-    }
-
-    /// The number of its parent, and 0 for the document node.
-    #[inline(always)]
-    pub(crate) fn parent(&self) -> u64
-        ensures { result ≡ self.now.parent }
-    {
-        self.parent
     }
 
     /// How deep the node lies. The document node lies at 0.
@@ -194,13 +188,13 @@ impl Row {
     }
 }
 
-/// Whether a new node of this kind with these roles leaves at once.
+/// Whether a new node of this kind leaves at once, where it is said whether it has no role.
 #[inline(always)]
-pub(crate) fn is_bare(kind: &Kind, roles: &NodeRoles) -> bool
-    ensures { result ≡ is_bare kind.now roles.now.held }
+pub(crate) fn is_bare(kind: &Kind, has_none: bool) -> bool
+    ensures { (roles : set.FinSet nat_cmp) → IsTrue has_none ↔ roles ≡ set.empty → result ≡ is_bare kind.now roles }
 {
     if !kind.is_text() {
         return false;
     }
-    roles.is_empty()
+    has_none
 }

@@ -309,3 +309,13 @@ pub(crate) fn covers(spread: &Option<Spread>, row: &Row) -> bool
         None => false,
     }
 }
+
+/// Whether the role is spread.
+pub(crate) fn is_spread(spread: &Option<Spread>, role: Role) -> bool
+    ensures { result ≡ is_spread_in spread.now role.0 }
+{
+    match spread {
+        Some(spread) => spread.roles().has(role),
+        None => false,
+    }
+}

@@ -2,8 +2,9 @@
 //!
 //! For the steps of a path there is a flag each, and one more: at the node at hand, flag i says that the steps from i on
 //! lead from it to the node at which the walk began. The flags of a parent follow from those of its child on the way.
-ghost use Rattle.std.specs.Prelude.{◌≡◌, ◌+◌, ◌≤◌, ◌∷◌, ◌++◌, [], false, length, vec_capacity, IsSome};
+ghost use Rattle.std.specs.Prelude.{◌≡◌, ◌+◌, ◌≤◌, ◌&&◌, ◌||◌, not, ◌∷◌, ◌++◌, [], false, length, vec_capacity, IsSome};
 ghost use Rattle.std.specs.FinMap as map;
+ghost use Rattle.std.specs.FinSet as finset;
 ghost use Rattle.std.proofs.Math.ListN.{replicate, set, get_or};
 ghost use Rattle.gcx_model.specs.Paths.{any};
 ghost use Rattle.gcx_model.specs.ItemView.{off_tree, role_kind};
@@ -136,7 +137,16 @@ fn is_first<N: NodeStore<Row>>(
 pub(crate) fn is_waiting(row: &Row, off: &Off) -> bool
     ensures { result ≡ is_waiting row.now off.now }
 {
-    (row.has(off.own) || row.is_signed(off.own)) && !row.is_signed(off.role)
+    waits(row, off, row.has(off.own))
+}
+
+/// The same, where it is said whether the base's own role is live at the row.
+#[inline(always)]
+pub(crate) fn waits(row: &Row, off: &Off, is_live: bool) -> bool
+    ensures { result ≡ ((is_live || finset.contains row.now.signed off.now.own.0)
+        && not (finset.contains row.now.signed off.now.role.0)) }
+{
+    (is_live || row.is_signed(off.own)) && !row.is_signed(off.role)
 }
 
 /// The steps of the statement's tail. Where it is of the kind `Own` they don't count.

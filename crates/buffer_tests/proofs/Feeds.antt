@@ -26,13 +26,11 @@ use Rattle.past_laws.proofs.Bases.{is_grown}
 use Rattle.tree_laws.proofs.Growing.{grow_all-append}
 use Rattle.doc_laws.proofs.Growing.{seen_comes}
 use Rattle.doc_laws.proofs.TreeBounds.{seen_within}
-use Rattle.doc_reader.specs.Standing.{ReaderView, GivesBy, Stands, waiting, said_of}
-use Rattle.doc_reader.specs.declared.token.Token.{Token as Given}
+use Rattle.doc_reader.specs.Standing.{ReaderView, GivesBy, Stands, waiting, said_of, Token as Given}
 use Rattle.doc_reader.proofs.Givings.{said-append}
 use Rattle.buf_tree.specs.Shape.{Cell, num}
 use Rattle.buf_tree.specs.View.{View, InUse, Innermost}
 use Rattle.buf_tree.specs.Ways.{is_waiting}
-use Rattle.buf_tree.specs.Spread.{is_spread_in}
 use Rattle.buf_tree.specs.Stands.{Seen, seen, told, StandsFor, Due}
 use Rattle.buf_tree.proofs.SpreadTells.{own_plain}
 use Rattle.buf_tree.proofs.Standing.{pair_left}
@@ -43,7 +41,7 @@ use Rattle.node_store.specs.declared.store.Place.{Place}
 use Rattle.buf_tree.proofs.Shaping.{rising_same}
 use Rattle.buf_tree.proofs.Feeding.{top_is}
 use Rattle.projector.proofs.Places.{rising, open_row, innermost_at}
-use Rattle.buffer_tests.specs.Buffers.{IsFed}
+use Rattle.buffer_tests.specs.Buffers.{IsFed, OwnPlain}
 
 -- the token behind these ones may come there
 may_here : (ts : List Token) (t : Token) (us : List Token) (P : Tree) → may_all (ts ++ t ∷ us) P ≡ true → may_come t (grow_all ts P) ≡ true
@@ -195,7 +193,7 @@ module _ (plan : PlanTree) (r : ReaderView) (p : Projector) (v : View) (f : IsFe
       })
 
   -- a base's own role isn't spread
-  pub plain : (off : Off) → In (off_tree off) (offs_in plan.body) → is_spread_in v.spread off.own.0 ≡ false
+  pub plain : OwnPlain plan v
   plain off i = own_plain f.past f.stands.is_past off (subst (λ (z : PlanTree). In (off_tree off) (offs_in z.body)) (sym f.plan_is) i) v.spread f.stands.spread
 
   pub due : (off : Off) (q : ℕ) → (u : InUse v.rows q) → is_waiting u.cell.row off ≡ true → In (off_tree off) (offs_in plan.body) → Due v q off

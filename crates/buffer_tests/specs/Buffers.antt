@@ -1,12 +1,16 @@
 -- What tests of buffers have fed.
-use Rattle.std.specs.Prelude.{◌≡◌, ℕ, true, List, map}
+use Rattle.std.specs.Prelude.{◌≡◌, ℕ, true, false, List, map}
 use Rattle.gcx_base.specs.Limits.{full_limits}
 use Rattle.gcx_model.specs.Core.{PlanTree}
+use Rattle.gcx_model.specs.ItemView.{off_tree}
+use Rattle.gcx_model.specs.Members.{In}
 use Rattle.gcx_model.specs.Past.{Past}
+use Rattle.gcx_model.specs.Placed.{offs_in}
 use Rattle.gcx_model.specs.Seen.{seen_tree}
-use Rattle.doc_reader.specs.Standing.{ReaderView, Stands, said_of}
-use Rattle.doc_reader.specs.declared.token.Token.{Token}
+use Rattle.gcx_model.specs.declared.item.Off.{Off}
+use Rattle.doc_reader.specs.Standing.{ReaderView, Stands, said_of, Token}
 use Rattle.buf_tree.specs.View.{View}
+use Rattle.buf_tree.specs.Spread.{is_spread_in}
 use Rattle.buf_tree.specs.Stands.{StandsFor}
 use Rattle.projector.specs.declared.projector.Projector.{Projector}
 use Rattle.projector.specs.Projector.{Projects, Places}
@@ -22,3 +26,7 @@ pub record IsFed (plan : PlanTree) (r : ReaderView) (p : Projector) (v : View) :
   pub stands : StandsFor v past
   pub projects : Projects p past
   pub place : Places p v
+
+-- No role of a base of the plan is spread.
+abbrev pub OwnPlain : PlanTree → View → Type 0
+OwnPlain plan v = (off : Off) → In (off_tree off) (offs_in plan.body) → is_spread_in v.spread off.own.0 ≡ false

@@ -16,7 +16,7 @@ ghost use Rattle.projector.specs.declared.projector.Projector.{Projector};
 ghost use Rattle.buf_tree.specs.Calls.{Started, numbers};
 ghost use Rattle.buf_tree.specs.Stands.{StandsFor};
 ghost use Rattle.buf_tree.specs.View.{InUse};
-ghost use Rattle.buffer_tests.specs.Buffers.{IsFed};
+ghost use Rattle.buffer_tests.specs.Buffers.{IsFed, OwnPlain};
 
 mod given;
 mod kept;
@@ -24,6 +24,7 @@ mod large;
 mod matches;
 mod passed;
 mod statements;
+mod taken;
 
 use buf_tree::{Buffer, Row};
 use doc_reader::Reader;
@@ -387,6 +388,7 @@ fn follow_all<N: NodeStore<Row>>(
     script: &str,
 ) -> Result<(), Fail>
     requires { IsFed (plan_tree plan.now) reader.old projector.old buffer.old }
+    ensures { OnOk result (IsFed (plan_tree plan.now) reader.new projector.new buffer.new) }
 {
     for word in script.split_ascii_whitespace() {
         follow(alloc, out, reader, projector, buffer, plan, word)?;
@@ -407,6 +409,7 @@ fn followed_from<N: NodeStore<Row> + Drop>(
     requires empty { N.rows nodes ≡ map.empty }
     requires placed { (core : BodyTree) × Good core × Placed core (plan_tree plan.now) }
     requires read { (document : List ℕ) × Stands reader.old full_limits document true [] }
+    ensures { IfOk result (λ buffer. OwnPlain (plan_tree plan.now) buffer) }
 {
     let (mut projector, mut buffer) = begin(alloc, out, nodes, plan, spread)?;
     follow_all(
@@ -433,6 +436,7 @@ fn followed<N: NodeStore<Row> + Drop>(
 ) -> Result<Buffer<N>, Fail>
     requires empty { N.rows nodes ≡ map.empty }
     requires placed { (core : BodyTree) × Good core × Placed core (plan_tree plan.now) }
+    ensures { IfOk result (λ buffer. OwnPlain (plan_tree plan.now) buffer) }
 {
     let mut reader = read(alloc, document)?;
     followed_from(alloc, out, nodes, plan, &mut reader, script, spread)

@@ -145,7 +145,7 @@ fn has_all(roles: &RoleSet, given: &[Role]) -> bool {
 /// Whether the set of the innermost node's roles, where there is one at hand, has these and no more.
 fn are_plain(matcher: &Matcher, given: &Given) -> bool {
     match matcher.plain() {
-        Some((roles, count)) => count == given.items().len() && has_all(roles, given.items()),
+        Some((roles, _, count)) => count == given.items().len() && has_all(roles, given.items()),
         None => true,
     }
 }

@@ -10,6 +10,7 @@ pub mod Comparisons
 pub mod Telling
 mod Searches
 mod Texts
+mod Alone
 mod Counts
 mod Nexts
 pub mod Stored

@@ -30,7 +30,7 @@ use Rattle.cond_eval.proofs.Searches.{Searched, Looks, Goes, goes_start, goes_wa
 
 -- ---- no node lies below a text
 
-record NoTextAbove (Q : Tree) : Type 0 where
+pub record NoTextAbove (Q : Tree) : Type 0 where
   at : (p : Node) → Q.at ≡ Some p → is_text (kind_of p) ≡ false
   above : (p : Node) (s : ℕ) (k : Kind) → In (Under p s k) Q.nodes → is_text (kind_of p) ≡ false
 
@@ -67,7 +67,7 @@ grown_text P Q w h (ended at r n a) = record {
   above = λ q t l i. h.above q t l (subst (λ (xs : List Node). In (Under q t l) xs) n i);
 }
 
-no_text : (Q : Tree) → Leads opening Q → NoTextAbove Q
+pub no_text : (Q : Tree) → Leads opening Q → NoTextAbove Q
 no_text Q stays = record {
   at = λ p e. subst (λ (x : Node). is_text (kind_of x) ≡ false) (same_Some _ _ e) refl;
   above = λ p s k i. elim i [ inl e ↦ absurd (root_not p s k e) | inr j ↦ absurd j ];
@@ -78,7 +78,7 @@ no_text Q stays = record {
 no_text Q (more {Q = R} l g) = grown_text R Q (nodes_are_numbered R l).0 (no_text R l) g
 
 -- a node that has another below it is no text
-below_none : (P : Tree) → Grown P → NoTextAbove P → (n p : Node) (s : ℕ) (k : Kind) → In n P.nodes → In (Under p s k) P.nodes → within (serial_of n) p ≡ true → is_text (kind_of n) ≡ false
+pub below_none : (P : Tree) → Grown P → NoTextAbove P → (n p : Node) (s : ℕ) (k : Kind) → In n P.nodes → In (Under p s k) P.nodes → within (serial_of n) p ≡ true → is_text (kind_of n) ≡ false
 below_none P w h n Root s k i j e =
     let same : Root ≡ n = Numbered-same 0 P.nodes w.numbered Root n (w.upward Root s k j) i (eqb-true 0 (serial_of n) e) in
     subst (λ (x : Node). is_text (kind_of x) ≡ false) same refl
@@ -91,7 +91,7 @@ below_none P w h n (Under q t v) s k i j e = elim (or_cases (eqb t (serial_of n)
 
 -- ---- texts in lists of nodes
 
-abbrev texts_of : Node → List ℕ
+abbrev pub texts_of : Node → List ℕ
 texts_of m = text_of (kind_of m)
 
 flat_filter : (q : Node → Bool) (f : Node → List ℕ) (xs : List Node) → flat_map f (filter q xs) ≡ flat_map (λ x. cond (q x) (f x) []) xs
@@ -102,11 +102,11 @@ flat_filter q f (x ∷ xs) = go (q x) (flat_filter q f xs)
     go true ih = ap (λ z. f x ++ z) ih
     go false ih = ih
 
-flat_same : (f g : Node → List ℕ) (xs : List Node) → ((x : Node) → In x xs → f x ≡ g x) → flat_map f xs ≡ flat_map g xs
+pub flat_same : (f g : Node → List ℕ) (xs : List Node) → ((x : Node) → In x xs → f x ≡ g x) → flat_map f xs ≡ flat_map g xs
 flat_same f g [] h = refl
 flat_same f g (x ∷ xs) h = ap (λ z. z ++ flat_map f xs) (h x (inl refl)) ∙ ap (λ z. g x ++ z) (flat_same f g xs (λ y i. h y (inr i)))
 
-no_bytes : (k : Kind) → is_text k ≡ false → text_of k ≡ []
+pub no_bytes : (k : Kind) → is_text k ≡ false → text_of k ≡ []
 no_bytes Document e = refl
 no_bytes (Element name) e = refl
 no_bytes (Text b) e = absurd (true≢false e)
@@ -117,7 +117,7 @@ passes_text (Element name) e = absurd (false≢true e)
 passes_text (Text b) e = refl
 
 -- of nodes with rising numbers one alone has that of n
-one_of : (k : ℕ) (xs : List Node) (n : Node) (f : Node → List ℕ) → Numbered k xs → In n xs → flat_map (λ x. cond (eqb (serial_of x) (serial_of n)) (f x) []) xs ≡ f n
+pub one_of : (k : ℕ) (xs : List Node) (n : Node) (f : Node → List ℕ) → Numbered k xs → In n xs → flat_map (λ x. cond (eqb (serial_of x) (serial_of n)) (f x) []) xs ≡ f n
 one_of k [] n f h i = absurd i
 one_of k (x ∷ xs) n f h (inl e) =
     let s = ap serial_of e in
@@ -138,21 +138,22 @@ module _ (rows : List Cell) (P : Tree) (keep : Node → Bool) (of : RowsOf rows 
   abbrev w : Grown P
   w = grown_tree rows P keep of
 
+  -- a text alone is in its subtree
+  pub text_within : is_text (kind_of n) ≡ true → (m : Node) → In m P.nodes → within (serial_of n) m ≡ eqb (serial_of m) (serial_of n)
+  text_within t Root j = refl
+  text_within t (Under p s k) j = elim (cases_Bool (within (serial_of n) p)) [
+    | inl e ↦ absurd (true≢false (sym t ∙ below_none P w (no_text P of.grown) n p s k i j e))
+    | inr e ↦ rw e (none (eqb s (serial_of n)))
+  ]
+    where
+      none : (b : Bool) → (b || false) ≡ b
+      none true = refl
+      none false = refl
+
   -- a text's value is its bytes
   text_value : is_text (kind_of n) ≡ true → value P n ≡ text_of (kind_of n)
-  text_value t = flat_same (λ m. cond (within (serial_of n) m) (texts_of m) []) (λ m. cond (eqb (serial_of m) (serial_of n)) (texts_of m) []) P.nodes (λ m j. ap (λ b. cond b (texts_of m) []) (alone m j))
+  text_value t = flat_same (λ m. cond (within (serial_of n) m) (texts_of m) []) (λ m. cond (eqb (serial_of m) (serial_of n)) (texts_of m) []) P.nodes (λ m j. ap (λ b. cond b (texts_of m) []) (text_within t m j))
       ∙ one_of 0 P.nodes n texts_of w.numbered i
-    where
-      alone : (m : Node) → In m P.nodes → within (serial_of n) m ≡ eqb (serial_of m) (serial_of n)
-      alone Root j = refl
-      alone (Under p s k) j = elim (cases_Bool (within (serial_of n) p)) [
-        | inl e ↦ absurd (true≢false (sym t ∙ below_none P w (no_text P of.grown) n p s k i j e))
-        | inr e ↦ rw e (none (eqb s (serial_of n)))
-      ]
-        where
-          none : (b : Bool) → (b || false) ≡ b
-          none true = refl
-          none false = refl
 
   -- that of another node is its texts below
   below_value : is_text (kind_of n) ≡ false → IsWhole P keep n → value P n ≡ flat_map texts_of (kept_matches P keep (serial_of n) texts_below)

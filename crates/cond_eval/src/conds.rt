@@ -1,6 +1,7 @@
 //! Conditions: from the left, as far as they are settled.
 ghost use Rattle.std.specs.Prelude.{IfOk};
 ghost use Rattle.gcx_model.specs.Tree.{Tree, opening};
+ghost use Rattle.gcx_model.specs.Core.{CondTree};
 ghost use Rattle.gcx_model.specs.Growth.{Leads};
 ghost use Rattle.gcx_model.specs.CondView.{core_cond_tree};
 ghost use Rattle.cond_eval.specs.Asking.{MayAskOver, AnswersOver, IsLeaf};
@@ -19,6 +20,9 @@ pub trait Conds {
     /// The open trees for which a value stands.
     ghost stands: { Self → Tree → Type 0 };
 
+    /// The conditions that may be asked again.
+    ghost asked_last: { Self → CondTree → Type 0 };
+
     /// The truth of the condition over the tokens so far, of whose tree the buffer has the rows and the number of nodes.
     fn truth<N: NodeStore<Row>>(
         &mut self,
@@ -28,8 +32,23 @@ pub trait Conds {
         buffer: &Buffer<N>,
     ) -> Result<Truth, Memory>
         requires { MayAskOver buffer.now (stands self.old) env.now (core_cond_tree cond.now) }
-        ensures { IfOk result (λ t. AnswersOver buffer.now (stands self.old) (stands self.new)
-            env.now (core_cond_tree cond.now) t) };
+        ensures answers { IfOk result (λ t. AnswersOver buffer.now (stands self.old) (stands self.new)
+            env.now (core_cond_tree cond.now) t) }
+        ensures last { IfOk result (λ _. asked_last self.new (core_cond_tree cond.now)) };
+
+    /// The same of the condition that was asked last. What is kept of it needn't be looked for.
+    fn truth_again<N: NodeStore<Row>>(
+        &mut self,
+        alloc: Global,
+        cond: &Cond,
+        env: &Env,
+        buffer: &Buffer<N>,
+    ) -> Result<Truth, Memory>
+        requires may { MayAskOver buffer.now (stands self.old) env.now (core_cond_tree cond.now) }
+        requires last { asked_last self.old (core_cond_tree cond.now) }
+        ensures answers { IfOk result (λ t. AnswersOver buffer.now (stands self.old) (stands self.new)
+            env.now (core_cond_tree cond.now) t) }
+        ensures last { IfOk result (λ _. asked_last self.new (core_cond_tree cond.now)) };
 
     ghost stands_on: { (s : Self) (P Q : Tree) → Leads opening P → Leads P Q → stands s P → stands s Q };
 }

@@ -21,9 +21,21 @@ pub struct Plain;
 impl Conds for Plain {
     ghost stands = { λ _ _. Unit {0} };
 
+    ghost asked_last = { λ _ _. Unit {0} };
+
     ghost stands_on = { λ _ _ _ _ _ _. tt };
 
     fn truth<N: NodeStore<Row>>(
+        &mut self,
+        alloc: Global,
+        cond: &Cond,
+        env: &Env,
+        buffer: &Buffer<N>,
+    ) -> Result<Truth, Memory> {
+        truth_of(self, alloc, cond, env, buffer)
+    }
+
+    fn truth_again<N: NodeStore<Row>>(
         &mut self,
         alloc: Global,
         cond: &Cond,

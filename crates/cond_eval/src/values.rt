@@ -1,5 +1,5 @@
 //! String values of nodes, and their comparison with literals.
-ghost use Rattle.std.specs.Prelude.{◌≡◌, IfOk, IsUtf8, OnOk, MatchOption};
+ghost use Rattle.std.specs.Prelude.{◌≡◌, IfOk, IfSome, IsUtf8, OnOk, MatchOption};
 ghost use Rattle.gcx_model.specs.Values.{Value, Bytes, Units, compare};
 ghost use Rattle.gcx_model.specs.Members.{In};
 ghost use Rattle.gcx_base.specs.Kinds.{is_text};
@@ -60,6 +60,23 @@ fn only_text<N: NodeStore<Row>>(buffer: &Buffer<N>, place: Place) -> Option<Plac
     }
 }
 
+/// The text that is the only child of the node. None where it has another child, or none.
+#[inline(always)]
+fn text_alone<N: NodeStore<Row>>(buffer: &Buffer<N>, place: Place) -> Option<Place>
+    requires { InUse buffer.now.rows place.0 }
+    ensures { IfSome result (λ text. IsOnly buffer.now.rows place.0 text.0) }
+{
+    let child = buffer.at(place).first()?;
+    if child.next().is_some() {
+        return None;
+    }
+    if child.payload().kind().is_text() {
+        Some(child.place)
+    } else {
+        None
+    }
+}
+
 /// Puts the texts below the node together.
 fn gather<N: NodeStore<Row>>(
     buffer: &Buffer<N>,
@@ -81,7 +98,25 @@ fn gather<N: NodeStore<Row>>(
 }
 
 /// The string value of a closed node: lent where it is one text, else put together in `room`.
+#[inline(always)]
 pub fn value<'a, N: NodeStore<Row>>(
+    buffer: &'a Buffer<N>,
+    place: Place,
+    room: &'a mut Vec<u8>,
+) -> Result<&'a [u8], Memory>
+    requires { InUse buffer.now.rows place.0 }
+    ensures value { IfOk result (λ v. IsValue buffer.now.rows place.0 v.now) }
+    ensures utf8 { IfOk result (λ v. IsUtf8 v.now) }
+{
+    if let Some(text) = text_alone(buffer, place) {
+        return Ok(bytes_at(buffer, text));
+    }
+    value_of_texts(buffer, place, room)
+}
+
+/// The same, where it may be put together of many texts.
+#[inline(never)]
+fn value_of_texts<'a, N: NodeStore<Row>>(
     buffer: &'a Buffer<N>,
     place: Place,
     room: &'a mut Vec<u8>,

@@ -1,9 +1,10 @@
-mod MarkTrees
+pub mod MarkTrees
 mod MarkSearch
-mod MarkRows
+pub mod MarkRows
 mod MarkLooks
-mod MarkTold
+pub mod MarkTold
 mod MarkAsks
 mod MarkBack
 mod MarkList
+mod MarkAgain
 mod Descending

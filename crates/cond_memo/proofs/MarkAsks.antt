@@ -59,7 +59,7 @@ or_none : (b : Bool) → b ≡ b || false
 or_none true = refl
 or_none false = refl
 
-left_truth : (P : Tree) (env : Env) (x : ℕ) (steps : List Step) (rel : Rel) (o : Operand) → IsLiteral o → answer P steps (Some (ask_of rel o)) (env x) ≡ truth (Compare (Path x steps) rel (operand_tree o)) env P
+pub left_truth : (P : Tree) (env : Env) (x : ℕ) (steps : List Step) (rel : Rel) (o : Operand) → IsLiteral o → answer P steps (Some (ask_of rel o)) (env x) ≡ truth (Compare (Path x steps) rel (operand_tree o)) env P
 left_truth P env x steps rel (operand.Path y path) l = absurd l
 left_truth P env x steps rel (operand.Str b) l = refl
 left_truth P env x steps rel (operand.Num u) l = refl
@@ -69,7 +69,7 @@ turned_truth : (P : Tree) (n : Node) (vs : List Value) (rel flipped : Rel) → (
 turned_truth P n vs rel flipped turned v =
     ap (λ b. settle b (is_closed P n && true)) (any_flipped rel flipped turned v vs ∙ or_none (any (compare rel v) vs)) ∙ ap (λ b. settle (any (compare rel v) vs || false) b) (and_true (is_closed P n))
 
-right_truth : (P : Tree) (env : Env) (x : ℕ) (steps : List Step) (rel flipped : Rel) (o : Operand) → IsLiteral o → ((v w : Value) → compare flipped w v ≡ compare rel v w)
+pub right_truth : (P : Tree) (env : Env) (x : ℕ) (steps : List Step) (rel flipped : Rel) (o : Operand) → IsLiteral o → ((v w : Value) → compare flipped w v ≡ compare rel v w)
     → answer P steps (Some (ask_of flipped o)) (env x) ≡ truth (Compare (operand_tree o) rel (Path x steps)) env P
 right_truth P env x steps rel flipped (operand.Path y path) l turned = absurd l
 right_truth P env x steps rel flipped (operand.Str b) l turned = turned_truth P (env x) (settled_values P env (Path x steps)) rel flipped turned (Bytes b)

@@ -92,7 +92,7 @@ told_mark rows nodes bound x p s got steps ask xs i m w v about among t told tru
 abbrev pub FoundAt : List Mark → ℕ → VarId → List Step → Option Ask → Type 0
 FoundAt xs i v steps ask = (m : Mark) × (m ≡ slice_index_or xs i m) × IsAbout m v steps ask
 
-about_at : (xs : List Mark) (i : ℕ) (m : Mark) (v : VarId) (steps : List Step) (ask : Option Ask) → i < length xs → FoundAt xs i v steps ask → m ≡ slice_index_or xs i m → IsAbout m v steps ask
+pub about_at : (xs : List Mark) (i : ℕ) (m : Mark) (v : VarId) (steps : List Step) (ask : Option Ask) → i < length xs → FoundAt xs i v steps ask → m ≡ slice_index_or xs i m → IsAbout m v steps ask
 about_at xs i m v steps ask l f e = subst (λ (w : Mark). IsAbout w v steps ask) (same_at xs i f.0 m l f.1 e) f.2
 
 module _ (rows : List Cell) (nodes : ℕ) (bound : Bindings) (v : VarId) (p s : ℕ) (got : Some (p, s) ≡ get bound v.0) (steps : List Step) (ask : Option Ask) (i : ℕ) (m : Mark) where

@@ -1,4 +1,5 @@
 pub mod Marks
 pub mod Calls
+pub mod Again
 pub mod Reaching
 pub mod MarkStays

@@ -5,4 +5,5 @@ mod mark;
 mod marked;
 mod reaching;
 
+pub use mark::last_of;
 pub use marked::Marked;

@@ -48,7 +48,7 @@ pub(crate) struct Mark {
 }
 
 /// The step to which all matches of the steps are matches.
-fn last_of(alloc: Global, steps: &[Step]) -> Result<Step, Memory>
+pub fn last_of(alloc: Global, steps: &[Step]) -> Result<Step, Memory>
     ensures { IfOk result (λ last. Fits steps.now last) }
 {
     match steps.split_last() {

@@ -1,13 +1,16 @@
 //! Conditions with a mark for each `exists` and each comparison with a literal.
 ghost use Rattle.std.specs.Prelude.{◌≡◌, ◌<◌, true, IfOk, option_map, vec_len, slice_index_or};
+ghost use Rattle.gcx_model.specs.Core.{CondTree};
+ghost use Rattle.gcx_model.specs.CondView.{core_cond_tree};
 ghost use Rattle.gcx_base.specs.declared.steps.Step.{Step};
 ghost use Rattle.gcx_model.specs.Tree.{Tree};
 ghost use Rattle.gcx_model.specs.declared.cond.Operand.TheVariants as operand;
-ghost use Rattle.cond_eval.specs.Asking.{MayAskOver, AnswersOver};
+ghost use Rattle.cond_eval.specs.Asking.{MayAskOver, AnswersOver, IsLeaf};
 ghost use Rattle.cond_eval.specs.Comparing.{comparison};
 ghost use Rattle.cond_eval.specs.Literals.{IsLiteral};
 ghost use Rattle.cond_memo.specs.Marks.{AsksLiteral, known as told, ask_of, IsAbout, AreMarks, MayFind};
 ghost use Rattle.cond_memo.specs.Calls.{AnswersAsked};
+ghost use Rattle.cond_memo.specs.Again.{AskedLast, LastIsAbout, TellsAgain};
 ghost use Rattle.cond_memo.specs.declared.mark.Mark.{Mark as KeptMark};
 
 use crate::mark::{Ask, Mark, Room};
@@ -24,6 +27,8 @@ use std::alloc::Global;
 pub struct Marked {
     marks: Vec<Mark>,
     room: Room,
+    /// The number of the mark that answered last, where the condition was no more than its question.
+    last: Option<usize>,
 }
 
 impl Marked {
@@ -37,7 +42,59 @@ impl Marked {
                 flags: Vec::new(alloc),
                 text: Vec::new(alloc),
             },
+            last: None,
         }
+    }
+
+    /// No condition was asked last.
+    #[inline(always)]
+    pub fn forget_last(&mut self)
+        ensures last { (c : CondTree) → AskedLast self.new c }
+        ensures stays { (P : Tree) → AreMarks self.old P → AreMarks self.new P }
+    {
+        self.last = None;
+    }
+
+    /// The truth of the condition that was asked last, by the mark that answered it. None where no mark did.
+    #[inline(always)]
+    pub fn again<N: NodeStore<Row>>(
+        &mut self,
+        cond: &Cond,
+        env: &Env,
+        buffer: &Buffer<N>,
+    ) -> Result<Option<Truth>, Memory>
+        requires may { MayAskOver buffer.now (AreMarks self.old) env.now (core_cond_tree cond.now) }
+        requires last { AskedLast self.old (core_cond_tree cond.now) }
+        ensures { IfOk result (λ t. TellsAgain buffer.now self.old self.new env.now (core_cond_tree cond.now) t) }
+    {
+        match self.last {
+            Some(index) => self.mark_again(index, cond, env, buffer),
+            None => Ok(None),
+        }
+    }
+
+    /// The same by the mark of this number.
+    #[inline(always)]
+    fn mark_again<N: NodeStore<Row>>(
+        &mut self,
+        index: usize,
+        cond: &Cond,
+        env: &Env,
+        buffer: &Buffer<N>,
+    ) -> Result<Option<Truth>, Memory>
+        requires index { self.old.last ≡ Some index }
+        requires may { MayAskOver buffer.now (AreMarks self.old) env.now (core_cond_tree cond.now) }
+        requires last { AskedLast self.old (core_cond_tree cond.now) }
+        ensures { IfOk result (λ t. TellsAgain buffer.now self.old self.new env.now (core_cond_tree cond.now) t) }
+    {
+        if index >= self.marks.len() {
+            return Ok(None);
+        }
+        let Some((node, of)) = env.get(self.marks[index].var) else {
+            return Ok(None);
+        };
+        let known = self.marks[index].ask(buffer, node, of, &mut self.room)?;
+        Ok(Some(truth_of_known(known)))
     }
 
     /// The number of the mark of this path and this question, which is made where there is none.
@@ -81,13 +138,17 @@ impl Marked {
     ) -> Result<Truth, Memory>
         requires { MayFind self.old buffer.now.rows buffer.now.nodes env.now var.0 steps.now
             (option_map (λ q. ask_of q.0 q.1.now) ask) }
-        ensures { IfOk result (λ t. AnswersAsked buffer.now self.old self.new env.now var.0 steps.now
+        ensures answers { IfOk result (λ t. AnswersAsked buffer.now self.old self.new env.now var.0 steps.now
             (option_map (λ q. ask_of q.0 q.1.now) ask.entry) t) }
+        ensures last { IfOk result (λ _. LastIsAbout self.new var steps.now
+            (option_map (λ q. ask_of q.0 q.1.now) ask.entry)) }
     {
+        self.last = None;
         let Some((node, of)) = env.get(var) else {
             return Ok(Truth::Unknown);
         };
         let index = self.mark_of(alloc, var, steps, ask)?;
+        self.last = Some(index);
         let known = self.marks[index].ask(buffer, node, of, &mut self.room)?;
         Ok(truth_of_known(known))
     }
@@ -104,8 +165,9 @@ impl Marked {
         right: &Operand,
     ) -> Result<Truth, Memory>
         requires { MayAskOver buffer.now (AreMarks self.old) env.now (comparison left.now rel right.now) }
-        ensures { IfOk result (λ t. AnswersOver buffer.now (AreMarks self.old) (AreMarks self.new)
+        ensures answers { IfOk result (λ t. AnswersOver buffer.now (AreMarks self.old) (AreMarks self.new)
             env.now (comparison left.now rel right.now) t) }
+        ensures last { IfOk result (λ _. AskedLast self.new (comparison left.now rel right.now)) }
     {
         match left {
             Operand::Path { var, steps } => {
@@ -130,11 +192,12 @@ impl Marked {
     ) -> Result<Truth, Memory>
         requires path { left.now ≡ operand.Path var steps.now }
         requires may { MayAskOver buffer.now (AreMarks self.old) env.now (comparison left.now rel right.now) }
-        ensures { IfOk result (λ t. AnswersOver buffer.now (AreMarks self.old) (AreMarks self.new)
+        ensures answers { IfOk result (λ t. AnswersOver buffer.now (AreMarks self.old) (AreMarks self.new)
             env.now (comparison left.now rel right.now) t) }
+        ensures last { IfOk result (λ _. AskedLast self.new (comparison left.now rel right.now)) }
     {
         match right {
-            Operand::Path { .. } => compare_truth(alloc, env, buffer, left, rel, right),
+            Operand::Path { .. } => self.compared_anew(alloc, env, buffer, left, rel, right),
             _ => self.asked(alloc, env, buffer, var, steps, Some((rel, right))),
         }
     }
@@ -151,23 +214,64 @@ impl Marked {
     ) -> Result<Truth, Memory>
         requires literal { IsLiteral left.now }
         requires may { MayAskOver buffer.now (AreMarks self.old) env.now (comparison left.now rel right.now) }
-        ensures { IfOk result (λ t. AnswersOver buffer.now (AreMarks self.old) (AreMarks self.new)
+        ensures answers { IfOk result (λ t. AnswersOver buffer.now (AreMarks self.old) (AreMarks self.new)
             env.now (comparison left.now rel right.now) t) }
+        ensures last { IfOk result (λ _. AskedLast self.new (comparison left.now rel right.now)) }
     {
         match right {
             Operand::Path { var, steps } => {
                 self.asked(alloc, env, buffer, *var, steps, Some((flipped(rel), left)))
             }
-            _ => compare_truth(alloc, env, buffer, left, rel, right),
+            _ => self.compared_anew(alloc, env, buffer, left, rel, right),
         }
+    }
+
+    /// The same, and nothing is kept.
+    fn compared_anew<N: NodeStore<Row>>(
+        &mut self,
+        alloc: Global,
+        env: &Env,
+        buffer: &Buffer<N>,
+        left: &Operand,
+        rel: Rel,
+        right: &Operand,
+    ) -> Result<Truth, Memory>
+        requires { MayAskOver buffer.now (AreMarks self.old) env.now (comparison left.now rel right.now) }
+        ensures answers { IfOk result (λ t. AnswersOver buffer.now (AreMarks self.old) (AreMarks self.new)
+            env.now (comparison left.now rel right.now) t) }
+        ensures last { IfOk result (λ _. AskedLast self.new (comparison left.now rel right.now)) }
+    {
+        self.last = None;
+        compare_truth(alloc, env, buffer, left, rel, right)
+    }
+
+    /// The truth of a condition with parts.
+    fn joined<N: NodeStore<Row>>(
+        &mut self,
+        alloc: Global,
+        cond: &Cond,
+        env: &Env,
+        buffer: &Buffer<N>,
+    ) -> Result<Truth, Memory>
+        requires { MayAskOver buffer.now (AreMarks self.old) env.now (core_cond_tree cond.now) }
+        ensures answers { IfOk result (λ t. AnswersOver buffer.now (AreMarks self.old) (AreMarks self.new)
+            env.now (core_cond_tree cond.now) t) }
+        ensures last { IfOk result (λ _. AskedLast self.new (core_cond_tree cond.now)) }
+    {
+        let truth = truth_of(self, alloc, cond, env, buffer)?;
+        self.forget_last();
+        Ok(truth)
     }
 }
 
 impl Conds for Marked {
+    ghost use Rattle.cond_memo.specs.Again.{AskedLast};
     ghost use Rattle.cond_memo.specs.Marks.{AreMarks};
     ghost use Rattle.cond_memo.specs.MarkStays.{mark_stays};
 
     ghost stands = { AreMarks };
+
+    ghost asked_last = { AskedLast };
 
     ghost stands_on = { λ s P Q a b k m i. mark_stays P Q a b m (k m i) };
 
@@ -178,7 +282,23 @@ impl Conds for Marked {
         env: &Env,
         buffer: &Buffer<N>,
     ) -> Result<Truth, Memory> {
-        truth_of(self, alloc, cond, env, buffer)
+        match cond {
+            Cond::Exists { .. } | Cond::Compare { .. } => self.leaf(alloc, cond, env, buffer),
+            _ => self.joined(alloc, cond, env, buffer),
+        }
+    }
+
+    fn truth_again<N: NodeStore<Row>>(
+        &mut self,
+        alloc: Global,
+        cond: &Cond,
+        env: &Env,
+        buffer: &Buffer<N>,
+    ) -> Result<Truth, Memory> {
+        match self.again(cond, env, buffer)? {
+            Some(truth) => Ok(truth),
+            None => self.truth(alloc, cond, env, buffer),
+        }
     }
 }
 
@@ -193,7 +313,13 @@ impl Leaves for Marked {
         cond: &Cond,
         env: &Env,
         buffer: &Buffer<N>,
-    ) -> Result<Truth, Memory> {
+    ) -> Result<Truth, Memory>
+        requires asked { MayAskOver buffer.now (AreMarks self.old) env.now (core_cond_tree cond.now) }
+        requires leaf { IsLeaf (core_cond_tree cond.now) }
+        ensures answers { IfOk result (λ t. AnswersOver buffer.now (AreMarks self.old) (AreMarks self.new)
+            env.now (core_cond_tree cond.now) t) }
+        ensures last { IfOk result (λ _. AskedLast self.new (core_cond_tree cond.now)) }
+    {
         match cond {
             Cond::Exists { var, steps } => self.asked(alloc, env, buffer, *var, steps, None),
             Cond::Compare { left, rel, right } => self.compared(

@@ -17,8 +17,8 @@ use Rattle.doc_laws.proofs.LastTag.{longest_so_far, seen_whole, seen_one}
 use Rattle.doc_laws.proofs.Pieces.{Stands as Kept}
 use Rattle.doc_laws.proofs.Theorems.{whole_spells, not_whole, spells_one}
 use Rattle.doc_laws.proofs.Unique.{clean_reads}
+use Rattle.doc_tokens.specs.declared.token.Token.{Token}
 use Rattle.doc_reader.specs.Standing.{ReaderView, waiting, given_end, said_of, Gives, GivesBy, IsFault, Stands, answer_by, answer_of, Accepted, given_token}
-use Rattle.doc_reader.specs.declared.token.Token.{Token}
 
 -- what a document's bytes are
 record Whole (lim : Limits) (b : List ℕ) : Type 0 where

@@ -8,8 +8,8 @@ use Rattle.doc_chars.specs.declared.chars.CharFault.{CharFault}
 use Rattle.doc_chars.specs.declared.chars.Split.{Split}
 use Rattle.doc_chars.specs.Stream.{Carry, optional, given, still_carried}
 use Rattle.doc_chars.proofs.Streams.{still_within}
+use Rattle.doc_parts.proofs.Reading.{size_append}
 use Rattle.doc_reader.proofs.Judgings.{text_size}
-use Rattle.doc_reader.proofs.Reading.{size_append}
 
 -- the counts stay in order
 pub in_order : (o : Option CharFault) (old new : Carry) (first : Option ℕ) (whole : ℕ) (piece : List ℕ) (count place : ℕ) → IfNone o (new.bytes ≡ still_carried first old.bytes ++ drop whole piece) → IfNone o (new.seen ≡ old.seen + length piece) → OnSome o (new ≡ old) → old.seen ≤ count → place + length old.bytes ≤ count

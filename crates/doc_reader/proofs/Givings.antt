@@ -8,9 +8,9 @@ use Rattle.doc_laws.specs.States.{Fronts, state_of}
 use Rattle.doc_laws.proofs.Seen.{fronts_after}
 use Rattle.doc_laws.proofs.Found.{found_seen}
 use Rattle.doc_laws.proofs.LastTag.{longest_is, state_seen}
+use Rattle.doc_tokens.specs.declared.token.Token.{Token}
+use Rattle.doc_tokens.specs.declared.token.Token.TheVariants.{EndOfDocument}
 use Rattle.doc_reader.specs.Standing.{given_end, said_of, Gives, GivesMore, HasRead, given_token}
-use Rattle.doc_reader.specs.declared.token.Token.{Token}
-use Rattle.doc_reader.specs.declared.token.Token.TheVariants.{EndOfDocument}
 
 pub map-append : (a b : List Said) → map given_token (a ++ b) ≡ map given_token a ++ map given_token b
 map-append [] b = refl

@@ -11,10 +11,10 @@ use Rattle.doc_laws.specs.Machine.{State}
 use Rattle.doc_laws.specs.Judging.{judged, on_ok, judged_steps}
 use Rattle.doc_laws.proofs.Pieces.{size_is}
 use Rattle.doc_laws.proofs.Unique.{judged_append}
+use Rattle.doc_machine.specs.declared.stop.Stop.{Stop}
+use Rattle.doc_machine.specs.declared.stop.Stop.TheVariants.{Refused, Memory}
 use Rattle.doc_reader.specs.Judged.{Judged}
-use Rattle.doc_reader.specs.declared.stop.Stop.{Stop}
-use Rattle.doc_reader.specs.declared.stop.Stop.TheVariants.{Refused, Memory}
-use Rattle.doc_reader.proofs.Reading.{size_append}
+use Rattle.doc_parts.proofs.Reading.{size_append}
 
 -- the character of its bytes
 pub one_char : (c : ℕ) (bs : List ℕ) → IsScalar c → bs ≡ encode c → chars bs ≡ c ∷ []

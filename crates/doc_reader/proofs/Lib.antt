@@ -1,6 +1,3 @@
-pub mod Lists
-pub mod Queues
-pub mod Sets
 pub mod Ahead
 pub mod Ties
 pub mod Pieces
@@ -9,10 +6,4 @@ pub mod Judgings
 pub mod Counts
 pub mod Standings
 pub mod Accepting
-pub mod Sound
 pub mod Reading
-pub mod Names
-pub mod Texts
-pub mod Spans
-pub mod Fronts
-pub mod Wholes

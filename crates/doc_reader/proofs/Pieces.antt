@@ -19,15 +19,16 @@ use Rattle.doc_laws.proofs.Faults.{Reads, Said as Says, judged_says, refusal_com
 use Rattle.doc_laws.proofs.Pieces.{Stands as Kept, size_is, scalars_append, bad_more, none_stands, fault_stays}
 use Rattle.doc_laws.proofs.Words.{scalars_front}
 use Rattle.doc_laws.proofs.LastTag.{longest_at_fault, longest_at_bad, longest_at_limit}
-use Rattle.doc_reader.specs.Judged.{Refuses, ReadsFront, Judged, fault}
+use Rattle.doc_tokens.specs.declared.token.Token.{Token}
+use Rattle.doc_machine.specs.Refusals.{fault, stop_fault}
+use Rattle.doc_machine.specs.declared.stop.Stop.{Stop}
+use Rattle.doc_machine.specs.declared.stop.Stop.TheVariants.{Refused as Stopped, Memory as Lost}
+use Rattle.doc_reader.specs.Judged.{Refuses, ReadsFront, Judged}
 use Rattle.doc_reader.specs.Standing.{ReaderView, with_given, IsReading, HasRead, HasStopped, HasLost}
-use Rattle.doc_reader.specs.Piece.{Took, char_fault, stop_fault}
-use Rattle.doc_reader.specs.declared.stop.Stop.{Stop}
-use Rattle.doc_reader.specs.declared.stop.Stop.TheVariants.{Refused as Stopped, Memory as Lost}
-use Rattle.doc_reader.specs.declared.token.Token.{Token}
+use Rattle.doc_reader.specs.Piece.{Took, char_fault}
+use Rattle.doc_parts.proofs.Reading.{size_append}
 use Rattle.doc_reader.proofs.Ahead.{ahead_ok, judged_ahead, steps_ahead}
 use Rattle.doc_reader.proofs.Ties.{Parts, decodes_tie, parts_of}
-use Rattle.doc_reader.proofs.Reading.{size_append}
 
 abbrev pub reads_of : (h : ReaderView) (lim : Limits) (b : List ℕ) (given : List Token) (r : IsReading h lim b given) → Reads lim r.chars (with_given r.before h.state)
 reads_of h lim b given r = record { front = r.front; clean = r.clean; short = r.short }

@@ -1,37 +1,21 @@
--- Characters read one after another, and text as a whole.
-use Rattle.std.proofs.Common.{ℕ, ◌≡◌, ◌+◌, ◌-◌, List, [], ◌∷◌, ◌++◌, length, drop, Ok, Err, sym, ap, ◌∙◌, append_assoc, append-nil, arith, length-append, length-drop}
+-- Characters read one after another, and parts as a whole.
+use Rattle.std.proofs.Common.{ℕ, ◌≡◌, ◌+◌, ◌-◌, List, [], ◌∷◌, ◌++◌, length, drop, Ok, Err, sym, ap, ◌∙◌, append_assoc, append-nil, arith, length-drop}
 use Rattle.std.specs.Char.{len_utf8}
-use Rattle.std.specs.Str.{chars, IsUtf8}
-use Rattle.std.proofs.lemmas.Str.{chars-nil, length-encode, chars_past_char, IsUtf8-past_char}
-use lib.Utf8.{encode}
+use Rattle.std.specs.Str.{chars}
+use Rattle.std.proofs.lemmas.Str.{chars-nil}
 use Rattle.gcx_base.specs.declared.limits.Limits.{Limits}
 use Rattle.gcx_model.specs.Faults.{Refusal, size}
 use Rattle.doc_laws.specs.Machine.{State}
 use Rattle.doc_laws.specs.Judging.{judged, judged_steps, on_ok}
-use Rattle.doc_laws.proofs.Unique.{judged_append}
-use Rattle.doc_reader.specs.declared.stop.Stop.{Stop}
-use Rattle.doc_reader.specs.declared.stop.Stop.TheVariants.{Refused, Memory}
-use Rattle.doc_reader.specs.Judged.{fault, Refuses, ReadsFront, Judged}
-use Rattle.doc_reader.specs.Limited.{JudgedOne}
-use Rattle.doc_reader.specs.Reading.{IsFirst, Moves, Reached}
-use Rattle.doc_reader.proofs.Sound.{judged_sound}
-
--- the first character of a text
-pub first_is : (c : ℕ) (rest text : List ℕ) → IsUtf8 text → text ≡ encode c ++ rest → IsFirst c rest text
-first_is c rest text u e = record {
-  first = chars_past_char text rest c u e;
-  size_is = ap length e ∙ length-append (encode c) rest ∙ ap (λ n. n + length rest) (length-encode c);
-  utf8 = IsUtf8-past_char text rest c u e;
-}
-
--- ---- characters one after another
-
-pub size_append : (xs ys : List ℕ) → size (xs ++ ys) ≡ size xs + size ys
-size_append [] ys = omega arith
-size_append (x ∷ xs) ys = omega (arith, size_append xs ys)
-
-pub judged_on : (lim : Limits) (place : ℕ) (s t u : State) (a b : List ℕ) → judged_steps lim place s a ≡ Ok t → judged_steps lim (place + size a) t b ≡ Ok u → judged_steps lim place s (a ++ b) ≡ Ok u
-judged_on lim place s t u a b e f = judged_append lim place s a b ∙ ap (λ r. on_ok r (λ v. judged_steps lim (place + size a) v b)) e ∙ f
+use Rattle.doc_machine.specs.declared.stop.Stop.{Stop}
+use Rattle.doc_machine.specs.declared.stop.Stop.TheVariants.{Refused, Memory}
+use Rattle.doc_machine.specs.Refusals.{fault}
+use Rattle.doc_machine.specs.Limited.{JudgedOne}
+use Rattle.doc_parts.specs.Reading.{IsFirst, Moves, Stops}
+use Rattle.doc_reader.specs.Judged.{Refuses, ReadsFront, Judged}
+use Rattle.doc_reader.specs.Reading.{Reached}
+use Rattle.doc_machine.proofs.Sound.{judged_sound}
+use Rattle.doc_parts.proofs.Reading.{size_append, judged_on}
 
 pub reached_moves : (lim : Limits) (place : ℕ) (old : State) (text : List ℕ) (at : ℕ) (s t : State) (rest : List ℕ) (n : ℕ) → Reached lim place old text at s rest → Moves lim s rest n t → Reached lim place old text (at + n) t (drop n rest)
 reached_moves lim place old text at s t rest n r m = record {
@@ -70,6 +54,9 @@ reached_refused lim place old text at s t c rest after f r i e k = record {
 
 pub reached_front : (lim : Limits) (place : ℕ) (old : State) (text : List ℕ) (at : ℕ) (s t : State) (rest : List ℕ) → Reached lim place old text at s rest → t.tokens ≡ s.tokens → ReadsFront lim place old (chars text) t.tokens
 reached_front lim place old text at s t rest r k = record { front = r.front; rest = chars rest; state = s; parts = r.parts; read = r.read; waits = k }
+
+pub reached_stops : (lim : Limits) (place : ℕ) (old : State) (text : List ℕ) (at : ℕ) (s : State) (rest : List ℕ) (t : State) → Reached lim place old text at s rest → Stops lim s rest t.tokens → ReadsFront lim place old (chars text) t.tokens
+reached_stops lim place old text at s rest t r h = reached_front lim place old text (at + h.n) h.state t (drop h.n rest) (reached_moves lim place old text at s h.state rest h.n r h.moves) h.waits
 
 pub reached_all : (lim : Limits) (place : ℕ) (old : State) (text : List ℕ) (at : ℕ) (s : State) (rest : List ℕ) → Reached lim place old text at s rest → rest ≡ [] → judged_steps lim place old (chars text) ≡ Ok s
 reached_all lim place old text at s rest r e = ap (judged_steps lim place old) (r.parts ∙ ap (λ l. r.front ++ l) (ap chars e ∙ chars-nil) ∙ append-nil r.front) ∙ r.read

@@ -15,11 +15,11 @@ use Rattle.doc_laws.proofs.Faults.{start_reads}
 use Rattle.doc_laws.proofs.LastTag.{longest_so_far}
 use Rattle.doc_laws.proofs.Pieces.{Stands as Kept, fault_stays, end_cut, end_short, end_whole, stands_place}
 use Rattle.doc_laws.proofs.Unique.{fault_one}
-use Rattle.doc_reader.specs.Judged.{TakesFirst}
+use Rattle.doc_tokens.specs.Tokens.{TakesFirst}
+use Rattle.doc_tokens.specs.declared.token.Token.{Token}
+use Rattle.doc_tokens.specs.declared.token.Token.TheVariants.{EndOfDocument}
 use Rattle.doc_reader.specs.Standing.{ReaderView, end_token, waiting, with_given, Gives, GivesBy, IsFault, IsReading, HasRead, HasStopped, HasLost, GoesOnBy, GoesOn, Stands, IsRefused, given_token}
 use Rattle.doc_reader.specs.Piece.{Took, IsSame, Ends}
-use Rattle.doc_reader.specs.declared.token.Token.{Token}
-use Rattle.doc_reader.specs.declared.token.Token.TheVariants.{EndOfDocument}
 use Rattle.doc_reader.proofs.Givings.{map-append, gives_open, gives_whole, gives_more}
 use Rattle.doc_reader.proofs.Pieces.{kept_of, all_read, took_more, no_fault_yet}
 

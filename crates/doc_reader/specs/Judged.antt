@@ -1,23 +1,16 @@
 -- These definitions follow the code; no public clause speaks of them.
 -- What reading a text answers, and what taking a token does (this project's).
-use Rattle.std.specs.Prelude.{ℕ, ◌≡◌, ◌+◌, List, [], ◌∷◌, ◌++◌, Option, Some, None, Result, Ok, Err}
+use Rattle.std.specs.Prelude.{ℕ, ◌≡◌, ◌+◌, List, ◌∷◌, ◌++◌, Option, Result, Ok, Err}
 use Rattle.gcx_base.specs.declared.limits.Limits.{Limits}
-use Rattle.gcx_model.specs.Faults.{Refusal as Fault, AtSyntax, AtDepth, AtName, AtText, size}
+use Rattle.gcx_model.specs.Faults.{Refusal as Fault, size}
 use Rattle.gcx_model.specs.Tree as tree
 use Rattle.doc_laws.specs.Machine.{State}
 use Rattle.doc_laws.specs.Judging.{judged, judged_steps}
-use Rattle.doc_reader.specs.declared.stop.Refusal.{Refusal}
-use Rattle.doc_reader.specs.declared.stop.Refusal.TheVariants.{Syntax, Depth, NameLong, TextLong}
-use Rattle.doc_reader.specs.declared.stop.Stop.{Stop}
-use Rattle.doc_reader.specs.declared.stop.Stop.TheVariants.{Refused, Memory}
-use Rattle.doc_reader.specs.declared.token.Token.{Token}
-use Rattle.doc_reader.specs.Standing.{given_token}
-
-abbrev pub fault : Refusal → Fault
-fault (Syntax k) = AtSyntax k
-fault (Depth k) = AtDepth k
-fault (NameLong k) = AtName k
-fault (TextLong k) = AtText k
+use Rattle.doc_tokens.specs.declared.token.Token.{Token}
+use Rattle.doc_tokens.specs.Tokens.{TakesFirst}
+use Rattle.doc_machine.specs.declared.stop.Stop.{Stop}
+use Rattle.doc_machine.specs.declared.stop.Stop.TheVariants.{Refused, Memory}
+use Rattle.doc_machine.specs.Refusals.{fault}
 
 -- The characters before the one that is refused are read, and the tokens of the whole tags in them wait.
 pub record Refuses (lim : Limits) (place : ℕ) (old : State) (cs : List ℕ) (f : Fault) (waiting : List tree.Token) : Type 0 where
@@ -44,11 +37,6 @@ abbrev pub Judged : {T : Type 0} → Result T Stop → Limits → ℕ → State 
 Judged (Ok x) lim place old cs new = judged_steps lim place old cs ≡ Ok new
 Judged (Err (Refused r)) lim place old cs new = Refuses lim place old cs (fault r) new.tokens
 Judged (Err Memory) lim place old cs new = ReadsFront lim place old cs new.tokens
-
--- the first token is taken, if there is one
-abbrev pub TakesFirst : Option Token → List tree.Token → List tree.Token → Type 0
-TakesFirst o [] rest = (o ≡ None) × (rest ≡ [])
-TakesFirst o (t ∷ ts) rest = (o ≡ Some (given_token t)) × (rest ≡ ts)
 
 -- the first token of the whole tags is taken, if there is one, and all else is the same
 pub record TakesWhole (o : Option Token) (old new : State) : Type 0 where

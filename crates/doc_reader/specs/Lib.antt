@@ -1,14 +1,5 @@
-pub mod OpenNames
-pub mod AttrNames
-pub mod Tokens
-pub mod Machine
-pub mod Steps
-pub mod Sound
 pub mod Judged
 pub mod Standing
 pub mod Inside
 pub mod Piece
-pub mod Limited
-pub mod Spans
 pub mod Reading
-pub mod Wholes

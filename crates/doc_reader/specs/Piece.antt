@@ -2,26 +2,22 @@
 -- What the parts of a reader answer.
 use Rattle.std.specs.Prelude.{ℕ, ◌≡◌, ◌+◌, ◌-◌, ◌<◌, ◌⊎◌, true, false, List, [], length, Some, None, Result, Ok, Err}
 use Rattle.gcx_base.specs.declared.limits.Limits.{Limits}
-use Rattle.gcx_model.specs.Faults.{size, fault_of}
+use Rattle.gcx_model.specs.Faults.{size}
 use Rattle.gcx_model.specs.declared.fault.DocFault.{DocFault}
-use Rattle.gcx_model.specs.declared.fault.DocFault.TheVariants.{Utf8, Syntax, Truncated, Memory as out_of_memory}
+use Rattle.gcx_model.specs.declared.fault.DocFault.TheVariants.{Utf8, Syntax, Truncated}
 use Rattle.doc_chars.specs.declared.chars.CharFault.{CharFault}
 use Rattle.doc_chars.specs.declared.chars.CharFault.TheVariants.{Utf8 as not_utf8, Char as no_char}
 use Rattle.doc_laws.specs.Machine.{State, is_whole}
 use Rattle.doc_laws.specs.Judging.{judged_steps}
-use Rattle.doc_reader.specs.Judged.{Judged, fault}
+use Rattle.doc_tokens.specs.declared.token.Token.{Token}
+use Rattle.doc_machine.specs.declared.stop.Stop.{Stop}
+use Rattle.doc_machine.specs.declared.stop.Stop.TheVariants.{Refused, Memory}
+use Rattle.doc_reader.specs.Judged.{Judged}
 use Rattle.doc_reader.specs.Standing.{ReaderView, IsFault, GoesOnBy}
-use Rattle.doc_reader.specs.declared.stop.Stop.{Stop}
-use Rattle.doc_reader.specs.declared.stop.Stop.TheVariants.{Refused, Memory}
-use Rattle.doc_reader.specs.declared.token.Token.{Token}
 
 abbrev pub char_fault : CharFault → DocFault
 char_fault (not_utf8 k) = Utf8 k
 char_fault (no_char k) = Syntax k
-
-abbrev pub stop_fault : Stop → DocFault
-stop_fault (Refused r) = fault_of (fault r)
-stop_fault Memory = out_of_memory
 
 -- the characters were read up to this place, or the machine stopped in them
 abbrev pub ReadTo : Result ℕ Stop → Limits → ℕ → State → List ℕ → State → Type 0

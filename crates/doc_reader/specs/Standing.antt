@@ -3,7 +3,7 @@ use Rattle.std.specs.Prelude.{ℕ, ◌≡◌, ◌≤◌, Bool, true, false, List
 use lib.Utf8.{scalars, encodes}
 use Rattle.gcx_base.specs.declared.limits.Limits.{Limits}
 use Rattle.gcx_model.specs.Document.{Nodes, IsDocument, tokens}
-use Rattle.gcx_model.specs.Tree.{Token as Said, Start as said_start, Chars as said_text, End as said_end}
+use Rattle.gcx_model.specs.Tree.{Token as Said}
 use Rattle.gcx_model.specs.Grammar.{SpellsDocument}
 use Rattle.gcx_model.specs.Faults.{Clean, FaultIs, size}
 use Rattle.gcx_model.specs.Seen.{IsLongest, SeenIs}
@@ -12,21 +12,9 @@ use Rattle.gcx_model.specs.declared.fault.DocFault.TheVariants.{Memory}
 use Rattle.doc_chars.specs.Stream.{Carry, StandsFor}
 use Rattle.doc_laws.specs.Machine.{State}
 use Rattle.doc_laws.specs.States.{Fronts}
-use Rattle.doc_reader.specs.declared.token.Token.{Token}
-use Rattle.doc_reader.specs.declared.token.Token.TheVariants.{Start, End, Text, EndOfDocument}
-
--- a token as a reader gives it
-abbrev pub given_token : Said → Token
-given_token (said_start name) = Start name
-given_token (said_text bytes) = Text bytes
-given_token said_end = End
-
--- a token that a reader gave, as the model's
-abbrev pub said_of : Token → Said
-said_of (Start n) = said_start n
-said_of (Text t) = said_text t
-said_of End = said_end
-said_of EndOfDocument = said_end
+pub use Rattle.doc_tokens.specs.declared.token.Token.{Token}
+pub use Rattle.doc_tokens.specs.declared.token.Token.TheVariants.{EndOfDocument}
+pub use Rattle.doc_tokens.specs.Given.{given_token, said_of}
 
 -- the end of the document node, as a reader gives it
 abbrev pub given_end : Said → Token

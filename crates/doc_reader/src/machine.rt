@@ -3,54 +3,17 @@ ghost use Rattle.std.specs.Prelude.{◌≡◌, ◌+◌, ◌<◌, ◌^◌, length
 ghost use Rattle.std.specs.Str.{chars};
 ghost use Rattle.doc_chars.specs.Stream.{AreChars};
 ghost use Rattle.doc_laws.specs.Machine.{start, is_whole};
+ghost use Rattle.doc_machine.specs.Machine.{scan_state};
 ghost use Rattle.doc_reader.specs.Judged.{Judged, TakesWhole};
-ghost use Rattle.doc_reader.specs.Machine.{scan_state};
 
-mod end_tag;
-mod judge;
-mod markup;
-mod name;
 mod read;
-mod reference;
-mod span;
-mod step;
-mod tag;
-mod text;
-mod whole;
-mod whole_tag;
 
 use self::read::read;
-use crate::attr_names::AttrNames;
-use crate::mode::Mode;
-use crate::open_names::OpenNames;
-use crate::run::Run;
-use crate::stop::Stop;
-use crate::token::Token;
-use crate::tokens::Tokens;
+use doc_machine::{Mode, Scan, Stop};
+use doc_tokens::{AttrNames, OpenNames, Run, Token, Tokens};
 use gcx_base::Limits;
 use std::alloc::Global;
 use std::marker::Model;
-
-/// What was read.
-#[derive(Drop)]
-pub(crate) struct Scan {
-    pub(crate) alloc: Global,
-    pub(crate) mode: Mode,
-    /// The names of the open elements.
-    pub(crate) names: OpenNames,
-    /// Whether there was a root element.
-    pub(crate) rooted: bool,
-    /// Whether there was a root element or a document type declaration.
-    pub(crate) typed: bool,
-    pub(crate) run: Run,
-    /// The name of the tag that is being read.
-    pub(crate) name: Vec<u8>,
-    /// The names of its attributes.
-    pub(crate) attrs: AttrNames,
-    /// The name of the attribute that is being read.
-    pub(crate) attr: Vec<u8>,
-    pub(crate) tokens: Tokens,
-}
 
 /// The machine, seen as the state of its definition.
 #[derive(Drop)]
@@ -60,8 +23,8 @@ pub(crate) struct Machine {
 
 impl Model for Machine {
     ghost use Rattle.doc_laws.specs.Machine.{State};
-    ghost use Rattle.doc_reader.specs.Machine.{scan_state};
-    ghost use Rattle.doc_reader.specs.Sound.{IsSound};
+    ghost use Rattle.doc_machine.specs.Machine.{scan_state};
+    ghost use Rattle.doc_machine.specs.Sound.{IsSound};
 
     ghost Value = { State };
 

@@ -6,8 +6,8 @@ ghost use Rattle.doc_reader.specs.Judged.{Judged};
 ghost use Rattle.doc_reader.specs.Piece.{ReadTo};
 
 use crate::machine::{Machine, read_text};
-use crate::stop::Stop;
 use doc_chars::Split;
+use doc_machine::Stop;
 use gcx_base::Limits;
 use std::str;
 

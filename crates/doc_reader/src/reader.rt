@@ -3,8 +3,8 @@ ghost use Rattle.doc_reader.specs.Piece.{char_fault as fault_of_char};
 
 use crate::machine::{Machine, has_whole, new_machine, next_whole};
 use crate::piece::read_split;
-use crate::token::Token;
 use doc_chars::{CharFault, Chars};
+use doc_tokens::Token;
 use gcx_base::Limits;
 use gcx_model::DocFault;
 use std::alloc::Global;
@@ -31,11 +31,11 @@ impl Model for Reader {
 
     ghost Value = { ReaderView };
 
-    ghost use Rattle.doc_reader.specs.Inside.{view_of, IsSound};
+    ghost use Rattle.doc_reader.specs.Inside.{view_of, IsInOrder};
 
     ghost view = { view_of };
 
-    ghost invariant = { IsSound };
+    ghost invariant = { IsInOrder };
 }
 
 /// What isn't a character of a document.

@@ -17,9 +17,7 @@ use Rattle.tree_laws.proofs.Documents.{documents_grow}
 use Rattle.placed_laws.proofs.Balances.{empty_law}
 use Rattle.run_laws.proofs.Summing.{taken_is_given}
 use Rattle.doc_laws.proofs.LastTag.{seen_one}
-use Rattle.doc_reader.specs.declared.token.Token.{Token}
-use Rattle.doc_reader.specs.declared.token.Token.TheVariants.{EndOfDocument}
-use Rattle.doc_reader.specs.Standing.{ReaderView, Stands, Accepted, GivesBy, Gives, answer_by, waiting, given_token, reader_tokens, said_of}
+use Rattle.doc_reader.specs.Standing.{Token, EndOfDocument, ReaderView, Stands, Accepted, GivesBy, Gives, answer_by, waiting, given_token, reader_tokens, said_of}
 use Rattle.doc_reader.proofs.Givings.{said-map}
 use Rattle.buf_tree.specs.Shape.{Cell}
 use Rattle.buf_tree.specs.View.{capped}

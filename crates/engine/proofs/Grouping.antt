@@ -13,8 +13,7 @@ use Rattle.gcx_model.specs.Points.{actions}
 use Rattle.gcx_model.specs.Seen.{seen_tree}
 use Rattle.tree_laws.proofs.Growing.{grow_all-append}
 use Rattle.doc_laws.proofs.Growing.{seen_comes}
-use Rattle.doc_reader.specs.declared.token.Token.{Token}
-use Rattle.doc_reader.specs.Standing.{ReaderView, Stands, waiting, said_of}
+use Rattle.doc_reader.specs.Standing.{Token, ReaderView, Stands, waiting, said_of}
 use Rattle.buf_tree.specs.View.{capped}
 use Rattle.engine.specs.declared.engine.Engine.{Engine}
 use Rattle.engine.specs.Engine.{Actors, CountsOf, KeepsMost, PartsStand}

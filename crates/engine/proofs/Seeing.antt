@@ -12,8 +12,7 @@ use Rattle.tree_laws.proofs.Growing.{grow_all-append, leads}
 use Rattle.doc_laws.proofs.TreeBounds.{seen_within}
 use Rattle.doc_laws.proofs.Growing.{seen_comes}
 use Rattle.doc_laws.proofs.LastTag.{seen_one}
-use Rattle.doc_reader.specs.declared.token.Token.{Token}
-use Rattle.doc_reader.specs.Standing.{ReaderView, Stands, Gives, GivesBy, waiting, said_of}
+use Rattle.doc_reader.specs.Standing.{Token, ReaderView, Stands, Gives, GivesBy, waiting, said_of}
 use Rattle.engine.specs.Engine.{MayLimit}
 use Rattle.engine.specs.Going.{ComesWithin}
 

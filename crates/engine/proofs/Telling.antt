@@ -1,5 +1,5 @@
 -- What a trace tells of tokens and of actions.
-use Rattle.std.proofs.Common.{◌≡◌, ⊎_elim, ℕ, List, [], ◌∷◌, ◌++◌, length, map, refl, sym, ◌∙◌, ap, subst, inl, inr, append_assoc, Some, Option}
+use Rattle.std.proofs.Common.{◌≡◌, ⊎_elim, ℕ, List, [], ◌∷◌, ◌++◌, length, map, refl, sym, ◌∙◌, ap, subst, inl, inr, append_assoc, Some, Option, Result, Ok, Err, OnOk}
 use Rattle.std.proofs.lemmas.List.{append-nil}
 use Rattle.std.proofs.lemmas.Grind.{flat_map-append}
 use Rattle.gcx_model.specs.Tree.{Node, Under, serial_of, Tree, Token as Said, Start, Chars, End, grow}
@@ -26,6 +26,11 @@ use Rattle.engine.proofs.Departing.{gone_fed}
 
 pub text_append : (xs ys : List Line) → text_of_lines (xs ++ ys) ≡ text_of_lines xs ++ text_of_lines ys
 text_append xs ys = flat_map-append (λ (l : Line). line_text l ++ 10 ∷ []) xs ys
+
+-- one line, as it is put
+pub line_put : {T E : Type 0} (r : Result T E) (u v : List ℕ) (l : Line) → OnOk r (v ≡ u ++ (line_text l ++ 10 ∷ [])) → OnOk r (v ≡ u ++ text_of_lines (l ∷ []))
+line_put (Ok x) u v l e = e ∙ ap (λ (z : List ℕ). u ++ z) (sym (append-nil (line_text l ++ 10 ∷ [])))
+line_put (Err x) u v l e = tt
 
 pub part_all : (u v t : List ℕ) → v ≡ u ++ t → GrewPart u v t
 part_all u v t e = (t, [], sym (append-nil t), e)

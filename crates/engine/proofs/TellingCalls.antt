@@ -13,8 +13,7 @@ use Rattle.trace_laws.proofs.Goes.{demand-append, trace_lines-append}
 use Rattle.doc_laws.proofs.Found.{found_seen}
 use Rattle.doc_laws.proofs.Growing.{seen_more}
 use Rattle.doc_laws.proofs.LastTag.{seen_one}
-use Rattle.doc_reader.specs.declared.token.Token.{Token}
-use Rattle.doc_reader.specs.Standing.{ReaderView, Stands, IsRefused, waiting, said_of}
+use Rattle.doc_reader.specs.Standing.{Token, ReaderView, Stands, IsRefused, waiting, said_of}
 use Rattle.doc_reader.proofs.Standings.{stands_still}
 use Rattle.engine.specs.declared.engine.Engine.{Engine}
 use Rattle.engine.specs.Engine.{IsTrace, Kept, Lost, OnRefusal, StandsOf, TraceGrewBy, TraceGrewWithin}

@@ -17,8 +17,7 @@ use Rattle.gcx_model.specs.Demand.{Line, left, act_lines, feed_line, demand, tex
 use Rattle.trace_laws.proofs.Goes.{demand-append}
 use Rattle.tree_laws.proofs.Growing.{grow_all-append}
 use Rattle.move_laws.proofs.Keeping.{so_far_stays}
-use Rattle.doc_reader.specs.declared.token.Token.{Token}
-use Rattle.doc_reader.specs.Standing.{said_of}
+use Rattle.doc_reader.specs.Standing.{Token, said_of}
 use Rattle.engine.specs.Engine.{OnRefusal}
 use Rattle.engine.specs.Going.{all_of, lacking}
 use Rattle.engine.specs.Telling.{GrewPart, ToldOne, ToldSome, fed_lines, lines_to, more_lines}

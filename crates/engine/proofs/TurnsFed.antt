@@ -12,8 +12,7 @@ use Rattle.gcx_model.specs.Held.{sum_given}
 use Rattle.gcx_model.specs.Growth.{Leads, may_come, may_all, level}
 use Rattle.gcx_model.specs.Past.{Past, past_fed}
 use Rattle.gcx_model.specs.Turning.{Turn, Feed, Act, Turned, tree_fed, turn, turned}
-use Rattle.doc_reader.specs.declared.token.Token.{Token}
-use Rattle.doc_reader.specs.Standing.{said_of}
+use Rattle.doc_reader.specs.Standing.{Token, said_of}
 use Rattle.buf_tree.specs.Shape.{Cell}
 use Rattle.buf_tree.specs.View.{View, capped}
 use Rattle.buf_tree.specs.Stands.{StandsFor}
@@ -22,7 +21,7 @@ use Rattle.projector.specs.Projector.{Projects, MayBeFed, Places, Changes, DoesB
 use Rattle.projector.specs.declared.projector.Fed.{Fed}
 use Rattle.projector.specs.declared.projector.Projector.{Projector}
 use Rattle.pull_eval.specs.Acting.{Acts}
-use Rattle.pull_eval.specs.declared.machine.Machine.{Machine}
+use Rattle.pull_eval.specs.declared.machine.Runner.{Runner}
 use Rattle.pull_eval.specs.declared.machine.Acted.{Acted}
 use Rattle.pull_eval.specs.declared.machine.Acted.TheVariants as acted
 use Rattle.pull_eval.specs.declared.position.Position.{Position}
@@ -132,7 +131,7 @@ module _ {N C : Type 0} (stands : C → Tree → Type 0) (plan : PlanTree) (ts :
         let n : Counts = record { bytes = 0; peak = 0; given = a.given; taken = 0 } in
         let given : capped (a.given + roles_in (tally_of f)) ≡ capped (sum_given plan (grow t P)) = given_fed plan P s.acted h.actors.fed h.actors.beside.buffer.is_past t comes.may f y n 0 h.given_is in
         fed_reaches stands plan ts s a h t (map said_of others) next d
-        (subst (λ (z : Machine C). ActorsStand plan (stands z.conds) d.projector z.position d.buffer (grow t P) s.acted) (sym is_m)
+        (subst (λ (z : Runner C). ActorsStand plan (stands z.conds) d.projector z.position d.buffer (grow t P) s.acted) (sym is_m)
         (subst (λ (z : Projector). ActorsStand plan (stands a.machine.conds) z a.machine.position d.buffer (grow t P) s.acted) (sym is_q)
         (subst (λ (z : View). ActorsStand plan (stands a.machine.conds) q a.machine.position z (grow t P) s.acted) (sym is_w) actors)))
         (ap (map said_of) left) fed_on still (given_on ∙ given)

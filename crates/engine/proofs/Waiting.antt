@@ -15,8 +15,7 @@ use Rattle.gcx_model.specs.Placed.{Placed}
 use Rattle.gcx_model.specs.Growth.{Leads}
 use Rattle.gcx_model.specs.Points.{actions, so_far}
 use Rattle.gcx_model.specs.Seen.{seen_tree}
-use Rattle.doc_reader.specs.declared.token.Token.{Token}
-use Rattle.doc_reader.specs.Standing.{ReaderView, Stands, answer_by, waiting, said_of}
+use Rattle.doc_reader.specs.Standing.{Token, ReaderView, Stands, answer_by, waiting, said_of}
 use Rattle.buf_tree.specs.View.{capped}
 use Rattle.engine.specs.declared.engine.Engine.{Engine}
 use Rattle.engine.specs.Engine.{Actors, Balanced, CountsOf, OnRefusal, PartsStand, past_at}

@@ -12,8 +12,7 @@ use Rattle.gcx_model.specs.Points.{actions, so_far}
 use Rattle.gcx_model.specs.Past.{Past}
 use Rattle.gcx_model.specs.Demand.{peak_of, text_of_lines, trace_lines}
 use Rattle.gcx_model.specs.Seen.{SeenIs, seen_tree}
-use Rattle.doc_reader.specs.declared.token.Token.{Token}
-use Rattle.doc_reader.specs.Standing.{Stands, IsFault, waiting, said_of}
+use Rattle.doc_reader.specs.Standing.{Token, Stands, IsFault, waiting, said_of}
 use Rattle.buf_tree.specs.View.{View, capped}
 use Rattle.projector.specs.Projector.{Projects, Places}
 use Rattle.projector.specs.declared.projector.Projector.{Projector}

@@ -13,8 +13,7 @@ use Rattle.gcx_model.specs.Held.{held, sum_given}
 use Rattle.gcx_model.specs.Growth.{may_come, level}
 use Rattle.gcx_model.specs.Points.{actions, so_far}
 use Rattle.gcx_model.specs.Seen.{SeenIs, seen_tree}
-use Rattle.doc_reader.specs.declared.token.Token.{Token}
-use Rattle.doc_reader.specs.Standing.{Stands, waiting, said_of}
+use Rattle.doc_reader.specs.Standing.{Token, Stands, waiting, said_of}
 use Rattle.buf_tree.specs.View.{View, capped}
 use Rattle.projector.specs.declared.projector.Tally.{Tally}
 use Rattle.projector.specs.declared.projector.Tally.TheVariants as tallies

@@ -7,8 +7,7 @@ use Rattle.gcx_model.specs.Held.{held}
 use Rattle.gcx_model.specs.Points.{so_far}
 use Rattle.gcx_model.specs.Demand.{LineKind, DocumentNode, ElementNode, TextNode, Line, Written, left, act_lines, feed_line, demand, text_of_lines}
 use Rattle.gcx_model.specs.Demand as tree
-use Rattle.doc_reader.specs.declared.token.Token.{Token}
-use Rattle.doc_reader.specs.Standing.{said_of}
+use Rattle.doc_reader.specs.Standing.{Token, said_of}
 use Rattle.buf_trace.specs.declared.line.LineKind.{LineKind as CodeKind}
 use Rattle.buf_trace.specs.Lines.{kind_tree}
 use Rattle.buf_tree.specs.Calls.{numbers}

@@ -13,8 +13,7 @@ ghost use Rattle.gcx_model.specs.Held.{sum_given};
 ghost use Rattle.gcx_model.specs.Seen.{SeenIs, seen_tree};
 ghost use Rattle.gcx_model.specs.declared.fault.DocFault.{DocFault};
 ghost use Rattle.gcx_model.specs.declared.fault.DocFault.TheVariants.{Memory as Lack};
-ghost use Rattle.doc_reader.specs.Standing.{Answers, Keeps, answer_by, answer_of, said_of, waiting};
-ghost use Rattle.doc_reader.specs.declared.token.Token.{Token};
+ghost use Rattle.doc_reader.specs.Standing.{Answers, Keeps, answer_by, answer_of, said_of, waiting, Token};
 ghost use Rattle.buf_tree.specs.Shape.{Shape, cells};
 ghost use Rattle.buf_tree.specs.Spread.{SameButRoles};
 ghost use Rattle.buf_tree.specs.View.{View, capped};
@@ -51,7 +50,7 @@ pub struct Counts {
 
 /// Runs a plan over a document that comes in pieces.
 #[derive(Drop)]
-pub struct Engine<'p, N: NodeStore<Row>, C> {
+pub struct Engine<'p, N: NodeStore<Row>, C: Conds> {
     pub(crate) plan: &'p Plan,
     pub(crate) reader: Reader,
     pub(crate) projector: Projector,

@@ -45,7 +45,7 @@ pub struct Reached {
 
 /// The two actors and the tokens that are left.
 #[derive(Drop)]
-struct Actors<'p, N: NodeStore<Row>, C> {
+struct Actors<'p, N: NodeStore<Row>, C: Conds> {
     projector: Projector,
     buffer: Buffer<N>,
     machine: Machine<'p, C>,
@@ -143,10 +143,12 @@ fn actors_of<'p, N: NodeStore<Row> + Drop, C: Conds + Drop>(
     let projector = Projector::new(alloc, plan)?;
     let given = projector.document(alloc)?;
     let count = given.items().len() as u128;
+    let buffer = Buffer::new_spread(alloc, nodes, given, plan)?;
+    let machine = Machine::new(alloc, plan, conds)?;
     Ok(Actors {
         projector,
-        buffer: Buffer::new_spread(alloc, nodes, given, plan)?,
-        machine: Machine::new(alloc, plan, conds)?,
+        buffer,
+        machine,
         tokens,
         fed: 0,
         acted: 0,

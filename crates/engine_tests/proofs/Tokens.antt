@@ -6,8 +6,7 @@ use Rattle.gcx_model.specs.Growth.{may_all}
 use Rattle.gcx_model.specs.Tree.{Token as Said, opening}
 use Rattle.doc_laws.proofs.Growing.{seen_comes}
 use Rattle.doc_laws.proofs.TreeBounds.{seen_within}
-use Rattle.doc_reader.specs.declared.token.Token.{Token}
-use Rattle.doc_reader.specs.Standing.{ReaderView, Stands, said_of}
+use Rattle.doc_reader.specs.Standing.{Token, ReaderView, Stands, said_of}
 use Rattle.gcx_model.specs.Seen.{AreWithin}
 use Rattle.engine.proofs.Seeing.{seeing, may_parts}
 

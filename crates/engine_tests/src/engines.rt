@@ -2,7 +2,9 @@
 //! find the truth of conditions.
 mod checks;
 mod joins;
+mod passing;
 mod rows;
+mod sides;
 mod turns;
 
 ghost use Rattle.std.specs.Prelude.{◌≡◌, ◌≤◌, ◌<◌, IfOk};

@@ -15,8 +15,7 @@ use Rattle.gcx_words.specs.declared.command.Command.TheVariants.{Check}
 use Rattle.run_words.specs.Reading.{ReadsOn}
 use Rattle.run_words.specs.Stops.{Stop, End, IsCalm}
 use Rattle.doc_laws.proofs.Growing.{seen_comes}
-use Rattle.doc_reader.specs.Standing.{said_of}
-use Rattle.doc_reader.specs.declared.token.Token.{Token as Given}
+use Rattle.doc_reader.specs.Standing.{said_of, Token as Given}
 use Rattle.time_laws.specs.Checking.{fitted, line_ends}
 use Rattle.trace_check.specs.Judging.{trace_of}
 use Rattle.gcx_cmd.proofs.Along.{keeps_on}

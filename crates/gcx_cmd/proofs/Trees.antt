@@ -6,8 +6,7 @@ use Rattle.gcx_io.specs.Views.{ShelfView, SourceView}
 use Rattle.gcx_io.specs.Writing.{joined}
 use Rattle.gcx_model.specs.Tree.{Tree}
 use Rattle.run_words.specs.Stops.{Stop, End}
-use Rattle.doc_reader.specs.Standing.{said_of}
-use Rattle.doc_reader.specs.declared.token.Token.{Token}
+use Rattle.doc_reader.specs.Standing.{said_of, Token}
 use Rattle.tree_read.specs.Document.{AreTokens, IsWhole, ReadsBy, ReadsDocument, ReadsTokens}
 use Rattle.tree_read.specs.declared.reading.DocumentEnd.{DocumentEnd}
 use Rattle.tree_read.specs.declared.reading.DocumentEnd.TheVariants as end

@@ -15,8 +15,7 @@ use Rattle.run_words.specs.Reading.{ReadsOn}
 use Rattle.run_words.specs.Stops.{Stop, End, Fault, IsCalm, is_end}
 use Rattle.gcx_model.specs.Seen.{SeenIs}
 use Rattle.gcx_model.specs.Tree.{Token, Tree}
-use Rattle.doc_reader.specs.Standing.{said_of}
-use Rattle.doc_reader.specs.declared.token.Token.{Token as Given}
+use Rattle.doc_reader.specs.Standing.{said_of, Token as Given}
 use Rattle.tree_read.specs.Document.{AreTokens, BytesSpell, IsWhole}
 use Rattle.gcx_cmd.specs.Outside.{Outside}
 use Rattle.gcx_cmd.specs.QueryDoes.{AcceptsQuery}

@@ -24,20 +24,21 @@ module _ (qs : List Equality) (l r : OperandTree) where
       go (inl j) = before (record { equality = h.equality; among = j; left = h.left; right = h.right })
       go (inr e) = isnt (subst (λ (z : Equality). IsOf z l r) (sym e) (h.left, h.right))
 
-pub get_below : (qs : List Equality) (i : ℕ) (q : Equality) → slice_get qs i ≡ Some q → i < length qs
-get_below [] i q e = absurd (cc)
-get_below (x ∷ qs) zero q e = omega arith
-get_below (x ∷ qs) (suc i) q e = let l = get_below qs i q e in omega arith
+module _ {X : Type 0} where
+  pub get_below : (qs : List X) (i : ℕ) (q : X) → slice_get qs i ≡ Some q → i < length qs
+  get_below [] i q e = absurd (cc)
+  get_below (x ∷ qs) zero q e = omega arith
+  get_below (x ∷ qs) (suc i) q e = let l = get_below qs i q e in omega arith
 
-pub same_get : (qs : List Equality) (i : ℕ) (q x : Equality) → slice_get qs i ≡ Some q → x ≡ get_or qs i x → x ≡ q
-same_get [] i q x e f = absurd (cc)
-same_get (y ∷ qs) zero q x e f = let g : y ≡ q = cc in f ∙ g
-same_get (y ∷ qs) (suc i) q x e f = same_get qs i q x e f
+  pub same_get : (qs : List X) (i : ℕ) (q x : X) → slice_get qs i ≡ Some q → x ≡ get_or qs i x → x ≡ q
+  same_get [] i q x e f = absurd (cc)
+  same_get (y ∷ qs) zero q x e f = let g : y ≡ q = cc in f ∙ g
+  same_get (y ∷ qs) (suc i) q x e f = same_get qs i q x e f
 
-pub set_get : (qs : List Equality) (i : ℕ) (q r : Equality) → slice_get qs i ≡ Some q → slice_get (slice_set qs i r) i ≡ Some r
-set_get [] i q r e = absurd (cc)
-set_get (y ∷ qs) zero q r e = refl
-set_get (y ∷ qs) (suc i) q r e = set_get qs i q r e
+  pub set_get : (qs : List X) (i : ℕ) (q r : X) → slice_get qs i ≡ Some q → slice_get (slice_set qs i r) i ≡ Some r
+  set_get [] i q r e = absurd (cc)
+  set_get (y ∷ qs) zero q r e = refl
+  set_get (y ∷ qs) (suc i) q r e = set_get qs i q r e
 
 -- it is there
 pub has_at : (qs : List Equality) (i : ℕ) (q : Equality) (l r : OperandTree) → slice_get qs i ≡ Some q → IsOf q l r → HasEquality qs l r

@@ -92,7 +92,7 @@ module _ (v : View) (bound : Bindings) (q : Equality) where
     pub inner_bound : IsBound v.rows bound (inner_of q).var.0 (env (inner_of q).var.0)
     inner_bound = a.bound_to (side_of (inner_of q).var.0 (inner_of q).steps) (inner_row q.left q.right b)
 
-pair_is : (p s t u : ℕ) (x : Option (ℕ × ℕ)) → Some (p, s) ≡ x → x ≡ Some (t, u) → (p ≡ t) × (s ≡ u)
+pub pair_is : (p s t u : ℕ) (x : Option (ℕ × ℕ)) → Some (p, s) ≡ x → x ≡ Some (t, u) → (p ≡ t) × (s ≡ u)
 pair_is p s t u x e f = let g : ◌≡◌ {A = Option (ℕ × ℕ)} (Some (p, s)) (Some (t, u)) = e ∙ f in let h : ◌≡◌ {A = ℕ × ℕ} (p, s) (t, u) = cc in (ap (λ (z : ℕ × ℕ). z.0) h, ap (λ (z : ℕ × ℕ). z.1) h)
 
 pub is_place : (bound : Bindings) (x p s : ℕ) → Some (p, s) ≡ get bound x → IsPlace bound x p
@@ -105,7 +105,7 @@ module _ (v : View) (bound : Bindings) (k : IndexView) (i : ℕ) (q r : Equality
     (lists : KeepsList v.rows p of q r made)
     (tells : (l : Listed) → r.list ≡ Some l → TellsFound v.rows other (inner_of r).steps l.values found) where
   abbrev now : IndexView
-  now = record { marked = k.marked; equalities = slice_set k.equalities i r; built = raised k.built (cond made 1 0) }
+  now = record { marked = k.marked; equalities = slice_set k.equalities i r; pairs = k.pairs; built = raised k.built (cond made 1 0) }
 
   kept_is : serial_kept r ≡ Some of
   kept_is = ap (option_map (λ (l : Listed). l.of.0)) lists.kept ∙ ap Some lists.serial
@@ -184,7 +184,7 @@ module _ (v : View) (bound : Bindings) (k : IndexView) (i : ℕ) (q r : Equality
           ∙ sym (comes q.left q.right P env (ltb q.left.var.0 q.right.var.0) found both)
 
       pub stands : IsIndex now P
-      stands = (is.0, set_lists k.equalities i r P is.1 is_list)
+      stands = (is.0, set_lists k.equalities i r P is.1 is_list, is.2)
 
     abbrev pair_of : CondTree
     pair_of = Compare (path_of_side q.left) Eq (path_of_side q.right)

@@ -15,22 +15,23 @@ use Rattle.join_index.specs.Index.{AreLists, HaveMoved, IndexView, HasItsList, C
 
 -- ---- members
 
-pub at_in : (qs : List Equality) (i : ℕ) (q : Equality) → slice_get qs i ≡ Some q → In q qs
-at_in [] i q e = absurd (cc)
-at_in (x ∷ qs) zero q e = inl (cc)
-at_in (x ∷ qs) (suc i) q e = inr (at_in qs i q e)
+module _ {X : Type 0} where
+  pub at_in : (qs : List X) (i : ℕ) (q : X) → slice_get qs i ≡ Some q → In q qs
+  at_in [] i q e = absurd (cc)
+  at_in (x ∷ qs) zero q e = inl (cc)
+  at_in (x ∷ qs) (suc i) q e = inr (at_in qs i q e)
 
-pub set_has : (qs : List Equality) (i : ℕ) (q r : Equality) → slice_get qs i ≡ Some q → In r (slice_set qs i r)
-set_has [] i q r e = absurd (cc)
-set_has (x ∷ qs) zero q r e = inl refl
-set_has (x ∷ qs) (suc i) q r e = inr (set_has qs i q r e)
+  pub set_has : (qs : List X) (i : ℕ) (q r : X) → slice_get qs i ≡ Some q → In r (slice_set qs i r)
+  set_has [] i q r e = absurd (cc)
+  set_has (x ∷ qs) zero q r e = inl refl
+  set_has (x ∷ qs) (suc i) q r e = inr (set_has qs i q r e)
 
-pub set_in : (qs : List Equality) (i : ℕ) (r p : Equality) → In p (slice_set qs i r) → (r ≡ p) ⊎ In p qs
-set_in [] i r p k = absurd k
-set_in (x ∷ qs) zero r p (inl e) = inl e
-set_in (x ∷ qs) zero r p (inr k) = inr (inr k)
-set_in (x ∷ qs) (suc i) r p (inl e) = inr (inl e)
-set_in (x ∷ qs) (suc i) r p (inr k) = elim (set_in qs i r p k) [ inl e ↦ inl e | inr j ↦ inr (inr j) ]
+  pub set_in : (qs : List X) (i : ℕ) (r p : X) → In p (slice_set qs i r) → (r ≡ p) ⊎ In p qs
+  set_in [] i r p k = absurd k
+  set_in (x ∷ qs) zero r p (inl e) = inl e
+  set_in (x ∷ qs) zero r p (inr k) = inr (inr k)
+  set_in (x ∷ qs) (suc i) r p (inl e) = inr (inl e)
+  set_in (x ∷ qs) (suc i) r p (inr k) = elim (set_in qs i r p k) [ inl e ↦ inl e | inr j ↦ inr (inr j) ]
 
 -- ---- what moves
 

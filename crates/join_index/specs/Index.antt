@@ -17,12 +17,15 @@ use Rattle.cond_memo.specs.declared.marked.Marked.{Marked}
 use Rattle.join_index.specs.declared.equality.Side.{Side}
 use Rattle.join_index.specs.declared.equality.Listed.{Listed}
 use Rattle.join_index.specs.declared.equality.Equality.{Equality}
+use Rattle.join_index.specs.declared.pair.Pair.{Pair}
 use Rattle.join_index.specs.Equalities.{HasEquality, path_of_side}
+use Rattle.join_index.specs.Sides.{ArePairs}
 
--- marks, the equalities with their lists, and how many lists were made
+-- marks, the equalities with their lists, the pairs of paths with their values, and how many lists were made
 pub record IndexView : Type 0 where
   pub marked : Marked
   pub equalities : List Equality
+  pub pairs : List Pair
   pub built : ℕ
 
 -- the path whose variable has the smaller number
@@ -38,7 +41,7 @@ abbrev pub AreLists : List Equality → Tree → Type 0
 AreLists qs P = (q : Equality) → In q qs → (l : Listed) → q.list ≡ Some l → IsListOf P (outer_of q).steps l.of.0 l.values
 
 abbrev pub IsIndex : IndexView → Tree → Type 0
-IsIndex k P = AreMarks k.marked P × AreLists k.equalities P
+IsIndex k P = AreMarks k.marked P × AreLists k.equalities P × ArePairs k.pairs P
 
 -- ---- which lists are kept
 

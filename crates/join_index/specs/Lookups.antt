@@ -23,7 +23,7 @@ use Rattle.cond_memo.specs.Marks.{AreMarks}
 use Rattle.join_index.specs.declared.equality.Listed.{Listed}
 use Rattle.join_index.specs.declared.equality.Equality.{Equality}
 use Rattle.join_index.specs.Equalities.{HasEquality, path_of_side}
-use Rattle.join_index.specs.Index.{IndexView, IsIndex, IsOuterClosed, TellsTruthOf, outer_of, same_serial, serial_kept}
+use Rattle.join_index.specs.Index.{IndexView, IsIndex, IsOuterClosed, ReachesEquality, TellsTruthOf, outer_of, same_serial, serial_kept}
 
 -- the texts are the values of the members' nodes
 abbrev pub AreValues : List Cell → List Member → List (List ℕ) → Type 0
@@ -70,8 +70,14 @@ LooksUp v bound left rel right k l (Some t) = TellsTruthOf v bound (comparison l
 LooksUp v bound left rel right k l None = (l ≡ k) × (rel ≡ Eq → HasEquality k.equalities (operand_tree left) (operand_tree right)
     → (P : Tree) (env : Env) → Over v.nodes (IsIndex k) P → Asked v.rows bound (comparison left rel right) P env → IsOuterClosed (operand_tree left) (operand_tree right) env P → ⊥)
 
--- what marks tell of a condition without parts: the lists stay
+-- no equality of the plan with a closed outer node is reached
+abbrev pub ReachesNone : View → Bindings → IndexView → CondTree → Type 0
+ReachesNone v bound k c = (P : Tree) (env : Env) → Over v.nodes (IsIndex k) P → Asked v.rows bound c P env → (l r : OperandTree)
+    → ReachesEquality l r c env P → HasEquality k.equalities l r → IsOuterClosed l r env P → ⊥
+
+-- what marks tell of a condition without parts: the lists and the pairs stay
 pub record MarksTell (v : View) (bound : Bindings) (c : CondTree) (k l : IndexView) (t : Truth) : Type 0 where
   pub answers : AnswersOver v (AreMarks k.marked) (AreMarks l.marked) bound c t
   pub equalities : l.equalities ≡ k.equalities
+  pub pairs : l.pairs ≡ k.pairs
   pub built : l.built ≡ k.built

@@ -6,12 +6,16 @@ ghost use Rattle.gcx_model.specs.PlanView.{plan_tree};
 ghost use Rattle.gcx_model.specs.Tree.{Tree};
 ghost use Rattle.cond_eval.specs.Asking.{AnswersOver, IsLeaf, MayAskOver};
 ghost use Rattle.cond_eval.specs.Comparing.{comparison};
+ghost use Rattle.cond_memo.specs.Again.{AskedLast};
 ghost use Rattle.join_index.specs.Equalities.{VariablesDiffer, BodyHas, HasEquality};
 ghost use Rattle.join_index.specs.Index.{GoesAfterQuestion, IsIndex, IsReached, KeepsLists, TellsTruthOf, raised};
-ghost use Rattle.join_index.specs.Lookups.{LooksUp, MarksTell};
+ghost use Rattle.join_index.specs.Lookups.{LooksUp, MarksTell, ReachesNone};
+ghost use Rattle.join_index.specs.Pairs.{PairsTell};
 
 use crate::comparisons::put_body;
 use crate::equality::{Equality, find};
+use crate::pair::{Pair, Room};
+use crate::shared::shared_truth;
 use buf_tree::{Buffer, Row};
 use cond_eval::{Conds, Env, Leaves, Truth, negate, settle};
 use cond_memo::Marked;
@@ -28,6 +32,9 @@ use std::marker::Model;
 pub struct Indexed {
     marked: Marked,
     equalities: Vec<Equality>,
+    /// The equalities of two paths that were asked for open nodes.
+    pairs: Vec<Pair>,
+    room: Room,
     /// How many lists were made. It stands still at its end.
     built: u64,
 }
@@ -37,7 +44,12 @@ impl Model for Indexed {
 
     ghost Value = { IndexView };
 
-    ghost view = { λ k. record { marked = k.marked; equalities = k.equalities.items; built = k.built } };
+    ghost view = { λ k. record {
+      marked = k.marked;
+      equalities = k.equalities.items;
+      pairs = k.pairs.items;
+      built = k.built;
+    } };
 }
 
 impl Indexed {
@@ -48,11 +60,17 @@ impl Indexed {
             ↔ (BodyHas l r (plan_tree plan.now).body × VariablesDiffer l r)) }
         ensures built { IfOk result (λ k. k.built ≡ 0) }
     {
+        let pairs = Vec::new(alloc);
         let mut equalities = Vec::new(alloc);
         put_body(alloc, &mut equalities, &plan.body)?;
         Ok(Indexed {
             marked: Marked::new(alloc),
             equalities,
+            pairs,
+            room: Room {
+                flags: Vec::new(alloc),
+                text: Vec::new(alloc),
+            },
             built: 0,
         })
     }
@@ -112,12 +130,69 @@ impl Indexed {
     ) -> Result<Truth, Memory>
         requires cond { core_cond_tree cond.now ≡ comparison left.now rel right.now }
         requires may { MayAskOver buffer.now (IsIndex self.old) env.now (core_cond_tree cond.now) }
-        ensures { IfOk result (λ t. TellsTruthOf buffer.now env.now (core_cond_tree cond.now) self.old self.new t) }
+        ensures tells { IfOk result (λ t. TellsTruthOf buffer.now env.now (core_cond_tree cond.now) self.old self.new t) }
+        ensures last { IfOk result (λ _. AskedLast self.new.marked (core_cond_tree cond.now)) }
     {
         match self.looked_up(alloc, env, buffer, left, rel, right)? {
-            Some(truth) => Ok(truth),
+            Some(truth) => {
+                self.marked.forget_last();
+                Ok(truth)
+            }
+            None => self.otherwise(alloc, cond, env, buffer, left, rel, right),
+        }
+    }
+
+    /// The truth of a comparison that isn't looked up in a list.
+    fn otherwise<N: NodeStore<Row>>(
+        &mut self,
+        alloc: Global,
+        cond: &Cond,
+        env: &Env,
+        buffer: &Buffer<N>,
+        left: &Operand,
+        rel: Rel,
+        right: &Operand,
+    ) -> Result<Truth, Memory>
+        requires cond { core_cond_tree cond.now ≡ comparison left.now rel right.now }
+        requires may { MayAskOver buffer.now (IsIndex self.old) env.now (core_cond_tree cond.now) }
+        ensures tells { IfOk result (λ t. ReachesNone buffer.now env.now self.old (core_cond_tree cond.now)
+            → TellsTruthOf buffer.now env.now (core_cond_tree cond.now) self.old self.new t) }
+        ensures last { IfOk result (λ _. AskedLast self.new.marked (core_cond_tree cond.now)) }
+    {
+        match self.paired(alloc, env, buffer, left, rel, right)? {
+            Some(truth) => {
+                self.marked.forget_last();
+                Ok(truth)
+            }
             None => self.by_marks(alloc, cond, env, buffer),
         }
+    }
+
+    /// The truth of an equality of two paths, from what is kept of their values. None of another comparison, and where
+    /// that doesn't tell it.
+    fn paired<N: NodeStore<Row>>(
+        &mut self,
+        alloc: Global,
+        env: &Env,
+        buffer: &Buffer<N>,
+        left: &Operand,
+        rel: Rel,
+        right: &Operand,
+    ) -> Result<Option<Truth>, Memory>
+        requires { MayAskOver buffer.now (IsIndex self.old) env.now (comparison left.now rel right.now) }
+        ensures { IfOk result (λ t. PairsTell buffer.now env.now (comparison left.now rel right.now)
+            self.old self.new t) }
+    {
+        shared_truth(
+            alloc,
+            &mut self.pairs,
+            &mut self.room,
+            env,
+            buffer,
+            left,
+            rel,
+            right,
+        )
     }
 
     /// The truth of a condition without parts, as marks tell it. The lists stay.
@@ -130,7 +205,8 @@ impl Indexed {
     ) -> Result<Truth, Memory>
         requires may { MayAskOver buffer.now (IsIndex self.old) env.now (core_cond_tree cond.now) }
         requires leaf { IsLeaf (core_cond_tree cond.now) }
-        ensures { IfOk result (λ t. MarksTell buffer.now env.now (core_cond_tree cond.now) self.old self.new t) }
+        ensures tells { IfOk result (λ t. MarksTell buffer.now env.now (core_cond_tree cond.now) self.old self.new t) }
+        ensures last { IfOk result (λ _. AskedLast self.new.marked (core_cond_tree cond.now)) }
     {
         self.marked.leaf(alloc, cond, env, buffer)
     }
@@ -174,6 +250,23 @@ impl Indexed {
             }
         }
     }
+
+    /// The truth of a condition with parts, of which no mark answered last.
+    fn joined<N: NodeStore<Row>>(
+        &mut self,
+        alloc: Global,
+        cond: &Cond,
+        env: &Env,
+        buffer: &Buffer<N>,
+    ) -> Result<Truth, Memory>
+        requires { MayAskOver buffer.now (IsIndex self.old) env.now (core_cond_tree cond.now) }
+        ensures tells { IfOk result (λ t. TellsTruthOf buffer.now env.now (core_cond_tree cond.now) self.old self.new t) }
+        ensures last { IfOk result (λ _. AskedLast self.new.marked (core_cond_tree cond.now)) }
+    {
+        let truth = self.asked(alloc, cond, env, buffer)?;
+        self.marked.forget_last();
+        Ok(truth)
+    }
 }
 
 /// The count, one higher where a list was made.
@@ -184,10 +277,13 @@ fn risen(count: u64, made: bool) -> u64
 }
 
 impl Conds for Indexed {
+    ghost use Rattle.cond_memo.specs.Again.{AskedLast};
     ghost use Rattle.join_index.specs.Index.{IsIndex};
     ghost use Rattle.join_index.specs.IndexStays.{index_stays};
 
     ghost stands = { IsIndex };
+
+    ghost asked_last = { λ k c. AskedLast k.marked c };
 
     ghost stands_on = { index_stays };
 
@@ -205,7 +301,35 @@ impl Conds for Indexed {
             self.old.equalities self.new.equalities) }
         ensures goes { IfOk result (λ _. GoesAfterQuestion env.now
             (IsReached buffer.now (IsIndex self.old) env.now (core_cond_tree cond.now)) self.old self.new) }
+        ensures last { IfOk result (λ _. AskedLast self.new.marked (core_cond_tree cond.now)) }
     {
-        self.asked(alloc, cond, env, buffer)
+        match cond {
+            Cond::Exists { .. } => self.by_marks(alloc, cond, env, buffer),
+            Cond::Compare { left, rel, right } => {
+                self.compared(alloc, cond, env, buffer, left, *rel, right)
+            }
+            _ => self.joined(alloc, cond, env, buffer),
+        }
+    }
+
+    fn truth_again<N: NodeStore<Row>>(
+        &mut self,
+        alloc: Global,
+        cond: &Cond,
+        env: &Env,
+        buffer: &Buffer<N>,
+    ) -> Result<Truth, Memory>
+        requires may { MayAskOver buffer.now (IsIndex self.old) env.now (core_cond_tree cond.now) }
+        requires last { AskedLast self.old.marked (core_cond_tree cond.now) }
+        ensures answers { IfOk result (λ t. AnswersOver buffer.now (IsIndex self.old) (IsIndex self.new)
+            env.now (core_cond_tree cond.now) t) }
+        ensures goes { IfOk result (λ _. GoesAfterQuestion env.now
+            (IsReached buffer.now (IsIndex self.old) env.now (core_cond_tree cond.now)) self.old self.new) }
+        ensures last { IfOk result (λ _. AskedLast self.new.marked (core_cond_tree cond.now)) }
+    {
+        match self.marked.again(cond, env, buffer)? {
+            Some(truth) => Ok(truth),
+            None => self.truth(alloc, cond, env, buffer),
+        }
     }
 }

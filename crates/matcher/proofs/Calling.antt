@@ -1,42 +1,36 @@
 -- What the calls of a matcher do, from what became of its parts.
 use Rattle.std.proofs.Common.{◌≡◌, ℕ, ◌-◌, ◌<◌, ◌≤◌, Bool, true, false, List, [], ◌∷◌, ◌++◌, length, map, refl, sym, ◌∙◌, ap, subst, inl, inr, arith, eqb, Some, Option}
-use Rattle.std.proofs.lemmas.Bool.{eqb-true, eq-eqb, false_from_ne_true, false≢true}
+use Rattle.std.proofs.lemmas.Bool.{eqb-true, eq-eqb, false_from_ne_true}
 use Rattle.std.proofs.lemmas.Option.{slice_get_within}
 use Rattle.gcx_base.specs.Kinds.{is_text}
 use Rattle.gcx_base.specs.declared.ids.Role.{Role}
 use Rattle.gcx_base.specs.declared.kind.Kind.{Kind}
 use Rattle.gcx_base.specs.declared.kind.Kind.TheVariants.{Document, Element, Text}
-use Rattle.gcx_base.specs.declared.steps.Step.{Step}
 use Rattle.gcx_model.specs.Tree.{Node, Root, Under, Tree, Token, Start, Chars, End, grow, grow_at}
-use Rattle.gcx_model.specs.Paths.{hits}
 use Rattle.gcx_model.specs.Growth.{level, may_come}
-use Rattle.gcx_model.specs.Core.{Whole}
-use Rattle.gcx_model.specs.Held.{path_of, roles_given}
+use Rattle.gcx_model.specs.Held.{roles_given}
 use Rattle.gcx_model.specs.Past.{Past, IsNode, Opens, past_grown, token_for}
 use Rattle.tree_laws.proofs.Lists.{In}
-use Rattle.tree_laws.proofs.Chains.{above_self}
 use Rattle.path_states.specs.Lists.{From, Gains}
 use Rattle.path_states.specs.Names.{IsNameNumber}
 use Rattle.path_states.specs.State.{StateView, IsMade}
 use Rattle.path_states.specs.States.{StatesView, Enters, last_state, outer_states}
 use Rattle.path_states.proofs.Gaining.{gains_none}
-use Rattle.path_states.proofs.Looking.{one_at, some_at}
-use Rattle.matcher.specs.Calls.{GivesName, GivesNext, GivesNode, PassesNode, KeepsStanding, StandsBehind, StandsBehindName, StandsIn, StandsNext, TellsWholeHere}
+use Rattle.path_states.proofs.Looking.{one_at}
+use Rattle.matcher.specs.Calls.{GivesName, GivesNext, GivesNode, PassesNode, KeepsStanding, StandsBehind, StandsBehindName, StandsIn, StandsNext}
 use Rattle.matcher.specs.Entering.{AddsFrame, AddsGiven, FindsAll, FindsHere, Firsts, GivesInside, Goes, Halts, IsIdle, IsIdled, IsVain, LeadsNowhere}
 use Rattle.matcher.specs.Frames.{AreBoth, AreRoles}
 use Rattle.matcher.specs.Matcher.{Stands}
 use Rattle.matcher.specs.Parts.{NodeMarks, new_marks}
 use Rattle.matcher.specs.Stacks.{AreMatched}
-use Rattle.matcher.specs.View.{FrameView, GoTogether, MatcherView, frame_of, frames_of, innermost_frame, matcher_view}
+use Rattle.matcher.specs.View.{FrameView, GoTogether, MatcherView, frames_of, innermost_frame, matcher_view}
 use Rattle.matcher.specs.declared.frames.Found.{Found}
 use Rattle.matcher.specs.declared.signs.Sign.{Sign}
-use Rattle.matcher.proofs.Aheads.{here_frame, innermost_same}
 use Rattle.matcher.proofs.Entering.{Unled, halts_goes, idle_goes, idle_stands, last, none_given, one, unled_given}
 use Rattle.matcher.proofs.EnteringFrame.{advanced_given, advanced_stands}
 use Rattle.matcher.proofs.Framing.{last_frame}
 use Rattle.matcher.proofs.GivenRoles.{roles_of_both}
 use Rattle.matcher.proofs.Places.{last_is, outer_push}
-use Rattle.matcher.proofs.NewFrame.{end_of, ended, whole_tail}
 
 pub same_keeps : (old new : MatcherView) → new ≡ old → KeepsStanding old new
 same_keeps old new e s S = subst (λ (z : MatcherView). StandsIn z s) (sym e) S
@@ -214,42 +208,3 @@ passes_none m why none past n t S may op = by_token t may op
     by_token (Start name) may o = by_kind (Element name) tt (record { stands = S; node = tt; may = may }) o
     by_token (Chars b) may o = by_kind (Text b) tt (record { stands = S; node = tt; may = may }) o
     by_token End may o = absurd (o.1 (subst (λ (z : List Node). In n z) (end_adds_none past.tree S.here S.innermost) o.0))
-
--- ---- the roles of whole subtrees of whose paths the innermost node is a match
-
-pub whole_none : (m : MatcherView) (roles : List ℕ) → 0 < m.idle → roles ≡ [] → TellsWholeHere m roles
-whole_none m roles k e past text n S here =
-    let same = innermost_same past.tree text S.here n S.innermost here in
-    record {
-      has = λ r. (
-        (λ i. absurd (subst (λ (z : List ℕ). In r z) e i)),
-        (λ d. (
-            let q = end_of past.plan m.tree S.tree r Whole d.row d.role in
-            let p : S.tree.path q.0 ≡ path_of past.plan d.row.var ++ d.row.tail = q.3 ∙ ap (λ (z : List Step). path_of past.plan d.row.var ++ z) (whole_tail d.row.kind d.row.tail d.role.same) in
-            let h : hits 0 (S.tree.path q.0) S.here ≡ true = subst (λ (z : Node). hits 0 (S.tree.path q.0) z ≡ true) (sym same) (subst (λ (z : List Step). hits 0 z n ≡ true) (sym p) d.hit) in
-            let l = S.levels in
-            let few : length m.frames ≤ level S.here = omega arith in
-            absurd (false≢true (sym (S.idle S.here (above_self S.here) few q.0 q.1) ∙ h)))),
-      );
-    }
-
-pub whole_told : (m : MatcherView) (x : StateView) (k : NodeMarks) → m.idle ≡ 0 → innermost_frame m.frames ≡ Some (frame_of x k) → IsMade m.tree.states.items x → (roles : List ℕ) → roles ≡ x.whole_here → TellsWholeHere m roles
-whole_told m x k none at made roles e past text n S here =
-    let same = innermost_same past.tree text S.here n S.innermost here in
-    let R = here_frame m past text S (frame_of x k) at none in
-    record {
-      has = λ r. (
-        (λ i. (
-            let f = (made.here.has r).0 (subst (λ (z : List ℕ). In r z) e i) in
-            let y = f.is in
-            let q = ended past.plan m.tree S.tree r f.of Whole (((S.tree.linked f.of y.state y.at).whole r).0 y.member) in
-            let p : S.tree.path f.of ≡ path_of past.plan q.0.var ++ q.0.tail = q.2 ∙ ap (λ (z : List Step). path_of past.plan q.0.var ++ z) (whole_tail q.0.kind q.0.tail q.1.same) in
-            record { row = q.0; role = q.1; hit = subst (λ (z : Node). hits 0 (path_of past.plan q.0.var ++ q.0.tail) z ≡ true) same (subst (λ (z : List Step). hits 0 z S.here ≡ true) p ((R.active f.of).0 f.member).1) })),
-        (λ d. (
-            let q = end_of past.plan m.tree S.tree r Whole d.row d.role in
-            let p : S.tree.path q.0 ≡ path_of past.plan d.row.var ++ d.row.tail = q.3 ∙ ap (λ (z : List Step). path_of past.plan d.row.var ++ z) (whole_tail d.row.kind d.row.tail d.role.same) in
-            let h : hits 0 (S.tree.path q.0) S.here ≡ true = subst (λ (z : Node). hits 0 (S.tree.path q.0) z ≡ true) (sym same) (subst (λ (z : List Step). hits 0 z n ≡ true) (sym p) d.hit) in
-            let y = some_at m.tree.states.items q.0 q.1 in
-            subst (λ (z : List ℕ). In r z) (sym e) ((made.here.has r).1 (record { of = q.0; member = (R.active q.0).1 (q.1, h); is = record { state = y.0; at = y.1; member = ((S.tree.linked q.0 y.0 y.1).whole r).1 q.2 } })))),
-      );
-    }

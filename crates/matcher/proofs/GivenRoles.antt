@@ -3,6 +3,7 @@ use Rattle.std.proofs.Common.{◌≡◌, ◌↔◌, ℕ, zero, suc, ◌+◌, ◌
 use Rattle.std.specs.List.{filter}
 use Rattle.std.proofs.lemmas.Bool.{false≢true, eqb-true, eq-eqb}
 use Rattle.std.proofs.lemmas.List.{append-nil}
+use Rattle.std.proofs.lemmas.Option.{same_Some}
 use Rattle.gcx_base.specs.declared.steps.Step.{Step}
 use Rattle.gcx_model.specs.Tree.{Node, Root, Under, serial_of, above, Tree}
 use Rattle.gcx_model.specs.Paths.{hits, head, first, matches}
@@ -13,18 +14,19 @@ use Rattle.gcx_model.specs.Held.{path_of, is_node, gives, given_row, on_row, giv
 use Rattle.gcx_model.specs.Placed.{row_at}
 use Rattle.gcx_model.specs.Members.{count}
 use Rattle.base_laws.proofs.Members.{head_in}
-use Rattle.base_laws.proofs.Numbers.{in_count}
+use Rattle.base_laws.proofs.Numbers.{count_high, in_count}
 use Rattle.placed_laws.proofs.Unique.{row_there, row_below}
 use Rattle.tree_laws.proofs.Lists.{In, In-filter, In-kept, any_in, any_from}
 use Rattle.tree_laws.proofs.Matches.{Numbered-same, Matches-in, Matches-from}
 use Rattle.tree_laws.proofs.Chains.{above_in, hits_above}
 use Rattle.past_laws.proofs.Bases.{node_is}
+use Rattle.spread_laws.specs.Tops.{is_whole_kind, gives_newly, is_newly_given, roles_newly_given}
 use Rattle.path_states.specs.Lists.{Climbs, From, Gains, Holds}
 use Rattle.path_states.specs.State.{GivenBy}
 use Rattle.path_states.specs.declared.paths.PathState.{PathState}
 use Rattle.path_states.specs.PathTree.{IsPathTree, kind_with, tail_with}
 use Rattle.matcher.specs.Frames.{AreBoth, AreRoles, HasRole, IsRoleOf}
-use Rattle.matcher.specs.Frame.{IsFound, IsInside}
+use Rattle.matcher.specs.Frame.{IsFound, IsInside, IsRole}
 use Rattle.path_states.specs.declared.paths.PathTree.{PathTree}
 use Rattle.matcher.specs.declared.frames.Found.{Found}
 use Rattle.path_states.proofs.Looking.{some_at}
@@ -91,6 +93,17 @@ kind_first Own tail e = absurd (cc)
 kind_first First [] e = absurd (cc)
 kind_first First (s ∷ tail) e = refl
 kind_first Whole tail e = absurd (cc)
+
+kind_own : (k : RoleKind) (tail : List Step) → kind_with k tail ≡ Own → is_whole_kind k ≡ false
+kind_own Own tail e = refl
+kind_own First tail e = refl
+kind_own Whole tail e = absurd (cc)
+
+-- the node is a match of the path of the role, which is given with its subtree
+pub record IsWholeMatch (plan : PlanTree) (a : Node) (r : ℕ) : Type 0 where
+  pub row : RoleRowTree
+  pub role : IsRole plan Whole r row
+  pub hit : hits 0 (path_of plan row.var ++ row.tail) a ≡ true
 
 -- the first node with a node's number
 pub self_first : (ns : List Node) (a : Node) → In a ns → is_node (serial_of a) (head (filter (hits (serial_of a) []) ns)) ≡ true
@@ -185,6 +198,59 @@ module _ (plan : PlanTree) (t : PathTree) (A : IsPathTree plan t) (P : Tree) (w 
   -- the roles that these tell, as a rising list
   pub roles_told : (rs : List ℕ) → Climbs rs → Holds rs (HasRole t.states.items whole leading firsts) → rs ≡ roles_given plan P a
   roles_told rs c h = climbs_filtered (given plan P a) (length plan.roles) rs c (λ y j. role_to y ((h.has y).0 j)) (λ y l g. (h.has y).1 (role_from y l g))
+
+  -- ---- those that it isn't given from above
+
+  module _ (newly : List ℕ) (newly_are : (r : ℕ) → In r newly ↔ IsWholeMatch plan a r) (alone : firsts ≡ []) where
+    spread_row : (r : ℕ) (rw : RoleRowTree) → row_at plan.roles r ≡ Some rw → rw.kind ≡ Whole → is_newly_given plan P a r ≡ hits 0 (path_of plan rw.var ++ rw.tail) a
+    spread_row r rw e f =
+        ap (on_row (gives_newly (path_of plan) P a)) e
+        ∙ ap (λ (k : RoleKind). cond (is_whole_kind k) (hits 0 (path_of plan rw.var ++ rw.tail) a) (given_row (path_of plan) P a rw)) f
+
+    other_row : (r : ℕ) (rw : RoleRowTree) → row_at plan.roles r ≡ Some rw → is_whole_kind rw.kind ≡ false → is_newly_given plan P a r ≡ given plan P a r
+    other_row r rw e f =
+        ap (on_row (gives_newly (path_of plan) P a)) e
+        ∙ (ap (λ (c : Bool). cond c (hits 0 (path_of plan rw.var ++ rw.tail) a) (given_row (path_of plan) P a rw)) f
+        ∙ sym (ap (on_row (given_row (path_of plan) P a)) e))
+
+    newly_to : (r : ℕ) → GivenBy t.states.items newly leading r → (r < length plan.roles) × (is_newly_given plan P a r ≡ true)
+    newly_to r (inl h) =
+        let d = (newly_are r).0 h in
+        (row_below plan.roles r d.row d.role.at, spread_row r d.row d.role.at (kind_whole d.row.kind d.row.tail d.role.same) ∙ d.hit)
+    newly_to r (inr f) =
+        let u = f.is in
+        let e = ended plan t A r f.of Own (((A.linked f.of u.state u.at).own r).0 u.member) in
+        let g = role_to r (inr (inl f)) in
+        (g.0, other_row r e.0 e.1.at (kind_own e.0.kind e.0.tail e.1.same) ∙ g.1)
+
+    other_from : (r : ℕ) (rw : RoleRowTree) → row_at plan.roles r ≡ Some rw → r < length plan.roles → is_whole_kind rw.kind ≡ false → is_newly_given plan P a r ≡ true → GivenBy t.states.items newly leading r
+    other_from r rw e l f h = elim (role_from r l (sym (other_row r rw e f) ∙ h)) [
+      | inl i ↦ (
+          let d = (whole_are r).0 i in
+          let same : d.row ≡ rw = same_Some _ _ (sym d.role.at ∙ e) in
+          absurd (false≢true (sym f ∙ (sym (ap (λ (z : RoleRowTree). is_whole_kind z.kind) same) ∙ ap is_whole_kind (kind_whole d.row.kind d.row.tail d.role.same)))))
+      | inr s ↦ elim s [ inl o ↦ inr o | inr g ↦ absurd (subst (λ (z : List Found). In g.of z) alone g.member) ]
+    ]
+
+    newly_from : (r : ℕ) (rw : RoleRowTree) → row_at plan.roles r ≡ Some rw → r < length plan.roles → (k : RoleKind) → rw.kind ≡ k → is_newly_given plan P a r ≡ true → GivenBy t.states.items newly leading r
+    newly_from r rw e l Own f h = other_from r rw e l (ap is_whole_kind f) h
+    newly_from r rw e l First f h = other_from r rw e l (ap is_whole_kind f) h
+    newly_from r rw e l Whole f h =
+        inl ((newly_are r).1 (record { row = rw; role = record { at = e; same = ap (λ (k : RoleKind). kind_with k rw.tail) f }; hit = sym (spread_row r rw e f) ∙ h }))
+
+    pub newly_told : (r : ℕ) → GivenBy t.states.items newly leading r ↔ In r (roles_newly_given plan P a)
+    newly_told r = (
+      (λ h. (
+          let g = newly_to r h in
+          let z : 0 + r ≡ r = omega arith in
+          In-kept (is_newly_given plan P a) r (count 0 (length plan.roles)) (subst (λ (y : ℕ). In y (count 0 (length plan.roles))) z (in_count 0 (length plan.roles) r g.0)) g.1)),
+      (λ i. (
+          let q = In-filter (is_newly_given plan P a) r (count 0 (length plan.roles)) i in
+          let high = count_high 0 (length plan.roles) r q.0 in
+          let few : r < length plan.roles = omega arith in
+          let rw = row_there plan.roles r few in
+          newly_from r rw.0 rw.1 few rw.0.kind refl q.1)),
+    )
 
 -- ---- roles of the one list and of the other
 

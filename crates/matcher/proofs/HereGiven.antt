@@ -3,7 +3,7 @@ use Rattle.std.proofs.Common.{◌≡◌, ℕ, ◌-◌, ◌<◌, ◌≤◌, Bool,
 use Rattle.std.specs.Prelude.{◌↔◌}
 use Rattle.std.specs.Ordering.{nat_cmp, eq_by_cmp}
 use Rattle.std.specs.Cmp.{nat_cmp_total, unsigned_tied}
-use Rattle.std.specs.FinSet.{FinSet, contains, from_list, contains-from_list, nat_cmp-IsAntisymmetric, same_set}
+use Rattle.std.specs.FinSet.{FinSet, contains, empty, from_list, contains-empty, contains-from_list, nat_cmp-IsAntisymmetric, same_set}
 use Rattle.std.specs.List.{list_any}
 use Rattle.std.proofs.lemmas.Bool.{false≢true, or_cases, or_left, or_right, eqb-true, eq-eqb}
 use Rattle.gcx_base.specs.declared.ids.Role.{Role}
@@ -22,10 +22,11 @@ use Rattle.tree_laws.proofs.Matches.{Matches-in}
 use Rattle.tree_laws.proofs.Fed.{grown_from}
 use Rattle.tree_laws.proofs.Chains.{above_in, above_trans, above_self}
 use Rattle.need_laws.proofs.Frames.{hits-append}
+use Rattle.spread_laws.specs.Tops.{roles_newly_given}
 use Rattle.path_states.specs.Lists.{Climbs}
 use Rattle.path_states.specs.State.{StateView, IsMade}
 use Rattle.path_states.proofs.Looking.{some_at}
-use Rattle.matcher.specs.Calls.{GivesHere, GivesSet}
+use Rattle.matcher.specs.Calls.{GivesHere, GivesNewly, GivesSet}
 use Rattle.matcher.specs.Entering.{GivesInside}
 use Rattle.matcher.specs.Frame.{IsFound, IsInside}
 use Rattle.matcher.specs.Frames.{AreBoth, AreRoles}
@@ -35,9 +36,9 @@ use Rattle.matcher.specs.View.{FrameView, MatcherView, frame_of, innermost_frame
 use Rattle.matcher.specs.declared.frames.Found.{Found}
 use Rattle.matcher.proofs.Aheads.{frame_node, here_frame, innermost_in, innermost_same}
 use Rattle.matcher.proofs.Upwards.{lower_above}
-use Rattle.matcher.proofs.NewFrame.{end_of, first_tail, whole_tail}
+use Rattle.matcher.proofs.NewFrame.{end_of, ended, first_tail, whole_tail}
 use Rattle.matcher.proofs.Entering.{le_or_less}
-use Rattle.matcher.proofs.GivenRoles.{both_alone, roles_of_both, roles_told}
+use Rattle.matcher.proofs.GivenRoles.{IsWholeMatch, both_alone, newly_told, roles_of_both, roles_told}
 
 module _ (m : MatcherView) (past : Past) (text : Bool) (S : Stands m past text) where
   abbrev path : ℕ → List Step
@@ -96,16 +97,36 @@ module _ (m : MatcherView) (past : Past) (text : Bool) (S : Stands m past text) 
         let q = any_in (hits 0 (path_of past.plan d.row.var ++ d.row.tail)) (above over) d.hit in
         record { row = d.row; role = d.role; hit = any_from (hits 0 (path_of past.plan d.row.var ++ d.row.tail)) q.0 (above S.here) (above_trans q.0 over S.here q.1 f.1) q.2 }
 
+    over_whole : (r : ℕ) → In r frame.whole ↔ IsInside past.plan S.here r
+    over_whole r = let f = frame_node m past text S frame at in (λ i. over_inside r ((f.3.whole r).0 i), λ d. (f.3.whole r).1 (inside_over r d))
+
     -- those of the whole subtrees in which the node of the innermost frame lies
     idle_given : frame.whole ≡ roles_given past.plan past.tree S.here
     idle_given =
-        let f = frame_node m past text S frame at in
         roles_told past.plan m.tree S.tree past.tree w S.here here_in frame.whole [] []
         (λ c. (λ i. absurd i, λ g. unhit c g.0 g.1))
-        (λ r. (λ i. over_inside r ((f.3.whole r).0 i), λ d. (f.3.whole r).1 (inside_over r d)))
+        over_whole
         (λ g. (λ i. absurd i, λ d. unfound g d))
-        frame.whole f.3.climbs
+        frame.whole (frame_node m past text S frame at).3.climbs
         (record { has = λ r. (λ i. inl i, λ q. elim q [ inl i ↦ i | inr s ↦ elim s [ inl g ↦ absurd g.member | inr g ↦ absurd g.member ] ]) })
+
+    unmatched : (r : ℕ) → IsWholeMatch past.plan S.here r → ⊥
+    unmatched r d =
+        let e = end_of past.plan m.tree S.tree r Whole d.row d.role in
+        let p : path e.0 ≡ path_of past.plan d.row.var ++ d.row.tail = e.3 ∙ ap (λ (z : List Step). path_of past.plan d.row.var ++ z) (whole_tail d.row.kind d.row.tail d.role.same) in
+        unhit e.0 e.1 (subst (λ (z : List Step). hits 0 z S.here ≡ true) (sym p) d.hit)
+
+    -- all of them from above
+    idle_newly : (r : ℕ) → In r (roles_newly_given past.plan past.tree S.here) → ⊥
+    idle_newly r i =
+        let q =
+        newly_told past.plan m.tree S.tree past.tree w S.here here_in frame.whole [] []
+        (λ c. (λ i. absurd i, λ g. unhit c g.0 g.1))
+        over_whole
+        (λ g. (λ i. absurd i, λ d. unfound g d))
+        [] (λ r. (λ i. absurd i, λ d. absurd (unmatched r d))) refl r
+        in
+        elim (q.1 i) [ inl j ↦ absurd j | inr g ↦ absurd g.member ]
 
 -- ---- a list of them, and their set
 
@@ -156,6 +177,39 @@ set_is s xs h = same_set nat_cmp_total nat_cmp-IsAntisymmetric s (from_list xs) 
 
 sets_by : (s : FinSet nat_cmp) (xs : List ℕ) → ((r : ℕ) → contains s r ≡ true ↔ In r xs) → s ≡ from_list (map (λ (r : Role). r.0) (roles_by xs))
 sets_by s xs h = set_is s xs h ∙ ap (λ (z : List ℕ). from_list {R = nat_cmp} z) (sym (numbers_by xs))
+
+-- of the roles of whole subtrees its state tells those whose paths lead to it
+whole_matched : (m : MatcherView) (x : StateView) (k : NodeMarks) → innermost_frame m.frames ≡ Some (frame_of x k) → IsMade m.tree.states.items x → m.idle ≡ 0 → (past : Past) (text : Bool) (S : Stands m past text) → (r : ℕ) → In r x.whole_here ↔ IsWholeMatch past.plan S.here r
+whole_matched m x k at made none past text S r =
+    let R = here_frame m past text S (frame_of x k) at none in (
+      (λ i. (
+          let f = (made.here.has r).0 i in
+          let y = f.is in
+          let q = ended past.plan m.tree S.tree r f.of Whole (((S.tree.linked f.of y.state y.at).whole r).0 y.member) in
+          let p : S.tree.path f.of ≡ path_of past.plan q.0.var ++ q.0.tail = q.2 ∙ ap (λ (z : List Step). path_of past.plan q.0.var ++ z) (whole_tail q.0.kind q.0.tail q.1.same) in
+          record { row = q.0; role = q.1; hit = subst (λ (z : List Step). hits 0 z S.here ≡ true) p ((R.active f.of).0 f.member).1 })),
+      (λ d. (
+          let q = end_of past.plan m.tree S.tree r Whole d.row d.role in
+          let p : S.tree.path q.0 ≡ path_of past.plan d.row.var ++ d.row.tail = q.3 ∙ ap (λ (z : List Step). path_of past.plan d.row.var ++ z) (whole_tail d.row.kind d.row.tail d.role.same) in
+          let y = some_at m.tree.states.items q.0 q.1 in
+          (made.here.has r).1 (record { of = q.0; member = (R.active q.0).1 (q.1, subst (λ (z : List Step). hits 0 z S.here ≡ true) (sym p) d.hit); is = record { state = y.0; at = y.1; member = ((S.tree.linked q.0 y.0 y.1).whole r).1 q.2 } }))),
+    )
+
+-- where no path leads to it, none but those from above
+pub newly_idle : (m : MatcherView) (frame : FrameView) → innermost_frame m.frames ≡ Some frame → 0 < m.idle → (s : FinSet nat_cmp) → s ≡ empty → GivesNewly m s
+newly_idle m frame at idle s es past text n S here =
+    es
+    ∙ (set_is empty (roles_newly_given past.plan past.tree S.here) (λ r. (λ h. absurd (false≢true (sym (contains-empty nat_cmp r) ∙ h)), λ i. absurd (idle_newly m past text S idle frame at r i)))
+    ∙ ap (λ (z : Node). from_list {R = nat_cmp} (roles_newly_given past.plan past.tree z)) (innermost_same past.tree text S.here n S.innermost here))
+
+-- where it has a frame, those that its state keeps
+pub newly_framed : (m : MatcherView) (x : StateView) (k : NodeMarks) → innermost_frame m.frames ≡ Some (frame_of x k) → IsMade m.tree.states.items x → m.idle ≡ 0 → k.found ≡ [] → (s : FinSet nat_cmp) → s ≡ x.kept → GivesNewly m s
+newly_framed m x k at made none found s es past text n S here =
+    let R = here_frame m past text S (frame_of x k) at none in
+    let told = newly_told past.plan m.tree S.tree past.tree (w m past text S) S.here (here_in m past text S) x.whole x.active k.found R.active R.whole R.found x.whole_here (whole_matched m x k at made none past text S) found in
+    es
+    ∙ (set_is x.kept (roles_newly_given past.plan past.tree S.here) (λ r. (λ h. (told r).0 ((made.kept r).0 h), λ i. (made.kept r).1 ((told r).1 i)))
+    ∙ ap (λ (z : Node). from_list {R = nat_cmp} (roles_newly_given past.plan past.tree z)) (innermost_same past.tree text S.here n S.innermost here))
 
 -- where no path leads to it: the roles of the state's whole subtrees
 pub set_idle : (m : MatcherView) (x : StateView) (k : NodeMarks) → innermost_frame m.frames ≡ Some (frame_of x k) → IsMade m.tree.states.items x → 0 < m.idle → (s : FinSet nat_cmp) → s ≡ x.whole_set → (whole : List ℕ) → whole ≡ x.whole → GivesSet m s (length whole)

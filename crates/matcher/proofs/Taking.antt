@@ -12,7 +12,7 @@ use Rattle.gcx_model.specs.Core.{OffTree}
 use Rattle.gcx_model.specs.ItemView.{role_kind}
 use Rattle.gcx_model.specs.Held.{path_of, statement_of, given, signed, reaches, all_signed, on_off, taken, roles_taken}
 use Rattle.gcx_model.specs.Placed.{row_at, offs_in}
-use Rattle.gcx_model.specs.Past.{Past}
+use Rattle.gcx_model.specs.Past.{Past, IsLast}
 use Rattle.tree_laws.proofs.Lists.{In, In-left, In-right, In-append}
 use Rattle.tree_laws.proofs.Matches.{Matches-in, Matches-from}
 use Rattle.tree_laws.proofs.Chains.{above_in, above_trans}
@@ -35,7 +35,7 @@ use Rattle.path_states.proofs.Looking.{in_some, one_at}
 use Rattle.matcher.proofs.Upwards.{level_same}
 use Rattle.matcher.proofs.GivenRoles.{climbs_filtered}
 use Rattle.matcher.proofs.Reaching.{gives_to, gives_from}
-use Rattle.matcher.proofs.Aheads.{innermost_in, given_target, target_given, base_of, of_base}
+use Rattle.matcher.proofs.Aheads.{innermost_in, innermost_same, given_target, target_given, base_of, of_base}
 
 module _ (m : MatcherView) (past : Past) (text : Bool) (s : Stands m past text) where
   w : Grown past.tree
@@ -58,6 +58,13 @@ module _ (m : MatcherView) (past : Past) (text : Bool) (s : Stands m past text) 
   sign_of o j k u h =
       let x : Sign = record { role = o.role; level = level k; steps = length o.rel } in
       record { sign = x; member = (s.signs x).1 (record { off = o; of = j; role = refl; steps = refl; node = k; among = u; at = refl; is = h }); of = refl; at = refl }
+
+  pub none_signed : m.signs ≡ [] → (n b : Node) (o : OffTree) → IsLast past.tree text n → In o (offs_in past.plan.body) → In b (above n) → signed past.acts o b ≡ false
+  none_signed none n b o here j u =
+      let same = innermost_same past.tree text s.here n s.innermost here in
+      false_from_ne_true (signed past.acts o b) (λ h.
+      let a = sign_of o j b (subst (λ (z : Node). In b (above z)) (sym same) u) h in
+      absurd (subst (λ (z : List Sign). In a.sign z) none a.member))
 
   of_sign : (o : OffTree) → In o (offs_in past.plan.body) → (k : Node) → In k (above s.here) → SignAt m.signs o.role (level k) → signed past.acts o k ≡ true
   of_sign o j k u a =

@@ -5,7 +5,7 @@ use Rattle.std.specs.Ordering.{nat_cmp}
 use Rattle.gcx_base.specs.Kinds.{is_text}
 use Rattle.gcx_base.specs.declared.ids.Role.{Role}
 use Rattle.gcx_base.specs.declared.kind.Kind.{Kind}
-use Rattle.gcx_model.specs.Tree.{Node, Root, Under, Token, End, grow, serial_of}
+use Rattle.gcx_model.specs.Tree.{Node, Root, Under, Token, End, above, grow, serial_of}
 use Rattle.gcx_model.specs.Paths.{matches}
 use Rattle.gcx_model.specs.Growth.{may_come, level}
 use Rattle.gcx_model.specs.Core.{BodyTree, OffTree, PlanTree}
@@ -13,14 +13,13 @@ use Rattle.gcx_model.specs.Cores.{Good}
 use Rattle.gcx_model.specs.Run.{Offed}
 use Rattle.gcx_model.specs.Members.{In}
 use Rattle.gcx_model.specs.Placed.{Placed, offs_in}
-use Rattle.gcx_model.specs.Held.{path_of, roles_given, taken, roles_taken}
+use Rattle.gcx_model.specs.Held.{path_of, roles_given, signed, taken, roles_taken}
 use Rattle.gcx_model.specs.Past.{Past, IsLast, Opens, open_nodes, opening_past, past_acted, past_grown, token_for}
+use Rattle.spread_laws.specs.Tops.{roles_newly_given}
 use Rattle.run_words.specs.Steps.{Follows, StandsAsBefore}
-use Rattle.path_states.specs.Lists.{Holds}
 use Rattle.path_states.specs.Names.{IsNameNumber}
 use Rattle.matcher.specs.Ahead.{AreTaken, HasSign}
 use Rattle.matcher.specs.Entering.{GoesBy}
-use Rattle.matcher.specs.Frame.{IsWholeMatch}
 use Rattle.matcher.specs.Matcher.{Stands}
 use Rattle.matcher.specs.View.{MatcherView}
 use Rattle.matcher.specs.declared.signs.Sign.{Sign}
@@ -85,19 +84,30 @@ pub record GivesSet (m : MatcherView) (roles : set.FinSet nat_cmp) (count : ℕ)
   pub is : roles ≡ set.from_list (map (λ (r : Role). r.0) given)
   pub many : length given ≡ count
 
--- the same, and none of them is taken back already
-pub record GivesPlainly (m : MatcherView) (roles : set.FinSet nat_cmp) (count : ℕ) : Type 0 where
+-- the set of those that the innermost node isn't given from above
+abbrev pub GivesNewly : MatcherView → set.FinSet nat_cmp → Type 0
+GivesNewly m kept = (past : Past) (text : Bool) (n : Node) → Stands m past text → IsLast past.tree text n → kept ≡ set.from_list (roles_newly_given past.plan past.tree n)
+
+-- both sets
+pub record GivesSets (m : MatcherView) (roles kept : set.FinSet nat_cmp) (count : ℕ) : Type 0 where
   pub gives : GivesSet m roles count
+  pub newly : GivesNewly m kept
+
+-- no statement is signed at the innermost node, nor at one above it
+abbrev pub HasNoneSigned : MatcherView → Type 0
+HasNoneSigned m = (past : Past) (text : Bool) (n b : Node) (o : OffTree) → Stands m past text → IsLast past.tree text n → In o (offs_in past.plan.body) → In b (above n) → signed past.acts o b ≡ false
+
+-- Both sets, where no statement is signed at an open node, so that none of the roles is taken back already. Those that the node isn't given from above are then kept at it, where roles are spread.
+pub record GivesPlainly (m : MatcherView) (roles kept : set.FinSet nat_cmp) (count : ℕ) : Type 0 where
+  pub gives : GivesSet m roles count
+  pub newly : GivesNewly m kept
   pub ahead : GivesAhead m []
+  pub unsigned : HasNoneSigned m
 
 -- a node that may come is given no role
 abbrev pub PassesNode : MatcherView → Type 0
 PassesNode m =
     (past : Past) (n : Node) (t : Token) → Stands m past false → may_come t past.tree ≡ true → Opens past.tree t n → roles_given past.plan (grow t past.tree) n ≡ []
-
--- the roles are those of the innermost node's subtree of whose paths it is a match
-abbrev pub TellsWholeHere : MatcherView → List ℕ → Type 0
-TellsWholeHere m roles = (past : Past) (text : Bool) (n : Node) → Stands m past text → IsLast past.tree text n → Holds roles (IsWholeMatch past.plan n)
 
 -- a text is left
 abbrev pub LeavesText : (old new : MatcherView) → Type 0

@@ -55,9 +55,3 @@ pub record IsFrame (plan : PlanTree) (P : Tree) (tree : List PathState) (path : 
   pub climbs : Climbs frame.whole
   pub unfound : (r : ℕ) → IsUnmatched frame.contexts r ↔ IsFirst plan P a r None
   pub found : (f : Found) → In f frame.found ↔ IsFound plan P a f
-
--- the node is a match of the path of the role, which is given with its subtree
-pub record IsWholeMatch (plan : PlanTree) (a : Node) (r : ℕ) : Type 0 where
-  pub row : RoleRowTree
-  pub role : IsRole plan Whole r row
-  pub hit : hits 0 (path_of plan row.var ++ row.tail) a ≡ true

@@ -4,6 +4,7 @@
 mod found;
 mod frames;
 mod matcher;
+mod none;
 mod opening;
 mod roles;
 mod signs;

@@ -7,14 +7,15 @@ ghost use Rattle.path_states.specs.Lists.{Climbs, Holds};
 ghost use Rattle.path_states.specs.Names.{IsNameNumber};
 ghost use Rattle.gcx_base.specs.declared.kind.Kind.TheVariants.{Element, Text};
 ghost use Rattle.matcher.specs.Ahead.{AreBases, AreVars, FirstTarget, HasWhole, OwnTarget, Target, WholeTarget};
-ghost use Rattle.matcher.specs.Calls.{GivesAhead, GivesHere, GivesName, GivesNext, GivesNode, GivesPlainly, GivesRoot, GivesSet};
+ghost use Rattle.matcher.specs.Calls.{GivesAhead, GivesHere, GivesName, GivesNext, GivesNode, GivesPlainly, GivesRoot, GivesSets};
 ghost use Rattle.matcher.specs.Calls.{KeepsStanding, PassesNode};
 ghost use Rattle.matcher.specs.Calls.{LeavesElement, LeavesText, SaysTaken, SignsAt, StandsAtStart, StandsBehind};
-ghost use Rattle.matcher.specs.Calls.{StandsBehindName, StandsNext, TakenHere, TellsSign, TellsWholeHere};
+ghost use Rattle.matcher.specs.Calls.{StandsBehindName, StandsNext, TakenHere, TellsSign};
 ghost use Rattle.matcher.specs.Entering.{GivesInside, IsIdle, IsIdled, IsOver, LeadsNowhere};
 
 use crate::found::{contexts_found, levels_hit};
 use crate::frames::Frames;
+use crate::none::NoRoles;
 use crate::opening::{advance, step};
 use crate::roles::{Levels, given_of, given_with, is_above};
 use crate::signs::{Sign, are_signed, drop_level, put_sign};
@@ -41,6 +42,8 @@ pub struct Matcher {
     /// Whether the innermost node is a text.
     text: bool,
     signs: Vec<Sign>,
+    /// What is kept at a node to which no path leads.
+    none: NoRoles,
 }
 
 impl Model for Matcher {
@@ -87,6 +90,7 @@ impl Matcher {
             idle: 0,
             text: false,
             signs: Vec::new(alloc),
+            none: NoRoles::new(alloc),
         })
     }
 
@@ -162,17 +166,6 @@ impl Matcher {
         ensures { result ≡ true → LeadsNowhere self.now }
     {
         self.idle > 0 || self.is_over()
-    }
-
-    /// The roles of whole subtrees of whose paths the innermost node is a match.
-    #[inline(always)]
-    pub fn whole_here(&self) -> &[u32]
-        ensures { TellsWholeHere self.now result.now }
-    {
-        if self.idle > 0 {
-            return &[];
-        }
-        self.states.here().whole_here()
     }
 
     /// Whether it is plain that no path leads to a new node, nor to any below it.
@@ -272,11 +265,11 @@ impl Matcher {
         Ok(())
     }
 
-    /// The roles of the innermost node as a set, and how many they are. None where first matches are among them, or where
-    /// a statement is signed at an open node.
+    /// The roles of the innermost node as a set, those of them that are kept at it where roles are spread, and how many
+    /// it has. None where first matches are among them, or where a statement is signed at an open node.
     #[inline(always)]
-    pub fn plain(&self) -> Option<(&RoleSet, usize)>
-        ensures { IfSome result (λ x. GivesPlainly self.now x.0.now x.1) }
+    pub fn plain(&self) -> Option<(&RoleSet, &RoleSet, usize)>
+        ensures { IfSome result (λ x. GivesPlainly self.now x.0.now x.1.now x.2) }
     {
         if !self.signs.as_slice().is_empty() {
             return None;
@@ -286,17 +279,17 @@ impl Matcher {
 
     /// The same, whatever is signed.
     #[inline(always)]
-    fn roles_here(&self) -> Option<(&RoleSet, usize)>
-        ensures { IfSome result (λ x. GivesSet self.now x.0.now x.1) }
+    fn roles_here(&self) -> Option<(&RoleSet, &RoleSet, usize)>
+        ensures { IfSome result (λ x. GivesSets self.now x.0.now x.1.now x.2) }
     {
         let state = self.states.here();
         if self.idle > 0 {
-            return Some((state.whole_set(), state.whole().len()));
+            return Some((state.whole_set(), self.none.empty(), state.whole().len()));
         }
         if self.frames.is_first() {
             return None;
         }
-        Some((state.roles(), state.given().len()))
+        Some((state.roles(), state.kept(), state.given().len()))
     }
 
     /// The roles of the innermost node, by rising number.

@@ -1,5 +1,5 @@
-mod Rounds
-mod Guards
-mod Settled
+pub mod Rounds
+pub mod Guards
+pub mod Settled
 pub mod Stay
-mod LoopFacts
+pub mod LoopFacts

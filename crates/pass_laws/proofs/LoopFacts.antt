@@ -27,7 +27,8 @@ use Rattle.tree_laws.proofs.Fed.{tree, grown, root_in}
 use Rattle.need_laws.proofs.CoreStates.{so_far}
 use Rattle.placed_laws.proofs.Bridge.{held_is}
 use Rattle.placed_laws.proofs.FromPlans.{from_state}
-use Rattle.pass_laws.specs.Scopes.{UsesIn, AsksIn, HasNoOff, IsOfLoop, TurnUses, TurnHeld, OtherHeld}
+use Rattle.pass_laws.specs.Idle.{FreeIn}
+use Rattle.pass_laws.specs.Scopes.{UsesIn, AsksIn, HasNoOff, IsOfLoop, TurnUses, TurnFree, TurnHeld, OtherHeld}
 
 -- ---- bodies
 
@@ -82,6 +83,28 @@ module _ (ends : ℕ → List OffTree) where
   ]
   uses_known (Then (Off o) d) os L z q h = absurd q.0
 
+  offs_free : (os : List OffTree) (z : ℕ) → FreeIn z (offs_body os) → ⊥
+  offs_free [] z h = h
+  offs_free (o ∷ os) z (inl h) = h
+  offs_free (o ∷ os) z (inr h) = offs_free os z h
+
+  -- a variable that is free in the placed body may be used there
+  free_known : (d : BodyTree) (os : List OffTree) (L : List ℕ) (z : ℕ) → BodyIn true L d → FreeIn z (add_offs (place ends d) os) → In z L
+  free_known Nil os L z q h = absurd (offs_free os z h)
+  free_known (Then (Write b) d) os L z q (inl h) = absurd h
+  free_known (Then (Write b) d) os L z q (inr h) = free_known d os L z q.1 h
+  free_known (Then (Copy x) d) os L z q (inl h) = absurd h
+  free_known (Then (Copy x) d) os L z q (inr h) = free_known d os L z q.1 h
+  free_known (Then (For x y s e) d) os L z q (inl (inl h)) = subst (λ (w : ℕ). In w L) h q.0.1
+  free_known (Then (For x y s e) d) os L z q (inl (inr h)) = elim (free_known e (ends x) (x ∷ L) z q.0.2 h.0) [
+    | inl g ↦ absurd (h.1 (sym g))
+    | inr j ↦ j
+  ]
+  free_known (Then (For x y s e) d) os L z q (inr h) = free_known d os L z q.1 h
+  free_known (Then (If c a b) d) os L z q (inl h) = subst (λ (w : ℕ). In w L) h.2 (cond_rows_in L c q.0.0 h.0 h.1)
+  free_known (Then (If c a b) d) os L z q (inr h) = free_known d os L z q.1 h
+  free_known (Then (Off o) d) os L z q h = absurd q.0
+
 no_off : (d : BodyTree) → HasNoOff d → (o : OffTree) → Has o d → ⊥
 no_off Nil h o i = i
 no_off (Then (Write b) d) h o (inl e) = cc
@@ -95,7 +118,7 @@ no_off (Then (If c a b) d) h o (inr i) = no_off d h.1 o i
 no_off (Then (Off t) d) h o i = absurd h.0
 
 -- each row that is asked about belongs to a variable that is used
-asks_uses : (d : BodyTree) (r : RoleRowTree) → AsksIn r d → UsesIn r.var d
+pub asks_uses : (d : BodyTree) (r : RoleRowTree) → AsksIn r d → UsesIn r.var d
 asks_uses Nil r h = absurd h
 asks_uses (Then (Write b) d) r (inl h) = absurd h
 asks_uses (Then (Write b) d) r (inr h) = inr (asks_uses d r h)
@@ -107,6 +130,21 @@ asks_uses (Then (If c a b) d) r (inl h) = inl (r, h, refl)
 asks_uses (Then (If c a b) d) r (inr h) = inr (asks_uses d r h)
 asks_uses (Then (Off o) d) r (inl h) = absurd h
 asks_uses (Then (Off o) d) r (inr h) = inr (asks_uses d r h)
+
+-- what is free in a body is used there
+pub free_uses : (d : BodyTree) (z : ℕ) → FreeIn z d → UsesIn z d
+free_uses Nil z h = absurd h
+free_uses (Then (Write b) d) z (inl h) = absurd h
+free_uses (Then (Write b) d) z (inr h) = inr (free_uses d z h)
+free_uses (Then (Copy x) d) z (inl h) = absurd h
+free_uses (Then (Copy x) d) z (inr h) = inr (free_uses d z h)
+free_uses (Then (For x y s e) d) z (inl (inl h)) = inl (inl h)
+free_uses (Then (For x y s e) d) z (inl (inr h)) = inl (inr (free_uses e z h.0))
+free_uses (Then (For x y s e) d) z (inr h) = inr (free_uses d z h)
+free_uses (Then (If c a b) d) z (inl h) = inl h
+free_uses (Then (If c a b) d) z (inr h) = inr (free_uses d z h)
+free_uses (Then (Off o) d) z (inl h) = absurd h
+free_uses (Then (Off o) d) z (inr h) = inr (free_uses d z h)
 
 -- ---- at a loop
 
@@ -140,6 +178,7 @@ module _ (core : BodyTree) (good : Good core) (ts : List Token) where
     uses : BodyIn true (x ∷ outer) body
     ready : (z : ℕ) → In z outer → ReadyAt z (env z) (f ∷ below)
     bound : (z : ℕ) → In z outer → Bound_in z (env z) below
+    low : (z : ℕ) → In z outer → z < x
     high : (z : ℕ) → In z (vars body) → x < z
     solid : Solid_one f
 
@@ -159,6 +198,7 @@ module _ (core : BodyTree) (good : Good core) (ts : List Token) where
         uses = c.uses;
         ready = λ z i. ready_over P (grown ts) core good z (env z) (Round x y s e env n) below (c.here z i).0;
         bound = λ z i. (c.here z i).1;
+        low = c.low;
         high = c.high;
         solid = tt;
       }
@@ -179,6 +219,7 @@ module _ (core : BodyTree) (good : Good core) (ts : List Token) where
         uses = c.uses;
         ready = λ z i. (c.here z i).0;
         bound = λ z i. (c.here z i).1;
+        low = c.low;
         high = c.high;
         solid = tt;
       }
@@ -229,6 +270,14 @@ module _ (core : BodyTree) (good : Good core) (ts : List Token) where
               (bound_live P (grown ts) (root_in ts) core good (so_far core P k) (top ++ f ∷ below) st z (env z) (top ++ f ∷ []) below (sym (append_assoc top (f ∷ []) below)) (solid_last top f both.0.solid) both.1 b),
         )
 
+    pub frees : (z : ℕ) → FreeIn z e → (z ≡ x) ⊎ (z < x)
+    frees z u =
+        let c = both.0 in
+        elim (free_known (λ (i : ℕ). ends i) c.body (ends x) (x ∷ c.outer) z c.uses (subst (λ (d : BodyTree). FreeIn z d) c.placed u)) [
+          | inl g ↦ inl (sym g)
+          | inr j ↦ inr (c.low z j)
+        ]
+
     row_of : (r : RoleRowTree) → AsksIn r e → In r (roles_of core)
     row_of r a = let c = both.0 in c.rows_known r (asks_row (λ (i : ℕ). ends i) c.body (ends x) r (subst (λ (d : BodyTree). AsksIn r d) c.placed a))
 
@@ -269,6 +318,11 @@ pub turn_uses : TurnUses
 turn_uses plan P k x y s e env below a z u l =
     from_state a.core a.good (λ plan P k. points.PointAt plan P k (a.top ++ a.frame ∷ below) → Bound_in z (env z) below × HeldAt plan P k (env z))
     (λ ts k st. let h = uses a.core a.good ts k a.top a.frame below x y s e env a.is_loop st z u l in (h.0, as_held a.core a.good ts k (env z) h.1)) plan a.placed P k a.state a.point
+
+pub turn_free : TurnFree
+turn_free plan P k x y s e env below a z u =
+    from_state a.core a.good (λ plan P k. points.PointAt plan P k (a.top ++ a.frame ∷ below) → (z ≡ x) ⊎ (z < x))
+    (λ ts k st. frees a.core a.good ts k a.top a.frame below x y s e env a.is_loop st z u) plan a.placed P k a.state a.point
 
 pub turn_held : TurnHeld
 turn_held plan P k x y s e env below a none j i =

@@ -11,6 +11,7 @@ use Rattle.gcx_model.specs.Roles.{cond_rows}
 use Rattle.gcx_model.specs.Truth.{Env}
 use Rattle.gcx_model.specs.Held.{gives, held}
 use Rattle.gcx_model.specs.Points.{so_far, CoreState, Frame, Rest, Round, PointAt, Bound_in}
+use Rattle.pass_laws.specs.Idle.{FreeIn}
 
 -- a loop of the body takes its step from the variable, or a condition of it asks about it
 abbrev mutual
@@ -78,6 +79,12 @@ abbrev pub TurnUses : Type 0
 TurnUses = (plan : PlanTree) (P : Tree) (k x y : ℕ) (s : Step) (e : BodyTree) (env : Env) (below : List Frame)
     → AtLoop plan P k x y s e env below
     → (z : ℕ) → UsesIn z e → z < x → Bound_in z (env z) below × IsHeld plan P k (env z)
+
+-- A variable that is free in the body is the loop's, or has a smaller number.
+abbrev pub TurnFree : Type 0
+TurnFree = (plan : PlanTree) (P : Tree) (k x y : ℕ) (s : Step) (e : BodyTree) (env : Env) (below : List Frame)
+    → AtLoop plan P k x y s e env below
+    → (z : ℕ) → FreeIn z e → (z ≡ x) ⊎ (z < x)
 
 -- Where no statement stands in the body, each match of the loop is held, and so is that to which it gives a role of a
 -- condition in the body,

@@ -4,9 +4,9 @@ use Rattle.std.specs.List.{sum_by}
 use Rattle.path_states.specs.State.{StateView}
 use Rattle.path_states.specs.declared.remembered.Remembered.{Remembered}
 
--- the bytes that a state is counted with
+-- the bytes that a state is counted with: the roles kept are among those given, so these count twice
 abbrev pub state_bytes : StateView → ℕ
-state_bytes s = 256 + 4 * (length s.active + length s.pending + length s.whole + length s.whole_here + length s.given + length s.contexts)
+state_bytes s = 256 + 4 * (length s.active + length s.pending + length s.whole + length s.whole_here + 2 * length s.given + length s.contexts)
 
 -- those of so many slots for moves
 abbrev pub slot_bytes : ℕ → ℕ

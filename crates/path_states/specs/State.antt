@@ -10,8 +10,8 @@ use Rattle.path_states.specs.Lists.{Climbs, From, Gains, Holds}
 use Rattle.path_states.specs.declared.paths.PathState.{PathState}
 
 -- What a contract sees of a state: the path states whose paths lead to the node; those of them and of the nodes above it with a descendant step behind them;
--- the roles of the whole subtrees in which it lies, and those of them whose paths lead to it; the roles that it gives, as a list and as a set; those of whole subtrees as a set;
--- the roles of which it is a context; whether it may be a first match; and whether no path leads below it. The lists of roles rise.
+-- the roles of the whole subtrees in which it lies, and those of them whose paths lead to it; the roles that it gives, as a list and as a set; a set of those that it doesn't give from above;
+-- those of whole subtrees as a set; the roles of which it is a context; whether it may be a first match; and whether no path leads below it. The lists of roles rise.
 pub record StateView : Type 0 where
   pub active : List ℕ
   pub pending : List ℕ
@@ -19,6 +19,7 @@ pub record StateView : Type 0 where
   pub whole_here : List ℕ
   pub given : List ℕ
   pub roles : set.FinSet nat_cmp
+  pub kept : set.FinSet nat_cmp
   pub whole_set : set.FinSet nat_cmp
   pub contexts : List ℕ
   pub has_firsts : Bool
@@ -27,10 +28,10 @@ pub record StateView : Type 0 where
 abbrev pub state_code : Coded StateView
 state_code =
     code_by
-    (List ℕ × (List ℕ × (List ℕ × (List ℕ × (List ℕ × (set.FinSet nat_cmp × (set.FinSet nat_cmp × (List ℕ × (Bool × Bool)))))))))
-    (coded× (coded_list coded_ℕ) (coded× (coded_list coded_ℕ) (coded× (coded_list coded_ℕ) (coded× (coded_list coded_ℕ) (coded× (coded_list coded_ℕ) (coded× (set.code coded_ℕ) (coded× (set.code coded_ℕ) (coded× (coded_list coded_ℕ) (coded× coded_bool coded_bool)))))))))
-    (λ s. (s.active, (s.pending, (s.whole, (s.whole_here, (s.given, (s.roles, (s.whole_set, (s.contexts, (s.has_firsts, s.is_over))))))))))
-    (λ p. record { active = p.0; pending = p.1.0; whole = p.1.1.0; whole_here = p.1.1.1.0; given = p.1.1.1.1.0; roles = p.1.1.1.1.1.0; whole_set = p.1.1.1.1.1.1.0; contexts = p.1.1.1.1.1.1.1.0; has_firsts = p.1.1.1.1.1.1.1.1.0; is_over = p.1.1.1.1.1.1.1.1.1 })
+    (List ℕ × (List ℕ × (List ℕ × (List ℕ × (List ℕ × (set.FinSet nat_cmp × (set.FinSet nat_cmp × (set.FinSet nat_cmp × (List ℕ × (Bool × Bool))))))))))
+    (coded× (coded_list coded_ℕ) (coded× (coded_list coded_ℕ) (coded× (coded_list coded_ℕ) (coded× (coded_list coded_ℕ) (coded× (coded_list coded_ℕ) (coded× (set.code coded_ℕ) (coded× (set.code coded_ℕ) (coded× (set.code coded_ℕ) (coded× (coded_list coded_ℕ) (coded× coded_bool coded_bool))))))))))
+    (λ s. (s.active, (s.pending, (s.whole, (s.whole_here, (s.given, (s.roles, (s.kept, (s.whole_set, (s.contexts, (s.has_firsts, s.is_over)))))))))))
+    (λ p. record { active = p.0; pending = p.1.0; whole = p.1.1.0; whole_here = p.1.1.1.0; given = p.1.1.1.1.0; roles = p.1.1.1.1.1.0; kept = p.1.1.1.1.1.1.0; whole_set = p.1.1.1.1.1.1.1.0; contexts = p.1.1.1.1.1.1.1.1.0; has_firsts = p.1.1.1.1.1.1.1.1.1.0; is_over = p.1.1.1.1.1.1.1.1.1.1 })
     (λ _. refl)
 
 -- the roles that each match of a path is given, with its subtree or alone; those that a first match is given, and those of which each match is a context
@@ -62,6 +63,7 @@ pub record IsMade (tree : List PathState) (s : StateView) : Type 0 where
   pub rising : Climbs s.given
   pub given : Holds s.given (GivenBy tree s.whole s.active)
   pub roles : (r : ℕ) → set.contains s.roles r ≡ true ↔ In r s.given
+  pub kept : (r : ℕ) → set.contains s.kept r ≡ true ↔ GivenBy tree s.whole_here s.active r
   pub wholes : (r : ℕ) → set.contains s.whole_set r ≡ true ↔ In r s.whole
   pub contexts : Holds s.contexts (From s.active (Tells context_roles tree))
   pub firsts : s.has_firsts ≡ false → (r : ℕ) → From s.active (Tells first_roles tree) r → ⊥

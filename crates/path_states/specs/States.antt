@@ -43,7 +43,7 @@ pub record Enters (before now : StatesView) (number : ℕ) : Type 0 where
 
 -- no state
 abbrev pub no_state : StateView
-no_state = record { active = []; pending = []; whole = []; whole_here = []; given = []; roles = set.empty; whole_set = set.empty; contexts = []; has_firsts = false; is_over = false }
+no_state = record { active = []; pending = []; whole = []; whole_here = []; given = []; roles = set.empty; kept = set.empty; whole_set = set.empty; contexts = []; has_firsts = false; is_over = false }
 
 -- the states with these numbers
 abbrev pub states_at : List StateView → List ℕ → List StateView

@@ -200,3 +200,17 @@ pub(crate) fn set_of(alloc: Global, numbers: &[u32]) -> Result<RoleSet, Memory>
     }
     Ok(roles)
 }
+
+/// The roles that a node gives by the paths that lead to it, as a set: those of whole subtrees are these alone.
+pub(crate) fn kept_with(
+    alloc: Global,
+    tree: &[PathState],
+    active: &[u32],
+    whole_here: &[u32],
+) -> Result<RoleSet, Memory>
+    ensures { IfOk result (λ kept. (r : ℕ) → set.contains kept r ≡ true ↔ GivenBy tree.now whole_here.now active.now r) }
+{
+    let given = given_with(alloc, tree, active, whole_here)?;
+    let kept = set_of(alloc, given.as_slice())?;
+    Ok(kept)
+}

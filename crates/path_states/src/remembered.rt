@@ -64,7 +64,7 @@ fn bytes_of(state: &State) -> usize
         .saturating_add(state.pending().len())
         .saturating_add(state.whole().len())
         .saturating_add(state.whole_here().len())
-        .saturating_add(state.given().len())
+        .saturating_add(state.given().len().saturating_mul(2))
         .saturating_add(state.contexts().len());
     numbers.saturating_mul(4).saturating_add(STATE_BYTES)
 }

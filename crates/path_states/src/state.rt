@@ -4,7 +4,9 @@ ghost use Rattle.path_states.specs.Lists.{Climbs};
 ghost use Rattle.path_states.specs.State.{AreDead, Gathers, HaveSameParts, IsMade};
 
 use crate::active::have_no_kids;
-use crate::outputs::{contexts_with, given_with, have_firsts, pending_with, set_of, whole_with};
+use crate::outputs::{
+    contexts_with, given_with, have_firsts, kept_with, pending_with, set_of, whole_with,
+};
 use crate::paths::PathState;
 use gcx_base::Memory;
 use role_set::RoleSet;
@@ -21,6 +23,7 @@ pub struct State {
     whole_here: Vec<u32>,
     given: Vec<u32>,
     roles: RoleSet,
+    kept: RoleSet,
     whole_set: RoleSet,
     contexts: Vec<u32>,
     has_firsts: bool,
@@ -41,6 +44,7 @@ impl Model for State {
       whole_here = s.whole_here.items;
       given = s.given.items;
       roles = s.roles;
+      kept = s.kept;
       whole_set = s.whole_set;
       contexts = s.contexts.items;
       has_firsts = s.has_firsts;
@@ -74,6 +78,7 @@ pub(crate) fn make_state(
     let whole = whole_with(alloc, tree, here, whole_above)?;
     let given = given_with(alloc, tree, here, whole.as_slice())?;
     let roles = set_of(alloc, given.as_slice())?;
+    let kept = kept_with(alloc, tree, here, whole_here.as_slice())?;
     let whole_set = set_of(alloc, whole.as_slice())?;
     let contexts = contexts_with(alloc, tree, here)?;
     let has_firsts = have_firsts(tree, here);
@@ -85,6 +90,7 @@ pub(crate) fn make_state(
         whole_here,
         given,
         roles,
+        kept,
         whole_set,
         contexts,
         has_firsts,
@@ -139,6 +145,15 @@ impl State {
         ensures { result.now ≡ self.now.roles }
     {
         &self.roles
+    }
+
+    /// Of the roles that the node is given those that paths lead to at the node itself: all but those of whole subtrees
+    /// that it has from above.
+    #[inline(always)]
+    pub fn kept(&self) -> &RoleSet
+        ensures { result.now ≡ self.now.kept }
+    {
+        &self.kept
     }
 
     /// The roles of the whole subtrees in which the node lies, as a set.

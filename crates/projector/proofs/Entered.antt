@@ -1,24 +1,32 @@
 -- The matcher's innermost node, opened in the buffer.
-use Rattle.std.proofs.Common.{◌≡◌, ℕ, suc, ◌≤◌, true, false, List, [], ◌∷◌, length, refl, sym, ◌∙◌, ap, subst, inr, arith, eqb, Some, Option}
+use Rattle.std.proofs.Common.{◌≡◌, ℕ, suc, ◌≤◌, true, false, not, ◌&&◌, List, [], ◌∷◌, length, refl, sym, ◌∙◌, ap, subst, inr, arith, eqb, Some, Option}
 use Rattle.std.specs.Prelude.{option_map}
 use Rattle.std.specs.Ordering.{nat_cmp}
 use Rattle.std.specs.FinSet.{FinSet, from_list}
-use Rattle.std.proofs.lemmas.Bool.{eqb-true}
+use Rattle.std.specs.List.{filter}
+use Rattle.std.proofs.lemmas.Bool.{and_from, eqb-true, false≢true, false_from_ne_true}
 use Rattle.gcx_base.specs.Kinds.{is_text}
 use Rattle.gcx_base.specs.declared.ids.Role.{Role}
 use Rattle.gcx_base.specs.declared.kind.Kind.{Kind}
-use Rattle.gcx_model.specs.Tree.{Node, Token, grow}
+use Rattle.gcx_model.specs.Tree.{Node, Under, serial_of, Token, grow}
+use Rattle.gcx_model.specs.Core.{RoleKind, Whole, OffTree}
+use Rattle.gcx_model.specs.Run.{Action, Offed}
+use Rattle.gcx_model.specs.Placed.{is_empty, is_own, is_own_kind, offs_in}
 use Rattle.gcx_model.specs.Growth.{may_come, level}
-use Rattle.gcx_model.specs.Held.{roles_given}
+use Rattle.gcx_model.specs.Held.{roles_given, roles_taken, signed}
 use Rattle.gcx_model.specs.Members.{In}
-use Rattle.gcx_model.specs.Past.{Past, IsNode, Opens, past_grown, token_for}
+use Rattle.gcx_model.specs.Past.{Past, IsNode, Opens, is_ahead, open_nodes, past_grown, token_for}
+use Rattle.tree_laws.proofs.Lists.{In-kept}
+use Rattle.tree_laws.proofs.OffsSigned.{signed_is_off}
+use Rattle.past_laws.proofs.Ahead.{new_node, open_is}
+use Rattle.spread_laws.proofs.Newly.{kept_newly}
 use Rattle.node_store.specs.declared.store.Place.{Place}
 use Rattle.matcher.specs.Calls.{GivesHere, GivesPlainly, StandsBehind}
 use Rattle.matcher.specs.Matcher.{Stands}
 use Rattle.matcher.specs.View.{MatcherView}
 use Rattle.buf_tree.specs.declared.ahead.Ahead.{Ahead}
 use Rattle.buf_tree.specs.Calls.{Opened, less, new_roles, numbers}
-use Rattle.buf_tree.specs.PassedCalls.{LeftTo, MayOpenWith, OpenedWith, StandsWith}
+use Rattle.buf_tree.specs.PassedCalls.{KeptTo, LeftTo, MayOpenKept, OpenedWith, StandsWith}
 use Rattle.buf_tree.specs.Shape.{Cell}
 use Rattle.buf_tree.specs.Stands.{GivenTo, StandsFor, StandsOpened, past_told}
 use Rattle.buf_tree.specs.View.{View}
@@ -27,7 +35,7 @@ use Rattle.buf_tree.proofs.WithRoles.{left_given, opened_from}
 use Rattle.projector.specs.Opening.{HasHeard, MayOpenEntered, OpensBelow, OpensEntered, TellsTaken}
 use Rattle.projector.specs.Projector.{ahead_in, MayBeFed}
 use Rattle.projector.proofs.Feeding.{shallow_one}
-use Rattle.projector.proofs.Grown.{behind, given_to, heard_here, new_innermost, opened_node}
+use Rattle.projector.proofs.Grown.{added_then, behind, given_to, heard_here, new_innermost, opened_node, opens}
 use Rattle.projector.proofs.Pasts.{is_open}
 use Rattle.projector.proofs.Places.{shallow}
 
@@ -111,6 +119,29 @@ entered_behind m n v kind enters levels e =
       entered = enters (ahead_in e.past.tree e.past.acts e.past) (heard_here m e.past a.0 a.1 e.projects) e.may (shallow_one e.past.tree a.0 a.1 (shallow v e.past e.stands a.0 a.1 levels));
     }
 
+-- ---- the list of its roles
+
+role_same : (r q : Role) → r.0 ≡ q.0 → r ≡ q
+role_same r q e = ap (λ (z : ℕ). let role : Role = record { 0 = z } in role) e
+
+roles_same : (rs qs : List Role) → numbers rs ≡ numbers qs → rs ≡ qs
+roles_same [] [] e = refl
+roles_same [] (q ∷ qs) e = absurd (cc)
+roles_same (r ∷ rs) [] e = absurd (cc)
+roles_same (r ∷ rs) (q ∷ qs) e =
+    let here : r.0 ≡ q.0 = cc in
+    let rest : numbers rs ≡ numbers qs = cc in
+    ap (λ (z : Role). z ∷ rs) (role_same r q here) ∙ ap (λ (z : List Role). q ∷ z) (roles_same rs qs rest)
+
+-- there is one
+pub one_list : (m : MatcherView) (v : View) (kind : Kind) → IsNode kind → MayOpenEntered m v kind → (xs ys : List Role) → GivesHere m xs → GivesHere m ys → xs ≡ ys
+one_list m v kind k e xs ys f g =
+    let b = is_open e.past.tree (token_for kind) e.may in
+    let q = past_grown (token_for kind) (ahead_in e.past.tree e.past.acts e.past) in
+    let n = Under b.0 (length e.past.tree.nodes) kind in
+    let last = new_innermost e.past.tree kind k b.0 b.1 n (added_then e.past kind k b.0 b.1) in
+    roles_same xs ys (f q (is_text kind) n e.entered last ∙ sym (g q (is_text kind) n e.entered last))
+
 -- ---- opened by the set of its roles
 
 none_less : (xs : List ℕ) → less xs [] ≡ xs
@@ -118,23 +149,57 @@ none_less [] = refl
 none_less (x ∷ xs) = ap (λ (z : List ℕ). x ∷ z) (none_less xs)
 
 -- a node that is given these roles has them, where none is taken in advance
-plain_roles : (m : MatcherView) (roles : FinSet nat_cmp) (count : ℕ) → (g : GivesPlainly m roles count) → roles ≡ new_roles g.gives.given []
-plain_roles m roles count g = g.gives.is ∙ ap (λ (z : List ℕ). from_list {R = nat_cmp} z) (sym (none_less (numbers g.gives.given)))
+plain_roles : (m : MatcherView) (roles kept : FinSet nat_cmp) (count : ℕ) → (g : GivesPlainly m roles kept count) → roles ≡ new_roles g.gives.given []
+plain_roles m roles kept count g = g.gives.is ∙ ap (λ (z : List ℕ). from_list {R = nat_cmp} z) (sym (none_less (numbers g.gives.given)))
 
-plain_left : (m : MatcherView) (roles : FinSet nat_cmp) (count : ℕ) → (g : GivesPlainly m roles count) → (past : Past) (t : Token) → GivenTo past t g.gives.given [] → LeftTo past t roles
-plain_left m roles count g past t to = subst (λ (s : FinSet nat_cmp). LeftTo past t s) (sym (plain_roles m roles count g)) (left_given past t g.gives.given [] to)
+plain_left : (m : MatcherView) (roles kept : FinSet nat_cmp) (count : ℕ) → (g : GivesPlainly m roles kept count) → (past : Past) (t : Token) → GivenTo past t g.gives.given [] → LeftTo past t roles
+plain_left m roles kept count g past t to = subst (λ (s : FinSet nat_cmp). LeftTo past t s) (sym (plain_roles m roles kept count g)) (left_given past t g.gives.given [] to)
 
-pub entered_plainly : (m : MatcherView) (v w : View) (q : ℕ) (kind : Kind) (place : Option Place) (roles : FinSet nat_cmp) (count : ℕ) → GivesPlainly m roles count → OpenedWith v w q (option_map (λ (p : Place). p.0) place) kind roles 0
+pub entered_plainly : (m : MatcherView) (v w : View) (q : ℕ) (kind : Kind) (place : Option Place) (roles kept : FinSet nat_cmp) (count : ℕ) → GivesPlainly m roles kept count → OpenedWith v w q (option_map (λ (p : Place). p.0) place) kind roles 0
     → StandsWith v w kind roles → OpensEntered m v w q kind place count
-entered_plainly m v w q kind place roles count g opened stands = record {
+entered_plainly m v w q kind place roles kept count g opened stands = record {
   given = g.gives.given;
   ahead = [];
   many = g.gives.many;
   here = g.gives.here;
   taken = g.ahead;
-  opened = opened_from v w q (option_map (λ (p : Place). p.0) place) kind roles 0 g.gives.given [] opened (plain_roles m roles count g) refl;
-  stands = λ past h may to. stands past h may (plain_left m roles count g past (token_for kind) to);
+  opened = opened_from v w q (option_map (λ (p : Place). p.0) place) kind roles 0 g.gives.given [] opened (plain_roles m roles kept count g) refl;
+  stands = λ past h may to. stands past h may (plain_left m roles kept count g past (token_for kind) to);
 }
 
-pub may_open_with : (m : MatcherView) (v : View) (kind : Kind) → IsNode kind → (roles : FinSet nat_cmp) (count : ℕ) → GivesPlainly m roles count → MayOpenEntered m v kind → MayOpenWith v (token_for kind) roles
-may_open_with m v kind k roles count g e = inr (e.past, e.stands, e.may, plain_left m roles count g e.past (token_for kind) (entered_to m v kind k g.gives.given [] e g.gives.here g.ahead))
+-- what the matcher hears of at an open node is all that is signed there of a spread role
+heard_signed : (past : Past) (s : OffTree) (b : Node) → s.kind ≡ Whole → In b (open_nodes past.tree) → signed past.acts s b ≡ true → signed (filter (is_ahead past.tree) past.acts) s b ≡ true
+heard_signed past s b whole i h =
+    let a : Action = Offed s (serial_of b) in
+    let other : is_own s ≡ false = ap (λ (k : RoleKind). is_own_kind k && is_empty s.rel) whole in
+    let ahead : is_ahead past.tree a ≡ true = and_from _ _ (open_is past.tree.at b i) (ap not other) in
+    (signed_is_off (filter (is_ahead past.tree) past.acts) s b).1 (In-kept (is_ahead past.tree) a past.acts ((signed_is_off past.acts s b).0 h) ahead)
+
+-- what it tells to be new at the node is kept there
+kept_to : (m : MatcherView) (v : View) (kind : Kind) → IsNode kind → (roles kept : FinSet nat_cmp) (count : ℕ) → GivesPlainly m roles kept count → (e : MayOpenEntered m v kind) → ((n : Node) → Opens e.past.tree (token_for kind) n → roles_taken e.past.plan (grow (token_for kind) e.past.tree) e.past.acts n ≡ [])
+    → KeptTo e.past (token_for kind) kept
+kept_to m v kind k roles kept count g e untaken n o =
+    let t = token_for kind in
+    let past = e.past in
+    let is = e.stands.is_past in
+    let b = is_open past.tree t e.may in
+    let q = past_grown t (ahead_in past.tree past.acts past) in
+    let new = opens past is t n o in
+    let last = new_innermost past.tree kind k b.0 b.1 n (sym (behind t past.tree) ∙ o) in
+    let above_is = (new_node past.tree t n new).2 in
+    let unsigned : (s : OffTree) (a : Node) → In s (offs_in past.plan.body) → s.kind ≡ Whole → In a (open_nodes past.tree) → signed past.acts s a ≡ false =
+    λ s a i whole j. false_from_ne_true (signed past.acts s a) (λ h.
+    false≢true (sym (g.unsigned q (is_text kind) n a s e.entered last i (subst (λ (z : List Node). In a z) (sym above_is) (inr j))) ∙ heard_signed past s a whole j h))
+    in
+    g.newly q (is_text kind) n e.entered last ∙ ap (λ (z : List ℕ). from_list {R = nat_cmp} z) (sym (kept_newly past is t n new unsigned (untaken n new)))
+
+pub may_open_kept : (m : MatcherView) (v : View) (kind : Kind) → IsNode kind → (roles kept : FinSet nat_cmp) (count : ℕ) → GivesPlainly m roles kept count → MayOpenEntered m v kind → MayOpenKept v (token_for kind) roles kept
+may_open_kept m v kind k roles kept count g e =
+    let to = entered_to m v kind k g.gives.given [] e g.gives.here g.ahead in
+    inr (
+      e.past,
+      e.stands,
+      e.may,
+      plain_left m roles kept count g e.past (token_for kind) to,
+      kept_to m v kind k roles kept count g e (λ n o. sym (to n (opened_node e.past e.stands.is_past kind k e.may n o)).1),
+    )

@@ -265,10 +265,9 @@ fn open_below<N: NodeStore<Row>>(
     ensures taken { buffer.new.taken ≤ buffer.old.taken + 2 ^ 64 }
     ensures loans { buffer.new.loans ≡ buffer.old.loans }
 {
-    let given = matcher.enter(alloc, &kind)?;
-    let ahead = roles_ahead(matcher, alloc)?;
-    let copy = given.copy(alloc)?;
-    let place = buffer.open_node(alloc, parent, kind, copy, ahead)?;
+    matcher.go(alloc, &kind)?;
+    let given = matcher.given(alloc)?;
+    let (place, _count) = open_entered(matcher, alloc, buffer, parent, kind)?;
     clear_waiting(buffer);
     Ok((place, given))
 }
@@ -319,8 +318,8 @@ fn open_entered<N: NodeStore<Row>>(
     ensures loans { buffer.new.loans ≡ buffer.old.loans }
 {
     match matcher.plain() {
-        Some((roles, count)) => {
-            let place = buffer.open_with(alloc, parent, kind, roles)?;
+        Some((given, kept, count)) => {
+            let place = buffer.open_kept(alloc, parent, kind, given, kept)?;
             Ok((place, count as u64))
         }
         None => open_listed(matcher, alloc, buffer, parent, kind),

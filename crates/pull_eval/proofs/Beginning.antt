@@ -17,7 +17,7 @@ use Rattle.gcx_model.specs.Past.{Past, opening_past}
 use Rattle.move_laws.proofs.Moving.{opening_point}
 use Rattle.tree_laws.proofs.Lists.{In-filter}
 use Rattle.run_laws.proofs.Free.{plan_acts}
-use Rattle.buf_tree.specs.Shape.{Cell, num}
+use Rattle.buf_tree.specs.Shape.{Cell}
 use Rattle.buf_tree.specs.Shape as shape
 use Rattle.buf_tree.specs.View.{View, capped}
 use Rattle.buf_tree.specs.Stands.{StandsFor}
@@ -27,6 +27,7 @@ use Rattle.pull_eval.specs.Position.{items, AreFrames, none, alone, Copies, Stan
 use Rattle.pull_eval.specs.Acting.{Beside}
 use Rattle.pull_eval.specs.declared.block.Block.{Block}
 use Rattle.pull_eval.specs.declared.block.Copying.{Copying}
+use Rattle.pull_eval.specs.declared.turns.Turns.{Turns}
 use Rattle.pull_eval.specs.declared.position.Position.{Position}
 use Rattle.cond_eval.proofs.Rows.{rows_rise, row_for}
 use Rattle.pull_eval.proofs.HeldRows.{holds, held_rows}
@@ -42,6 +43,7 @@ pub record IsNew (w : Position) (body : BodyTree) : Type 0 where
   pub seen : w.top.seen ≡ 0
   pub below : w.below.items ≡ []
   pub copying : w.copying ≡ None
+  pub turns : w.turns.items ≡ []
   pub begun : w.is_begun ≡ false
 
 new_frames : (w : Position) (body : BodyTree) (rows : List Cell) → IsNew w body → AreFrames rows opening (w.top ∷ reverse w.below.items) (Rest body env0 ∷ [])
@@ -59,6 +61,7 @@ stands_new plan w rows n = record {
   copies = subst (λ (z : Option Copying). Copies rows z []) (sym n.copying) refl;
   bound = λ e. absurd (true≢false (sym e ∙ n.begun));
   begins = λ _. (refl, refl);
+  turns = λ t i. absurd (subst (λ (z : List Turns). In t z) n.turns i);
 }
 
 pub beside_new : (plan : PlanTree) (w : Position) (v : View) → IsNew w plan.body → StandsFor v (opening_past plan) → v.taken ≡ 0 → Beside w v (opening_past plan) 0
@@ -115,6 +118,7 @@ module _ (w : Position) (v : View) (past : Past) (k : ℕ) (b : Beside w v past 
       copies = s.copies;
       bound = λ _ x n h. bound x n (subst (λ (z : List Frame). Bound_in x n z) (s.begins e).1 h);
       begins = λ f. absurd (true≢false f);
+      turns = s.turns;
     };
   }
     where

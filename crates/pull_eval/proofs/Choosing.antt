@@ -1,6 +1,6 @@
 -- A condition that comes next may be asked over the rows, and its truth tells the branch.
 use Rattle.std.proofs.Common.{◌≡◌, ℕ, true, false, List, refl, sym, subst, inl, inr}
-use Rattle.gcx_model.specs.Core.{CondTree, If, BodyTree}
+use Rattle.gcx_model.specs.Core.{CondTree, If, BodyTree, Then}
 use Rattle.gcx_model.specs.Truth.{truth}
 use Rattle.gcx_model.specs.Points.{Frame}
 use Rattle.gcx_model.specs.Past.{Past}
@@ -33,3 +33,6 @@ module _ (w : Position) (v : View) (past : Past) (k : ℕ) (b : Beside w v past 
 
   pub other_chosen : False ≡ truth c (at_item w v past k b (If c this other) d n).env past.tree → Chosen past.tree b.position.fs c this other other
   other_chosen e = subst (λ (z : List Frame). Chosen past.tree z c this other other) (sym (at_item w v past k b (If c this other) d n).frames_are) (inr (sym e, refl))
+
+pub same_condition : (c k : CondTree) (this other x y d e : BodyTree) → Then (If c this other) d ≡ Then (If k x y) e → c ≡ k
+same_condition c k this other x y d e h = cc

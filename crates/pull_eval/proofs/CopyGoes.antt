@@ -31,7 +31,7 @@ use Rattle.pull_eval.specs.declared.machine.Acted.{Acted}
 use Rattle.pull_eval.specs.declared.block.Block.{Block}
 use Rattle.pull_eval.specs.declared.block.Copying.{Copying}
 use Rattle.pull_eval.specs.declared.position.Position.{Position}
-use Rattle.pull_eval.proofs.Frames.{stands_within}
+use Rattle.pull_eval.proofs.Frames.{stands_within, turns_still}
 use Rattle.pull_eval.proofs.Writing.{beside_wrote, beside_still}
 use Rattle.cond_eval.proofs.Rows.{row_for, placed_row, at_node, kind_told, serial_told, kept_at}
 use Rattle.cond_eval.proofs.RowSteps.{lies_from}
@@ -45,6 +45,7 @@ pub record CopyGoes (w m : Position) : Type 0 where
   pub top : m.top ≡ w.top
   pub below : m.below.items ≡ w.below.items
   pub env : m.env ≡ w.env
+  pub turns : m.turns.items ≡ w.turns.items
   pub begun : m.is_begun ≡ true
 
 module _ (w m : Position) (v : View) (past : Past) (k : ℕ) (b : Beside w v past k) (c : Copying) (e : w.copying ≡ Some c) (begun : w.is_begun ≡ true) where
@@ -64,7 +65,7 @@ module _ (w m : Position) (v : View) (past : Past) (k : ℕ) (b : Beside w v pas
   module _ (same : CopyGoes w m) where
     stands : (j : ℕ) (inner : List CopyFrame) → FinePoint past.plan past.tree j inner b.position.fs → Copies v.rows m.copying inner → StandsAt past.plan m v.rows past.tree j
     stands j inner point copies =
-        stands_within m v.rows past.plan past.tree j inner b.position.fs same.begun point
+        stands_within m v.rows past.plan past.tree j inner b.position.fs same.begun (turns_still w m v.rows past.plan past.tree k same.turns b.position) point
         (subst (λ (z : Block). AreFrames v.rows past.tree (z ∷ reverse m.below.items) b.position.fs) (sym same.top) (subst (λ (z : List Block). AreFrames v.rows past.tree (w.top ∷ reverse z) b.position.fs) (sym same.below) b.position.frames))
         copies
         (λ x n h. subst (λ (z : Bindings). IsBound v.rows z x n) (sym same.env) (b.position.bound begun x n h))

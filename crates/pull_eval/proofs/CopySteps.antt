@@ -27,7 +27,7 @@ use Rattle.pull_eval.specs.declared.machine.Acted.{Acted}
 use Rattle.pull_eval.specs.declared.block.Block.{Block}
 use Rattle.pull_eval.specs.declared.block.Copying.{Copying}
 use Rattle.pull_eval.specs.declared.position.Position.{Position}
-use Rattle.pull_eval.proofs.Frames.{at_item, goes_on, stands_within}
+use Rattle.pull_eval.proofs.Frames.{at_item, goes_on, stands_within, turns_still}
 use Rattle.pull_eval.proofs.Weighing.{weigh_on}
 use Rattle.pull_eval.proofs.Writing.{beside_wrote, beside_still}
 use Rattle.cond_eval.proofs.Rows.{at_node, kind_told, kept_at}
@@ -43,6 +43,7 @@ use Rattle.pull_eval.proofs.CopyBytes.{text_some, start_some, Counted, wrote_som
 pub record CopyOnly (w m : Position) : Type 0 where
   pub below : m.below.items ≡ w.below.items
   pub env : m.env ≡ w.env
+  pub turns : m.turns.items ≡ w.turns.items
   pub begun : m.is_begun ≡ true
 
 -- a copy that has just begun
@@ -106,7 +107,7 @@ module _ (w m : Position) (v : View) (past : Past) (k : ℕ) (b : Beside w v pas
     bound y j h = subst (λ (z : Bindings). IsBound v.rows z y j) (sym same.env) ((at_item w v past k b (Copy x) d n).bound begun y j h)
 
     stands : (j : ℕ) (inner : List CopyFrame) → FinePoint past.plan past.tree j inner fs → Copies v.rows m.copying inner → StandsAt past.plan m v.rows past.tree j
-    stands j inner point copies = stands_within m v.rows past.plan past.tree j inner fs same.begun point frames copies bound
+    stands j inner point copies = stands_within m v.rows past.plan past.tree j inner fs same.begun (turns_still w m v.rows past.plan past.tree k same.turns b.position) point frames copies bound
 
     within_copy : (K : Kind) → kind_of node ≡ K → begun_at place K ≡ Some (record { top = place; node = place; present = None }) → Copies v.rows m.copying (Inside node None ∷ [])
     within_copy K e f = subst (λ (z : Option Copying). Copies v.rows z (Inside node None ∷ [])) (sym (gone_to ∙ (ap (begun_at place) e ∙ f))) (begun_copy v.rows place node placed)

@@ -1,12 +1,10 @@
 -- What the searches of a buffer tell of a loop's matches.
-use Rattle.std.proofs.Common.{◌≡◌, zero, suc, ℕ, List, Option, None, Result, Ok, Err, inr, refl, sym, subst}
+use Rattle.std.proofs.Common.{◌≡◌, zero, suc, ℕ, List, Option, None, Result, Ok, Err, refl, sym, subst}
 use Rattle.std.specs.Prelude.{IfOk}
 use Rattle.gcx_base.specs.declared.steps.Step.{Step}
 use Rattle.node_store.specs.declared.store.Place.{Place}
 use Rattle.buf_tree.specs.Shape.{Cell, num}
-use Rattle.buf_tree.specs.Match.{GoesFrom}
-use Rattle.buf_tree.specs.View.{InUse}
-use Rattle.cond_eval.specs.Searches.{IsFirst, Finds}
+use Rattle.cond_eval.specs.Searches.{Finds}
 use Rattle.pull_eval.specs.Rounds.{from_seen}
 
 -- where nothing is known the search begins at the row itself
@@ -16,10 +14,6 @@ finds_seen rows c s seen found e f = subst (λ (z : ℕ). Finds rows c s (from_s
 pub finds_behind : (rows : List Cell) (c : Cell) (s : Step) (seen : ℕ) (found : Option Place) → (seen ≡ 0 → ⊥) → Finds rows c s seen found → Finds rows c s (from_seen c seen) found
 finds_behind rows c s zero found n f = absurd (n refl)
 finds_behind rows c s (suc k) found n f = f
-
--- a search may go on from the first row that a step reaches
-pub goes_first : (rows : List Cell) (p : ℕ) (u : InUse rows p) (s : Step) (after q : ℕ) → IsFirst rows u.cell s after q → GoesFrom rows p s.axis q
-goes_first rows p u s after q f = record { top = u; from = record { cell = f.first.cell; among = f.first.reached.among; place = f.first.place }; way = inr f.first.reached.axis }
 
 -- what holds of a call that takes no action, where it had the memory
 pub ok_none : {A E : Type 0} (result : Result (Option A) E) (B : Type 0) (P : Option A → Type 0) → IfOk result (λ a. B × (a ≡ None)) → (B → P None) → IfOk result P

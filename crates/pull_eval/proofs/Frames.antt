@@ -31,6 +31,7 @@ use Rattle.tree_laws.proofs.Matches.{Matches-in}
 use Rattle.buf_tree.specs.Shape.{Cell}
 use Rattle.buf_tree.specs.View.{View}
 use Rattle.cond_eval.specs.Asking.{IsBound}
+use Rattle.pull_eval.specs.Turns.{TurnsStand}
 use Rattle.pull_eval.specs.Position.{items, EndsWithOff, LooksInTime, SeenTo, AreFrames, alone, in_round, Copies, StandsAt}
 use Rattle.pull_eval.specs.Acting.{Beside, IsNextItem}
 use Rattle.pull_eval.specs.declared.block.Next.{Next}
@@ -38,6 +39,7 @@ use Rattle.pull_eval.specs.declared.block.Next.TheVariants.{Unsought, Found, Non
 use Rattle.pull_eval.specs.declared.block.Round.{Round as CodeRound}
 use Rattle.pull_eval.specs.declared.block.Block.{Block}
 use Rattle.pull_eval.specs.declared.block.Copying.{Copying}
+use Rattle.pull_eval.specs.declared.turns.Turns.{Turns}
 use Rattle.pull_eval.specs.declared.position.Position.{Position}
 
 -- ---- the block at the top
@@ -191,9 +193,9 @@ pub below_pushed : (xs : List Block) (b : Block) → reverse (xs ++ b ∷ []) �
 below_pushed xs b = reverse-append xs (b ∷ [])
 
 -- a position at a point of the plan's frames, with no copy in progress
-pub stands_plainly : (w : Position) (rows : List Cell) (plan : PlanTree) (P : Tree) (k : ℕ) (fs : List Frame) → w.copying ≡ None → w.is_begun ≡ true → PointAt plan P k fs
+pub stands_plainly : (w : Position) (rows : List Cell) (plan : PlanTree) (P : Tree) (k : ℕ) (fs : List Frame) → w.copying ≡ None → w.is_begun ≡ true → TurnsStand rows P w.turns.items → PointAt plan P k fs
     → AreFrames rows P (w.top ∷ reverse w.below.items) fs → ((x : ℕ) (n : Node) → Bound_in x n fs → IsBound rows w.env x n) → StandsAt plan w rows P k
-stands_plainly w rows plan P k fs e begun point frames bound = record {
+stands_plainly w rows plan P k fs e begun turns point frames bound = record {
   inner = [];
   fs = fs;
   point = point;
@@ -201,12 +203,13 @@ stands_plainly w rows plan P k fs e begun point frames bound = record {
   copies = subst (λ (z : Option Copying). Copies rows z []) (sym e) refl;
   bound = λ _. bound;
   begins = λ f. absurd (true≢false (sym begun ∙ f));
+  turns = turns;
 }
 
 -- the same within a copy or not
-pub stands_within : (m : Position) (rows : List Cell) (plan : PlanTree) (P : Tree) (k : ℕ) (inner : List CopyFrame) (fs : List Frame) → m.is_begun ≡ true → FinePoint plan P k inner fs
+pub stands_within : (m : Position) (rows : List Cell) (plan : PlanTree) (P : Tree) (k : ℕ) (inner : List CopyFrame) (fs : List Frame) → m.is_begun ≡ true → TurnsStand rows P m.turns.items → FinePoint plan P k inner fs
     → AreFrames rows P (m.top ∷ reverse m.below.items) fs → Copies rows m.copying inner → ((x : ℕ) (n : Node) → Bound_in x n fs → IsBound rows m.env x n) → StandsAt plan m rows P k
-stands_within m rows plan P k inner fs begun point frames copies bound = record {
+stands_within m rows plan P k inner fs begun turns point frames copies bound = record {
   inner = inner;
   fs = fs;
   point = point;
@@ -214,4 +217,9 @@ stands_within m rows plan P k inner fs begun point frames copies bound = record 
   copies = copies;
   bound = λ _. bound;
   begins = λ f. absurd (true≢false (sym begun ∙ f));
+  turns = turns;
 }
+
+-- what loops go by stands as it did
+pub turns_still : (w m : Position) (rows : List Cell) (plan : PlanTree) (P : Tree) (k : ℕ) → m.turns.items ≡ w.turns.items → StandsAt plan w rows P k → TurnsStand rows P m.turns.items
+turns_still w m rows plan P k e s = subst (λ (z : List Turns). TurnsStand rows P z) (sym e) s.turns

@@ -8,8 +8,15 @@ mod RoundFrames
 mod NextMatches
 mod RoundWeights
 mod RoundMoves
+mod Guarding
+mod TurnsKept
+mod Leaping
+mod Quieting
+mod AtLoops
+mod Looking
 mod LoopEntry
 mod RoundEnds
+mod RoundTurns
 mod RoundLooks
 pub mod SignedRows
 mod SignMoves
@@ -22,5 +29,9 @@ mod Choosing
 mod OpeningTaken
 mod Beginning
 mod Finding
+mod SameSteps
 mod MovesOn
 mod Tags
+mod TurnsListed
+mod TurnsByText
+mod TurnsChosen

@@ -1,6 +1,7 @@
 -- The body of a round is over: the loop goes on with its next match, ends where none comes, and waits where none has come yet.
 use Rattle.std.proofs.Common.{◌≡◌, ◌<◌, suc, ℕ, Bool, true, false, not, List, [], ◌∷◌, ◌++◌, length, reverse, Option, Some, None, refl, sym, ◌∙◌, ap, subst, inl, inr, arith}
 use Rattle.std.specs.Prelude.{nat_lt}
+use Rattle.std.proofs.lemmas.Bool.{true≢false}
 use Rattle.std.specs.FinMap as map
 use Rattle.gcx_base.specs.declared.steps.Step.{Step}
 use Rattle.gcx_model.specs.declared.item.Item.{Item}
@@ -13,11 +14,13 @@ use Rattle.gcx_model.specs.Truth.{bind_var}
 use Rattle.gcx_model.specs.Past.{Past}
 use Rattle.gcx_model.specs.Points.{Frame, Rest, Round, later, PointAt, Bound_in}
 use Rattle.move_laws.specs.Moves.{AtPoint}
-use Rattle.tree_laws.proofs.Lists.{In-filter}
+use Rattle.tree_laws.proofs.Lists.{In-filter, In-right}
 use Rattle.tree_laws.proofs.Matches.{Matches-in}
 use Rattle.past_laws.proofs.Bases.{is_grown}
 use Rattle.tree_laws.proofs.Chains.{hits_one}
-use Rattle.move_laws.proofs.Moving.{next_round, round_waits}
+use Rattle.move_laws.proofs.Moving.{round_waits}
+use Rattle.pass_laws.specs.Idle.{IsQuiet}
+use Rattle.pass_laws.proofs.Rounds.{rounds_pass}
 use Rattle.placed_laws.proofs.PointNeeds.{turn_law}
 use Rattle.run_laws.proofs.Free.{round_variable_free}
 use Rattle.node_store.specs.declared.store.Place.{Place}
@@ -25,13 +28,14 @@ use Rattle.buf_tree.specs.Shape.{Cell, num}
 use Rattle.buf_tree.specs.Match.{GoesFrom}
 use Rattle.buf_tree.specs.View.{View, InUse, serial_at}
 use Rattle.cond_eval.specs.declared.watermark.Watermark.{Watermark}
-use Rattle.cond_eval.specs.Asking.{PlacedAt, IsBound}
+use Rattle.cond_eval.specs.Asking.{IsBound}
 use Rattle.cond_eval.specs.Bindings.{Bindings}
 use Rattle.cond_eval.specs.Reads.{NodeAt}
-use Rattle.pull_eval.specs.Position.{items, KnowsNext, IsUpTo, LooksInTime, AreFrames, alone, in_round, none}
+use Rattle.pull_eval.specs.Position.{items, LooksInTime, AreFrames, alone, in_round, none}
 use Rattle.pull_eval.specs.Weight.{weigh_body, weigh_round, weigh_block, weigh_blocks, weigh_copying, weight, rounds_left, rows_behind}
 use Rattle.pull_eval.specs.Acting.{Beside, Moves, IsOver, IsLast}
-use Rattle.pull_eval.specs.Rounds.{GoesOnAt, Began}
+use Rattle.pull_eval.specs.Rounds.{Began}
+use Rattle.pull_eval.specs.Leaps.{TurnsAt, TurnIn}
 use Rattle.pull_eval.specs.declared.block.Next.{Next}
 use Rattle.pull_eval.specs.declared.block.Next.TheVariants.{Unsought, Found, NoneUpTo}
 use Rattle.pull_eval.specs.declared.block.Round.{Round as CodeRound}
@@ -39,14 +43,13 @@ use Rattle.pull_eval.specs.declared.block.Block.{Block}
 use Rattle.pull_eval.specs.declared.position.Position.{Position}
 use Rattle.pull_eval.specs.declared.machine.Acted.TheVariants.{Blocked}
 use Rattle.cond_eval.proofs.Rows.{kept_at, at_node, at_placed, closed_told}
-use Rattle.cond_eval.proofs.RowSteps.{seen_found, none_seen, from_match}
+use Rattle.cond_eval.proofs.RowSteps.{from_match}
 use Rattle.pull_eval.proofs.HeldRows.{holds, held_rows}
-use Rattle.pull_eval.proofs.Frames.{stands_plainly}
+use Rattle.pull_eval.proofs.Frames.{stands_plainly, turns_still}
 use Rattle.pull_eval.proofs.Needing.{needed_held}
 use Rattle.pull_eval.proofs.Writing.{beside_still}
 use Rattle.pull_eval.proofs.RoundFrames.{TopRound, top_round, AtRound, at_round, bound_node, bound_anew}
 use Rattle.pull_eval.proofs.NextMatches.{node_below}
-use Rattle.pull_eval.proofs.RoundWeights.{behind_fewer}
 use Rattle.pull_eval.proofs.RoundMoves.{round_block, begun_frames, begun_weight}
 
 -- what is known to be looked for in time is known where nothing is left
@@ -104,44 +107,25 @@ module _ (w : Position) (v : View) (past : Past) (k : ℕ) (b : Beside w v past 
   round_context = kept_at v.rows P (holds past) (held_rows v past b.buffer) (t.env t.from) r.context.0 context_in
       (needed_held w v past k b (rest ∷ frame ∷ t.below) at.point.point (t.env t.from) context_in (inr (inl (inr refl)))) t.round.context
 
-  later_in : (m : Node) → In m ms → In m P.nodes
+  pub later_in : (m : Node) → In m ms → In m P.nodes
   later_in m i = (Matches-in P (serial_of (t.env t.from)) (s ∷ []) m (In-filter (λ j. nat_lt (serial_of t.node) (serial_of j)) m (matches P (serial_of (t.env t.from)) (s ∷ [])) i).0).0
 
   pub later_kept : (m : Node) → In m ms → holds past m ≡ true
   later_kept m i = needed_held w v past k b (rest ∷ frame ∷ t.below) at.point.point m (later_in m i) (inr (inl (inl (inr i))))
 
-  -- the match with which the loop goes on is the next one,
-  next_there : (next : Next) (p : Place) → KnowsNext v.rows ms next → IsUpTo P t.node next → (next ≡ Unsought → ⊥) → GoesOnAt v.rows round_context.cell s next (Some p)
-      → (m : Node) × (more : List Node) × (ms ≡ m ∷ more) × NodeAt v.rows P (holds past) p.0 m
-  next_there Unsought p knows upto sought goes = absurd (sought refl)
-  next_there (Found q) p knows upto sought goes =
-      let i : In knows.0 ms = subst (λ (z : List Node). In knows.0 z) (sym knows.2) (inl refl) in
-      let same : p ≡ q = cc in
-      (knows.0, knows.1, knows.2, kept_at v.rows P (holds past) (held_rows v past b.buffer) knows.0 p.0 (later_in knows.0 i) (later_kept knows.0 i) (subst (λ (z : Place). PlacedAt v.rows (serial_of knows.0) z.0) (sym same) knows.3))
-  next_there (NoneUpTo u) p knows upto sought goes =
-      seen_found v.rows P (holds past) (held_rows v past b.buffer) round_context.cell (t.env t.from) t.node s u.0 p.0 round_context.cell_among
-      (at_node v.rows P (holds past) r.context.0 (t.env t.from) round_context) (λ m i. (later_kept m i, knows m i)) upto.0 goes.first
+  -- what is told of the match with which the loop goes on
+  abbrev TurnTold : Option Place → Type 0
+  TurnTold found = TurnsAt v.rows ms (λ j. IsQuiet e (bind_var t.env x j) P) (is_closed P (t.env t.from) ≡ true) (rounds_left v.rows r.present r.next) found
 
-  -- there were rounds left for it,
-  next_left : (next : Next) (p : Place) (m : Node) (here : NodeAt v.rows P (holds past) p.0 m) → (next ≡ Unsought → ⊥) → GoesOnAt v.rows round_context.cell s next (Some p) → serial_at p.0 v.rows ≡ num here.cell
-      → rows_behind (num here.cell) v.rows < rounds_left v.rows r.present next
-  next_left Unsought p m here sought goes number = absurd (sought refl)
-  next_left (Found q) p m here sought goes number =
-      let same : p ≡ q = cc in
-      let l : rows_behind (serial_at q.0 v.rows) v.rows ≡ rows_behind (num here.cell) v.rows = ap (λ (z : Place). rows_behind (serial_at z.0 v.rows) v.rows) (sym same) ∙ ap (λ (z : ℕ). rows_behind z v.rows) number in
-      omega arith
-  next_left (NoneUpTo u) p m here sought goes number =
-      let l : rows_behind (num goes.first.cell) v.rows ≡ rows_behind (num here.cell) v.rows = ap (λ (z : ℕ). rows_behind z v.rows) (sym goes.serial ∙ number) in
-      let f = behind_fewer v.rows u.0 goes.first.cell goes.first.reached.among goes.first.reached.behind in
-      omega arith
+  pub turn_told : (found : Option Place) → TurnIn P v.rows b.position.fs r found → TurnTold found
+  turn_told found told = told t.from t.env t.node rest t.below t.is
 
-  -- and without one there is none
-  none_next : (next : Next) → KnowsNext v.rows ms next → IsUpTo P t.node next → (next ≡ Unsought → ⊥) → GoesOnAt v.rows round_context.cell s next None → ms ≡ []
-  none_next Unsought knows upto sought goes = absurd (sought refl)
-  none_next (Found q) knows upto sought goes = absurd (cc)
-  none_next (NoneUpTo u) knows upto sought goes =
-      none_seen v.rows P (holds past) (held_rows v past b.buffer) round_context.cell (t.env t.from) t.node s u.0 round_context.cell_among
-      (at_node v.rows P (holds past) r.context.0 (t.env t.from) round_context) (λ m i. (later_kept m i, knows m i)) upto.0 goes
+  -- a match that is told of is a row
+  turn_in : (p : Place) (told : TurnTold (Some p)) → In told.1 ms
+  turn_in p told = subst (λ (z : List Node). In told.1 z) (sym told.3) (In-right told.1 told.0 (told.1 ∷ told.2) (inl refl))
+
+  turn_row : (p : Place) (told : TurnTold (Some p)) → NodeAt v.rows P (holds past) p.0 told.1
+  turn_row p told = let i = turn_in p told in kept_at v.rows P (holds past) (held_rows v past b.buffer) told.1 p.0 (later_in told.1 i) (later_kept told.1 i) told.5
 
   module _ (over : w.top.rest.now ≡ []) where
     pub is_sought : r.next ≡ Unsought → ⊥
@@ -153,25 +137,13 @@ module _ (w : Position) (v : View) (past : Past) (k : ℕ) (b : Beside w v past 
     over_point : AtPoint past.plan P k (Rest Nil (bind_var t.env x t.node) ∷ frame ∷ t.below)
     over_point = subst (λ (z : BodyTree). AtPoint past.plan P k (Rest z (bind_var t.env x t.node) ∷ frame ∷ t.below)) empty at.point
 
-    pub next_match : (p : Place) → GoesOnAt v.rows round_context.cell s r.next (Some p) → (m : Node) × (more : List Node) × (ms ≡ m ∷ more) × NodeAt v.rows P (holds past) p.0 m
-    next_match p goes = next_there r.next p t.round.next t.round.upto is_sought goes
-
-    pub no_match : GoesOnAt v.rows round_context.cell s r.next None → ms ≡ []
-    no_match goes = none_next r.next t.round.next t.round.upto is_sought goes
-
     -- ---- in the words of the code
 
     pub context_used : InUse v.rows r.context.0
     context_used = record { cell = round_context.cell; among = round_context.cell_among; place = round_context.at }
 
-    abbrev NextTold : Option Place → Type 0
-    NextTold found = (c : Cell) → In c v.rows → c.place ≡ r.context.0 → GoesOnAt v.rows c s r.next found
-
     abbrev ClosedTold : Bool → Type 0
     ClosedTold closed = (c : Cell) → In c v.rows → c.place ≡ r.context.0 → closed ≡ not c.row.is_open
-
-    told_next : (found : Option Place) → NextTold found → GoesOnAt v.rows round_context.cell s r.next found
-    told_next found told = told round_context.cell round_context.cell_among round_context.at
 
     closed_is : (closed : Bool) → ClosedTold closed → is_closed P (t.env t.from) ≡ closed
     closed_is closed row =
@@ -179,53 +151,55 @@ module _ (w : Position) (v : View) (past : Past) (k : ℕ) (b : Beside w v past 
         ∙ sym (row round_context.cell round_context.cell_among round_context.at)
 
     -- a search may go on from the match
-    pub goes_on_from : (p : Place) → NextTold (Some p) → GoesFrom v.rows r.context.0 s.axis p.0
+    pub goes_on_from : (p : Place) → TurnTold (Some p) → GoesFrom v.rows r.context.0 s.axis p.0
     goes_on_from p told =
-        let f = next_match p (told_next (Some p) told) in
-        let i : In f.0 ms = subst (λ (z : List Node). In f.0 z) (sym f.2) (inl refl) in
-        let j = (In-filter (λ q. nat_lt (serial_of t.node) (serial_of q)) f.0 (matches P (serial_of (t.env t.from)) (s ∷ [])) i).0 in
-        let m = Matches-in P (serial_of (t.env t.from)) (s ∷ []) f.0 j in
+        let here = turn_row p told in
+        let j = (In-filter (λ q. nat_lt (serial_of t.node) (serial_of q)) told.1 (matches P (serial_of (t.env t.from)) (s ∷ [])) (turn_in p told)).0 in
+        let m = Matches-in P (serial_of (t.env t.from)) (s ∷ []) told.1 j in
         record {
           top = record { cell = round_context.cell; among = round_context.cell_among; place = round_context.at };
-          from = record { cell = f.3.cell; among = f.3.cell_among; place = f.3.at };
-          way = from_match v.rows P (holds past) (held_rows v past b.buffer) round_context.cell f.3.cell (t.env t.from) f.0 s round_context.cell_among f.3.cell_among
-              (at_node v.rows P (holds past) r.context.0 (t.env t.from) round_context) (at_node v.rows P (holds past) p.0 f.0 f.3)
-              (hits_one P (is_grown past b.buffer.is_past) (serial_of (t.env t.from)) s f.0 m.0 m.1);
+          from = record { cell = here.cell; among = here.cell_among; place = here.at };
+          way = from_match v.rows P (holds past) (held_rows v past b.buffer) round_context.cell here.cell (t.env t.from) told.1 s round_context.cell_among here.cell_among
+              (at_node v.rows P (holds past) r.context.0 (t.env t.from) round_context) (at_node v.rows P (holds past) p.0 told.1 here)
+              (hits_one P (is_grown past b.buffer.is_past) (serial_of (t.env t.from)) s told.1 m.0 m.1);
         }
 
     -- the loop goes on with the match
-    module _ (n : Position) (p : Place) (goes : GoesOnAt v.rows round_context.cell s r.next (Some p)) (g : Began v w n (record r { present = p })) where
+    module _ (n : Position) (p : Place) (told : TurnTold (Some p)) (g : Began v w n (record r { present = p })) where
       abbrev q : CodeRound
       q = record r { present = p }
 
-      found : (m : Node) × (more : List Node) × (ms ≡ m ∷ more) × NodeAt v.rows P (holds past) p.0 m
-      found = next_match p goes
+      abbrev m : Node
+      m = told.1
+
+      here : NodeAt v.rows P (holds past) p.0 m
+      here = turn_row p told
 
       abbrev fs : List Frame
-      fs = Rest e (bind_var t.env x found.0) ∷ Round x t.from s e t.env found.0 ∷ t.below
+      fs = Rest e (bind_var t.env x m) ∷ Round x t.from s e t.env m ∷ t.below
 
       point : PointAt past.plan P k fs
-      point = next_round past.plan P k (bind_var t.env x t.node) x t.from s e t.env t.node t.below found.0 found.1 over_point found.2
+      point = rounds_pass past.plan P k (bind_var t.env x t.node) x t.from s e t.env t.node t.below told.0 m told.2 over_point told.3 told.4
 
       frames : AreFrames v.rows P (n.top ∷ reverse n.below.items) fs
       frames =
-          let own = begun_frames w w n v past k b q t.from t.env found.0 t.below (reverse w.below.items) g round_context found.3 point t.others in
+          let own = begun_frames w w n v past k b q t.from t.env m t.below (reverse w.below.items) g round_context here point t.others in
           subst (λ (z : List Block). AreFrames v.rows P (n.top ∷ reverse z) fs) (sym g.below) (subst (λ (z : Block). AreFrames v.rows P (z ∷ reverse w.below.items) fs) (sym g.top) own)
 
-      number : serial_at p.0 v.rows ≡ num found.3.cell
-      number = g.serial found.3.cell found.3.cell_among found.3.at
+      number : serial_at p.0 v.rows ≡ num here.cell
+      number = g.serial here.cell here.cell_among here.at
 
       bound : (z : ℕ) (j : Node) → Bound_in z j fs → IsBound v.rows n.env z j
       bound z j h =
           let is = b.buffer.is_past in
           let free = round_variable_free is.core is.good past.plan is.placed P k (rest ∷ []) t.below x t.from s e t.env t.node at.point.point in
-          let env_is : n.env ≡ map.insert w.env x (p.0, serial_of found.0) = g.env ∙ ap (λ (z : ℕ). map.insert w.env x (p.0, z)) (number ∙ found.3.number) in
-          bound_anew v.rows w.env n.env x p.0 found.0 t.below env_is (at_placed v.rows P (holds past) p.0 found.0 found.3) free.1 (λ y m i. at.bound begun y m (inr i)) z j h
+          let env_is : n.env ≡ map.insert w.env x (p.0, serial_of m) = g.env ∙ ap (λ (z : ℕ). map.insert w.env x (p.0, z)) (number ∙ here.number) in
+          bound_anew v.rows w.env n.env x p.0 m t.below env_is (at_placed v.rows P (holds past) p.0 m here) free.1 (λ y m i. at.bound begun y m (inr i)) z j h
 
       falls : weight v.rows n < weight v.rows w
       falls =
-          let left = next_left r.next p found.0 found.3 is_sought goes number in
-          let own = begun_weight w w n v past k b q (t.env t.from) found.0 g round_context found.3 (rounds_left v.rows r.present r.next) left in
+          let left : rows_behind (num here.cell) v.rows < rounds_left v.rows r.present r.next = subst (λ (z : ℕ). rows_behind z v.rows < rounds_left v.rows r.present r.next) (sym here.number) told.6 in
+          let own = begun_weight w w n v past k b q (t.env t.from) m g round_context here (rounds_left v.rows r.present r.next) left in
           let top : weigh_block v.rows n.top ≡ weigh_block v.rows (round_block q g.next) = ap (weigh_block v.rows) g.top in
           let old : weigh_round v.rows w.top.round ≡ weigh_round v.rows (Some r) = ap (weigh_round v.rows) round in
           let body : weigh_body (length v.rows) (items w.top.rest.now) ≡ 0 = ap (weigh_body (length v.rows)) empty in
@@ -233,23 +207,25 @@ module _ (w : Position) (v : View) (past : Past) (k : ℕ) (b : Beside w v past 
           let copying : weigh_copying n.copying ≡ weigh_copying w.copying = ap weigh_copying g.copying in
           omega arith
 
-      goes_again : (out : List ℕ) → Moves past k w n v v out out None
-      goes_again out = (refl, refl, beside_still w n v past k b (stands_plainly n v.rows past.plan P k fs (g.copying ∙ no_copy) (g.begun ∙ begun) point frames bound), falls)
-
-    pub begins_again : (n : Position) (p : Place) → NextTold (Some p) → Began v w n (record r { present = p }) → (out : List ℕ) → Moves past k w n v v out out None
-    begins_again n p told g out = goes_again n p (told_next (Some p) told) g out
+      pub begins_again : (out : List ℕ) → Moves past k w n v v out out None
+      begins_again out = (refl, refl, beside_still w n v past k b (stands_plainly n v.rows past.plan P k fs (g.copying ∙ no_copy) (g.begun ∙ begun) (turns_still w n v.rows past.plan P k g.turns b.position) point frames bound), falls)
 
     -- the loop is over
-    is_last : ms ≡ [] → is_closed P (t.env t.from) ≡ true → IsOver P b.position.fs
-    is_last none_left closed = subst (λ (z : List Frame). IsOver P z) (sym t.is) (none_left, closed)
+    quiet : TurnTold None → (j : Node) → In j ms → IsQuiet e (bind_var t.env x j) P
+    quiet (inl nothing) j i = absurd (subst (λ (z : List Node). In j z) nothing i)
+    quiet (inr h) j i = h.0 j i
 
-    pub ends_there : (closed : Bool) → NextTold None → ClosedTold closed → closed ≡ true → IsOver P b.position.fs
-    ends_there closed told row is = is_last (no_match (told_next None told)) (closed_is closed row ∙ is)
+    none_left : TurnTold None → is_closed P (t.env t.from) ≡ false → ms ≡ []
+    none_left (inl nothing) open_still = nothing
+    none_left (inr h) open_still = absurd (true≢false (sym h.1 ∙ open_still))
+
+    pub ends_there : (closed : Bool) → TurnTold None → ClosedTold closed → closed ≡ true → IsOver P b.position.fs
+    ends_there closed told row is = subst (λ (z : List Frame). IsOver P z) (sym t.is) (quiet told, closed_is closed row ∙ is)
 
     -- the loop waits for its next match
-    round_waits_now : (n : Position) (u : Watermark) → n.top ≡ record w.top { round = Some (record r { next = NoneUpTo u }) } → suc u.0 ≡ v.nodes → n.below.items ≡ w.below.items → n.env ≡ w.env → n.copying ≡ w.copying → n.is_begun ≡ w.is_begun
+    round_waits_now : (n : Position) (u : Watermark) → n.top ≡ record w.top { round = Some (record r { next = NoneUpTo u }) } → suc u.0 ≡ v.nodes → n.below.items ≡ w.below.items → n.env ≡ w.env → n.copying ≡ w.copying → n.turns.items ≡ w.turns.items → n.is_begun ≡ w.is_begun
         → ms ≡ [] → is_closed P (t.env t.from) ≡ false → (out : List ℕ) → Moves past k w n v v out out (Some Blocked)
-    round_waits_now n u top upto blocks env_is copying is_begun none_left open_still out =
+    round_waits_now n u top upto blocks env_is copying turns is_begun none_left open_still out =
         let fs = rest ∷ frame ∷ t.below in
         let here = node_below v past b.buffer t.node present_in in
         let count : v.nodes ≡ length P.nodes = b.buffer.nodes in
@@ -260,12 +236,12 @@ module _ (w : Position) (v : View) (past : Past) (k : ℕ) (b : Beside w v past 
         let frames : AreFrames v.rows P (n.top ∷ reverse n.below.items) fs =
         subst (λ (z : List Block). AreFrames v.rows P (n.top ∷ reverse z) fs) (sym blocks) (subst (λ (z : Block). AreFrames v.rows P (z ∷ reverse w.below.items) fs) (sym top) own) in
         let bound : (z : ℕ) (j : Node) → Bound_in z j fs → IsBound v.rows n.env z j = λ z j h. subst (λ (q : Bindings). IsBound v.rows q z j) (sym env_is) (at.bound begun z j h) in
-        let stands = stands_plainly n v.rows past.plan P k fs (copying ∙ no_copy) (is_begun ∙ begun) at.point.point frames bound in
+        let stands = stands_plainly n v.rows past.plan P k fs (copying ∙ no_copy) (is_begun ∙ begun) (turns_still w n v.rows past.plan P k turns b.position) at.point.point frames bound in
         (round_waits past.plan P k (bind_var t.env x t.node) x t.from s e t.env t.node t.below over_point none_left open_still, refl, refl, beside_still w n v past k b stands)
 
-    pub waits_there : (n : Position) (u : Watermark) → n.top ≡ record w.top { round = Some (record r { next = NoneUpTo u }) } → suc u.0 ≡ v.nodes → n.below.items ≡ w.below.items → n.env ≡ w.env → n.copying ≡ w.copying → n.is_begun ≡ w.is_begun
-        → (closed : Bool) → NextTold None → ClosedTold closed → closed ≡ false → (out : List ℕ) → Moves past k w n v v out out (Some Blocked)
-    waits_there n u top upto blocks env_is copying is_begun closed told row is out = round_waits_now n u top upto blocks env_is copying is_begun (no_match (told_next None told)) (closed_is closed row ∙ is) out
+    pub waits_there : (n : Position) (u : Watermark) → n.top ≡ record w.top { round = Some (record r { next = NoneUpTo u }) } → suc u.0 ≡ v.nodes → n.below.items ≡ w.below.items → n.env ≡ w.env → n.copying ≡ w.copying → n.turns.items ≡ w.turns.items → n.is_begun ≡ w.is_begun
+        → (closed : Bool) → TurnTold None → ClosedTold closed → closed ≡ false → (out : List ℕ) → Moves past k w n v v out out (Some Blocked)
+    waits_there n u top upto blocks env_is copying turns is_begun closed told row is out = let open_still = closed_is closed row ∙ is in round_waits_now n u top upto blocks env_is copying turns is_begun (none_left told open_still) open_still out
 
 -- ---- a body that isn't that of a round is over
 

@@ -33,7 +33,7 @@ use Rattle.pull_eval.specs.declared.position.Position.{Position}
 use Rattle.cond_eval.proofs.Rows.{kept_at, at_node}
 use Rattle.cond_eval.proofs.RowSteps.{from_match}
 use Rattle.pull_eval.proofs.HeldRows.{holds, held_rows}
-use Rattle.pull_eval.proofs.Frames.{fold_Off, stands_plainly}
+use Rattle.pull_eval.proofs.Frames.{fold_Off, stands_plainly, turns_still}
 use Rattle.pull_eval.proofs.Needing.{needed_held}
 use Rattle.pull_eval.proofs.Writing.{beside_still}
 use Rattle.pull_eval.proofs.RoundFrames.{TopRound, top_round, AtRound, at_round}
@@ -101,8 +101,8 @@ module _ (w : Position) (v : View) (past : Past) (k : ℕ) (b : Beside w v past 
       }
 
   pub looked : (n : Position) (next : Next) → ((c d : Cell) → In c v.rows → In d v.rows → c.place ≡ r.context.0 → d.place ≡ r.present.0 → Learnt v c r.step.now (num d) next) → (next ≡ Unsought → ⊥)
-      → n.top ≡ record w.top { round = Some (record r { next = next }) } → n.below.items ≡ w.below.items → n.env ≡ w.env → n.copying ≡ w.copying → n.is_begun ≡ w.is_begun → Beside n v past k
-  looked n next learnt sought top blocks env_is copying is_begun =
+      → n.top ≡ record w.top { round = Some (record r { next = next }) } → n.below.items ≡ w.below.items → n.env ≡ w.env → n.copying ≡ w.copying → n.turns.items ≡ w.turns.items → n.is_begun ≡ w.is_begun → Beside n v past k
+  looked n next learnt sought top blocks env_is copying turns is_begun =
       let fs = rest ∷ frame ∷ t.below in
       let l = learnt_next v past b.buffer context.cell (t.env t.from) t.node r.step.now next context.cell_among (at_node v.rows P (holds past) r.context.0 (t.env t.from) context)
       (present_in w v past k b begun no_copy r round) (num round_present.cell) round_present.number (later_kept w v past k b begun no_copy r round)
@@ -113,4 +113,4 @@ module _ (w : Position) (v : View) (past : Past) (k : ℕ) (b : Beside w v past 
       let frames : AreFrames v.rows P (n.top ∷ reverse n.below.items) fs =
       subst (λ (z : List Block). AreFrames v.rows P (n.top ∷ reverse z) fs) (sym blocks) (subst (λ (z : Block). AreFrames v.rows P (z ∷ reverse w.below.items) fs) (sym top) own) in
       let bound : (z : ℕ) (j : Node) → Bound_in z j fs → IsBound v.rows n.env z j = λ z j h. subst (λ (q : Bindings). IsBound v.rows q z j) (sym env_is) (at.bound begun z j h) in
-      beside_still w n v past k b (stands_plainly n v.rows past.plan P k fs (copying ∙ no_copy) (is_begun ∙ begun) at.point.point frames bound)
+      beside_still w n v past k b (stands_plainly n v.rows past.plan P k fs (copying ∙ no_copy) (is_begun ∙ begun) (turns_still w n v.rows past.plan P k turns b.position) at.point.point frames bound)

@@ -79,7 +79,7 @@ module _ (w : Position) (v : View) (past : Past) (k : ℕ) (b : Beside w v past 
       kept_at v.rows past.tree (holds past) (held_rows v past b.buffer) (env y) p i (item_held w v past k b (For x y s e) d next (env y) i (inl refl))
       (subst (λ (z : ℕ). PlacedAt v.rows (serial_of (env y)) z) (sym q) context_bound.at)
 
-  all_kept : (m : Node) → In m ms → holds past m ≡ true
+  pub all_kept : (m : Node) → In m ms → holds past m ≡ true
   all_kept m i = item_held w v past k b (For x y s e) d next m (Matches-in past.tree (serial_of (env y)) (s ∷ []) m i).0 (inr i)
 
   -- the first match of the loop, where a search finds one,

@@ -9,7 +9,7 @@ use Rattle.gcx_model.specs.declared.item.Off.{Off}
 use Rattle.gcx_model.specs.ItemView.{off_tree}
 use Rattle.gcx_model.specs.Tree.{Node, serial_of, Tree}
 use Rattle.gcx_model.specs.Members.{In}
-use Rattle.gcx_model.specs.Core.{OffTree, BodyTree, Then, PlanTree}
+use Rattle.gcx_model.specs.Core.{OffTree, BodyTree}
 use Rattle.gcx_model.specs.Core as tree
 use Rattle.gcx_model.specs.Truth.{Env}
 use Rattle.gcx_model.specs.Run.{Action, Offed}
@@ -39,6 +39,7 @@ use Rattle.buf_tree.proofs.Departed.{departed_rows}
 use Rattle.cond_eval.specs.Asking.{PlacedAt, IsBound}
 use Rattle.cond_eval.specs.Bindings.{Bindings}
 use Rattle.cond_eval.specs.Reads.{NodeAt}
+use Rattle.pull_eval.specs.Turns.{TurnsStand}
 use Rattle.pull_eval.specs.Position.{items, AreFrames}
 use Rattle.pull_eval.specs.Acting.{Beside, IsNextItem, Takes, SoughtRound, SamePlaces, leaving}
 use Rattle.pull_eval.specs.declared.block.Round.{Round as CodeRound}
@@ -47,9 +48,10 @@ use Rattle.pull_eval.specs.declared.position.Position.{Position}
 use Rattle.pull_eval.specs.declared.machine.Acted.TheVariants.{SignedOff}
 use Rattle.cond_eval.proofs.Rows.{kept_at, rows_rise}
 use Rattle.pull_eval.proofs.HeldRows.{holds, held_rows}
-use Rattle.pull_eval.proofs.Frames.{LooksOn, at_item, begins_anew, stands_plainly}
+use Rattle.pull_eval.proofs.Frames.{LooksOn, at_item, begins_anew, stands_plainly, turns_still}
 use Rattle.pull_eval.proofs.Needing.{used_in, used_bound, item_held}
 use Rattle.pull_eval.proofs.RoundLooks.{sought_looks}
+use Rattle.pull_eval.specs.TurnsStay.{turns_places}
 use Rattle.pull_eval.proofs.SignedRows.{bound_fewer, frames_fewer, roles_counted}
 
 -- where the loop has looked for its next match, it looks in time at all that is left
@@ -186,7 +188,7 @@ module _ (m : Position) (v : View) (past : Past) (k : ℕ) (b : Beside m v past 
 
     -- the block goes on behind the statement, once its loop has looked for its next match
     module _ (n : Position) (top : n.top ≡ after) (round : after.round ≡ m.top.round) (anew : after.seen ≡ 0) (sought : SoughtRound m.top.round)
-        (blocks : n.below.items ≡ m.below.items) (env_is : n.env ≡ m.env) (copying : n.copying ≡ m.copying) (is_begun : n.is_begun ≡ m.is_begun) where
+        (blocks : n.below.items ≡ m.below.items) (env_is : n.env ≡ m.env) (copying : n.copying ≡ m.copying) (turns_are : n.turns.items ≡ m.turns.items) (is_begun : n.is_begun ≡ m.is_begun) where
       abbrev fs : List Frame
       fs = Rest (items after.rest.now) at_env ∷ under
 
@@ -202,13 +204,18 @@ module _ (m : Position) (v : View) (past : Past) (k : ℕ) (b : Beside m v past 
           let a = at_item m v past k b (tree.Off s) (items after.rest.now) next in
           subst (λ (q : Bindings). IsBound w.rows q z j) (sym env_is) (bound_fewer v.rows w.rows g.places m.env z j (a.bound begun z j h))
 
+      turns : TurnsStand w.rows Q n.turns.items
+      turns t i =
+          let old = turns_still m n v.rows past.plan Q k turns_are b.position t i in
+          turns_places v.rows w.rows Q t (λ z p h c j e. let d = g.places c j in sym d.2 ∙ h d.0 d.1 (d.3 ∙ e)) old
+
       beside : Beside n w then_past (suc k)
       beside = record {
         state = acted b.state move.0.left;
         acts = ap (λ (z : List Action). z ++ act ∷ []) b.acts ∙ sym move.0.taken;
         buffer = stands;
         taken = taken;
-        position = stands_plainly n w.rows past.plan Q (suc k) fs (copying ∙ next.no_copy) (is_begun ∙ begun) move.1 frames bound;
+        position = stands_plainly n w.rows past.plan Q (suc k) fs (copying ∙ next.no_copy) (is_begun ∙ begun) turns move.1 frames bound;
       }
 
       signs : (number : Serial) → number.0 ≡ serial_of base → (out : List ℕ) → Takes past k n v w out out (SignedOff number off.role)
@@ -219,8 +226,8 @@ module _ (m : Position) (v : View) (past : Past) (k : ℕ) (b : Beside m v past 
   -- in the words of the code
   pub signs_there : (p : ℕ) (number : Serial) → ((q t : ℕ) → map.get m.env off.base.0 ≡ Some (q, t) → p ≡ q) → number.0 ≡ serial_at p v.rows → ((c : Cell) → In c v.rows → c.place ≡ p → num c ≡ number.0) → (w : View)
       → ((q : Past) → StandsFor v q → In s (offs_in q.plan.body) → StandsFor w (past_acted (Offed s (serial_at p v.rows)) q)) → Signed v w off.role.0 → (n : Position) → n.top ≡ after → after.round ≡ m.top.round → after.seen ≡ 0 → SoughtRound m.top.round
-      → n.below.items ≡ m.below.items → n.env ≡ m.env → n.copying ≡ m.copying → n.is_begun ≡ m.is_begun → (out : List ℕ) → Takes past k n v w out out (SignedOff number off.role)
-  signs_there p number bound_at told row w stands g n top round anew sought blocks env_is copying is_begun out =
+      → n.below.items ≡ m.below.items → n.env ≡ m.env → n.copying ≡ m.copying → n.turns.items ≡ m.turns.items → n.is_begun ≡ m.is_begun → (out : List ℕ) → Takes past k n v w out out (SignedOff number off.role)
+  signs_there p number bound_at told row w stands g n top round anew sought blocks env_is copying turns_are is_begun out =
       let e = base_number m v past k b begun off (items after.rest.now) next p number.0 bound_at row in
       let st : StandsFor w then_past = subst (λ (z : ℕ). StandsFor w (past_acted (Offed s z) past)) (sym told ∙ e) (stands past b.buffer (stated m v past k b begun off (items after.rest.now) next)) in
-      signs w st g n top round anew sought blocks env_is copying is_begun number e out
+      signs w st g n top round anew sought blocks env_is copying turns_are is_begun number e out

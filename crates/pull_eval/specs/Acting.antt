@@ -3,7 +3,7 @@ use Rattle.std.specs.Prelude.{◌≡◌, ◌<◌, ℕ, suc, true, false, List, [
 use Rattle.gcx_model.specs.Tree.{Tree, Node, serial_of, is_closed}
 use Rattle.gcx_model.specs.Paths.{matches}
 use Rattle.gcx_model.specs.declared.truth.Truth.TheVariants.{True, False}
-use Rattle.gcx_model.specs.Truth.{truth}
+use Rattle.gcx_model.specs.Truth.{truth, bind_var}
 use Rattle.gcx_model.specs.Members.{In}
 use Rattle.gcx_model.specs.Core.{OffTree, CondTree, ItemTree, BodyTree, Then}
 use Rattle.gcx_model.specs.Run.{Action, Offed}
@@ -13,6 +13,7 @@ use Rattle.gcx_model.specs.Points.{so_far, CoreState, Frame, Rest, Round, Part, 
 use Rattle.gcx_model.specs.Copying.{CopyFrame, Inside, next_children}
 use Rattle.gcx_model.specs.Past.{Past, past_acted}
 use Rattle.move_laws.specs.Moves.{IsNext, NoneLeft}
+use Rattle.pass_laws.specs.Idle.{IsQuiet}
 use Rattle.buf_tree.specs.Shape.{Cell, num}
 use Rattle.buf_tree.specs.View.{View, capped}
 use Rattle.buf_tree.specs.Stands.{StandsFor}
@@ -90,11 +91,11 @@ Chosen P (Rest d env ∷ fs) c this other branch = ((truth c env P ≡ True) × 
 Chosen P (Round x y s e env n ∷ fs) c this other branch = ⊥
 Chosen P (Part x env made ∷ fs) c this other branch = ⊥
 
--- of the round at the top of the frames no match is left and none comes
+-- of the round at the top of the frames no match comes, and at those that are left its body does nothing
 abbrev pub IsLast : Tree → List Frame → Type 0
 IsLast P [] = Unit {0}
 IsLast P (Rest d env ∷ fs) = Unit {0}
-IsLast P (Round x y s e env n ∷ fs) = (later n (matches P (serial_of (env y)) (s ∷ [])) ≡ []) × (is_closed P (env y) ≡ true)
+IsLast P (Round x y s e env n ∷ fs) = ((j : Node) → In j (later n (matches P (serial_of (env y)) (s ∷ []))) → IsQuiet e (bind_var env x j) P) × (is_closed P (env y) ≡ true)
 IsLast P (Part x env made ∷ fs) = Unit {0}
 
 -- The body at the top of the frames is over, and if it is that of a round, so is the loop.

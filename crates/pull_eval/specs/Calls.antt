@@ -1,8 +1,8 @@
 -- What each call makes of a position, and what it finds of the rows. Private functions alone speak of it.
-use Rattle.std.specs.Prelude.{◌≡◌, ℕ, List, Option, MatchOption}
+use Rattle.std.specs.Prelude.{◌≡◌, ℕ, true, List, Option, MatchOption}
 use Rattle.gcx_model.specs.Tree.{Tree}
 use Rattle.gcx_model.specs.Members.{In}
-use Rattle.gcx_model.specs.Core.{CondTree, If, BodyTree}
+use Rattle.gcx_model.specs.Core.{CondTree, If, BodyTree, Then}
 use Rattle.gcx_model.specs.Answer.{child_step}
 use Rattle.gcx_model.specs.Past.{Past}
 use Rattle.node_store.specs.declared.store.Place.{Place}
@@ -10,6 +10,7 @@ use Rattle.buf_tree.specs.Shape.{Cell, num}
 use Rattle.buf_tree.specs.Match.{Unreached, FirstReached}
 use Rattle.buf_tree.specs.View.{View}
 use Rattle.pull_eval.specs.Acting.{Beside, Moves, IsNextItem, Chosen, IsOver}
+use Rattle.pull_eval.specs.Position.{items}
 use Rattle.pull_eval.specs.declared.machine.Acted.{Acted}
 use Rattle.pull_eval.specs.declared.position.Position.{Position}
 
@@ -34,6 +35,13 @@ MovesInto m n branch rest a = (c : CondTree) (this other : BodyTree) (v : View) 
 -- behind a body that is over
 abbrev pub MovesBehind : (m n : Position) → Option Acted → Type 0
 MovesBehind m n a = (v : View) (past : Past) (k : ℕ) (out : List ℕ) → (b : Beside m v past k) → IsOver past.tree b.position.fs → Moves past k m n v v out out a
+
+-- ---- what was asked
+
+-- If a condition comes next, it was asked last.
+pub record WasAsked (asked : CondTree → Type 0) (w : Position) : Type 0 where
+  pub begun : w.is_begun ≡ true
+  pub last : (c : CondTree) (this other rest : BodyTree) → items w.top.rest.now ≡ Then (If c this other) rest → asked c
 
 -- ---- what is found
 

@@ -1,6 +1,11 @@
+pub mod Turns
+pub mod Listing
+pub mod TurnsStay
+pub mod Guards
 pub mod Position
 pub mod Weight
 pub mod Acting
 pub mod Calls
+pub mod Leaps
 pub mod Rounds
 pub mod Copies

@@ -17,6 +17,7 @@ use Rattle.gcx_model.specs.declared.item.Off.{Off}
 use Rattle.node_store.specs.declared.store.Place.{Place}
 use Rattle.buf_tree.specs.Shape.{Cell}
 use Rattle.cond_eval.specs.Asking.{PlacedAt, IsBound}
+use Rattle.pull_eval.specs.Turns.{TurnsStand}
 use Rattle.pull_eval.specs.declared.block.Next.{Next}
 use Rattle.pull_eval.specs.declared.block.Next.TheVariants.{Unsought, Found, NoneUpTo}
 use Rattle.pull_eval.specs.declared.block.Round.{Round as CodeRound}
@@ -114,3 +115,4 @@ pub record StandsAt (plan : PlanTree) (w : Position) (rows : List Cell) (P : Tre
   pub copies : Copies rows w.copying inner
   pub bound : w.is_begun ≡ true → (x : ℕ) (n : Node) → Bound_in x n fs → IsBound rows w.env x n
   pub begins : w.is_begun ≡ false → (inner ≡ []) × (fs ≡ Rest plan.body env0 ∷ [])
+  pub turns : TurnsStand rows P w.turns.items

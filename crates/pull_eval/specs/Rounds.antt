@@ -1,13 +1,12 @@
 -- What a loop finds of its matches among the rows, and how its body begins. Private functions alone speak of it.
-use Rattle.std.specs.Prelude.{◌≡◌, ℕ, zero, suc, List, Option, Some}
+use Rattle.std.specs.Prelude.{◌≡◌, ℕ, zero, suc, Some}
 use Rattle.std.specs.FinMap as map
 use Rattle.gcx_base.specs.declared.steps.Step.{Step}
 use Rattle.gcx_model.specs.Members.{In}
-use Rattle.node_store.specs.declared.store.Place.{Place}
 use Rattle.buf_tree.specs.Shape.{Cell, num}
 use Rattle.buf_tree.specs.Match.{Unreached}
 use Rattle.buf_tree.specs.View.{View, serial_at}
-use Rattle.cond_eval.specs.Searches.{IsFirst, Finds}
+use Rattle.cond_eval.specs.Searches.{IsFirst}
 use Rattle.pull_eval.specs.Position.{LooksInTime}
 use Rattle.pull_eval.specs.declared.block.Next.{Next}
 use Rattle.pull_eval.specs.declared.block.Next.TheVariants.{Unsought, Found, NoneUpTo}
@@ -25,12 +24,6 @@ Learnt v c s after Unsought = Unit {0}
 Learnt v c s after (Found p) = IsFirst v.rows c s after p.0
 Learnt v c s after (NoneUpTo u) = Unreached v.rows c s after × (suc u.0 ≡ v.nodes)
 
--- the match with which a loop goes on, by what it knows of it
-abbrev pub GoesOnAt : List Cell → Cell → Step → Next → Option Place → Type 0
-GoesOnAt rows c s Unsought found = Unit {0}
-GoesOnAt rows c s (Found p) found = found ≡ Some p
-GoesOnAt rows c s (NoneUpTo u) found = Finds rows c s u.0 found
-
 -- the body of the round begins
 pub record Began (v : View) (before after : Position) (r : Round) : Type 0 where
   pub next : Next
@@ -38,6 +31,7 @@ pub record Began (v : View) (before after : Position) (r : Round) : Type 0 where
   pub below : after.below.items ≡ before.below.items
   pub env : after.env ≡ map.insert before.env r.var.0 (r.present.0, serial_at r.present.0 v.rows)
   pub copying : after.copying ≡ before.copying
+  pub turns : after.turns.items ≡ before.turns.items
   pub begun : after.is_begun ≡ before.is_begun
   pub looks : LooksInTime next r.body.now
   pub serial : (d : Cell) → In d v.rows → d.place ≡ r.present.0 → serial_at r.present.0 v.rows ≡ num d

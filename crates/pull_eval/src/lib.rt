@@ -3,8 +3,11 @@
 
 mod block;
 mod copies;
+mod guard;
+mod leaps;
 mod loops;
 mod machine;
 mod position;
+mod turns;
 
 pub use machine::{Acted, Machine};

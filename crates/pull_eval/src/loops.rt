@@ -9,18 +9,21 @@ ghost use Rattle.buf_tree.specs.Match.{GoesFrom};
 ghost use Rattle.pull_eval.specs.Position.{items};
 ghost use Rattle.pull_eval.specs.Acting.{Beside, IsNextItem, IsSought};
 ghost use Rattle.pull_eval.specs.Calls.{MovesSilently};
+ghost use Rattle.pull_eval.specs.Leaps.{EntersAt, FindsFirst, FindsTurn, GoesOnAt, MayBegin, MayTurn};
 ghost use Rattle.cond_eval.specs.Searches.{Finds};
-ghost use Rattle.pull_eval.specs.Rounds.{from_seen, Learnt, GoesOnAt, Began};
+ghost use Rattle.pull_eval.specs.Rounds.{from_seen, Learnt, Began};
 ghost use Rattle.pull_eval.specs.declared.block.Next.TheVariants.{Unsought};
 
 use crate::block::{Block, Next, Round, ends_with_off};
 use crate::machine::Acted;
 use crate::position::Position;
+use crate::turns::Leap;
 use buf_tree::{Buffer, Row};
 use cond_eval::{Watermark, place_of};
 use gcx_base::{Memory, Step, VarId};
 use gcx_model::Item;
 use node_store::{NodeStore, Place};
+use std::alloc::Global;
 
 /// The first match with a serial above `seen`, up to which there is none. 0: nothing is known.
 #[inline(always)]
@@ -62,32 +65,12 @@ fn match_behind<N: NodeStore<Row>>(
     }
 }
 
-/// The match with which the loop goes on, if it is there.
-#[inline(always)]
-fn next_of<N: NodeStore<Row>>(
-    buffer: &Buffer<N>,
-    context: Place,
-    step: &Step,
-    next: Next,
-) -> Option<Place>
-    requires used { InUse buffer.now.rows context.0 }
-    requires below { (c : Cell) → In c buffer.now.rows → num c < buffer.now.nodes }
-    requires sought { next ≡ Unsought → ⊥ }
-    ensures { (c : Cell) → In c buffer.now.rows → c.place ≡ context.0
-        → GoesOnAt buffer.now.rows c step.now next result }
-{
-    match next {
-        Next::Found(place) => Some(place),
-        Next::NoneUpTo(mark) => mark.new_match(buffer, context, step),
-        Next::Unsought => unreachable!(),
-    }
-}
-
 impl<'p> Position<'p> {
     /// A loop is entered at its first match, or passed where it has none and none comes.
     #[inline(always)]
     pub(crate) fn enter<N: NodeStore<Row>>(
         &mut self,
+        alloc: Global,
         vars: (VarId, VarId),
         step: &'p Step,
         body: &'p [Item],
@@ -100,9 +83,61 @@ impl<'p> Position<'p> {
         ensures begun { IfOk result (λ _. self.new.is_begun ≡ true) }
         ensures moved { IfOk result (λ a. MovesSilently self.old self.new buffer.now buffer.now a) }
     {
+        let first = self.first_there(alloc, vars, step, body, rest, buffer)?;
+        let acted = self.enter_at(first, vars, step, body, rest, buffer)?;
+        Ok(acted)
+    }
+
+    /// The first match of the loop that comes next, if it is there.
+    #[inline(always)]
+    fn first_there<N: NodeStore<Row>>(
+        &mut self,
+        alloc: Global,
+        vars: (VarId, VarId),
+        step: &'p Step,
+        body: &'p [Item],
+        rest: &'p [Item],
+        buffer: &Buffer<N>,
+    ) -> Result<Option<Place>, Memory>
+        requires next { IsNextItem self.old (For vars.0.0 vars.1.0 step.now (items body.now)) (items rest.now) }
+        requires begun { self.old.is_begun ≡ true }
+        requires beside { (past : Past) × (k : ℕ) × Beside self.old buffer.now past k }
+        ensures frame { IfOk result (λ _. self.new ≡ record self.old { turns = self.new.turns }) }
+        ensures first { IfOk result (FindsFirst self.old self.new buffer.now
+            vars.0.0 vars.1.0 step.now (items body.now) (items rest.now)) }
+    {
         let (var, from) = vars;
         let context = place_of(&self.env, from);
-        match first_match(buffer, context, step, self.top.seen) {
+        let seen = self.top.seen;
+        let leap = self.leap(alloc, var, context, step, body, None, buffer)?;
+        match leap {
+            Leap::Stay => Ok(first_match(buffer, context, step, seen)),
+            Leap::To(place) => Ok(Some(place)),
+            Leap::Over => Ok(None),
+        }
+    }
+
+    /// The loop that comes next is entered at this match, its first one. None: there is none.
+    #[inline(always)]
+    fn enter_at<N: NodeStore<Row>>(
+        &mut self,
+        first: Option<Place>,
+        vars: (VarId, VarId),
+        step: &'p Step,
+        body: &'p [Item],
+        rest: &'p [Item],
+        buffer: &Buffer<N>,
+    ) -> Result<Option<Acted>, Memory>
+        requires next { IsNextItem self.old (For vars.0.0 vars.1.0 step.now (items body.now)) (items rest.now) }
+        requires begun { self.old.is_begun ≡ true }
+        requires first { MayBegin self.old buffer.now vars.0.0 vars.1.0 step.now (items body.now) (items rest.now) first }
+        ensures begun { IfOk result (λ _. self.new.is_begun ≡ true) }
+        ensures moved { IfOk result (λ a. EntersAt self.old self.new buffer.now
+            vars.0.0 vars.1.0 step.now (items body.now) (items rest.now) first a) }
+    {
+        let (var, from) = vars;
+        let context = place_of(&self.env, from);
+        match first {
             Some(place) => {
                 let round = Round {
                     var,
@@ -180,6 +215,7 @@ impl<'p> Position<'p> {
     #[inline(always)]
     pub(crate) fn leave<N: NodeStore<Row>>(
         &mut self,
+        alloc: Global,
         buffer: &Buffer<N>,
     ) -> Result<Option<Acted>, Memory>
         requires over { self.old.top.rest.now ≡ [] }
@@ -190,7 +226,7 @@ impl<'p> Position<'p> {
         ensures moved { IfOk result (λ a. MovesSilently self.old self.new buffer.now buffer.now a) }
     {
         match self.top.round {
-            Some(round) => self.next_round(round, buffer),
+            Some(round) => self.next_round(alloc, round, buffer),
             None => Ok(self.go_below()),
         }
     }
@@ -199,6 +235,7 @@ impl<'p> Position<'p> {
     #[inline(always)]
     fn next_round<N: NodeStore<Row>>(
         &mut self,
+        alloc: Global,
         round: Round<'p>,
         buffer: &Buffer<N>,
     ) -> Result<Option<Acted>, Memory>
@@ -210,7 +247,68 @@ impl<'p> Position<'p> {
         ensures begun { IfOk result (λ _. self.new.is_begun ≡ true) }
         ensures moved { IfOk result (λ a. MovesSilently self.old self.new buffer.now buffer.now a) }
     {
-        match next_of(buffer, round.context, round.step, round.next) {
+        let next = self.next_there(alloc, round, buffer)?;
+        let acted = self.turn_at(next, round, buffer)?;
+        Ok(acted)
+    }
+
+    /// The match with which the loop goes on, if it is there. At those that are passed the body does nothing.
+    #[inline(always)]
+    fn next_there<N: NodeStore<Row>>(
+        &mut self,
+        alloc: Global,
+        round: Round<'p>,
+        buffer: &Buffer<N>,
+    ) -> Result<Option<Place>, Memory>
+        requires over { self.old.top.rest.now ≡ [] }
+        requires no_copy { self.old.copying ≡ None }
+        requires round { self.old.top.round ≡ Some round }
+        requires begun { self.old.is_begun ≡ true }
+        requires beside { (past : Past) × (k : ℕ) × Beside self.old buffer.now past k }
+        ensures frame { IfOk result (λ _. self.new ≡ record self.old { turns = self.new.turns }) }
+        ensures turns { IfOk result (FindsTurn self.old self.new buffer.now round.entry) }
+    {
+        let place = match round.next {
+            Next::Found(place) => place,
+            Next::NoneUpTo(mark) => {
+                return Ok(mark.new_match(buffer, round.context, round.step));
+            }
+            Next::Unsought => unreachable!(),
+        };
+        let from = buffer.serial(place);
+        let leap = self.leap(
+            alloc,
+            round.var,
+            round.context,
+            round.step,
+            round.body,
+            Some(from),
+            buffer,
+        )?;
+        match leap {
+            Leap::Stay => Ok(Some(place)),
+            Leap::To(later) => Ok(Some(later)),
+            Leap::Over => Ok(None),
+        }
+    }
+
+    /// The loop goes on with this match. None: there is none, or the body does nothing at any that is left.
+    #[inline(always)]
+    fn turn_at<N: NodeStore<Row>>(
+        &mut self,
+        next: Option<Place>,
+        round: Round<'p>,
+        buffer: &Buffer<N>,
+    ) -> Result<Option<Acted>, Memory>
+        requires over { self.old.top.rest.now ≡ [] }
+        requires no_copy { self.old.copying ≡ None }
+        requires round { self.old.top.round ≡ Some round }
+        requires begun { self.old.is_begun ≡ true }
+        requires turns { MayTurn self.old buffer.now round next }
+        ensures begun { IfOk result (λ _. self.new.is_begun ≡ true) }
+        ensures moved { IfOk result (λ a. GoesOnAt self.old self.new buffer.now round.entry next a) }
+    {
+        match next {
             Some(present) => self.begin_round(Round { present, ..round }, buffer),
             None => {
                 if buffer.is_closed(round.context) {

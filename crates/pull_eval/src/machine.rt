@@ -1,5 +1,5 @@
 //! The evaluator.
-ghost use Rattle.std.specs.Prelude.{◌≡◌, true, None, IfOk, OnErr};
+ghost use Rattle.std.specs.Prelude.{◌≡◌, true, false, None, IfOk, OnErr};
 ghost use Rattle.gcx_model.specs.Core.{If};
 ghost use Rattle.gcx_model.specs.CondView.{core_cond_tree};
 ghost use Rattle.gcx_model.specs.PlanView.{plan_tree};
@@ -8,15 +8,17 @@ ghost use Rattle.buf_tree.specs.View.{View};
 ghost use Rattle.buf_tree.specs.Stands.{StandsFor};
 ghost use Rattle.pull_eval.specs.Position.{items};
 ghost use Rattle.pull_eval.specs.Acting.{Beside, MayAct, Acts, MovesOn, IsNextItem};
-ghost use Rattle.pull_eval.specs.Calls.{MovesAsking};
+ghost use Rattle.cond_eval.specs.Asking.{AnswersOver, MayAskOver};
+ghost use Rattle.pull_eval.specs.Calls.{WasAsked, MovesAsking};
 
 use crate::position::Position;
 use buf_tree::{Buffer, Row};
-use cond_eval::Conds;
+use cond_eval::{Conds, Env};
 use gcx_base::{Memory, Role, Serial};
 use gcx_model::{Cond, Item, Plan, Truth};
 use node_store::NodeStore;
 use std::alloc::Global;
+use std::marker::Model;
 
 /// What a call did.
 #[derive(Clone, Copy, Debug, PartialEq, Eq)]
@@ -31,11 +33,36 @@ pub enum Acted {
     Finished,
 }
 
-/// Runs a plan over a buffer, one action a call.
+/// Where the run of a plan stands, and what finds the truth of its conditions.
 #[derive(Drop)]
-pub struct Machine<'p, C> {
+pub struct Runner<'p, C> {
     pub(crate) position: Position<'p>,
     pub(crate) conds: C,
+}
+
+/// Runs a plan over a buffer, one action a call.
+#[derive(Drop)]
+pub struct Machine<'p, C: Conds> {
+    runner: Runner<'p, C>,
+    /// Whether the last call asked the condition that comes next, and its truth isn't known.
+    asked: bool,
+}
+
+impl<'p, C: Conds> Model for Machine<'p, C> {
+    ghost use Rattle.std.specs.Prelude.{◌≡◌, true};
+    ghost use Rattle.std.specs.Coded.{codes};
+    ghost use Rattle.cond_eval.specs.contracts.env.Env as env;
+    ghost use Rattle.gcx_model.specs.contracts.item.Item as item;
+    ghost use Rattle.pull_eval.specs.Calls.{WasAsked};
+    ghost use Rattle.pull_eval.specs.declared.machine.Runner.{Runner};
+
+    ghost Value = { Runner C };
+
+    ghost coded = { Prim.hlevel (codes, item.the_row.coded, env.the_row.coded, C.code) };
+
+    ghost view = { λ m. m.runner };
+
+    ghost invariant = { λ m. m.asked ≡ true → WasAsked (C.asked_last m.runner.conds) m.runner.position };
 }
 
 impl<'p, C: Conds> Machine<'p, C> {
@@ -46,8 +73,11 @@ impl<'p, C: Conds> Machine<'p, C> {
         ensures conds { IfOk result (λ m. m.conds ≡ conds) }
     {
         Ok(Machine {
-            position: Position::new(alloc, plan.body.items()),
-            conds,
+            runner: Runner {
+                position: Position::new(alloc, plan.body.items()),
+                conds,
+            },
+            asked: false,
         })
     }
 
@@ -55,7 +85,7 @@ impl<'p, C: Conds> Machine<'p, C> {
     pub fn conds(&self) -> &C
         ensures { result.now ≡ self.now.conds }
     {
-        &self.conds
+        &self.runner.conds
     }
 
     /// Takes the next action of the plan's run, and answers which it is. A write goes to `out`, a statement is carried
@@ -77,11 +107,43 @@ impl<'p, C: Conds> Machine<'p, C> {
         ensures most { buffer.new.most ≡ buffer.old.most }
         ensures loans { buffer.new.loans ≡ buffer.old.loans }
     {
+        let again = self.asked;
+        self.asked = false;
+        self.runner.act(alloc, again, &mut self.asked, buffer, out)
+    }
+}
+
+impl<'p, C: Conds> Runner<'p, C> {
+    /// The same. Where `again` is true the condition that comes next was asked last; so it is behind the call where
+    /// `asked` is.
+    #[inline(always)]
+    fn act<N: NodeStore<Row>>(
+        &mut self,
+        alloc: Global,
+        again: bool,
+        asked: &mut bool,
+        buffer: &mut Buffer<N>,
+        out: &mut Vec<u8>,
+    ) -> Result<Acted, Memory>
+        requires may { MayAct (C.stands self.old.conds) self.old.position buffer.old }
+        requires again { again ≡ true → WasAsked (C.asked_last self.old.conds) self.old.position }
+        requires fresh { asked.old ≡ false }
+        ensures acts { IfOk result (λ a. Acts (C.stands self.old.conds) (C.stands self.new.conds)
+            self.old.position self.new.position buffer.old buffer.new out.old.items out.new.items a) }
+        ensures asked { asked.new ≡ true → WasAsked (C.asked_last self.new.conds) self.new.position }
+        ensures err { OnErr result (out.new.items ≡ out.old.items) }
+        ensures kept { OnErr result (buffer.new ≡ buffer.old) }
+        ensures most { buffer.new.most ≡ buffer.old.most }
+        ensures loans { buffer.new.loans ≡ buffer.old.loans }
+    {
         self.position.begin(buffer)?;
+        let mut again = again;
         'moves: loop {
-            if let Some(acted) = self.advance(alloc, buffer, out)? {
+            if let Some(acted) = self.advance(alloc, again, asked, buffer, out)? {
                 return Ok(acted);
             }
+            again = false;
+            *asked = false;
         }
     }
 
@@ -90,13 +152,18 @@ impl<'p, C: Conds> Machine<'p, C> {
     fn advance<N: NodeStore<Row>>(
         &mut self,
         alloc: Global,
+        again: bool,
+        asked: &mut bool,
         buffer: &mut Buffer<N>,
         out: &mut Vec<u8>,
     ) -> Result<Option<Acted>, Memory>
         requires may { MayAct (C.stands self.old.conds) self.old.position buffer.old }
         requires begun { self.old.position.is_begun ≡ true }
+        requires again { again ≡ true → WasAsked (C.asked_last self.old.conds) self.old.position }
+        requires fresh { asked.old ≡ false }
         ensures moves { IfOk result (λ a. MovesOn (C.stands self.old.conds) (C.stands self.new.conds)
             self.old.position self.new.position buffer.old buffer.new out.old.items out.new.items a) }
+        ensures asked { asked.new ≡ true → WasAsked (C.asked_last self.new.conds) self.new.position }
         ensures begun { IfOk result (λ _. self.new.position.is_begun ≡ true) }
         ensures err { OnErr result (out.new.items ≡ out.old.items) }
         ensures kept { OnErr result (buffer.new ≡ buffer.old) }
@@ -105,7 +172,7 @@ impl<'p, C: Conds> Machine<'p, C> {
     {
         match self.position.copying {
             Some(copying) => self.position.copy_on(copying, buffer, out),
-            None => self.run_on(alloc, buffer, out),
+            None => self.run_on(alloc, again, asked, buffer, out),
         }
     }
 
@@ -114,14 +181,19 @@ impl<'p, C: Conds> Machine<'p, C> {
     fn run_on<N: NodeStore<Row>>(
         &mut self,
         alloc: Global,
+        again: bool,
+        asked: &mut bool,
         buffer: &mut Buffer<N>,
         out: &mut Vec<u8>,
     ) -> Result<Option<Acted>, Memory>
         requires may { MayAct (C.stands self.old.conds) self.old.position buffer.old }
         requires begun { self.old.position.is_begun ≡ true }
         requires no_copy { self.old.position.copying ≡ None }
+        requires again { again ≡ true → WasAsked (C.asked_last self.old.conds) self.old.position }
+        requires fresh { asked.old ≡ false }
         ensures moves { IfOk result (λ a. MovesOn (C.stands self.old.conds) (C.stands self.new.conds)
             self.old.position self.new.position buffer.old buffer.new out.old.items out.new.items a) }
+        ensures asked { asked.new ≡ true → WasAsked (C.asked_last self.new.conds) self.new.position }
         ensures begun { IfOk result (λ _. self.new.position.is_begun ≡ true) }
         ensures err { OnErr result (out.new.items ≡ out.old.items) }
         ensures kept { OnErr result (buffer.new ≡ buffer.old) }
@@ -130,7 +202,7 @@ impl<'p, C: Conds> Machine<'p, C> {
     {
         let position = &mut self.position;
         match position.top.rest.split_first() {
-            None => position.leave(buffer),
+            None => position.leave(alloc, buffer),
             Some((item, rest)) => match item {
                 Item::Write(text) => position.write(text, rest, out),
                 Item::Copy(var) => position.begin_copy(*var, rest, buffer, out),
@@ -139,9 +211,10 @@ impl<'p, C: Conds> Machine<'p, C> {
                     from,
                     step,
                     body,
-                } => position.enter((*var, *from), step, body.items(), rest, buffer),
+                } => position.enter(alloc, (*var, *from), step, body.items(), rest, buffer),
                 Item::If { cond, then, other } => {
-                    self.choose(alloc, cond, (then.items(), other.items()), rest, buffer)
+                    let branches = (then.items(), other.items());
+                    self.choose(alloc, again, asked, cond, branches, rest, buffer)
                 }
                 Item::Off(off) => position.sign(alloc, off, rest, buffer),
             },
@@ -153,6 +226,8 @@ impl<'p, C: Conds> Machine<'p, C> {
     fn choose<N: NodeStore<Row>>(
         &mut self,
         alloc: Global,
+        again: bool,
+        asked: &mut bool,
         cond: &Cond,
         branches: (&'p [Item], &'p [Item]),
         rest: &'p [Item],
@@ -162,15 +237,51 @@ impl<'p, C: Conds> Machine<'p, C> {
             (If (core_cond_tree cond.now) (items branches.0.now) (items branches.1.now)) (items rest.now) }
         requires begun { self.old.position.is_begun ≡ true }
         requires may { MayAct (C.stands self.old.conds) self.old.position buffer.now }
+        requires again { again ≡ true → WasAsked (C.asked_last self.old.conds) self.old.position }
+        requires fresh { asked.old ≡ false }
         ensures moved { IfOk result (λ a. MovesAsking (C.stands self.old.conds) (C.stands self.new.conds)
             self.old.position self.new.position buffer.now a) }
+        ensures asked { asked.new ≡ true → WasAsked (C.asked_last self.new.conds) self.new.position }
         ensures begun { IfOk result (λ _. self.new.position.is_begun ≡ true) }
     {
         let (then, other) = branches;
-        match self.conds.truth(alloc, cond, &self.position.env, buffer)? {
-            Truth::Unknown => Ok(Some(Acted::Blocked)),
+        match truth_of(
+            &mut self.conds,
+            alloc,
+            again,
+            cond,
+            &self.position.env,
+            buffer,
+        )? {
+            Truth::Unknown => {
+                *asked = true;
+                Ok(Some(Acted::Blocked))
+            }
             Truth::True => self.position.begin_branch(then, rest),
             Truth::False => self.position.begin_branch(other, rest),
         }
+    }
+}
+
+/// The truth of the condition, where it may have been asked last.
+#[inline(always)]
+fn truth_of<C: Conds, N: NodeStore<Row>>(
+    conds: &mut C,
+    alloc: Global,
+    again: bool,
+    cond: &Cond,
+    env: &Env,
+    buffer: &Buffer<N>,
+) -> Result<Truth, Memory>
+    requires may { MayAskOver buffer.now (C.stands conds.old) env.now (core_cond_tree cond.now) }
+    requires again { again ≡ true → C.asked_last conds.old (core_cond_tree cond.now) }
+    ensures answers { IfOk result (λ t. AnswersOver buffer.now (C.stands conds.old) (C.stands conds.new)
+        env.now (core_cond_tree cond.now) t) }
+    ensures last { IfOk result (λ _. C.asked_last conds.new (core_cond_tree cond.now)) }
+{
+    if again {
+        conds.truth_again(alloc, cond, env, buffer)
+    } else {
+        conds.truth(alloc, cond, env, buffer)
     }
 }

@@ -16,6 +16,7 @@ ghost use Rattle.pull_eval.specs.Calls.{MovesTo, MovesSilently, MovesInto, Moves
 
 use crate::block::{Block, Copying};
 use crate::machine::Acted;
+use crate::turns::Turns;
 use buf_tree::{Buffer, Row};
 use cond_eval::{Env, place_of};
 use gcx_base::{Memory, Serial, Text, VarId};
@@ -30,6 +31,8 @@ pub(crate) struct Position<'p> {
     pub below: Vec<Block<'p>>,
     pub env: Env,
     pub copying: Option<Copying>,
+    /// What loops go by whose bodies do nothing where an equality is false.
+    pub turns: Vec<Turns<'p>>,
     /// Whether variable 0 is bound.
     pub is_begun: bool,
 }
@@ -42,6 +45,7 @@ impl<'p> Position<'p> {
         ensures seen { result.top.seen ≡ 0 }
         ensures below { result.below.items ≡ [] }
         ensures copying { result.copying ≡ None }
+        ensures turns { result.turns.items ≡ [] }
         ensures begun { result.is_begun ≡ false }
     {
         Position {
@@ -49,6 +53,7 @@ impl<'p> Position<'p> {
             below: Vec::new(alloc),
             env: Env::new(alloc),
             copying: None,
+            turns: Vec::new(alloc),
             is_begun: false,
         }
     }
@@ -59,6 +64,7 @@ impl<'p> Position<'p> {
         ensures stays { IfOk result (λ _. (past : Past) (k : ℕ) → Beside self.old buffer.now past k
             → Beside self.new buffer.now past k) }
         ensures begun { IfOk result (λ _. self.new.is_begun ≡ true) }
+        ensures same { self.old.is_begun ≡ true → self.new ≡ self.old }
     {
         if self.is_begun {
             return Ok(());

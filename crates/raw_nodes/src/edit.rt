@@ -81,7 +81,7 @@ pub(crate) fn set_dead<T>(arena: &mut Arena<Node<T>>, at: Link, next: MaybeLink)
     node.payload.take()
 }
 
-/// Makes a row's cell a dead one, and drops its payload where it lies.
+/// Makes a row's cell a dead one, and drops its payload, which is read out of its room for that.
 #[inline(always)]
 pub(crate) fn set_empty<T: Drop>(arena: &mut Arena<Node<T>>, at: Link, next: MaybeLink)
     requires row { (n : Node T) × (found arena.old.cells at.ptr ≡ Some n) × IsSome n.payload }

@@ -184,7 +184,7 @@ impl<T> RawRows<T> {
         payload
     }
 
-    /// Takes a row without children out, and drops its payload where it lies.
+    /// Takes a row without children out, and drops its payload, which is read out of its room for that.
     #[inline(always)]
     pub(crate) fn drop_leaf(&mut self, place: Place)
     where

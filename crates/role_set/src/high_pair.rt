@@ -10,7 +10,6 @@ use std::alloc::Global;
 use std::boxed::Box;
 
 /// Held roles' numbers and signed ones'. One of each lies in the value itself, more of them in lists of their own.
-#[derive(Drop)]
 pub(crate) enum HighPair {
     Empty,
     Held(u32),
@@ -24,6 +23,22 @@ pub(crate) enum HighPair {
 pub(crate) struct HighLists {
     held: HighRoles,
     signed: HighRoles,
+}
+
+// In line, since few pairs have lists: so what is dropped with a pair without them needs no call.
+impl Drop for HighPair {
+    #[inline(always)]
+    fn drop(self) {
+        match self {
+            HighPair::Empty | HighPair::Held(_) | HighPair::Signed(_) | HighPair::Each(_, _) => {}
+            HighPair::Many(lists) => drop_lists(lists),
+        }
+    }
+}
+
+#[cold]
+fn drop_lists(lists: Box<HighLists>) {
+    drop(lists);
 }
 
 impl HighPair {

@@ -1,4 +1,5 @@
 pub mod Acted
+pub mod Newly
 pub mod Opened
 pub mod Rows
 pub mod Tables

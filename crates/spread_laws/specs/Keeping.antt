@@ -9,10 +9,10 @@ use Rattle.gcx_model.specs.Run.{Wrote, Offed}
 use Rattle.gcx_model.specs.Variables.{all_child}
 use Rattle.gcx_model.specs.Cores.{Good}
 use Rattle.gcx_model.specs.Placed.{offs_in, Placed}
-use Rattle.gcx_model.specs.Held.{path_of, statement_of, given, signed, live, roles_live, held}
-use Rattle.gcx_model.specs.Past.{Past, past_fed, past_acted, IsPast, Opens, open_nodes, roles_signed}
+use Rattle.gcx_model.specs.Held.{path_of, statement_of, given, signed, live, roles_live, roles_taken, held}
+use Rattle.gcx_model.specs.Past.{Past, past_fed, past_grown, past_acted, IsPast, Opens, open_nodes, roles_signed}
 use Rattle.past_laws.specs.Pasts.{bases}
-use Rattle.spread_laws.specs.Tops.{is_whole_kind, is_spread, is_top, is_kept_at, roles_kept, top_in, tops_of, alone_of, put_tops}
+use Rattle.spread_laws.specs.Tops.{is_whole_kind, is_spread, is_top, is_kept_at, roles_kept, roles_newly_given, top_in, tops_of, alone_of, put_tops}
 
 -- A spread role is live at a node exactly where the node or one above it is a top of its statement.
 abbrev pub LiveByTops : Type 0
@@ -52,6 +52,12 @@ NewTops = (past : Past) → IsPast past → (t : Token) (n : Node) → Opens pas
     ⊎ ((b : Node) × In b (open_nodes past.tree)
     × (In s.own (roles_live past.plan past.tree past.acts b) ⊎ In s.own (roles_signed past.plan past.acts b)) × (In s.role (roles_signed past.plan past.acts b) → ⊥)
     × (hits (serial_of b) (s.rel ++ s.tail) n ≡ true)))
+
+-- Where no statement of a spread role is signed at an open node, and none of the new node's roles is taken in advance, those are kept at it that it isn't given from above.
+abbrev pub KeptNewly : Type 0
+KeptNewly = (past : Past) → IsPast past → (t : Token) (n : Node) → Opens past.tree t n
+    → ((s : OffTree) (b : Node) → In s (offs_in past.plan.body) → s.kind ≡ Whole → In b (open_nodes past.tree) → signed past.acts s b ≡ false)
+    → roles_taken past.plan (grow t past.tree) past.acts n ≡ [] → roles_kept (past_grown t past) n ≡ roles_newly_given past.plan (grow t past.tree) n
 
 -- A write leaves the roles kept.
 abbrev pub KeptByWrite : Type 0

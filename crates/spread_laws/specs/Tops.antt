@@ -1,11 +1,13 @@
 -- Where the roles of whole subtrees are kept: at the tops alone. A top is a node to which the steps of a statement and its tail lead; what lies below a top has the role from there (this project's).
 use Rattle.std.specs.Prelude.{ℕ, Bool, true, false, not, cond, ◌&&◌, List, [], ◌∷◌, ◌++◌, length, filter, map, set, sum, Option, Some, None}
-use Rattle.gcx_model.specs.Tree.{Node, serial_of}
+use Rattle.gcx_base.specs.declared.steps.Step.{Step}
+use Rattle.gcx_model.specs.Tree.{Node, serial_of, Tree}
 use Rattle.gcx_model.specs.Paths.{any, hits}
 use Rattle.gcx_model.specs.Members.{count}
 use Rattle.gcx_model.specs.Variables.{all_child}
-use Rattle.gcx_model.specs.Core.{RoleKind, Own, First, Whole, OffTree, PlanTree}
-use Rattle.gcx_model.specs.Held.{paths_from, statement_of, signed, on_off, live, held}
+use Rattle.gcx_model.specs.Core.{RoleKind, Own, First, Whole, OffTree, RoleRowTree, PlanTree}
+use Rattle.gcx_model.specs.Placed.{row_at}
+use Rattle.gcx_model.specs.Held.{paths_from, path_of, statement_of, given_row, on_row, signed, on_off, live, held}
 use Rattle.gcx_model.specs.Past.{Past}
 use Rattle.past_laws.specs.Pasts.{bases}
 
@@ -30,6 +32,17 @@ is_kept_at past n r = cond (is_spread past.plan r) (on_off (λ s. is_top past s 
 -- the roles kept at the node, by rising role
 abbrev pub roles_kept : Past → Node → List ℕ
 roles_kept past n = filter (is_kept_at past n) (count 0 (length past.plan.roles))
+
+-- the node is given the role, but not from above: where the role is spread its path leads to the node itself
+abbrev pub gives_newly : (ℕ → List Step) → Tree → Node → RoleRowTree → Bool
+gives_newly paths P n row = cond (is_whole_kind row.kind) (hits 0 (paths row.var ++ row.tail) n) (given_row paths P n row)
+
+abbrev pub is_newly_given : PlanTree → Tree → Node → (role : ℕ) → Bool
+is_newly_given plan P n r = on_row (gives_newly (path_of plan) P n) (row_at plan.roles r)
+
+-- those roles, by rising role
+abbrev pub roles_newly_given : PlanTree → Tree → Node → List ℕ
+roles_newly_given plan P n = filter (is_newly_given plan P n) (count 0 (length plan.roles))
 
 -- the pairs of a held node and a role kept at it
 abbrev pub entries_of : Past → ℕ

@@ -1,4 +1,4 @@
-ghost use Rattle.spread_laws.specs.Keeping.{LiveByTops, LiveByKept, KeptTells, KeptAreLive, KeptByFeed, NewTops, KeptByWrite, TopsByAct, TopsByRows, KeptByAct, AloneTakes, TablesTell, TablesBuilt};
+ghost use Rattle.spread_laws.specs.Keeping.{LiveByTops, LiveByKept, KeptTells, KeptAreLive, KeptByFeed, NewTops, KeptNewly, KeptByWrite, TopsByAct, TopsByRows, KeptByAct, AloneTakes, TablesTell, TablesBuilt};
 
 /// A spread role is live at the tops of its statement and below them, and nowhere else.
 pub fn live_by_tops()
@@ -28,6 +28,11 @@ pub fn kept_by_feed()
 /// The rows of the open nodes tell of which statements a new node is a top.
 pub fn new_tops()
     ensures { NewTops }
+{}
+
+/// Where nothing is signed at an open node, what is kept at a new one follows from the paths that lead to it.
+pub fn kept_newly()
+    ensures { KeptNewly }
 {}
 
 /// A write leaves what is kept.

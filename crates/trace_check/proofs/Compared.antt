@@ -60,6 +60,10 @@ ends_no text at l =
       ),
     )
 
+-- the trace ended where the text did
+pub ends_yes : (text : List ℕ) (at : ℕ) → at ≡ length text → Judges text (Yes (fitted (line_ends text))) (take at text) true
+ends_yes text at e = (refl, take_all at text (omega (arith, e)), refl)
+
 -- So far the trace is a front of the text.
 pub record HasCompared (text : List ℕ) (a b : SourceView) (at : ℕ) : Type 0 where
   pub pieces : List (List ℕ)

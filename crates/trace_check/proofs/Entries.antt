@@ -231,7 +231,7 @@ module _ (C : Tree) (acts : List TimedAct) (all : List Action) (e : map what_sho
 abbrev pub so_far : (first node : ℕ) → ℕ → Bool
 so_far first node k = leb first k && ltb k node
 
-and_false : (a : Bool) → (a && false) ≡ false
+pub and_false : (a : Bool) → (a && false) ≡ false
 and_false true = refl
 and_false false = refl
 

@@ -1,22 +1,25 @@
 -- Lines put behind a text, by the results of the calls that put them.
-use Rattle.std.proofs.Common.{◌≡◌, ℕ, zero, suc, ◌≤◌, ◌<◌, Bool, leb, List, [], ◌∷◌, ◌++◌, length, map, get_or, Result, Ok, Err, OnOk, refl, sym, ◌∙◌, ap, subst, arith}
+use Rattle.std.proofs.Common.{◌≡◌, ℕ, zero, suc, ◌≤◌, ◌<◌, Bool, cond, ◌&&◌, eqb, leb, List, [], ◌∷◌, ◌++◌, length, map, get_or, Result, Ok, Err, OnOk, refl, sym, ◌∙◌, ap, subst, arith, append-nil}
 use Rattle.std.specs.List.{filter}
 use Rattle.std.specs.Global.{Vec}
+use Rattle.std.proofs.lemmas.Bool.{and_from, eq-eqb, le-leb, lt-leb, ne_eqb}
 use Rattle.std.proofs.lemmas.List.{length-map, take_all}
 use Rattle.gcx_base.specs.declared.ids.Role.{Role}
 use Rattle.gcx_model.specs.Core.{PlanTree}
 use Rattle.gcx_model.specs.Demand.{Line, Left, Opened, line_kind, line_text}
 use Rattle.gcx_model.specs.Tree.{Token, kind_of}
 use Rattle.time_laws.specs.Leaving.{count_offs, is_freed, left_where}
+use Rattle.time_laws.specs.Times.{Clock}
 use Rattle.doc_tree.specs.Rows.{node_at}
 use Rattle.buf_trace.specs.Lines.{IsLine, kind_tree, line_tree}
 use Rattle.buf_trace.specs.declared.line.Line as code
 use Rattle.buf_trace.specs.declared.line.LineKind.{LineKind}
-use Rattle.trace_check.specs.Telling.{IsCourse, Puts, acts_in, line_in}
+use Rattle.trace_check.specs.Telling.{IsCourse, Puts, acts_in, line_in, over_line}
 use Rattle.trace_check.specs.Timing.{clock_in}
 use Rattle.trace_check.specs.Wanting.{lists_in, numbers_in}
 use Rattle.trace_check.specs.declared.course.Course.{Course}
 use Rattle.trace_check.proofs.Assembled.{timed_grown}
+use Rattle.trace_check.proofs.Entries.{and_false}
 use Rattle.trace_check.proofs.Freed.{freed_list, freed_told}
 use Rattle.trace_check.proofs.Told.{left_among, puts_one}
 
@@ -43,6 +46,26 @@ opened_is plan ts c is n kind given e f =
     ap (λ k. Opened n k (numbers_in given)) e
     ∙ ap (λ (g : List ℕ). Opened n (line_kind (kind_of (node_at c.timed.tree.nodes n))) g)
     (ap numbers_in f ∙ (sym (given_entry c.given.items n) ∙ ap (λ (gs : List (List ℕ)). get_or gs n []) is.given))
+
+-- ---- the node of a token
+
+no_lines : (old : List ℕ) → Puts old old []
+no_lines old = record { text = sym (append-nil old); plain = λ l i. absurd i }
+
+pub over_put : (c : Clock) (until : List ℕ) (j k n : ℕ) (old new : List ℕ) → c.closed n ≡ j → get_or until n 0 ≤ k → Puts old new (Left n ∷ []) → Puts old new (over_line c until j k n)
+over_put c until j k n old new e l h =
+    subst (λ (b : Bool). Puts old new (cond b (Left n ∷ []) [])) (sym (and_from (eqb (c.closed n) j) (leb (get_or until n 0) k) (eq-eqb (c.closed n) j e) (le-leb (get_or until n 0) k l))) h
+
+-- it is closed at another time
+pub over_later : (c : Clock) (until : List ℕ) (j k n : ℕ) (old : List ℕ) → (c.closed n ≡ j → ⊥) → Puts old old (over_line c until j k n)
+over_later c until j k n old other =
+    subst (λ (b : Bool). Puts old old (cond (b && leb (get_or until n 0) k) (Left n ∷ []) [])) (sym (ne_eqb (c.closed n) j other)) (no_lines old)
+
+-- a further statement is wanted for it
+pub over_wanted : (c : Clock) (until : List ℕ) (j k n : ℕ) (old : List ℕ) → k < get_or until n 0 → Puts old old (over_line c until j k n)
+over_wanted c until j k n old more =
+    subst (λ (b : Bool). Puts old old (cond (eqb (c.closed n) j && b) (Left n ∷ []) [])) (sym (lt-leb (get_or until n 0) k more))
+    (subst (λ (b : Bool). Puts old old (cond b (Left n ∷ []) [])) (sym (and_false (eqb (c.closed n) j))) (no_lines old))
 
 -- ---- the nodes that a statement frees
 

@@ -1,6 +1,7 @@
 -- Truths and the times from which on they are known.
-use Rattle.std.proofs.Common.{◌≡◌, ℕ, ◌+◌, ◌<◌, ◌≤◌, true, false, List, [], ◌∷◌, length, map, max, drop, get_or, slice_get, None, refl, sym, ◌∙◌, ap, arith}
-use Rattle.std.proofs.lemmas.List.{drop_all, drop_more}
+use Rattle.std.proofs.Common.{◌≡◌, ℕ, ◌+◌, ◌<◌, ◌≤◌, true, false, List, [], ◌∷◌, ◌++◌, length, map, max, take, drop, get_or, slice_get, None, refl, sym, ◌∙◌, ap, arith}
+use Rattle.std.specs.Global.{Vec}
+use Rattle.std.proofs.lemmas.List.{drop_all, drop_more, map-append, take_more}
 use Rattle.gcx_base.specs.declared.steps.Step.{Step}
 use Rattle.gcx_model.specs.CondView.{core_cond_tree, core_conds_of}
 use Rattle.gcx_model.specs.Core.{CondTree, OperandTree, Path, Str, Num, Always, Exists, Compare, Not, All, Any}
@@ -16,10 +17,12 @@ use Rattle.doc_tree.specs.Rows.{node_at}
 use Rattle.time_laws.specs.Times.{Clock, Settled, TimedValue, exists_settled, both_settled, compare_settled, earliest, either_settled, over_at, settled, settled_all, settled_any, timed_values}
 use Rattle.trace_check.specs.Memoing.{IsAtom, left_in, right_in, side_in}
 use Rattle.trace_check.specs.Scopes.{env_of}
-use Rattle.trace_check.specs.Settling.{no_sooner, value_at}
+use Rattle.trace_check.specs.Settling.{no_sooner, timed_in, value_at}
 use Rattle.trace_check.specs.Timing.{clock_in}
 use Rattle.trace_check.specs.declared.scope.Binding.{Binding}
 use Rattle.trace_check.specs.declared.timed.Timed.{Timed}
+use Rattle.trace_check.specs.declared.values.TimedValue as code
+use Rattle.trace_check.specs.declared.values.Value.TheVariants as compared
 use Rattle.trace_check.proofs.Numbers.{map_numbers, node_by}
 
 -- the values of what the steps reach
@@ -28,6 +31,19 @@ pub values_found : (t : Timed) → Grown t.tree → (n : ℕ) (steps : List Step
 values_found t w n steps =
     map_numbers t.tree w (value_at t) (λ m. ((clock_in t).closed (serial_of m), node_value t.tree m))
     (λ m i. ap (λ (x : Node). ((clock_in t).closed (serial_of m), Bytes (value t.tree x))) (node_by t.tree w m i)) n steps
+
+-- one value more
+pub values_more : (t : Timed) (ns : List ℕ) (i : ℕ) (old new : List code.TimedValue) (at : ℕ) (bytes : Vec ℕ) → i < length ns → map timed_in old ≡ map (value_at t) (take i ns)
+    → new ≡ old ++ (record { at = at; value = compared.Bytes bytes }) ∷ [] → at ≡ (clock_in t).closed (get_or ns i 0) → bytes.items ≡ value t.tree (node_at t.tree.nodes (get_or ns i 0))
+    → map timed_in new ≡ map (value_at t) (take (i + 1) ns)
+values_more t ns i old new at bytes l h e a b =
+    let before : List TimedValue = map (value_at t) (take i ns) in
+    ap (map timed_in) e
+    ∙ (map-append timed_in old ((record { at = at; value = compared.Bytes bytes }) ∷ [])
+    ∙ (ap (λ (vs : List TimedValue). vs ++ (at, Bytes bytes.items) ∷ []) h
+    ∙ (ap (λ (x : ℕ). before ++ (x, Bytes bytes.items) ∷ []) a
+    ∙ (ap (λ (y : List ℕ). before ++ ((clock_in t).closed (get_or ns i 0), Bytes y) ∷ []) b
+    ∙ (sym (map-append (value_at t) (take i ns) (get_or ns i 0 ∷ [])) ∙ ap (map (value_at t)) (sym (take_more ns i 0 l)))))))
 
 pub exists_none : (c : Clock) (ms : List Node) (over : ℕ) → slice_get (map serial_of ms) 0 ≡ None → exists_settled c ms over ≡ record { at = over; truth = false }
 exists_none c [] over e = refl

@@ -9,9 +9,7 @@ use Rattle.gcx_model.specs.Document.{Nodes, tokens, tree_of}
 use Rattle.gcx_model.specs.Tree.{Tree, Token as Said, Start, Chars, End, opening, grow, grow_all}
 use Rattle.gcx_model.specs.Faults.{FaultIs, none_yet, within_limit}
 use Rattle.gcx_model.specs.declared.fault.DocFault.TheVariants as fault
-use Rattle.doc_reader.specs.Standing.{ReaderView, Stands, Keeps, Accepted, waiting, reader_tokens, given_token, said_of}
-use Rattle.doc_reader.specs.declared.token.Token.{Token}
-use Rattle.doc_reader.specs.declared.token.Token.TheVariants.{EndOfDocument}
+use Rattle.doc_reader.specs.Standing.{ReaderView, Stands, Keeps, Accepted, waiting, reader_tokens, given_token, said_of, Token, EndOfDocument}
 use Rattle.tree_read.specs.declared.reading.DocumentEnd.TheVariants as end
 use Rattle.tree_read.specs.Document.{IsWhole, HasGrown}
 

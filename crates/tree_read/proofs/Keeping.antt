@@ -7,8 +7,7 @@ use Rattle.gcx_base.specs.Limits.{full_limits}
 use Rattle.gcx_model.specs.Faults.{FaultIs}
 use Rattle.gcx_model.specs.Seen.{SeenIs}
 use Rattle.gcx_model.specs.declared.fault.DocFault.{DocFault}
-use Rattle.doc_reader.specs.Standing.{ReaderView, Stands, Keeps, Accepted, GivesBy, answer_by, answer_of, waiting, said_of}
-use Rattle.doc_reader.specs.declared.token.Token.{Token}
+use Rattle.doc_reader.specs.Standing.{ReaderView, Stands, Keeps, Accepted, GivesBy, answer_by, answer_of, waiting, said_of, Token}
 use Rattle.tree_read.specs.Document.{HasGiven, AreTokens}
 use Rattle.tree_read.proofs.Documents.{all_taken, none_at_start, said_back}
 

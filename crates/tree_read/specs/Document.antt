@@ -16,8 +16,7 @@ use Rattle.gcx_model.specs.declared.fault.DocFault.{DocFault}
 use Rattle.gcx_model.specs.declared.fault.DocFault.TheVariants as fault
 use Rattle.run_words.specs.Reading.{SourceGave, ReadsOn}
 use Rattle.run_words.specs.Stops.{Stop, End, Fault, IsCalm, is_end}
-use Rattle.doc_reader.specs.Standing.{ReaderView, Stands, waiting, said_of}
-use Rattle.doc_reader.specs.declared.token.Token.{Token}
+use Rattle.doc_reader.specs.Standing.{ReaderView, Stands, waiting, said_of, Token}
 use Rattle.tree_read.specs.declared.reading.DocumentEnd.{DocumentEnd}
 use Rattle.tree_read.specs.declared.reading.DocumentEnd.TheVariants as end
 

@@ -4,8 +4,7 @@ ghost use Rattle.std.specs.Io.{ReadsAtMost};
 ghost use Rattle.gcx_base.specs.declared.limits.Limits.{Limits};
 ghost use Rattle.gcx_io.specs.Calls.{ReadsSource};
 ghost use Rattle.gcx_model.specs.Tree.{grow_all};
-ghost use Rattle.doc_reader.specs.Standing.{IsOpen, Stands, Keeps, waiting, said_of};
-ghost use Rattle.doc_reader.specs.declared.token.Token.{Token as Given};
+ghost use Rattle.doc_reader.specs.Standing.{IsOpen, Stands, Keeps, waiting, said_of, Token as Given};
 ghost use Rattle.tree_read.specs.Document.{HasGrown, IsWhole, EndsBy, ReadsDocument, SaysWhy};
 
 use doc_reader::Reader;

@@ -1,8 +1,7 @@
 //! A document's tokens from its bytes.
 ghost use Rattle.std.specs.Prelude.{◌≡◌, ◌≤◌, ◌++◌, [], ℕ, List, Bool, true, false, map, OnOk, IfErr, IsErrOf};
 ghost use Rattle.gcx_base.specs.declared.limits.Limits.{Limits};
-ghost use Rattle.doc_reader.specs.Standing.{IsOpen, Stands, Keeps, waiting, said_of};
-ghost use Rattle.doc_reader.specs.declared.token.Token.{Token as Given};
+ghost use Rattle.doc_reader.specs.Standing.{IsOpen, Stands, Keeps, waiting, said_of, Token as Given};
 ghost use Rattle.tree_read.specs.Document.{HasGiven, AreTokens, EndsBy, ReadsTokens, SaysWhy};
 
 use crate::reading::{DocumentEnd, PIECE, read_piece};

@@ -1,8 +1,10 @@
 //! Elements that are passed and get their rows late, beside a buffer in which each node opens at once.
-ghost use Rattle.std.specs.Prelude.{◌≡◌, ◌<◌, ◌≤◌, ℕ, true, IfOk, OnOk};
+ghost use Rattle.std.specs.Prelude.{◌≡◌, ◌+◌, ◌<◌, ◌≤◌, ◌^◌, ℕ, true, None, IfOk, OnOk, option_map};
 ghost use Rattle.std.specs.FinMap as map;
 ghost use Rattle.gcx_model.specs.Past.{IsNode};
-ghost use Rattle.buf_tree.specs.View.{InUse};
+ghost use Rattle.buf_tree.specs.PassedCalls.{OpenedWith};
+ghost use Rattle.buf_tree.specs.Shape.{at_place};
+ghost use Rattle.buf_tree.specs.View.{InUse, Innermost, level_in};
 ghost use Rattle.buffer_tests.specs.Passed.{HasTop};
 
 use super::{MANY, first_row, row_behind};
@@ -24,22 +26,29 @@ const DEEP: u64 = 1_000;
 ///
 /// A letter is an element below the one before it; all of them stay open. `.` and `:` are texts. A capital letter and `:`
 /// are given a role, the others none. Each row is told by its name, its serial, `+` where it is open, and behind `^` its
-/// parent's serial; then the numbers of rows and of nodes, and the greatest number of rows so far.
+/// parent's serial; then the numbers of rows, of nodes, and of pairs of a row and a role, and the greatest number of rows so
+/// far. The document node has a role too.
 type Case = (&'static str, &'static str);
 
 const CASES: [Case; 7] = [
-    ("", " /0+^0 h1 n1 most 1"),
+    ("", " /0+^0 h1 n1 e1 most 1"),
     // nothing needs a row before the end
-    ("abc", " /0+^0 a1+^0 b2+^1 c3+^2 h4 n4 most 4"),
+    ("abc", " /0+^0 a1+^0 b2+^1 c3+^2 h4 n4 e1 most 4"),
     // texts are counted, and have no row
-    ("a.b.", " /0+^0 a1+^0 b3+^1 h3 n5 most 3"),
+    ("a.b.", " /0+^0 a1+^0 b3+^1 h3 n5 e1 most 3"),
     // an element that is given a role needs the rows of those above it
-    ("ab.C", " /0+^0 a1+^0 b2+^1 C4+^2 h4 n5 most 4"),
+    ("ab.C", " /0+^0 a1+^0 b2+^1 C4+^2 h4 n5 e2 most 4"),
     // so does a text
-    ("ab:c", " /0+^0 a1+^0 b2+^1 :3^2 c4+^2 h5 n5 most 5"),
+    ("ab:c", " /0+^0 a1+^0 b2+^1 :3^2 c4+^2 h5 n5 e2 most 5"),
     // elements are passed below a row again
-    ("aB.cd:", " /0+^0 a1+^0 B2+^1 c4+^2 d5+^4 :6^5 h6 n7 most 6"),
-    ("A:b.cD", " /0+^0 A1+^0 :2^1 b3+^1 c5+^3 D6+^5 h6 n7 most 6"),
+    (
+        "aB.cd:",
+        " /0+^0 a1+^0 B2+^1 c4+^2 d5+^4 :6^5 h6 n7 e3 most 6",
+    ),
+    (
+        "A:b.cD",
+        " /0+^0 A1+^0 :2^1 b3+^1 c5+^3 D6+^5 h6 n7 e4 most 6",
+    ),
 ];
 
 /// The innermost open row, and the serial above which there is no row.
@@ -102,12 +111,39 @@ fn begun<N: NodeStore<Row> + Drop>(alloc: Global, nodes: N) -> Result<(Buffer<N>
     Ok((buffer, Top { place, last: 0 }))
 }
 
+/// A node opened with these roles. Where it is said that none of them is kept at it, all are, since none is spread.
+fn opened<N: NodeStore<Row>>(
+    alloc: Global,
+    buffer: &mut Buffer<N>,
+    parent: Place,
+    kind: Kind,
+    roles: &RoleSet,
+    said: bool,
+) -> Result<Option<Place>, Fail>
+    requires parent { Innermost buffer.old.rows parent.0 }
+    requires kind { IsNode kind }
+    requires nodes { buffer.old.nodes ≤ 2 ^ 40 + 1 }
+    requires depth { level_in (at_place parent.0 buffer.old.rows) ≤ 1000 }
+    requires plain { buffer.old.spread ≡ None }
+    ensures { IfOk result (λ p. OpenedWith buffer.old buffer.new parent.0 (option_map (λ q. q.0) p) kind roles.now 0) }
+{
+    if said {
+        let none = RoleSet::new(alloc);
+        let place = buffer.open_kept(alloc, parent, kind, roles, &none)?;
+        Ok(place)
+    } else {
+        let place = buffer.open_with(alloc, parent, kind, roles)?;
+        Ok(place)
+    }
+}
+
 /// Opens the node of the letter with its roles.
 fn open_now<N: NodeStore<Row>>(
     alloc: Global,
     buffer: &mut Buffer<N>,
     top: Top,
     letter: u8,
+    said: bool,
 ) -> Result<Top, Fail>
     requires { HasTop buffer.old top.place.0 top.last }
     ensures { IfOk result (λ t. HasTop buffer.new t.place.0 t.last) }
@@ -119,7 +155,7 @@ fn open_now<N: NodeStore<Row>>(
     let kind = kind_of(alloc, letter)?;
     let text = kind.is_text();
     let roles = roles_of(alloc, letter)?;
-    let opened = buffer.open_with(alloc, top.place, kind, &roles)?;
+    let opened = opened(alloc, buffer, top.place, kind, &roles, said)?;
     match opened {
         Some(place) => {
             if text {
@@ -213,7 +249,7 @@ fn take_letter<N: NodeStore<Row>>(
     }
     let below = settle(alloc, buffer, top, &*passed)?;
     passed.clear();
-    let opened = open_now(alloc, buffer, below, letter)?;
+    let opened = open_now(alloc, buffer, below, letter, false)?;
     Ok(opened)
 }
 
@@ -251,7 +287,7 @@ fn told<N: NodeStore<Row>>(alloc: Global, buffer: &Buffer<N>) -> Result<String, 
         at = row_behind(buffer, buffer.serial(place).0);
     }
     write!(out, " h{} n{}", buffer.held(), buffer.nodes())?;
-    write!(out, " most {}", buffer.most())?;
+    write!(out, " e{} most {}", buffer.entries(), buffer.most())?;
     Ok(out)
 }
 
@@ -260,12 +296,13 @@ fn told_at_once<N: NodeStore<Row> + Drop>(
     alloc: Global,
     nodes: N,
     document: &str,
+    said: bool,
 ) -> Result<String, Fail>
     requires { N.rows nodes ≡ map.empty }
 {
     let (mut buffer, mut top) = begun(alloc, nodes)?;
     for letter in document.as_bytes() {
-        top = open_now(alloc, &mut buffer, top, *letter)?;
+        top = open_now(alloc, &mut buffer, top, *letter, said)?;
     }
     told(alloc, &buffer)
 }
@@ -287,22 +324,34 @@ fn told_late<N: NodeStore<Row> + Drop>(
     told(alloc, &buffer)
 }
 
-/// Both are told so, over these two stores.
-fn are_told<N: NodeStore<Row> + Drop>(
+/// It is told so where rows are made late.
+fn is_told_late<N: NodeStore<Row> + Drop>(
     rt: &impl Abort,
     alloc: Global,
-    one: N,
-    other: N,
+    nodes: N,
     case: Case,
 ) -> Result<(), Fail>
-    requires one { N.rows one ≡ map.empty }
-    requires other { N.rows other ≡ map.empty }
+    requires { N.rows nodes ≡ map.empty }
 {
     let (document, want) = case;
-    let late = told_late(alloc, one, document)?;
-    assert_eq!(rt; late.as_str(), want, "late: {document}");
-    let at_once = told_at_once(alloc, other, document)?;
-    assert_eq!(rt; at_once.as_str(), want, "at once: {document}");
+    let got = told_late(alloc, nodes, document)?;
+    assert_eq!(rt; got.as_str(), want, "late: {document}");
+    Ok(())
+}
+
+/// And where each node opens at once.
+fn is_told_at_once<N: NodeStore<Row> + Drop>(
+    rt: &impl Abort,
+    alloc: Global,
+    nodes: N,
+    case: Case,
+    said: bool,
+) -> Result<(), Fail>
+    requires { N.rows nodes ≡ map.empty }
+{
+    let (document, want) = case;
+    let got = told_at_once(alloc, nodes, document, said)?;
+    assert_eq!(rt; got.as_str(), want, "at once, {said}: {document}");
     Ok(())
 }
 
@@ -310,14 +359,20 @@ fn are_told<N: NodeStore<Row> + Drop>(
 fn rows_made_late_are_those_of_nodes_opened_at_once(rt: HostRuntime) -> Result<(), Fail> {
     let alloc = rt.alloc();
     for case in CASES {
-        are_told(
-            &rt,
-            alloc,
-            SlabNodes::new(alloc),
-            SlabNodes::new(alloc),
-            case,
-        )?;
-        are_told(&rt, alloc, RawNodes::new(alloc), RawNodes::new(alloc), case)?;
+        is_told_late(&rt, alloc, SlabNodes::new(alloc), case)?;
+        is_told_late(&rt, alloc, RawNodes::new(alloc), case)?;
+        is_told_at_once(&rt, alloc, SlabNodes::new(alloc), case, false)?;
+        is_told_at_once(&rt, alloc, RawNodes::new(alloc), case, false)?;
+    }
+    Ok(())
+}
+
+#[test]
+fn where_no_role_is_spread_all_are_kept_whatever_is_said(rt: HostRuntime) -> Result<(), Fail> {
+    let alloc = rt.alloc();
+    for case in CASES {
+        is_told_at_once(&rt, alloc, SlabNodes::new(alloc), case, true)?;
+        is_told_at_once(&rt, alloc, RawNodes::new(alloc), case, true)?;
     }
     Ok(())
 }

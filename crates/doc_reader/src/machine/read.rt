@@ -1,27 +1,14 @@
 //! Characters, one after another, or as a whole.
-ghost use Rattle.std.specs.Prelude.{◌≡◌, ◌+◌, ◌<◌, ◌^◌, [], length, MatchOption, IfOk};
+ghost use Rattle.std.specs.Prelude.{◌≡◌, ◌+◌, ◌<◌, ◌^◌, length, IfOk};
 ghost use Rattle.std.specs.Str.{chars};
 ghost use Rattle.doc_chars.specs.Stream.{AreChars};
+ghost use Rattle.doc_machine.specs.Machine.{scan_state};
+ghost use Rattle.doc_machine.specs.Sound.{IsSound};
 ghost use Rattle.doc_reader.specs.Judged.{Judged};
-ghost use Rattle.doc_reader.specs.Machine.{scan_state};
-ghost use Rattle.doc_reader.specs.Reading.{IsFirst};
-ghost use Rattle.doc_reader.specs.Sound.{IsSound};
 
-use super::Scan;
-use super::judge::judge;
-use super::whole::read_front;
-use crate::stop::Stop;
+use doc_machine::{Scan, Stop, judge};
+use doc_parts::{first_char, read_front};
 use gcx_base::Limits;
-
-/// The first character, and what stands behind it.
-#[inline(always)]
-pub(crate) fn first_char(text: &str) -> Option<(char, &str)>
-    ensures { MatchOption result (text.now ≡ []) (λ p. IsFirst p.0 p.1.now text.now) }
-{
-    let mut characters = text.chars();
-    let c = characters.next()?;
-    Some((c, characters.as_str()))
-}
 
 /// Reads characters, the first of which stands at byte `place` of the document.
 pub(crate) fn read(m: &mut Scan, limits: Limits, place: u64, text: &str) -> Result<(), Stop>

@@ -1,11 +1,8 @@
 use Rattle.std.proofs.Common.{◌∙◌, sym, inl, inr}
 use Rattle.std.proofs.lemmas.Bool.{true≢false, not-true, not-false}
-use Rattle.buffer_tests.proofs.Feeds.{due, carried, plain}
+use Rattle.buffer_tests.proofs.Feeds.{due, carried}
 use Rattle.buffer_tests.proofs.buffers.carry_out.Goals.{then-is_own, else-is_own}
 use Rattle.buffer_tests.proofs.buffers.carry_out.Goals as goal
-
-pub is_due-requires-clause-spread : goal.is_due-requires-clause-spread
-is_due-requires-clause-spread g c = plain _ _ _ _ c.requires.fed.3 c.args.off.now c.requires.fed.4
 
 pub sign_off-requires-clause-due : goal.sign_off-requires-clause-due
 sign_off-requires-clause-due g c =

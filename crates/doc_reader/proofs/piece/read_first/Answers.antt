@@ -1,8 +1,8 @@
 use Rattle.std.proofs.Common.{ℕ, Option, Result, Err, subst, sym, ap, ◌∙◌}
 use Rattle.std.proofs.lemmas.Result.{err_from_is_err_and}
 use Rattle.doc_chars.specs.Stream.{optional}
+use Rattle.doc_machine.specs.declared.stop.Stop.{Stop}
 use Rattle.doc_reader.specs.Piece.{ReadTo}
-use Rattle.doc_reader.specs.declared.stop.Stop.{Stop}
 use Rattle.doc_reader.proofs.piece.read_first.Goals as goal
 
 pub returns-in_err-read_char-in-Some-clause-read : goal.returns-in_err-read_char-in-Some-clause-read

@@ -5,11 +5,11 @@ use Rattle.gcx_model.specs.Faults.{size}
 use Rattle.doc_laws.specs.Judging.{judged_steps}
 use Rattle.doc_chars.specs.Stream.{given, optional}
 use Rattle.doc_chars.proofs.Streams.{are_text}
+use Rattle.doc_machine.specs.declared.stop.Stop.{Stop}
 use Rattle.doc_reader.specs.Piece.{ReadTo}
-use Rattle.doc_reader.specs.declared.stop.Stop.{Stop}
+use Rattle.doc_parts.proofs.Reading.{size_append}
 use Rattle.doc_reader.proofs.Judgings.{text_size, reads_both, stops_before, stops_behind}
 use Rattle.doc_reader.proofs.piece.read_split.Goals as goal
-use Rattle.doc_reader.proofs.Reading.{size_append}
 
 pub from_utf8_unchecked-text-requires : goal.from_utf8_unchecked-text-requires
 from_utf8_unchecked-text-requires c = are_text (slice_range c.args.piece.now c.args.split.used c.args.split.whole) c.requires.chars

@@ -6,7 +6,6 @@ use Rattle.gcx_model.specs.Past.{opening_past}
 use Rattle.doc_reader.specs.Standing.{said_of}
 use Rattle.buf_tree.specs.Calls.{numbers}
 use Rattle.buf_tree.specs.View.{capped}
-use Rattle.projector.specs.View.{ProjectorView}
 use Rattle.projector.specs.Projector.{Projects}
 use Rattle.engine.specs.Engine.{ActorsStand}
 use Rattle.engine.specs.Turns.{Reaches}
@@ -24,20 +23,18 @@ pub returns-clause-reaches : goal.returns-clause-reaches
 returns-clause-reaches g c =
     let pl = plan_tree c.args.plan.now in
     let p = c.in_ok-projector.projector in
-    let v = c.in_ok-new_spread.field-0 in
-    let m = c.in_ok-new.field-0 in
+    let v = c.in_ok-buffer.buffer in
+    let m = c.in_ok-machine.machine in
     let given = c.in_ok-given.given in
     let q = c.requires.placed in
     let projects : Projects p (opening_past pl) = c.in_ok-projector.ensures.stands q.0 q.1 q.2 in
     let roles : numbers given ≡ roles_given pl opening Root = c.in_ok-given.ensures (opening_past pl) projects in
-    let started = c.in_ok-new_spread.ensures.started in
-    let stands = c.in_ok-new_spread.ensures.stands in
-    let on : g.C.Conds.stands m.conds opening = subst (λ (z : g.row.C.Denot). g.C.Conds.stands z opening) (sym c.in_ok-new.ensures.conds) c.requires.conds in
+    let started = c.in_ok-buffer.ensures.started in
+    let stands = c.in_ok-buffer.ensures.stands in
+    let on : g.C.Conds.stands m.conds opening = subst (λ (z : g.row.C.Denot). g.C.Conds.stands z opening) (sym c.in_ok-machine.ensures.conds) c.requires.conds in
     let actors : ActorsStand pl (g.C.Conds.stands m.conds) p m.position v opening 0
-    = actors_begin pl (g.C.Conds.stands m.conds) p m.position v given projects (c.in_ok-projector.ensures.place v given started) started stands (c.in_ok-new.ensures.stands v stands) on in
+    = actors_begin pl (g.C.Conds.stands m.conds) p m.position v given projects (c.in_ok-projector.ensures.place v given started) started stands (c.in_ok-machine.ensures.stands v stands) on in
     let few : length given < 2 ^ 64 = search rules in
     let count : length c.items.result.now ≡ capped (sum_given pl opening) = ap length c.items.ensures.same ∙ given_begin pl given few roles in
-    let made : ProjectorView → Actors g.row.N.Denot g.row.C.Denot
-    = λ z. record { projector = z; buffer = v; machine = m; tokens = c.args.tokens; fed = 0; acted = 0; given = length c.items.result.now } in
-    subst (λ (z : ProjectorView). Reaches g.C.Conds.stands pl (map said_of c.args.tokens.items) (record { fed = 0; acted = 0 }) (made z)) (sym c.projector.view_is)
-    (reaches_none g.C.Conds.stands pl (map said_of c.args.tokens.items) (made p) c.requires.tokens c.requires.within actors refl refl refl count)
+    let made : Actors g.row.N.Denot g.row.C.Denot = record { projector = p; buffer = v; machine = m; tokens = c.args.tokens; fed = 0; acted = 0; given = length c.items.result.now } in
+    reaches_none g.C.Conds.stands pl (map said_of c.args.tokens.items) made c.requires.tokens c.requires.within actors refl refl refl count

@@ -3,8 +3,7 @@ use Rattle.std.proofs.lemmas.Result.{err_from_is_err_and}
 use Rattle.std.specs.declared.result.Result.TheVariants.{Err}
 use Rattle.gcx_base.specs.declared.limits.Limits.{Limits}
 use Rattle.gcx_base.specs.Limits.{full_limits}
-use Rattle.doc_reader.specs.Standing.{Stands}
-use Rattle.doc_reader.specs.declared.token.Token.{Token}
+use Rattle.doc_reader.specs.Standing.{Stands, Token}
 use Rattle.tree_read.specs.declared.reading.DocumentEnd.TheVariants as end
 use Rattle.tree_read.specs.Document.{HasGiven, ReadsTokens}
 use Rattle.tree_read.proofs.Keeping.{given_none}

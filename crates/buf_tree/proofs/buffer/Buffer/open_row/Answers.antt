@@ -1,73 +1,32 @@
-use Rattle.std.proofs.Common.{arith, sym, ◌∙◌, ap, length, vec_capacity, ◌++◌, ◌∷◌, []}
-use Rattle.buf_tree.specs.Rows.{serials}
-use Rattle.buf_tree.proofs.BornViews.{covers_as, law_as, covers_still, there, level_here, own_here, bare_opened, bare_stands, kept_born, covers_born, born_opened, born_stands}
-use Rattle.buf_tree.proofs.Keeping.{kept_bare, kept_same, serials_push, length_serials}
+use Rattle.std.proofs.Common.{sym, subst}
+use Rattle.std.specs.Prelude.{option_map}
+use Rattle.buf_tree.specs.PassedCalls.{OpenedWith, StandsWith}
+use Rattle.buf_tree.specs.View.{View}
+use Rattle.buf_tree.proofs.BornViews.{there, own_here, opens_told, view_as}
 use Rattle.buf_tree.proofs.buffer.Buffer.open_row.Goals as goal
 
 pub keep_roles-requires-clause-there : goal.keep_roles-requires-clause-there
 keep_roles-requires-clause-there g c = there c.self.inside.spread _ _ _ _ _ _ _ _ _ _ c.self.view_is c.self.invariant.0 c.self.invariant.1 _ c.requires.parent
 
 pub keep_roles-requires-clause-own : goal.keep_roles-requires-clause-own
-keep_roles-requires-clause-own g c = own_here c.self.inside.spread _ _ _ _ _ _ _ _ _ _ c.self.view_is c.self.invariant.0 c.self.invariant.1 _ c.requires.parent c.args.kind c.requires.kind c.args.roles.held c.args.ahead c.requires.spread
+keep_roles-requires-clause-own g c = own_here c.self.inside.spread _ _ _ _ _ _ _ _ _ _ c.self.view_is c.self.invariant.0 c.self.invariant.1 _ c.requires.parent c.args.kind c.requires.kind c.args.roles.held c.requires.spread
 
-pub payload-above-requires : goal.payload-above-requires
-payload-above-requires g c = there c.self.inside.spread _ _ _ _ _ _ _ _ _ _ c.self.view_is c.self.invariant.0 c.self.invariant.1 _ c.requires.parent
-
-pub new_child-row-requires-clause-level : goal.new_child-row-requires-clause-level
-new_child-row-requires-clause-level g c =
-    let e = level_here c.self.inside.spread _ _ _ _ _ _ _ _ _ _ c.self.view_is c.self.invariant.0 c.self.invariant.1 _ c.requires.parent _ c.payload-above.ensures in
-    omega (arith, e, c.requires.depth)
-
-pub new_child-row-requires-clause-signed : goal.new_child-row-requires-clause-signed
-new_child-row-requires-clause-signed g c = c.keep_roles.ensures.signed ∙ c.requires.signed
-
-pub invariant_of-self-then-is_bare : goal.invariant_of-self-then-is_bare
-invariant_of-self-then-is_bare g c = (
-  kept_bare _ _ _ c.self.inside.count _ _ _ _ c.self.invariant.0
-      (ap serials c.push_reserved.ensures.items ∙ serials_push _ _ ∙ ap (λ (xs : _). serials xs ++ c.self.inside.count ∷ []) c.reserve.ensures.items)
-      (omega (arith, c.in_ok-reserve.ensures.ok, c.reserve.new.self.ok.0, c.push_reserved.ensures.capacity, length_serials c.self.inside.gone.items, ap length c.reserve.ensures.items)),
-  c.self.invariant.1,
-)
-
-pub returns-then-is_bare-clause-ok : goal.returns-then-is_bare-clause-ok
-returns-then-is_bare-clause-ok g c =
-    bare_opened c.self.inside.spread _ _ _ _ _ _ _ _ _ _ c.self.view_is c.self.invariant.0 c.self.invariant.1 _ c.requires.parent c.args.kind c.requires.kind c.args.roles.held c.args.ahead (sym c.is_bare.ensures ∙ c.if-is_bare.true) _ _
-    (ap serials c.push_reserved.ensures.items ∙ serials_push _ _ ∙ ap (λ (xs : _). serials xs ++ c.self.inside.count ∷ []) c.reserve.ensures.items)
-    c.saturating_add-self-inside.ensures
-
-pub returns-then-is_bare-clause-stands : goal.returns-then-is_bare-clause-stands
-returns-then-is_bare-clause-stands g c =
-    bare_stands c.self.inside.spread _ _ _ _ _ _ _ _ _ _ c.self.view_is c.self.invariant.0 c.self.invariant.1 _ c.requires.parent c.args.kind c.requires.kind c.args.roles.held c.args.ahead (sym c.is_bare.ensures ∙ c.if-is_bare.true) _ _
-    (ap serials c.push_reserved.ensures.items ∙ serials_push _ _ ∙ ap (λ (xs : _). serials xs ++ c.self.inside.count ∷ []) c.reserve.ensures.items)
-    c.saturating_add-self-inside.ensures
-
-pub invariant_of-self-in_err-place : goal.invariant_of-self-in_err-place
-invariant_of-self-in_err-place g c = (
-  kept_same _ _ _ _ _ _ _ _ c.in_err-place.ensures.err.0 (ap serials c.reserve.ensures.items) c.reserve.ensures.capacity c.self.invariant.0,
-  covers_still _ _ _ _ c.keep_roles.ensures.same c.in_err-place.ensures.err.0 c.self.invariant.1,
-)
-
-pub invariant_of-self-2 : goal.invariant_of-self-2
-invariant_of-self-2 g c = (
-  kept_born c.self.inside.spread _ _ _ _ _ _ _ _ _ _ c.self.view_is c.self.invariant.0 c.self.invariant.1 _ c.requires.parent c.args.kind c.requires.kind c.args.roles.held c.args.ahead c.requires.spread (sym c.is_bare.ensures ∙ c.if-is_bare.false) _ c.keep_roles.ensures.held _
-      c.payload-above.ensures _ _ c.new_child-row.ensures (law_as _ _ c.payload-above.result.now _ c.keep_roles.ensures.same c.covers-covered.ensures) _ c.in_ok-place.ensures.free _ c.in_ok-place.ensures.ok _ (vec_capacity c.reserve.new.self) (ap serials c.reserve.ensures.items)
-      (omega (arith, c.in_ok-reserve.ensures.ok, c.reserve.new.self.ok.0, length_serials c.reserve.new.self.items, length_serials c.self.inside.gone.items, ap length c.reserve.ensures.items)),
-  covers_as _ _ _ c.keep_roles.ensures.same
-      (covers_born c.self.inside.spread _ _ _ _ _ _ _ _ _ _ c.self.view_is c.self.invariant.0 c.self.invariant.1 _ c.requires.parent c.args.kind c.requires.kind c.args.roles.held c.args.ahead c.requires.spread (sym c.is_bare.ensures ∙ c.if-is_bare.false) _ c.keep_roles.ensures.held _
-      c.payload-above.ensures _ _ c.new_child-row.ensures (law_as _ _ c.payload-above.result.now _ c.keep_roles.ensures.same c.covers-covered.ensures) _ c.in_ok-place.ensures.free _ c.in_ok-place.ensures.ok _ (vec_capacity c.reserve.new.self) (ap serials c.reserve.ensures.items)
-      (omega (arith, c.in_ok-reserve.ensures.ok, c.reserve.new.self.ok.0, length_serials c.reserve.new.self.items, length_serials c.self.inside.gone.items, ap length c.reserve.ensures.items))),
+pub open_child-requires-clause-opens : goal.open_child-requires-clause-opens
+open_child-requires-clause-opens g c = (
+  c.args.roles.held,
+  opens_told c.self.inside.spread _ _ _ _ _ _ _ _ _ _ c.self.view_is c.self.invariant.0 c.self.invariant.1 _ c.requires.parent c.args.kind c.requires.kind c.args.roles.held _ _ (c.is_bare-bare.ensures _ c.is_empty.ensures) c.requires.spread c.keep_roles.ensures.held _ c.keep_roles.ensures.same,
 )
 
 pub returns-clause-ok : goal.returns-clause-ok
 returns-clause-ok g c =
-    born_opened c.self.inside.spread _ _ _ _ _ _ _ _ _ _ c.self.view_is c.self.invariant.0 c.self.invariant.1 _ c.requires.parent c.args.kind c.requires.kind c.args.roles.held c.args.ahead c.requires.spread (sym c.is_bare.ensures ∙ c.if-is_bare.false) _ c.keep_roles.ensures.held _
-    c.payload-above.ensures _ _ c.new_child-row.ensures (law_as _ _ c.payload-above.result.now _ c.keep_roles.ensures.same c.covers-covered.ensures) _ c.in_ok-place.ensures.free _ c.in_ok-place.ensures.ok _ (vec_capacity c.reserve.new.self) (ap serials c.reserve.ensures.items)
-    (omega (arith, c.in_ok-reserve.ensures.ok, c.reserve.new.self.ok.0, length_serials c.reserve.new.self.items, length_serials c.self.inside.gone.items, ap length c.reserve.ensures.items))
-    _ _ _ c.saturating_add-self-inside-2.ensures c.in_ok-place.ensures.most _ c.keep_roles.ensures.same
+    subst (λ (z : View). OpenedWith z c.open_child.new.self c.args.parent.0 (option_map (λ q. q.0) c.in_ok-place.place) c.args.kind c.args.roles.held c.args.ahead)
+    (sym (view_as c.self.inside.spread _ _ _ _ _ _ _ _ _ _ c.self.view_is c.self.invariant.0 c.self.invariant.1 _ c.requires.parent _ c.keep_roles.ensures.same))
+    (c.in_ok-place.ensures.ok c.args.roles.held
+    (opens_told c.self.inside.spread _ _ _ _ _ _ _ _ _ _ c.self.view_is c.self.invariant.0 c.self.invariant.1 _ c.requires.parent c.args.kind c.requires.kind c.args.roles.held _ _ (c.is_bare-bare.ensures _ c.is_empty.ensures) c.requires.spread c.keep_roles.ensures.held _ c.keep_roles.ensures.same))
 
 pub returns-clause-stands : goal.returns-clause-stands
 returns-clause-stands g c =
-    born_stands c.self.inside.spread _ _ _ _ _ _ _ _ _ _ c.self.view_is c.self.invariant.0 c.self.invariant.1 _ c.requires.parent c.args.kind c.requires.kind c.args.roles.held c.args.ahead c.requires.spread (sym c.is_bare.ensures ∙ c.if-is_bare.false) _ c.keep_roles.ensures.held _
-    c.payload-above.ensures _ _ c.new_child-row.ensures (law_as _ _ c.payload-above.result.now _ c.keep_roles.ensures.same c.covers-covered.ensures) _ c.in_ok-place.ensures.free _ c.in_ok-place.ensures.ok _ (vec_capacity c.reserve.new.self) (ap serials c.reserve.ensures.items)
-    (omega (arith, c.in_ok-reserve.ensures.ok, c.reserve.new.self.ok.0, length_serials c.reserve.new.self.items, length_serials c.self.inside.gone.items, ap length c.reserve.ensures.items))
-    _ _ _ c.saturating_add-self-inside-2.ensures c.in_ok-place.ensures.most _ c.keep_roles.ensures.same
+    subst (λ (z : View). StandsWith z c.open_child.new.self c.args.kind c.args.roles.held)
+    (sym (view_as c.self.inside.spread _ _ _ _ _ _ _ _ _ _ c.self.view_is c.self.invariant.0 c.self.invariant.1 _ c.requires.parent _ c.keep_roles.ensures.same))
+    (c.in_ok-place.ensures.stands c.args.roles.held
+    (opens_told c.self.inside.spread _ _ _ _ _ _ _ _ _ _ c.self.view_is c.self.invariant.0 c.self.invariant.1 _ c.requires.parent c.args.kind c.requires.kind c.args.roles.held _ _ (c.is_bare-bare.ensures _ c.is_empty.ensures) c.requires.spread c.keep_roles.ensures.held _ c.keep_roles.ensures.same))

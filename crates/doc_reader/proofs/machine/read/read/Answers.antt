@@ -1,10 +1,10 @@
 use Rattle.std.proofs.Common.{sym, ap, ◌∙◌, subst, drop, length, List, ℕ, ◌+◌, ◌-◌}
 use Rattle.std.proofs.lemmas.Result.{err_from_is_err_and}
-use Rattle.doc_reader.specs.Machine.{scan_state}
-use Rattle.doc_reader.specs.Reading.{IsFirst}
-use Rattle.doc_reader.proofs.Texts.{rest_all}
-use Rattle.doc_reader.proofs.Wholes.{first_all, reached_stops}
-use Rattle.doc_reader.proofs.Reading.{reached_moves, reached_first, reached_stop, reached_all}
+use Rattle.doc_machine.specs.Machine.{scan_state}
+use Rattle.doc_parts.specs.Reading.{IsFirst}
+use Rattle.doc_parts.proofs.Texts.{rest_all}
+use Rattle.doc_parts.proofs.Wholes.{first_all}
+use Rattle.doc_reader.proofs.Reading.{reached_stops, reached_moves, reached_first, reached_stop, reached_all}
 use Rattle.doc_reader.proofs.machine.read.read.Goals as goal
 
 pub returns-in_err-judge-in-Some-clause-judged : goal.returns-in_err-judge-in-Some-clause-judged

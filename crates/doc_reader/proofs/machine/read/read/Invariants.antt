@@ -2,7 +2,7 @@ use denote.Shadow.{shadow}
 use denote.Text.{Utf8}
 use Rattle.std.proofs.Common.{length}
 use Rattle.doc_chars.specs.Stream.{AreChars}
-use Rattle.doc_reader.specs.Machine.{scan_state}
+use Rattle.doc_machine.specs.Machine.{scan_state}
 use Rattle.doc_reader.specs.Reading.{Reached}
 use Rattle.doc_reader.proofs.machine.read.read.Given as goal
 

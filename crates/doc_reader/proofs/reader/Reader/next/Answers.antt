@@ -1,10 +1,10 @@
 use Rattle.std.proofs.Common.{◌≡◌, false, List, [], ◌∷◌, ◌++◌, sym, ap, ◌∙◌, subst, append-nil}
 use Rattle.gcx_model.specs.Tree.{Token as Said}
 use Rattle.doc_laws.specs.Machine.{State}
+use Rattle.doc_tokens.specs.declared.token.Token.{Token}
+use Rattle.doc_tokens.specs.declared.token.Token.TheVariants.{EndOfDocument}
 use Rattle.doc_reader.specs.Standing.{ReaderView, Stands}
 use Rattle.doc_reader.specs.Inside.{view_of}
-use Rattle.doc_reader.specs.declared.token.Token.{Token}
-use Rattle.doc_reader.specs.declared.token.Token.TheVariants.{EndOfDocument}
 use Rattle.doc_reader.proofs.Standings.{first_taken, none_taken, stands_popped, stands_told}
 use Rattle.doc_reader.proofs.reader.Reader.next.Goals as goal
 

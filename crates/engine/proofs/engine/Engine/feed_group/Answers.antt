@@ -3,7 +3,7 @@ use Rattle.std.proofs.lemmas.List.{append-nil}
 use Rattle.gcx_base.specs.declared.limits.Limits.{Limits}
 use Rattle.gcx_model.specs.PlanView.{plan_tree}
 use Rattle.gcx_model.specs.Seen.{seen_tree}
-use Rattle.doc_reader.specs.declared.token.Token.{Token}
+use Rattle.doc_reader.specs.Standing.{Token}
 use Rattle.gcx_model.specs.Demand.{Line, text_of_lines}
 use Rattle.doc_reader.specs.Standing.{ReaderView, said_of, waiting}
 use Rattle.std.specs.Prelude.{map}

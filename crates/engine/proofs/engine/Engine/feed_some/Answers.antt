@@ -2,8 +2,7 @@ use Rattle.std.proofs.Common.{◌≡◌, ◌∙◌, ◌+◌, ◌<◌, ◌≤◌,
 use Rattle.gcx_base.specs.declared.limits.Limits.{Limits}
 use Rattle.gcx_model.specs.PlanView.{plan_tree}
 use Rattle.gcx_model.specs.Seen.{seen_tree}
-use Rattle.doc_reader.specs.declared.token.Token.{Token}
-use Rattle.doc_reader.specs.Standing.{Keeps, ReaderView, Stands, said_of, waiting}
+use Rattle.doc_reader.specs.Standing.{Token, Keeps, ReaderView, Stands, said_of, waiting}
 use Rattle.std.specs.Prelude.{map}
 use Rattle.std.proofs.lemmas.Bool.{false≢true, true≢false}
 use Rattle.engine.specs.declared.engine.Engine.{Engine}

@@ -3,7 +3,7 @@ use Rattle.gcx_model.specs.declared.fault.DocFault.{DocFault}
 use Rattle.std.specs.Prelude.{OnOk, OnErr}
 use Rattle.engine.specs.declared.engine.Engine.{Engine}
 use Rattle.gcx_base.specs.declared.limits.Limits.{Limits}
-use Rattle.doc_reader.specs.declared.token.Token.{Token}
+use Rattle.doc_reader.specs.Standing.{Token}
 use Rattle.gcx_model.specs.PlanView.{plan_tree}
 use Rattle.gcx_model.specs.Seen.{seen_tree}
 use Rattle.gcx_model.specs.Demand.{text_of_lines}

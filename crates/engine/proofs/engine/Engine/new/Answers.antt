@@ -30,3 +30,15 @@ returns-clause-most g c =
 
 pub returns-clause-silent : goal.returns-clause-silent
 returns-clause-silent g c = λ h. c.act_all.ensures.silent (record { untold = c.in_ok-engine.ensures.tracing ∙ h; empty = c.in_ok-engine.ensures.silent h })
+
+pub returns-clause-plan : goal.returns-clause-plan
+returns-clause-plan g c = ap (λ (z : Engine g.row.N.Denot g.row.C.Denot). z.plan) c.act_all.ensures.rest ∙ c.in_ok-engine.ensures.plan
+
+pub returns-clause-ahead : goal.returns-clause-ahead
+returns-clause-ahead g c = ap (λ (z : Engine g.row.N.Denot g.row.C.Denot). z.ahead) c.act_all.ensures.rest ∙ c.in_ok-engine.ensures.ahead
+
+pub returns-clause-tracing : goal.returns-clause-tracing
+returns-clause-tracing g c = ap (λ (z : Engine g.row.N.Denot g.row.C.Denot). z.tracing) c.act_all.ensures.rest ∙ c.in_ok-engine.ensures.tracing
+
+pub returns-clause-loans : goal.returns-clause-loans
+returns-clause-loans g c = c.act_all.ensures.loans ∙ c.in_ok-engine.ensures.loans

@@ -19,7 +19,7 @@ pub returns-in-Exists : goal.returns-in-Exists
 returns-in-Exists g t c =
     IfOk-weaker c.by_marks.result _ _
     (λ u told. exists_tells c.args.buffer.now c.args.env.now c.args.self.now c.args.cond.now c.in-Exists.var c.in-Exists.steps c.in-Exists.is c.by_marks.new.self u told)
-    c.by_marks.ensures
+    c.by_marks.ensures.tells
 
 pub returns-in_ok-asked-in-Not : goal.returns-in_ok-asked-in-Not
 returns-in_ok-asked-in-Not g t c =

@@ -12,12 +12,13 @@ leaf-requires-clause-asked g c =
     subst (λ (k : IndexView). MayAskOver c.args.buffer.now (AreMarks k.marked) c.args.env.now (core_cond_tree c.args.cond.now)) (sym c.self.view_is)
     (may_marks c.args.buffer.now c.args.env.now c.args.self.now (core_cond_tree c.args.cond.now) c.requires.may)
 
-pub returns : goal.returns
-returns g c =
+pub returns-clause-tells : goal.returns-clause-tells
+returns-clause-tells g c =
     IfOk-weaker c.leaf.result _ _
     (λ t told. record {
       answers = subst (λ (k : IndexView). AnswersOver c.args.buffer.now (AreMarks k.marked) (AreMarks c.leaf.new.self) c.args.env.now (core_cond_tree c.args.cond.now) t) c.self.view_is told;
       equalities = ap (λ (k : IndexView). k.equalities) c.self.view_is;
+      pairs = ap (λ (k : IndexView). k.pairs) c.self.view_is;
       built = ap (λ (k : IndexView). k.built) c.self.view_is;
     })
-    c.leaf.ensures
+    c.leaf.ensures.answers

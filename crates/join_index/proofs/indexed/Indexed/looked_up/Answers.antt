@@ -117,7 +117,7 @@ returns g c =
     let found = c.in_ok-found.found in
     let q = c.in-Some.ensures.0 in
     let is = c.in-Some.ensures.2 in
-    let k : IndexView = record { marked = c.self.inside.marked; equalities = items; built = c.self.inside.built } in
+    let k : IndexView = record { marked = c.self.inside.marked; equalities = items; pairs = c.self.inside.pairs.items; built = c.self.inside.built } in
     let at : slice_get items i ≡ Some q = ap (λ (qs : List Equality). slice_get qs i) (sym c.deref.ensures.value) ∙ c.in-Some.ensures.1 in
     let outer : Some (c.in-Some-get.outer.0, c.in-Some-get.of.0) ≡ get bound (outer_of q).var.0 =
     c.in-Some-get.ensures ∙ ap (λ (s : Side). get bound s.var.0) (c.outer.ensures ∙ ap outer_of (same_get items i q c.index.result.now at c.index.ensures)) in
@@ -129,10 +129,10 @@ returns g c =
     subst (λ (z : Equality). (l : Listed) → z.list ≡ Some l → TellsFound v.rows c.in-Some-get-2.inner.0 (inner_of z).steps l.values found)
     (same_get (slice_set items i r) i r c.index-3.result.now (set_get items i q r at) c.index-3.ensures) c.in_ok-found.ensures in
     let shut : true ≡ c.is_closed.result = search rules in
-    let now : IndexView = record { marked = k.marked; equalities = slice_set items i r; built = c.risen-self-inside.result } in
+    let now : IndexView = record { marked = k.marked; equalities = slice_set items i r; pairs = k.pairs; built = c.risen-self-inside.result } in
     let told : TellsTruthOf v bound (comparison c.args.left.now Eq c.args.right.now) k now (settle found c.is_closed-2.result) =
-    subst (λ (n : ℕ). TellsTruthOf v bound (comparison c.args.left.now Eq c.args.right.now) k (record { marked = k.marked; equalities = slice_set items i r; built = n }) (settle found c.is_closed-2.result)) (sym c.risen-self-inside.ensures)
-    (looks_for v bound c.args.left.now c.args.right.now q is k (record { marked = k.marked; equalities = slice_set items i r; built = raised k.built (cond c.in_ok-made.made 1 0) }) (settle found c.is_closed-2.result)
+    subst (λ (n : ℕ). TellsTruthOf v bound (comparison c.args.left.now Eq c.args.right.now) k (record { marked = k.marked; equalities = slice_set items i r; pairs = k.pairs; built = n }) (settle found c.is_closed-2.result)) (sym c.risen-self-inside.ensures)
+    (looks_for v bound c.args.left.now c.args.right.now q is k (record { marked = k.marked; equalities = slice_set items i r; pairs = k.pairs; built = raised k.built (cond c.in_ok-made.made 1 0) }) (settle found c.is_closed-2.result)
     (looks v bound k i q r c.in-Some-get.outer.0 c.in-Some-get.of.0 c.in-Some-get-2.inner.0 c.in-Some-get-2.field-0-1.0 c.in_ok-made.made found at outer inner lists tells c.is_closed-2.result (λ d j p. shut ∙ c.is_closed.ensures d j p) c.is_closed-2.ensures)) in
     subst (λ (z : IndexView). TellsTruthOf v bound (comparison c.args.left.now c.args.rel c.args.right.now) z now c.settle.result) c.self.view_is
     (subst (λ (z : Rel). TellsTruthOf v bound (comparison c.args.left.now z c.args.right.now) k now c.settle.result) (sym (rel_is c.args.rel c.if-ne.ensures))

@@ -9,4 +9,4 @@ pub returns-clause-stands : goal.returns-clause-stands
 returns-clause-stands g c v s e =
     let n = c.new.ensures in
     beside_new (plan_tree c.args.plan.now) c.new.result v
-    (record { rest = ap items n.rest ∙ ap body_of c.items.ensures.trees; round = n.round; seen = n.seen; below = n.below; copying = n.copying; begun = n.begun }) s e
+    (record { rest = ap items n.rest ∙ ap body_of c.items.ensures.trees; round = n.round; seen = n.seen; below = n.below; copying = n.copying; turns = n.turns; begun = n.begun }) s e

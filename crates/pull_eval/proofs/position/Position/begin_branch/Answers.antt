@@ -9,5 +9,5 @@ pub returns-clause-moved : goal.returns-clause-moved
 returns-clause-moved c = λ cond this other v past k out n b chosen.
     let next : IsNextItem c.args.self.now (If cond this other) (items c.go_on.new.self.rest.now) = subst (λ (z : _). IsNextItem c.args.self.now (If cond this other) (items z)) (sym c.go_on.ensures.rest) n in
     let taken : Chosen past.tree b.position.fs cond this other (items c.new-self.result.rest.now) = subst (λ (z : _). Chosen past.tree b.position.fs cond this other (items z)) (sym c.new-self.ensures.rest) chosen in
-    let x = branch_begun c.args.self.now _ v past k b (record { env = refl; copying = refl; begun = c.requires.begun }) c.requires.begun cond this other c.go_on.new.self next c.go_on.ensures.round c.go_on.ensures.seen c.in_ok-push.ensures.items c.new-self.ensures.round c.new-self.ensures.seen taken in
+    let x = branch_begun c.args.self.now _ v past k b (record { env = refl; copying = refl; turns = refl; begun = c.requires.begun }) c.requires.begun cond this other c.go_on.new.self next c.go_on.ensures.round c.go_on.ensures.seen c.in_ok-push.ensures.items c.new-self.ensures.round c.new-self.ensures.seen taken in
     (refl, refl, x.0, x.1)

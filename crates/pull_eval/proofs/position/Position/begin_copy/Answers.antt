@@ -30,7 +30,7 @@ pub returns-clause-moved : goal.returns-clause-moved
 returns-clause-moved g c = λ past k b.
     let before : c.len-before.result ≡ length c.args.out.now.items = omega (arith, c.len-before.ensures, c.args.out.now.ok.0) in
     let n : IsNextItem c.args.self.now (Copy c.args.var.0) (items c.go_on.new.self.rest.now) = subst (λ (z : _). IsNextItem c.args.self.now (Copy c.args.var.0) (items z)) (sym c.go_on.ensures.rest) c.requires.next in
-    copy_begun c.args.self.now _ c.args.buffer.now past k b c.requires.begun (record { below = refl; env = refl; begun = c.requires.begun }) c.args.var.0 n c.go_on.ensures.round c.go_on.ensures.seen c.place_of-place.result c.place_of-place.ensures
+    copy_begun c.args.self.now _ c.args.buffer.now past k b c.requires.begun (record { below = refl; env = refl; turns = refl; begun = c.requires.begun }) c.args.var.0 n c.go_on.ensures.round c.go_on.ensures.seen c.place_of-place.result c.place_of-place.ensures
     c.args.out.now.items c.put_begin.new.out.items c.wrote.result
     (counted_by c.len-before.result c.args.out.now.items c.put_begin.new.out.items c.wrote.result before c.wrote.ensures.none c.wrote.ensures.some)
     c.in_ok-put_begin.ensures.ok c.begun-self.ensures

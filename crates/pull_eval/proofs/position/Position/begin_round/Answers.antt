@@ -8,6 +8,7 @@ use Rattle.pull_eval.specs.declared.block.Next.{Next}
 use Rattle.pull_eval.specs.declared.block.Block.{Block}
 use Rattle.pull_eval.specs.declared.block.Copying.{Copying}
 use Rattle.pull_eval.specs.declared.machine.Acted.{Acted}
+use Rattle.pull_eval.specs.declared.turns.Turns.{Turns}
 use Rattle.pull_eval.proofs.RoundLooks.{sought_looks}
 use Rattle.pull_eval.proofs.position.Position.begin_round.Goals.{then-ends_with_off, else-ends_with_off}
 use Rattle.pull_eval.proofs.position.Position.begin_round.Goals as goal
@@ -32,6 +33,7 @@ returns g c =
           below = refl {A = List Block};
           env = c.in_ok-bind.ensures.ok ∙ ap (λ (z : ℕ). map.insert c.args.self.now.env r.var.0 (r.present.0, z)) c.serial.ensures.serial;
           copying = refl {A = Option Copying};
+          turns = refl {A = List Turns};
           begun = refl {A = Bool};
           looks = looks;
           serial = λ d i e. sym c.serial.ensures.serial ∙ sym (c.serial.ensures.row d i e);

@@ -16,7 +16,7 @@ pub returns-clause-moved : goal.returns-clause-moved
 returns-clause-moved g c = λ past k b.
     let before : c.len-before.result ≡ length c.args.out.now.items = omega (arith, c.len-before.ensures, c.args.out.now.ok.0) in
     let copy = the_copy c.args.self.now c.args.buffer.now past k b c.args.copying c.requires.copying in
-    child_copied c.args.self.now _ c.args.buffer.now past k b c.args.copying c.requires.copying c.requires.begun (record { top = refl; below = refl; env = refl; begun = c.requires.begun })
+    child_copied c.args.self.now _ c.args.buffer.now past k b c.args.copying c.requires.copying c.requires.begun (record { top = refl; below = refl; env = refl; turns = refl; begun = c.requires.begun })
     c.args.child (subst (λ (z : _). NextIs c.args.buffer.now.rows past.tree z c.args.child.0) copy.innermost (c.requires.next past k b))
     c.args.out.now.items c.put_begin.new.out.items c.wrote.result
     (counted_by c.len-before.result c.args.out.now.items c.put_begin.new.out.items c.wrote.result before c.wrote.ensures.none c.wrote.ensures.some)

@@ -1,93 +1,23 @@
-use Rattle.std.proofs.Common.{ℕ, List, Option, None, refl, sym, subst, arith}
-use Rattle.gcx_model.specs.declared.item.Item.{Item}
+use Rattle.std.proofs.Common.{◌≡◌, true, sym, subst}
 use Rattle.gcx_model.specs.Core.{For}
-use Rattle.gcx_model.specs.Past.{Past}
 use Rattle.pull_eval.specs.Position.{items}
-use Rattle.pull_eval.specs.Acting.{Beside, IsNextItem, Moves}
-use Rattle.pull_eval.specs.Rounds.{Began}
-use Rattle.pull_eval.specs.declared.block.Next.TheVariants.{Unsought}
-use Rattle.pull_eval.specs.declared.block.Round.{Round}
-use Rattle.pull_eval.specs.declared.block.Block.{Block}
-use Rattle.pull_eval.specs.declared.machine.Acted.{Acted}
+use Rattle.pull_eval.specs.Acting.{IsNextItem}
 use Rattle.pull_eval.specs.declared.position.Position.{Position}
-use Rattle.pull_eval.proofs.Finding.{goes_first, ok_none}
-use Rattle.pull_eval.proofs.NextMatches.{row_below}
-use Rattle.pull_eval.proofs.RoundMoves.{context_there, context_used}
-use Rattle.pull_eval.proofs.LoopEntry.{enters, passes, waits_there}
+use Rattle.pull_eval.proofs.Turning.{moved_on}
 use Rattle.pull_eval.proofs.position.Position.enter.Goals as goal
 
-pub place_of-context-requires : goal.place_of-context-requires
-place_of-context-requires g c =
-    let q = c.requires.beside in
-    context_there c.args.self.now c.args.buffer.now q.0 q.1 q.2 c.requires.begun c.args.vars.0.0 c.args.vars.1.0 c.args.step.now (items c.args.body.now) (items c.args.rest.now) c.requires.next
+pub enter_at-requires-clause-next : goal.enter_at-requires-clause-next
+enter_at-requires-clause-next g c =
+    subst (λ (z : Position). IsNextItem z (For c.args.vars.0.0 c.args.vars.1.0 c.args.step.now (items c.args.body.now)) (items c.args.rest.now)) (sym c.in_ok-first.ensures.frame)
+    (record { next = c.requires.next.next; no_copy = c.requires.next.no_copy })
 
-pub first_match-requires-clause-used : goal.first_match-requires-clause-used
-first_match-requires-clause-used g c =
-    let q = c.requires.beside in
-    context_used c.args.self.now c.args.buffer.now q.0 q.1 q.2 c.requires.begun c.args.vars.0.0 c.args.vars.1.0 c.args.step.now (items c.args.body.now) (items c.args.rest.now) c.requires.next
-    c.place_of-context.result.0 c.place_of-context.ensures
+pub enter_at-requires-clause-begun : goal.enter_at-requires-clause-begun
+enter_at-requires-clause-begun g c = subst (λ (z : Position). z.is_begun ≡ true) (sym c.in_ok-first.ensures.frame) c.requires.begun
 
-pub first_match-requires-clause-below : goal.first_match-requires-clause-below
-first_match-requires-clause-below g c = let q = c.requires.beside in row_below c.args.buffer.now q.0 q.2.buffer
+pub enter_at-requires-clause-first : goal.enter_at-requires-clause-first
+enter_at-requires-clause-first g c = let q = c.requires.beside in let h = c.in_ok-first.ensures.first q.0 q.1 q.2 in (q.0, q.1, h.0, h.1)
 
-pub begin_round-requires-clause-goes : goal.begin_round-requires-clause-goes
-begin_round-requires-clause-goes g c =
-    let q = c.requires.beside in
-    let u = context_used c.args.self.now c.args.buffer.now q.0 q.1 q.2 c.requires.begun c.args.vars.0.0 c.args.vars.1.0 c.args.step.now (items c.args.body.now) (items c.args.rest.now) c.requires.next
-    c.place_of-context.result.0 c.place_of-context.ensures in
-    goes_first c.args.buffer.now.rows c.place_of-context.result.0 u c.args.step.now _ c.in-Some.place.0 (c.in-Some.ensures u.cell u.among u.place)
-
-pub begin_round-requires-clause-some : goal.begin_round-requires-clause-some
-begin_round-requires-clause-some g c =
-    let q = c.requires.beside in
-    let u = context_used c.args.self.now c.args.buffer.now q.0 q.1 q.2 c.requires.begun c.args.vars.0.0 c.args.vars.1.0 c.args.step.now (items c.args.body.now) (items c.args.rest.now) c.requires.next
-    c.place_of-context.result.0 c.place_of-context.ensures in
-    let l = row_below c.args.buffer.now q.0 q.2.buffer u.cell u.among in
-    omega arith
-
-pub returns-in_ok-push-in-Some-clause-moved : goal.returns-in_ok-push-in-Some-clause-moved
-returns-in_ok-push-in-Some-clause-moved g c =
-    let w = c.args.self.now in
-    let v = c.args.buffer.now in
-    let after : Block = c.go_on.new.self in
-    let mid : Position = record c.args.self.now { top = c.go_on.new.self; below = c.push.new.self } in
-    let r : Round = record { var = c.args.vars.0; step = c.args.step; body = c.args.body; context = c.place_of-context.result; present = c.in-Some.place; next = Unsought } in
-    let next : IsNextItem w (For c.args.vars.0.0 c.args.vars.1.0 c.args.step.now (items c.args.body.now)) (items after.rest.now) =
-    subst (λ (z : List Item). IsNextItem c.args.self.now (For c.args.vars.0.0 c.args.vars.1.0 c.args.step.now (items c.args.body.now)) (items z)) (sym c.go_on.ensures.rest) c.requires.next in
-    ok_none c.begin_round.result (Began v mid c.begin_round.new.self r) (λ (a : Option Acted). (past : Past) (k : ℕ) (out : List ℕ) → Beside w v past k → Moves past k w c.begin_round.new.self v v out out a) c.begin_round.ensures.began
-    (λ began past k out b. enters w v past k b c.requires.begun r c.args.vars.1.0 after next mid c.begin_round.new.self
-    (record { round = c.go_on.ensures.round; seen = c.go_on.ensures.seen; below = c.in_ok-push-in-Some.ensures.items; env = refl; copying = refl; is_begun = refl }) began c.place_of-context.ensures c.in-Some.ensures out)
-
-pub is_closed-requires : goal.is_closed-requires
-is_closed-requires g c =
-    let q = c.requires.beside in
-    context_used c.args.self.now c.args.buffer.now q.0 q.1 q.2 c.requires.begun c.args.vars.0.0 c.args.vars.1.0 c.args.step.now (items c.args.body.now) (items c.args.rest.now) c.requires.next
-    c.place_of-context.result.0 c.place_of-context.ensures
-
-pub returns-then-is_closed-clause-moved : goal.returns-then-is_closed-clause-moved
-returns-then-is_closed-clause-moved g c = λ past k out b.
-    (let w = c.args.self.now in
-    let after : Block = c.go_on-then-is_closed.new.self in
-    let n : Position = record c.args.self.now { top = c.go_on-then-is_closed.new.self } in
-    let r : Round = record { var = c.args.vars.0; step = c.args.step; body = c.args.body; context = c.place_of-context.result; present = c.place_of-context.result; next = Unsought } in
-    let next : IsNextItem w (For c.args.vars.0.0 c.args.vars.1.0 c.args.step.now (items c.args.body.now)) (items after.rest.now) =
-    subst (λ (z : List Item). IsNextItem c.args.self.now (For c.args.vars.0.0 c.args.vars.1.0 c.args.step.now (items c.args.body.now)) (items z)) (sym c.go_on-then-is_closed.ensures.rest) c.requires.next in
-    passes w c.args.buffer.now past k b c.requires.begun r c.args.vars.1.0 after next n refl c.go_on-then-is_closed.ensures.round c.go_on-then-is_closed.ensures.seen refl refl refl refl
-    c.place_of-context.result.0 c.is_closed.result c.place_of-context.ensures c.in-None.ensures c.is_closed.ensures c.if-is_closed.true out)
-
-pub newest-seen-requires : goal.newest-seen-requires
-newest-seen-requires g c =
-    let q = c.requires.beside in
-    let u = context_used c.args.self.now c.args.buffer.now q.0 q.1 q.2 c.requires.begun c.args.vars.0.0 c.args.vars.1.0 c.args.step.now (items c.args.body.now) (items c.args.rest.now) c.requires.next
-    c.place_of-context.result.0 c.place_of-context.ensures in
-    let l = row_below c.args.buffer.now q.0 q.2.buffer u.cell u.among in
-    omega arith
-
-pub returns-else-is_closed-clause-moved : goal.returns-else-is_closed-clause-moved
-returns-else-is_closed-clause-moved g c = λ past k out b.
-    (let w = c.args.self.now in
-    let after : Block = record { rest = c.args.rest; round = None; seen = 0 } in
-    let n : Position = record c.args.self.now { top = record c.args.self.now.top { seen = c.newest-seen.result.0 } } in
-    let r : Round = record { var = c.args.vars.0; step = c.args.step; body = c.args.body; context = c.place_of-context.result; present = c.place_of-context.result; next = Unsought } in
-    waits_there w c.args.buffer.now past k b c.requires.begun r c.args.vars.1.0 after c.requires.next n c.newest-seen.result.0 refl c.newest-seen.ensures refl refl refl refl
-    c.place_of-context.result.0 c.is_closed.result c.place_of-context.ensures c.in-None.ensures c.is_closed.ensures c.if-is_closed.false out)
+pub returns-clause-moved : goal.returns-clause-moved
+returns-clause-moved g c = λ past k out b.
+    (let h = c.in_ok-first.ensures.first past k b in
+    moved_on c.args.self.now c.first_there.new.self c.enter_at.new.self past k c.args.buffer.now c.args.buffer.now out out c.in_ok-acted.acted c.in_ok-first.ensures.frame (c.in_ok-acted.ensures.moved past k out h.0 h.1))

@@ -6,7 +6,7 @@ use Rattle.pull_eval.proofs.position.Position.go_below.Goals as goal
 
 pub returns-in-Some-clause-moved : goal.returns-in-Some-clause-moved
 returns-in-Some-clause-moved c = λ v past k out b last.
-    let x = gone_below c.args.self.now _ v past k b (record { env = refl; copying = refl; begun = c.requires.begun }) c.requires.begun (ap items c.requires.over) c.requires.no_copy c.in-Some.ensures.items last in
+    let x = gone_below c.args.self.now _ v past k b (record { env = refl; copying = refl; turns = refl; begun = c.requires.begun }) c.requires.begun (ap items c.requires.over) c.requires.no_copy c.in-Some.ensures.items last in
     (refl, refl, x.0, x.1)
 
 pub returns-in-None-clause-moved : goal.returns-in-None-clause-moved
@@ -16,5 +16,5 @@ returns-in-None-clause-moved c = λ v past k out b last.
       run_over c.args.self.now v past k b (ap items c.requires.over) c.requires.no_copy single last,
       refl,
       refl,
-      stands_still c.args.self.now _ v past k b (record { env = refl; copying = refl; begun = c.requires.begun }) c.requires.begun refl (sym rest),
+      stands_still c.args.self.now _ v past k b (record { env = refl; copying = refl; turns = refl; begun = c.requires.begun }) c.requires.begun refl (sym rest),
     )

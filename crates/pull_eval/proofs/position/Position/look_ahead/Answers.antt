@@ -19,4 +19,4 @@ match_behind-next-requires-clause-some g c =
 pub returns-in-Unsought-clause-stays : goal.returns-in-Unsought-clause-stays
 returns-in-Unsought-clause-stays g c = λ past k b.
     (let n : Position = record c.args.self.now { top = record c.args.self.now.top { round = Some (record c.in-Some.round { next = c.match_behind-next.result }) } } in
-    looked c.args.self.now c.args.buffer.now past k b c.requires.begun c.requires.no_copy c.in-Some.round c.in-Some.is c.in-Unsought.is n c.match_behind-next.result c.match_behind-next.ensures.learnt c.match_behind-next.ensures.sought refl refl refl refl refl)
+    looked c.args.self.now c.args.buffer.now past k b c.requires.begun c.requires.no_copy c.in-Some.round c.in-Some.is c.in-Unsought.is n c.match_behind-next.result c.match_behind-next.ensures.learnt c.match_behind-next.ensures.sought refl refl refl refl refl refl)

@@ -1,64 +1,24 @@
-use Rattle.std.proofs.Common.{ℕ, List, Option, Some, refl, arith}
-use Rattle.gcx_model.specs.Past.{Past}
-use Rattle.cond_eval.specs.declared.watermark.Watermark.{Watermark}
-use Rattle.pull_eval.specs.Acting.{Beside, Moves}
-use Rattle.pull_eval.specs.Rounds.{Began}
-use Rattle.pull_eval.specs.declared.block.Next.TheVariants.{NoneUpTo}
-use Rattle.pull_eval.specs.declared.block.Round.{Round}
-use Rattle.pull_eval.specs.declared.machine.Acted.{Acted}
+use Rattle.std.proofs.Common.{◌≡◌, true, [], Some, None, sym, subst}
 use Rattle.pull_eval.specs.declared.position.Position.{Position}
-use Rattle.pull_eval.proofs.Finding.{ok_none}
-use Rattle.pull_eval.proofs.NextMatches.{row_below}
-use Rattle.pull_eval.proofs.RoundEnds.{is_sought, context_used, goes_on_from, begins_again, ends_there, waits_there}
+use Rattle.pull_eval.proofs.Turning.{moved_on}
 use Rattle.pull_eval.proofs.position.Position.next_round.Goals as goal
 
-pub next_of-requires-clause-used : goal.next_of-requires-clause-used
-next_of-requires-clause-used g c = let q = c.requires.beside in context_used c.args.self.now c.args.buffer.now q.0 q.1 q.2 c.requires.begun c.requires.no_copy c.args.round c.requires.round c.requires.over
+pub turn_at-requires-clause-over : goal.turn_at-requires-clause-over
+turn_at-requires-clause-over g c = subst (λ (z : Position). z.top.rest.now ≡ []) (sym c.in_ok-next.ensures.frame) c.requires.over
 
-pub next_of-requires-clause-below : goal.next_of-requires-clause-below
-next_of-requires-clause-below g c = let q = c.requires.beside in row_below c.args.buffer.now q.0 q.2.buffer
+pub turn_at-requires-clause-no_copy : goal.turn_at-requires-clause-no_copy
+turn_at-requires-clause-no_copy g c = subst (λ (z : Position). z.copying ≡ None) (sym c.in_ok-next.ensures.frame) c.requires.no_copy
 
-pub next_of-requires-clause-sought : goal.next_of-requires-clause-sought
-next_of-requires-clause-sought g c = let q = c.requires.beside in is_sought c.args.self.now c.args.buffer.now q.0 q.1 q.2 c.requires.begun c.requires.no_copy c.args.round c.requires.round c.requires.over
+pub turn_at-requires-clause-round : goal.turn_at-requires-clause-round
+turn_at-requires-clause-round g c = subst (λ (z : Position). z.top.round ≡ Some c.args.round) (sym c.in_ok-next.ensures.frame) c.requires.round
 
-pub begin_round-requires-clause-goes : goal.begin_round-requires-clause-goes
-begin_round-requires-clause-goes g c =
-    let q = c.requires.beside in
-    goes_on_from c.args.self.now c.args.buffer.now q.0 q.1 q.2 c.requires.begun c.requires.no_copy c.args.round c.requires.round c.requires.over c.in-Some.present c.in-Some.ensures
+pub turn_at-requires-clause-begun : goal.turn_at-requires-clause-begun
+turn_at-requires-clause-begun g c = subst (λ (z : Position). z.is_begun ≡ true) (sym c.in_ok-next.ensures.frame) c.requires.begun
 
-pub begin_round-requires-clause-some : goal.begin_round-requires-clause-some
-begin_round-requires-clause-some g c =
-    let q = c.requires.beside in
-    let u = context_used c.args.self.now c.args.buffer.now q.0 q.1 q.2 c.requires.begun c.requires.no_copy c.args.round c.requires.round c.requires.over in
-    let l = row_below c.args.buffer.now q.0 q.2.buffer u.cell u.among in
-    omega arith
+pub turn_at-requires-clause-turns : goal.turn_at-requires-clause-turns
+turn_at-requires-clause-turns g c = let q = c.requires.beside in let h = c.in_ok-next.ensures.turns q.0 q.1 q.2 in (q.0, q.1, h.0, h.1)
 
-pub returns-in-Some-clause-moved : goal.returns-in-Some-clause-moved
-returns-in-Some-clause-moved g c =
-    let w = c.args.self.now in
-    let v = c.args.buffer.now in
-    let r : Round = record c.args.round { present = c.in-Some.present } in
-    ok_none c.begin_round.result (Began v w c.begin_round.new.self r) (λ (a : Option Acted). (past : Past) (k : ℕ) (out : List ℕ) → Beside w v past k → Moves past k w c.begin_round.new.self v v out out a) c.begin_round.ensures.began
-    (λ began past k out b. begins_again w v past k b c.requires.begun c.requires.no_copy c.args.round c.requires.round c.requires.over c.begin_round.new.self c.in-Some.present c.in-Some.ensures began out)
-
-pub is_closed-requires : goal.is_closed-requires
-is_closed-requires g c = let q = c.requires.beside in context_used c.args.self.now c.args.buffer.now q.0 q.1 q.2 c.requires.begun c.requires.no_copy c.args.round c.requires.round c.requires.over
-
-pub returns-then-is_closed-clause-moved : goal.returns-then-is_closed-clause-moved
-returns-then-is_closed-clause-moved g c = λ past k out b.
-    c.go_below.ensures.moved c.args.buffer.now past k out b
-    (ends_there c.args.self.now c.args.buffer.now past k b c.requires.begun c.requires.no_copy c.args.round c.requires.round c.requires.over c.is_closed.result c.in-None.ensures c.is_closed.ensures c.if-is_closed.true)
-
-pub newest-requires : goal.newest-requires
-newest-requires g c =
-    let q = c.requires.beside in
-    let u = context_used c.args.self.now c.args.buffer.now q.0 q.1 q.2 c.requires.begun c.requires.no_copy c.args.round c.requires.round c.requires.over in
-    let l = row_below c.args.buffer.now q.0 q.2.buffer u.cell u.among in
-    omega arith
-
-pub returns-else-is_closed-clause-moved : goal.returns-else-is_closed-clause-moved
-returns-else-is_closed-clause-moved g c = λ past k out b.
-    (let u : Watermark = c.newest.result in
-    let n : Position = record c.args.self.now { top = record c.args.self.now.top { round = Some (record c.args.round { next = NoneUpTo u }) } } in
-    waits_there c.args.self.now c.args.buffer.now past k b c.requires.begun c.requires.no_copy c.args.round c.requires.round c.requires.over n u refl c.newest.ensures refl refl refl refl
-    c.is_closed.result c.in-None.ensures c.is_closed.ensures c.if-is_closed.false out)
+pub returns-clause-moved : goal.returns-clause-moved
+returns-clause-moved g c = λ past k out b.
+    (let h = c.in_ok-next.ensures.turns past k b in
+    moved_on c.args.self.now c.next_there.new.self c.turn_at.new.self past k c.args.buffer.now c.args.buffer.now out out c.in_ok-acted.acted c.in_ok-next.ensures.frame (c.in_ok-acted.ensures.moved past k out h.0 h.1))

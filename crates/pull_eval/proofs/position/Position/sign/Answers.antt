@@ -34,4 +34,4 @@ returns-clause-moved g c = λ past k out b.
     let next : IsNextItem c.look_ahead.new.self (tree.Off (off_tree c.args.off.now)) (items c.go_on.new.self.rest.now) =
     subst (λ (z : List Item). IsNextItem c.look_ahead.new.self (tree.Off (off_tree c.args.off.now)) (items z)) (sym c.go_on.ensures.rest) first in
     signs_there m c.args.buffer.now past k (c.look_ahead.ensures.stays past k b) c.look_ahead.ensures.begun c.args.off.now c.go_on.new.self next c.place_of-place.result.0 c.serial-serial.result c.place_of-place.ensures
-    c.serial-serial.ensures.serial c.serial-serial.ensures.row c.carry_out.new.buffer c.in_ok-carry_out.ensures.stands c.in_ok-carry_out.ensures.signed n refl c.go_on.ensures.round c.go_on.ensures.seen c.look_ahead.ensures.sought refl refl refl refl out)
+    c.serial-serial.ensures.serial c.serial-serial.ensures.row c.carry_out.new.buffer c.in_ok-carry_out.ensures.stands c.in_ok-carry_out.ensures.signed n refl c.go_on.ensures.round c.go_on.ensures.seen c.look_ahead.ensures.sought refl refl refl refl refl out)

@@ -1,0 +1,6 @@
+pub mod Reading
+pub mod Names
+pub mod Texts
+pub mod Spans
+pub mod Fronts
+pub mod Wholes

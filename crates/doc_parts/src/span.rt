@@ -1,0 +1,206 @@
+//! Characters that are read as a whole.
+ghost use Rattle.std.specs.Prelude.{◌≡◌, ◌≤◌, ◌||◌, length, MatchOption, ⊤};
+ghost use Rattle.std.specs.List.{list_any};
+ghost use Rattle.std.specs.Str.{IsCharBoundary};
+ghost use Rattle.memchr.specs.Find.{IsFirstByte, Nowhere, Passes, is_byte, is_byte3};
+ghost use Rattle.doc_chars.specs.Stream.{AreChars};
+ghost use Rattle.doc_machine.specs.Machine.{scan_state};
+ghost use Rattle.doc_machine.specs.Steps.{Becomes};
+ghost use Rattle.doc_parts.specs.Spans.{is_name_span, IsStop, IsSpanFront, IsSameFront, Allows, spread};
+
+use crate::name::part_front;
+use doc_machine::{Brackets, Mode, Quote, Scan};
+use gcx_base::{Limits, Memory};
+use memchr::{memchr, memchr3};
+
+/// Where characters are read as a whole.
+#[derive(Clone, Copy, Debug)]
+pub(crate) enum Span {
+    Text,
+    /// Between quotes of this kind.
+    Value(Quote),
+    TagName,
+    AttributeName,
+    Comment,
+    Instruction,
+    CDSect,
+}
+
+/// A place between two characters, the last one behind at most so many bytes.
+fn boundary_within(text: &str, most: usize) -> usize
+    ensures few { result ≤ most }
+    ensures boundary { IsCharBoundary text.now result }
+{
+    if text.len() <= most {
+        return text.len();
+    }
+    let mut end = most;
+    while !text.is_char_boundary(end) {
+        end -= 1;
+    }
+    end
+}
+
+/// How many bytes are looked at in one go.
+const BLOCK: usize = 16;
+
+/// From how many bytes on they are searched many at a time.
+const FAR: usize = 1024;
+
+/// Whether one of the bytes is this one, in one pass that doesn't stop early.
+#[inline(always)]
+fn has_byte(a: u8, bytes: &[u8]) -> bool
+    ensures { result ≡ list_any (is_byte a) bytes.now }
+{
+    let mut found = false;
+    for x in bytes {
+        found |= *x == a;
+    }
+    found
+}
+
+/// Whether one of the bytes is among these.
+#[inline(always)]
+fn has_one_of(a: u8, b: u8, c: u8, bytes: &[u8]) -> bool
+    ensures { result ≡ (list_any (is_byte a) bytes.now || list_any (is_byte b) bytes.now)
+        || list_any (is_byte c) bytes.now }
+{
+    let first = has_byte(a, bytes);
+    let second = has_byte(b, bytes);
+    let third = has_byte(c, bytes);
+    first || second || third
+}
+
+/// How many bytes stand in the blocks at the front without one of these, up to `FAR`.
+#[inline(always)]
+fn blocks_without(a: u8, b: u8, c: u8, bytes: &[u8]) -> usize
+    ensures within { result ≤ length bytes.now }
+    ensures none { Nowhere (Passes (is_byte3 a b c) bytes.now) 0 result }
+{
+    let mut at = 0;
+    while at < FAR && bytes.len() - at >= BLOCK {
+        if has_one_of(a, b, c, &bytes[at..at + BLOCK]) {
+            return at;
+        }
+        at += BLOCK;
+    }
+    at
+}
+
+/// The first place from this one on that has one of these bytes.
+#[inline(always)]
+fn first_from(a: u8, b: u8, c: u8, bytes: &[u8], from: usize) -> Option<usize>
+    requires within { from ≤ length bytes.now }
+    requires none { Nowhere (Passes (is_byte3 a b c) bytes.now) 0 from }
+    ensures { IsFirstByte (is_byte3 a b c) bytes.now result }
+{
+    for i in from..bytes.len() {
+        if bytes[i] == a || bytes[i] == b || bytes[i] == c {
+            return Some(i);
+        }
+    }
+    None
+}
+
+/// The first place that has one of these bytes.
+#[inline(always)]
+fn first_of(a: u8, b: u8, c: u8, bytes: &[u8]) -> Option<usize>
+    ensures { IsFirstByte (is_byte3 a b c) bytes.now result }
+{
+    let near = blocks_without(a, b, c, bytes);
+    if near >= FAR {
+        memchr3(a, b, c, bytes)
+    } else {
+        first_from(a, b, c, bytes, near)
+    }
+}
+
+impl Span {
+    #[inline(always)]
+    fn is_name(self) -> bool
+        ensures { result ≡ is_name_span self }
+    {
+        matches!(self, Span::TagName | Span::AttributeName)
+    }
+
+    /// Where the first byte stands at which the span may end, or the end. Names end elsewhere.
+    #[inline(always)]
+    fn stop(self, bytes: &[u8]) -> usize
+        ensures { IsStop result self bytes.now }
+    {
+        let found = match self {
+            Span::Text => first_of(b'<', b'&', b'&', bytes),
+            Span::Value(quote) => first_of(b'<', b'&', quote.byte(), bytes),
+            Span::TagName | Span::AttributeName => None,
+            Span::Comment => memchr(b'-', bytes),
+            Span::Instruction => memchr(b'?', bytes),
+            Span::CDSect => memchr(b']', bytes),
+        };
+        match found {
+            Some(k) => k,
+            None => bytes.len(),
+        }
+    }
+
+    /// How many bytes the characters of the span take at the front, at most so many.
+    #[inline(always)]
+    pub(crate) fn front(self, text: &str, most: usize) -> usize
+        requires { AreChars text.now }
+        ensures { IsSpanFront result most self text.now }
+    {
+        let (front, _) = text.split_at(boundary_within(text, most));
+        if self.is_name() {
+            part_front(front)
+        } else {
+            self.stop(front.as_bytes())
+        }
+    }
+}
+
+/// Where the machine stands in a span, and how many bytes it has room for.
+pub(crate) fn span_at(m: &Scan, limits: &Limits) -> Option<(Span, usize)>
+    ensures { MatchOption result ⊤ (λ p. Allows limits.now p.1 p.0 (scan_state m.now)) }
+{
+    let most = limits.text as usize;
+    let run = m.run.len();
+    if run > most {
+        return None;
+    }
+    let name = limits.name as usize;
+    match m.mode {
+        Mode::Between if m.names.has_open() => Some((Span::Text, most - run)),
+        Mode::InValue(quote) => Some((Span::Value(quote), most - run)),
+        Mode::CDSect(Brackets::None) => Some((Span::CDSect, most - run)),
+        Mode::StartName => Some((Span::TagName, name.saturating_sub(m.name.len()))),
+        Mode::AttributeName => Some((Span::AttributeName, name.saturating_sub(m.attr.len()))),
+        Mode::Comment => Some((Span::Comment, usize::MAX)),
+        Mode::Instruction => Some((Span::Instruction, usize::MAX)),
+        _ => None,
+    }
+}
+
+/// Keeps what is wanted of characters of the span.
+pub(crate) fn keep(m: &mut Scan, span: Span, front: &str) -> Result<(), Memory>
+    ensures { Becomes result (scan_state m.old) (spread span (scan_state m.old) front.now) (scan_state m.new) }
+{
+    match span {
+        Span::Text | Span::Value(_) | Span::CDSect => m.run.push_str(front)?,
+        Span::TagName => m.name.extend_from_slice(front.as_bytes())?,
+        Span::AttributeName => m.attr.extend_from_slice(front.as_bytes())?,
+        Span::Comment | Span::Instruction => {}
+    }
+    Ok(())
+}
+
+/// How many ASCII bytes are the same at the front of both.
+pub(crate) fn same_front(left: &[u8], bytes: &[u8]) -> usize
+    ensures { IsSameFront result left.now bytes.now }
+{
+    let end = left.len().min(bytes.len());
+    for i in 0..end {
+        if left[i] != bytes[i] || !bytes[i].is_ascii() {
+            return i;
+        }
+    }
+    end
+}

@@ -1,6 +1,0 @@
-use Rattle.doc_reader.specs.Machine.{scan_state}
-use Rattle.doc_reader.proofs.Texts.{moves_none}
-use Rattle.doc_reader.proofs.machine.whole.read_part.Goals as goal
-
-pub returns-then-len-limits-clause-moves : goal.returns-then-len-limits-clause-moves
-returns-then-len-limits-clause-moves c = moves_none c.args.limits.now (scan_state c.args.m.now) c.args.rest.now c.utf8.rest

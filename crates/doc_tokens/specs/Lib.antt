@@ -1,0 +1,4 @@
+pub mod Given
+pub mod OpenNames
+pub mod AttrNames
+pub mod Tokens
