@@ -7,19 +7,18 @@ use std::alloc::Global;
 use std::process::Abort;
 use std::test::Fail;
 
+fn assert_bytes(rt: &impl Abort, bytes: &[u8], want: &[u8]) {
+    assert_eq!(rt; bytes, want);
+}
+
 /// Compares the bytes of the name, as it is, copied, as a `str` and made of its own bytes.
 fn assert_named(rt: &impl Abort, alloc: Global, name: &Name, bytes: &[u8]) -> Result<(), Fail> {
+    assert_bytes(rt, name.as_bytes(), bytes);
+    assert_bytes(rt, name.as_str().as_bytes(), bytes);
     let copied = name.copy(alloc)?;
+    assert_bytes(rt, copied.as_bytes(), bytes);
     let again = Name::of_name(alloc, name.as_bytes())?;
-    assert_eq!(rt;
-        [
-            name.as_bytes(),
-            copied.as_bytes(),
-            name.as_str().as_bytes(),
-            again.as_bytes()
-        ],
-        [bytes; 4]
-    );
+    assert_bytes(rt, again.as_bytes(), bytes);
     Ok(())
 }
 
@@ -64,23 +63,23 @@ fn a_name_may_be_long(rt: HostRuntime) -> Result<(), Fail> {
     assert_name(&rt, alloc, &long, true)
 }
 
-/// Compares the bytes of the text, copied, made of its own bytes, as a `str` and taken from a string, which is empty then.
-fn assert_spelled(rt: &impl Abort, alloc: Global, text: &Text, bytes: &[u8]) -> Result<(), Fail> {
-    let copied = text.copy(alloc)?;
-    let again = Text::of_text(alloc, text.as_bytes())?;
-    let mut string = String::from_str(alloc, text.as_str())?;
+/// Compares the bytes of the text taken from a string, which is empty then.
+fn assert_taken(rt: &impl Abort, alloc: Global, text: &str, bytes: &[u8]) -> Result<(), Fail> {
+    let mut string = String::from_str(alloc, text)?;
     let taken = Text::take_from(alloc, &mut string);
-    assert_eq!(rt;
-        [
-            copied.as_bytes(),
-            again.as_bytes(),
-            text.as_str().as_bytes(),
-            taken.as_bytes()
-        ],
-        [bytes; 4]
-    );
-    assert_eq!(rt; string.as_str(), "");
+    assert_bytes(rt, taken.as_bytes(), bytes);
+    assert_bytes(rt, string.as_str().as_bytes(), b"");
     Ok(())
+}
+
+/// Compares the bytes of the text, copied, made of its own bytes, as a `str` and taken from a string.
+fn assert_spelled(rt: &impl Abort, alloc: Global, text: &Text, bytes: &[u8]) -> Result<(), Fail> {
+    assert_bytes(rt, text.as_str().as_bytes(), bytes);
+    let copied = text.copy(alloc)?;
+    assert_bytes(rt, copied.as_bytes(), bytes);
+    let again = Text::of_text(alloc, text.as_bytes())?;
+    assert_bytes(rt, again.as_bytes(), bytes);
+    assert_taken(rt, alloc, text.as_str(), bytes)
 }
 
 /// Compares whether the bytes are a text, and what a text of them holds.
@@ -114,7 +113,10 @@ fn texts_are_utf8(rt: HostRuntime) -> Result<(), Fail> {
 }
 
 fn name(alloc: Global, bytes: &[u8]) -> Result<Name, Fail> {
-    Ok(Name::from_bytes(alloc, bytes)?.ok_or("not a name")?)
+    match Name::from_bytes(alloc, bytes)? {
+        Some(name) => Ok(name),
+        None => Err(Fail::new("not a name")),
+    }
 }
 
 /// A step of each test.
@@ -145,8 +147,10 @@ fn steps_keep_their_order(rt: HostRuntime) -> Result<(), Fail> {
 fn kinds_are_copied(rt: HostRuntime) -> Result<(), Fail> {
     let alloc = rt.alloc();
     let element = Kind::Element(name(alloc, b"b")?);
-    assert!(rt; matches!(element.copy(alloc)?, Kind::Element(_)));
-    assert!(rt; matches!(Kind::Document.copy(alloc)?, Kind::Document));
+    let copied = element.copy(alloc)?;
+    assert!(rt; matches!(copied, Kind::Element(_)));
+    let document = Kind::Document.copy(alloc)?;
+    assert!(rt; matches!(document, Kind::Document));
     Ok(())
 }
 

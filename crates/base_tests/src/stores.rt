@@ -201,6 +201,35 @@ fn calls_answer_the_table(rt: HostRuntime) -> Result<(), Fail> {
     run(&rt, alloc, &mut SlabNodes::new(alloc))
 }
 
+// The row of the root.
+fn root_of<T, N: NodeStore<T>>(store: &N) -> Result<Place, Fail>
+    ensures { IfOk result (λ p. IsSome (map.get (N.rows store.now) p.0)) }
+{
+    Ok(store.root().ok_or("no root")?)
+}
+
+fn append_text<N: NodeStore<String>>(alloc: Global, store: &mut N) -> Result<(), Fail> {
+    let root = root_of(&*store)?;
+    let text = String::from_str(alloc, "the text of its child")?;
+    store.append(root, text)?;
+    Ok(())
+}
+
+// Drops the last child of the root.
+fn drop_last<N: NodeStore<String>>(store: &mut N) -> Result<(), Fail> {
+    let root = root_of(&*store)?;
+    let child = store.last(root).ok_or("no child")?;
+    drop_at(store, child)
+}
+
+fn drop_root<N: NodeStore<String>>(rt: &impl Abort, store: &mut N) -> Result<(), Fail> {
+    let root = root_of(&*store)?;
+    assert_eq!(rt; store.payload(root).as_str(), "the text of the root");
+    drop_at(store, root)?;
+    assert!(rt; store.root().is_none());
+    Ok(())
+}
+
 // Each row's payload owns memory.
 fn drop_texts<N: NodeStore<String>>(
     rt: &impl Abort,
@@ -209,17 +238,11 @@ fn drop_texts<N: NodeStore<String>>(
 ) -> Result<(), Fail>
     requires { N.rows store.old ≡ map.empty }
 {
-    store.plant(String::from_str(alloc, "the text of the root")?)?;
-    let root = store.root().ok_or("no root")?;
-    store.append(root, String::from_str(alloc, "the text of its child")?)?;
-    let root = store.root().ok_or("no root")?;
-    let child = store.last(root).ok_or("no child")?;
-    drop_at(store, child)?;
-    let root = store.root().ok_or("no root")?;
-    assert_eq!(rt; store.payload(root).as_str(), "the text of the root");
-    drop_at(store, root)?;
-    assert!(rt; store.root().is_none());
-    Ok(())
+    let text = String::from_str(alloc, "the text of the root")?;
+    store.plant(text)?;
+    append_text(alloc, store)?;
+    drop_last(store)?;
+    drop_root(rt, store)
 }
 
 #[test]

@@ -143,7 +143,7 @@ acted plan r p v w a f g same = record {
   plan_is = f.plan_is;
   tree_is = f.tree_is;
   stands = g;
-  projects = record { matcher = subst (λ (q : Past). MatcherStands p.matcher q false) (sym (heard_same a f.past f.stands.is_past.within)) f.projects.matcher };
+  projects = record { matcher = subst (λ (q : Past). MatcherStands p.matcher q false) (sym (heard_same a f.past f.stands.is_past.within)) f.projects.matcher; none = f.projects.none };
   place = place_stays v w f.past a f.stands g same p.at f.place;
 }
 

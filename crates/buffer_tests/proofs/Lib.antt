@@ -1,4 +1,5 @@
 mod Feeds
+mod FeedsLate
 mod Offs
 mod Passed
 mod Places

@@ -21,6 +21,7 @@ ghost use Rattle.buffer_tests.specs.Buffers.{IsFed, OwnPlain};
 mod given;
 mod kept;
 mod large;
+mod late;
 mod matches;
 mod passed;
 mod statements;

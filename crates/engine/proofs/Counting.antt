@@ -16,9 +16,9 @@ use Rattle.move_laws.proofs.Keeping.{so_far_stays}
 use Rattle.tree_laws.proofs.Matches.{added, grow_nodes}
 use Rattle.run_laws.proofs.Counts.{peak_step, held_counts, peak_within}
 use Rattle.buf_tree.specs.View.{View, capped}
-use Rattle.engine.specs.declared.engine.Counts.{Counts}
+use Rattle.engine.specs.Actors.{Counted, all_of}
+use Rattle.engine.specs.declared.actors.Tallied.{Tallied}
 use Rattle.engine.specs.Engine.{CountsOf, Peaks}
-use Rattle.engine.specs.Going.{Counted, all_of}
 use Rattle.engine.proofs.Seeing.{may_parts}
 use Rattle.engine.proofs.Writing.{all_is}
 
@@ -52,7 +52,7 @@ module _ (core : BodyTree) (good : Good core) (plan : PlanTree) (placed : Placed
       record { least = omega arith; near = omega arith }
 
   -- the counts with one token more of a group
-  pub counts_on : (ts us : List Said) (t : Said) → may_all ((ts ++ us) ++ t ∷ []) opening ≡ true → (ahead : ℕ) → length us < ahead → (v w : View) (n m : Counts) → CountsOf plan (ts ++ us) ahead v n
+  pub counts_on : (ts us : List Said) (t : Said) → may_all ((ts ++ us) ++ t ∷ []) opening ≡ true → (ahead : ℕ) → length us < ahead → (v w : View) (n m : Tallied) → CountsOf plan (ts ++ us) ahead v n
       → Counted plan t (seen_tree (ts ++ us)) (all_of plan (seen_tree ts)) v w n m → CountsOf plan ((ts ++ us) ++ t ∷ []) ahead w m
   counts_on ts us t may ahead few v w n m c d =
       let P = seen_tree (ts ++ us) in
@@ -73,7 +73,7 @@ module _ (core : BodyTree) (good : Good core) (plan : PlanTree) (placed : Placed
       }
 
   -- actions leave the counts as they are
-  pub counts_acted : (ts : List Said) (ahead : ℕ) (k : ℕ) (v w : View) (n : Counts) → length v.rows ≡ length (held plan (seen_tree ts) (so_far plan (seen_tree ts) k)) → length w.rows ≡ length (held plan (seen_tree ts) (so_far plan (seen_tree ts) (all_of plan (seen_tree ts))))
+  pub counts_acted : (ts : List Said) (ahead : ℕ) (k : ℕ) (v w : View) (n : Tallied) → length v.rows ≡ length (held plan (seen_tree ts) (so_far plan (seen_tree ts) k)) → length w.rows ≡ length (held plan (seen_tree ts) (so_far plan (seen_tree ts) (all_of plan (seen_tree ts))))
       → w.most ≡ v.most → CountsOf plan ts ahead v n → CountsOf plan ts ahead w n
   counts_acted ts ahead k v w n a b e c =
       let P = seen_tree ts in
@@ -89,7 +89,7 @@ module _ (core : BodyTree) (good : Good core) (plan : PlanTree) (placed : Placed
       }
 
   -- the counts before any token
-  pub counts_opened : (ahead : ℕ) → 1 ≤ ahead → (v : View) (n : Counts) → n.given ≡ capped (sum_given plan opening) → n.peak ≡ 1 → 1 ≤ v.most → length v.rows ≡ length (held plan opening []) → CountsOf plan [] ahead v n
+  pub counts_opened : (ahead : ℕ) → 1 ≤ ahead → (v : View) (n : Tallied) → n.given ≡ capped (sum_given plan opening) → n.peak ≡ 1 → 1 ≤ v.most → length v.rows ≡ length (held plan opening []) → CountsOf plan [] ahead v n
   counts_opened ahead one v n g p m r =
       let fits = (held_counts core good plan placed opening []).0 in
       let some : 1 ≤ length (held plan opening []) = root_held in

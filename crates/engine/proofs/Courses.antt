@@ -15,9 +15,10 @@ use Rattle.doc_laws.proofs.Growing.{seen_more}
 use Rattle.doc_laws.proofs.LastTag.{seen_one}
 use Rattle.doc_reader.specs.Standing.{ReaderView, Stands, Keeps, IsFault, IsRefused, Answers, answer_by, said_of}
 use Rattle.doc_reader.proofs.Standings.{stands_still}
-use Rattle.engine.specs.declared.engine.Engine.{Engine}
+use Rattle.engine.specs.View.{EngineView}
 use Rattle.engine.specs.Engine.{GrewBy, GrewWithin, Kept, KeepsMost, Lost, OnAnswer, OnRefusal, PartsStand, Settles, StandsOf, StandsSome}
-use Rattle.engine.specs.Going.{Breaks, FedAll, GoesOn, all_of, bytes_at}
+use Rattle.engine.specs.Going.{Breaks, FedAll, GoesOn}
+use Rattle.engine.specs.Actors.{all_of, bytes_at}
 use Rattle.engine.proofs.Nothing.{none_within}
 use Rattle.engine.proofs.Writing.{all_is, bytes_front}
 use Rattle.engine.proofs.Seeing.{all_given, front_leads}
@@ -56,15 +57,15 @@ pub on_answer : (o : Option DocFault) (a : Result ⊤ DocFault) (A B : Type 0) �
 on_answer None a A B e h = subst (λ (z : Result ⊤ DocFault). OnAnswer z A B) (sym e) h
 on_answer (Some f) a A B e h = subst (λ (z : Result ⊤ DocFault). OnAnswer z A B) (sym e) h
 
-module _ {N C : Type 0} (stands : C → Tree → Type 0) (lim : Limits) (b : List ℕ) (was : Bool) (c : List ℕ) (ended : Bool) where
+module _ {C : Type 0} (stands : C → Tree → Type 0) (lim : Limits) (b : List ℕ) (was : Bool) (c : List ℕ) (ended : Bool) where
   -- the reader took what was fed, and all tokens that waited then were fed
-  pub fed_to : (old e d : Engine N C) → (s : StandsOf stands lim old b was) → e.plan ≡ old.plan → e.out ≡ old.out → KeepsMost old e → Keeps e.reader d.reader → IsFault e.reader.refused lim c ended
-      → d.ended ≡ ended → d.counts.bytes ≡ length c
+  pub fed_to : (old e d : EngineView C) → (s : StandsOf stands lim old b was) → e.plan ≡ old.plan → e.out ≡ old.out → KeepsMost old e → Keeps e.reader d.reader → IsFault e.reader.refused lim c ended
+      → d.ended ≡ ended → d.bytes ≡ length c
       → GoesOn stands lim e d c ended s.given → OnRefusal d.refused (Lost lim old d b was c ended) (Kept stands lim old d b was c ended)
   fed_to old e d s plan out until keeps fault closing bytes goes = refusal_map d.refused lost kept goes
     where
       pl : PlanTree
-      pl = plan_tree old.plan.now
+      pl = plan_tree old.plan
 
       before : List ℕ
       before = bytes_at pl (seen_tree (map said_of s.given)) (all_of pl (seen_tree (map said_of s.given)))
@@ -77,9 +78,9 @@ module _ {N C : Type 0} (stands : C → Tree → Type 0) (lim : Limits) (b : Lis
           let us = found_seen lim c ended in
           let w = h.written us.0 us.1 in
           let written : bytes_at pl (seen_tree us.0) (all_of pl (seen_tree us.0)) ≡ before ++ (w.0 ++ w.1)
-          = subst (λ z. bytes_at (plan_tree z.now) (seen_tree us.0) (all_of (plan_tree z.now) (seen_tree us.0)) ≡ bytes_at (plan_tree z.now) (seen_tree (map said_of s.given)) (all_of (plan_tree z.now) (seen_tree (map said_of s.given))) ++ (w.0 ++ w.1)) plan w.2 in
+          = subst (λ z. bytes_at (plan_tree z) (seen_tree us.0) (all_of (plan_tree z) (seen_tree us.0)) ≡ bytes_at (plan_tree z) (seen_tree (map said_of s.given)) (all_of (plan_tree z) (seen_tree (map said_of s.given))) ++ (w.0 ++ w.1)) plan w.2 in
           record {
-            grew = record { old = before; part = w.0; rest = w.1; settled = settled; settles = settled_by pl lim c ended us.0 (before ++ (w.0 ++ w.1)) us.1 written; grew = w.3 ∙ ap (λ z. z.items ++ w.0) out };
+            grew = record { old = before; part = w.0; rest = w.1; settled = settled; settles = settled_by pl lim c ended us.0 (before ++ (w.0 ++ w.1)) us.1 written; grew = w.3 ∙ ap (λ (z : List ℕ). z ++ w.0) out };
             balance = h.balance;
           }
 
@@ -90,7 +91,7 @@ module _ {N C : Type 0} (stands : C → Tree → Type 0) (lim : Limits) (b : Lis
           let seen : SeenIs lim c ended (map said_of given) = all_given d.reader lim c ended given h.fed.parts.reader h.none (λ m. lasts (same ∙ m)) in
           let g = h.fed.goes in
           let written : bytes_at pl (seen_tree (map said_of given)) (all_of pl (seen_tree (map said_of given))) ≡ before ++ g.more
-          = subst (λ z. bytes_at (plan_tree z.now) (seen_tree (map said_of given)) (all_of (plan_tree z.now) (seen_tree (map said_of given))) ≡ bytes_at (plan_tree z.now) (seen_tree (map said_of s.given)) (all_of (plan_tree z.now) (seen_tree (map said_of s.given))) ++ g.more) plan g.written in
+          = subst (λ z. bytes_at (plan_tree z) (seen_tree (map said_of given)) (all_of (plan_tree z) (seen_tree (map said_of given))) ≡ bytes_at (plan_tree z) (seen_tree (map said_of s.given)) (all_of (plan_tree z) (seen_tree (map said_of s.given))) ++ g.more) plan g.written in
           record {
             of = record {
               given = given;
@@ -103,7 +104,7 @@ module _ {N C : Type 0} (stands : C → Tree → Type 0) (lim : Limits) (b : Lis
               lasting = lasts;
               kept = λ n. sym same;
             };
-            grew = record { old = before; more = g.more; settled = settled; settles = settled_by pl lim c ended (map said_of given) (before ++ g.more) seen written; grew = g.grew ∙ ap (λ z. z.items ++ g.more) out };
+            grew = record { old = before; more = g.more; settled = settled; settles = settled_by pl lim c ended (map said_of given) (before ++ g.more) seen written; grew = g.grew ∙ ap (λ (z : List ℕ). z ++ g.more) out };
             most = λ lent m. h.fed.most lent (until lent m);
           }
 
@@ -169,50 +170,50 @@ module _ (plan : PlanTree) (lim : Limits) (b : List ℕ) (was : Bool) (c more : 
         grew = g.grew;
       }
 
-module _ {N C : Type 0} (stands : C → Tree → Type 0) (lim : Limits) (b : List ℕ) where
+module _ {C : Type 0} (stands : C → Tree → Type 0) (lim : Limits) (b : List ℕ) where
   -- what a front of a piece made
-  abbrev pub InPiece : (old e : Engine N C) → (done : List ℕ) → Type 0
+  abbrev pub InPiece : (old e : EngineView C) → (done : List ℕ) → Type 0
   InPiece old e done = OnRefusal e.refused (Lost lim old e b false (b ++ done) false) (Kept stands lim old e b false (b ++ done) false)
 
-  pub piece_begins : (old : Engine N C) → old.refused ≡ None → StandsOf stands lim old b false → InPiece old old []
+  pub piece_begins : (old : EngineView C) → old.refused ≡ None → StandsOf stands lim old b false → InPiece old old []
   piece_begins old fresh s = on_none old.refused (Lost lim old old b false (b ++ []) false) (Kept stands lim old old b false (b ++ []) false) fresh (subst (λ (z : List ℕ). Kept stands lim old old b false z false) (sym (append-nil b)) kept)
     where
       pl : PlanTree
-      pl = plan_tree old.plan.now
+      pl = plan_tree old.plan
 
       kept : Kept stands lim old old b false b false
-      kept = record { of = s; grew = grew_none pl lim b false (bytes_at pl (seen_tree (map said_of s.given)) (all_of pl (seen_tree (map said_of s.given)))) old.out.items (settled_by pl lim b false (map said_of s.given) _ s.seen refl); most = λ lent h. h }
+      kept = record { of = s; grew = grew_none pl lim b false (bytes_at pl (seen_tree (map said_of s.given)) (all_of pl (seen_tree (map said_of s.given)))) old.out (settled_by pl lim b false (map said_of s.given) _ s.seen refl); most = λ lent h. h }
 
   -- a slice more, where nothing was refused before
-  pub piece_on : (old e d : Engine N C) (done slice : List ℕ) → e.plan ≡ old.plan → e.refused ≡ None → InPiece old e done
+  pub piece_on : (old e d : EngineView C) (done slice : List ℕ) → e.plan ≡ old.plan → e.refused ≡ None → InPiece old e done
       → ((c : List ℕ) → StandsOf stands lim e c false → OnRefusal d.refused (Lost lim e d c false (c ++ slice) false) (Kept stands lim e d c false (c ++ slice) false)) → InPiece old d (done ++ slice)
   piece_on old e d done slice plan fresh p fed =
       let k : Kept stands lim old e b false (b ++ done) false = from_none e.refused (Lost lim old e b false (b ++ done) false) (Kept stands lim old e b false (b ++ done) false) fresh p in
       subst (λ (z : List ℕ). OnRefusal d.refused (Lost lim old d b false z false) (Kept stands lim old d b false z false)) (append_assoc b done slice)
       (refusal_map d.refused
       (λ (l : Lost lim e d (b ++ done) false ((b ++ done) ++ slice) false). record {
-        grew = within_on (plan_tree old.plan.now) lim b false (b ++ done) false ((b ++ done) ++ slice) false old.out.items e.out.items d.out.items k.grew
-            (subst (λ z. GrewWithin (plan_tree z.now) lim (b ++ done) false ((b ++ done) ++ slice) false e.out.items d.out.items) plan l.grew);
+        grew = within_on (plan_tree old.plan) lim b false (b ++ done) false ((b ++ done) ++ slice) false old.out e.out d.out k.grew
+            (subst (λ z. GrewWithin (plan_tree z) lim (b ++ done) false ((b ++ done) ++ slice) false e.out d.out) plan l.grew);
         balance = l.balance;
       })
       (λ lasts (q : Kept stands lim e d (b ++ done) false ((b ++ done) ++ slice) false). record {
         of = q.of;
-        grew = grew_on (plan_tree old.plan.now) lim b false (b ++ done) false ((b ++ done) ++ slice) false old.out.items e.out.items d.out.items k.grew
-            (subst (λ z. GrewBy (plan_tree z.now) lim (b ++ done) false ((b ++ done) ++ slice) false e.out.items d.out.items) plan q.grew);
+        grew = grew_on (plan_tree old.plan) lim b false (b ++ done) false ((b ++ done) ++ slice) false old.out e.out d.out k.grew
+            (subst (λ z. GrewBy (plan_tree z) lim (b ++ done) false ((b ++ done) ++ slice) false e.out d.out) plan q.grew);
         most = λ lent h. q.most lent (k.most lent h);
       })
       (fed (b ++ done) k.of))
 
   -- the rest of a piece is counted alone
-  pub piece_ends : (old e d : Engine N C) (done rest : List ℕ) → e.plan ≡ old.plan → d ≡ record e { counts = record e.counts { bytes = e.counts.bytes + length rest } } → (e.refused ≡ None → rest ≡ []) → InPiece old e done → InPiece old d (done ++ rest)
+  pub piece_ends : (old e d : EngineView C) (done rest : List ℕ) → e.plan ≡ old.plan → d ≡ record e { bytes = e.bytes + length rest } → (e.refused ≡ None → rest ≡ []) → InPiece old e done → InPiece old d (done ++ rest)
   piece_ends old e d done rest plan same none p =
-      subst (λ (z : Engine N C). InPiece old z (done ++ rest)) (sym same) (subst (λ (z : List ℕ). OnRefusal e.refused (Lost lim old counted b false z false) (Kept stands lim old counted b false z false)) (append_assoc b done rest) (refusal_map e.refused lost kept p))
+      subst (λ (z : EngineView C). InPiece old z (done ++ rest)) (sym same) (subst (λ (z : List ℕ). OnRefusal e.refused (Lost lim old counted b false z false) (Kept stands lim old counted b false z false)) (append_assoc b done rest) (refusal_map e.refused lost kept p))
     where
-      counted : Engine N C
-      counted = record e { counts = record e.counts { bytes = e.counts.bytes + length rest } }
+      counted : EngineView C
+      counted = record e { bytes = e.bytes + length rest }
 
       lost : Lost lim old e b false (b ++ done) false → Lost lim old counted b false ((b ++ done) ++ rest) false
-      lost l = record { grew = within_more (plan_tree old.plan.now) lim b false (b ++ done) rest old.out.items e.out.items l.grew; balance = l.balance }
+      lost l = record { grew = within_more (plan_tree old.plan) lim b false (b ++ done) rest old.out e.out l.grew; balance = l.balance }
 
       kept : (e.refused ≡ Some Memory → ⊥) → Kept stands lim old e b false (b ++ done) false → Kept stands lim old counted b false ((b ++ done) ++ rest) false
       kept lasts k = by_refusal e.refused refl
@@ -221,12 +222,7 @@ module _ {N C : Type 0} (stands : C → Tree → Type 0) (lim : Limits) (b : Lis
           s = k.of
 
           counted_parts : (c : List ℕ) → Stands e.reader lim c false s.given → PartsStand stands lim counted c false s.given
-          counted_parts c r = record {
-            limits = s.parts.limits;
-            reader = r;
-            actors = s.parts.actors;
-            counts = record { given = s.parts.counts.given; peak = s.parts.counts.peak; among = s.parts.counts.among; store_now = s.parts.counts.store_now };
-          }
+          counted_parts c r = record { limits = s.parts.limits; reader = r; actors = s.parts.actors; counts = s.parts.counts }
 
           by_refusal : (o : Option DocFault) → e.refused ≡ o → Kept stands lim old counted b false ((b ++ done) ++ rest) false
           by_refusal None f =
@@ -248,7 +244,7 @@ module _ {N C : Type 0} (stands : C → Tree → Type 0) (lim : Limits) (b : Lis
               let l = length-append (b ++ done) rest in
               let y = s.bytes in
               let old_w = k.grew.old ++ k.grew.more in
-              let w : old_w ≡ bytes_written (plan_tree old.plan.now).body (seen_tree (map said_of s.given)) = settled_one (plan_tree old.plan.now) lim (b ++ done) false old_w _ k.grew.settles (record { tokens = map said_of s.given; seen = s.seen; is = refl }) in
+              let w : old_w ≡ bytes_written (plan_tree old.plan).body (seen_tree (map said_of s.given)) = settled_one (plan_tree old.plan) lim (b ++ done) false old_w _ k.grew.settles (record { tokens = map said_of s.given; seen = s.seen; is = refl }) in
               record {
                 of = record {
                   given = s.given;
@@ -289,28 +285,23 @@ some_none o f X e n = absurd (no_fault f (sym e ∙ n))
 pub asked_none : (o : Option DocFault) (A B : Type 0) → o ≡ None → OnRefusal o A B → B
 asked_none o A B e h = from_none o A B e h
 
-module _ {N C : Type 0} (stands : C → Tree → Type 0) (lim : Limits) where
+module _ {C : Type 0} (stands : C → Tree → Type 0) (lim : Limits) where
   -- the answer is the fault of the bytes
-  pub exact_by : (old d : Engine N C) (b : List ℕ) (was : Bool) (c : List ℕ) (ended : Bool) (r : Result ⊤ DocFault) → r ≡ answer_by d.refused → OnRefusal d.refused (Lost lim old d b was c ended) (Kept stands lim old d b was c ended) → Answers r lim c ended
+  pub exact_by : (old d : EngineView C) (b : List ℕ) (was : Bool) (c : List ℕ) (ended : Bool) (r : Result ⊤ DocFault) → r ≡ answer_by d.refused → OnRefusal d.refused (Lost lim old d b was c ended) (Kept stands lim old d b was c ended) → Answers r lim c ended
   exact_by old d b was c ended r e h =
       answer_of_fault d.refused r lim c ended e (refusal_fault d.refused (Lost lim old d b was c ended) lim c ended (refusal_map d.refused (λ (l : Lost lim old d b was c ended). l) (λ lasts (k : Kept stands lim old d b was c ended). k.of.fault) h))
 
   -- the parts with more bytes read, or their end
-  pub parts_read : (old : Engine N C) (b : List ℕ) (was : Bool) (c : List ℕ) (ended : Bool) (s : StandsOf stands lim old b was) (r : ReaderView) (n : ℕ) → Stands r lim c ended s.given
-      → PartsStand stands lim (record old { reader = r; counts = record old.counts { bytes = n } }) c ended s.given
-  parts_read old b was c ended s r n h = record {
-    limits = s.parts.limits;
-    reader = h;
-    actors = s.parts.actors;
-    counts = record { given = s.parts.counts.given; peak = s.parts.counts.peak; among = s.parts.counts.among; store_now = s.parts.counts.store_now };
-  }
+  pub parts_read : (old : EngineView C) (b : List ℕ) (was : Bool) (c : List ℕ) (ended : Bool) (s : StandsOf stands lim old b was) (r : ReaderView) (n : ℕ) → Stands r lim c ended s.given
+      → PartsStand stands lim (record old { reader = r; bytes = n }) c ended s.given
+  parts_read old b was c ended s r n h = record { limits = s.parts.limits; reader = h; actors = s.parts.actors; counts = s.parts.counts }
 
-  pub parts_ended : (old : Engine N C) (b : List ℕ) (was : Bool) (c : List ℕ) (ended : Bool) (s : StandsOf stands lim old b was) (r : ReaderView) → Stands r lim c ended s.given
+  pub parts_ended : (old : EngineView C) (b : List ℕ) (was : Bool) (c : List ℕ) (ended : Bool) (s : StandsOf stands lim old b was) (r : ReaderView) → Stands r lim c ended s.given
       → PartsStand stands lim (record old { reader = r; ended = true }) c ended s.given
   parts_ended old b was c ended s r h = record { limits = s.parts.limits; reader = h; actors = s.parts.actors; counts = s.parts.counts }
 
   -- bytes that aren't refused are few
-  pub bytes_small : (e : Engine N C) (b : List ℕ) (ended : Bool) → StandsOf stands lim e b ended → e.refused ≡ None → e.counts.bytes ≤ 1099511627776
+  pub bytes_small : (e : EngineView C) (b : List ℕ) (ended : Bool) → StandsOf stands lim e b ended → e.refused ≡ None → e.bytes ≤ 1099511627776
   bytes_small e b ended s fresh =
       let f = none_within lim b ended (subst (λ (z : Option DocFault). IsFault z lim b ended) fresh s.fault) in
       let l = s.parts.limits.bytes in
@@ -318,7 +309,7 @@ module _ {N C : Type 0} (stands : C → Tree → Type 0) (lim : Limits) where
       omega arith
 
   -- the state within a piece, where nothing is refused
-  pub piece_some : (b : List ℕ) (old e : Engine N C) (done : List ℕ) → e.refused ≡ None → InPiece stands lim b old e done → StandsSome stands e false
+  pub piece_some : (b : List ℕ) (old e : EngineView C) (done : List ℕ) → e.refused ≡ None → InPiece stands lim b old e done → StandsSome stands e false
   piece_some b old e done fresh p = let k = from_none e.refused (Lost lim old e b false (b ++ done) false) (Kept stands lim old e b false (b ++ done) false) fresh p in record { limits = lim; read = b ++ done; of = k.of }
 
 -- what holds where nothing is refused holds at Ok

@@ -1,5 +1,5 @@
 -- Which nodes leave the buffer with a token.
-use Rattle.std.proofs.Common.{◌≡◌, ◌⊎◌, ⊎_elim, ◌==◌, ◌||◌, ◌<◌, ℕ, Bool, true, false, not, cond, List, [], ◌∷◌, ◌++◌, length, map, drop, reverse, refl, sym, ◌∙◌, ap, subst, inl, inr, arith, eq-eqb, eqb-true, Some, None, Option}
+use Rattle.std.proofs.Common.{◌≡◌, ⊎_elim, ◌==◌, ◌||◌, ◌<◌, ℕ, Bool, true, false, not, cond, List, [], ◌∷◌, ◌++◌, length, map, drop, reverse, refl, sym, ◌∙◌, ap, subst, inl, inr, arith, eq-eqb, eqb-true, Some, None, Option}
 use Rattle.std.specs.List.{filter, list_any}
 use Rattle.std.proofs.lemmas.List.{append-nil, reverse-append, map-append}
 use Rattle.std.proofs.lemmas.List.Elements.{filter-append}

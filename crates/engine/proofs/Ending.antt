@@ -22,9 +22,9 @@ use Rattle.doc_reader.proofs.Givings.{said-map}
 use Rattle.buf_tree.specs.Shape.{Cell}
 use Rattle.buf_tree.specs.View.{capped}
 use Rattle.buf_tree.specs.Stands.{seen, told}
-use Rattle.engine.specs.declared.engine.Engine.{Engine}
-use Rattle.engine.specs.Engine.{StandsOf, past_at}
-use Rattle.engine.specs.Going.{all_of}
+use Rattle.engine.specs.View.{EngineView}
+use Rattle.engine.specs.Engine.{StandsOf}
+use Rattle.engine.specs.Actors.{past_at, all_of}
 use Rattle.engine.proofs.Writing.{all_is}
 
 document_tokens : (d : Nodes) → map said_of (reader_tokens d) ≡ tokens d ++ End ∷ []
@@ -44,7 +44,7 @@ no_rows : (past : Past) (xs : List Cell) → map seen xs ≡ map (told past) [] 
 no_rows past [] e = refl
 no_rows past (x ∷ xs) e = absurd (cc)
 
-module _ {N C : Type 0} (stands : C → Tree → Type 0) (lim : Limits) (d : Engine N C) (b : List ℕ) (s : StandsOf stands lim d b true) (doc : Nodes) (is : map said_of s.given ≡ tokens doc ++ End ∷ [])
+module _ {C : Type 0} (stands : C → Tree → Type 0) (lim : Limits) (d : EngineView C) (b : List ℕ) (s : StandsOf stands lim d b true) (doc : Nodes) (is : map said_of s.given ≡ tokens doc ++ End ∷ [])
     (closed : AllClosed (tree_of doc)) where
   abbrev P : Tree
   P = seen_tree (map said_of s.given)
@@ -52,20 +52,20 @@ module _ {N C : Type 0} (stands : C → Tree → Type 0) (lim : Limits) (d : Eng
   all_closed : AllClosed P
   all_closed = subst (λ (T : Tree). AllClosed T) (sym (document_closed (map said_of s.given) doc is)) closed
 
-  pub nothing_held : d.buffer.rows ≡ []
+  pub nothing_held : d.actors.buffer.rows ≡ []
   nothing_held =
       let a = s.parts.actors in
       let p = a.beside.buffer.is_past in
-      let plan = plan_tree d.plan.now in
+      let plan = plan_tree d.plan in
       let none : held plan P (actions plan P) ≡ [] = empty_law p.core p.good plan p.placed P p.grown all_closed in
       let none' : held plan P (so_far plan P (all_of plan P)) ≡ [] = ap (λ (A : List Action). held plan P A) (all_is plan P) ∙ none in
-      no_rows (past_at plan P (all_of plan P) a.fed) d.buffer.rows (a.beside.buffer.rows ∙ ap (map (told (past_at plan P (all_of plan P) a.fed))) none')
+      no_rows (past_at plan P (all_of plan P) a.fed) d.actors.buffer.rows (a.beside.buffer.rows ∙ ap (map (told (past_at plan P (all_of plan P) a.fed))) none')
 
-  pub all_taken_back : d.counts.given ≡ d.buffer.taken
+  pub all_taken_back : d.actors.counts.given ≡ d.actors.buffer.taken
   all_taken_back =
       let a = s.parts.actors in
       let p = a.beside.buffer.is_past in
-      let plan = plan_tree d.plan.now in
+      let plan = plan_tree d.plan in
       let same : sum_taken plan P (actions plan P) ≡ sum_given plan P = taken_is_given.0 p.core p.good plan p.placed P p.grown all_closed in
       s.parts.counts.given ∙ (ap capped (sym same) ∙ (ap (λ (A : List Action). capped (sum_taken plan P A)) (sym (all_is plan P)) ∙ sym a.beside.taken))
 
@@ -73,10 +73,10 @@ module _ {N C : Type 0} (stands : C → Tree → Type 0) (lim : Limits) (d : Eng
 pub accepted_at : (r : ReaderView) (a : Result ⊤ DocFault) (b : List ℕ) (ts : List Token) → a ≡ answer_by r.refused → r.refused ≡ None → OnOk a (Accepted b ts) → Accepted b ts
 accepted_at r a b ts e fresh h = subst (λ (z : Result ⊤ DocFault). OnOk z (Accepted b ts)) (e ∙ ap answer_by fresh) h
 
-module _ {N C : Type 0} (stands : C → Tree → Type 0) (lim : Limits) (d : Engine N C) (b : List ℕ) (s : StandsOf stands lim d b true) (r : ReaderView) (given : List Token) (h : Stands r lim b true given) (fresh : r.refused ≡ None)
+module _ {C : Type 0} (stands : C → Tree → Type 0) (lim : Limits) (d : EngineView C) (b : List ℕ) (s : StandsOf stands lim d b true) (r : ReaderView) (given : List Token) (h : Stands r lim b true given) (fresh : r.refused ≡ None)
     (a : Accepted b (given ++ waiting r)) where
-  pub end_empty : d.buffer.rows ≡ []
+  pub end_empty : d.actors.buffer.rows ≡ []
   end_empty = nothing_held stands lim d b s a.document (document_seen r lim b given h fresh a (map said_of s.given) s.seen) (documents_grow a.document a.is_document).1
 
-  pub end_balance : d.counts.given ≡ d.buffer.taken
+  pub end_balance : d.actors.counts.given ≡ d.actors.buffer.taken
   end_balance = all_taken_back stands lim d b s a.document (document_seen r lim b given h fresh a (map said_of s.given) s.seen) (documents_grow a.document a.is_document).1

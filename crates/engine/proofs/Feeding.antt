@@ -31,9 +31,8 @@ use Rattle.projector.specs.declared.projector.Fed.TheVariants.{Opened, Closed}
 use Rattle.projector.specs.declared.projector.Projector.{Projector}
 use Rattle.pull_eval.specs.Acting.{Beside}
 use Rattle.pull_eval.specs.declared.position.Position.{Position}
-use Rattle.engine.specs.declared.engine.Counts.{Counts}
-use Rattle.engine.specs.Engine.{ActorsStand, past_at}
-use Rattle.engine.specs.Going.{Counted, counted}
+use Rattle.engine.specs.Actors.{ActorsStand, past_at, Counted, counted}
+use Rattle.engine.specs.declared.actors.Tallied.{Tallied}
 use Rattle.engine.proofs.Coming.{Comes, position_on}
 use Rattle.engine.proofs.RowsHeld.{rows_count}
 use Rattle.engine.proofs.Taking.{told_all, beside_told}
@@ -104,7 +103,7 @@ module _ (plan : PlanTree) (P : Tree) (k fed : ℕ) (is : IsPast (past_at plan P
       let h = (open_behind P n at).2 in
       (sums_by_feed (past_at plan P k fed) is t may).1 (ap (λ (z : Said). (grow z P).nodes) e ∙ h)
 
-  pub given_fed : (f : Fed) → DoesBy f t (past_at plan P k fed) → (n : Counts) (rows : ℕ) → n.given ≡ capped (sum_given plan P) → (counted n (tally_of f) rows).given ≡ capped (sum_given plan (grow t P))
+  pub given_fed : (f : Fed) → DoesBy f t (past_at plan P k fed) → (n : Tallied) (rows : ℕ) → n.given ≡ capped (sum_given plan P) → (counted n (tally_of f) rows).given ≡ capped (sum_given plan (grow t P))
   given_fed (Opened s given) d n rows e =
       let h = (opened_sums d.0 d.1).0 in
       let l : length given ≡ length (roles_given plan (grow t P) d.0) = sym (length-map given (λ (r : Role). r.0)) ∙ ap length d.3 in
@@ -163,7 +162,7 @@ stands_fed plan before p q m v w P k t f s may on pr st keeps c d =
 
 -- and the counts are those of it
 pub counts_fed : (plan : PlanTree) (before : Tree → Type 0) (p : Projector) (m : Position) (v w : View) (P : Tree) (k : ℕ) (t : Said) (f : Fed) (s : ActorsStand plan before p m v P k) → may_come t P ≡ true
-    → StandsFor w (past_fed t (past_at plan P k s.fed)) → Changes (Projects p) v w t f → DoesBy f t (past_at plan P k s.fed) → (n : Counts) (rows : ℕ) → rows ≡ length w.rows
+    → StandsFor w (past_fed t (past_at plan P k s.fed)) → Changes (Projects p) v w t f → DoesBy f t (past_at plan P k s.fed) → (n : Tallied) (rows : ℕ) → rows ≡ length w.rows
     → Counted plan t P k v (told_all w) n (counted n (tally_of f) rows)
 counts_fed plan before p m v w P k t f s may st c d n rows e =
     let held_is : length w.rows ≡ length (held plan (grow t P) (so_far plan P k)) = rows_count w (past_fed t (past_at plan P k s.fed)) st in

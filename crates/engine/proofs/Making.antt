@@ -17,9 +17,10 @@ use Rattle.projector.specs.Projector.{Projects, Places}
 use Rattle.projector.specs.declared.projector.Projector.{Projector}
 use Rattle.pull_eval.specs.Acting.{Beside}
 use Rattle.pull_eval.specs.declared.position.Position.{Position}
-use Rattle.engine.specs.declared.engine.Engine.{Engine}
-use Rattle.engine.specs.Engine.{Actors, ActorsStand, CountsOf, IsTrace, Starts, past_at}
-use Rattle.engine.specs.Going.{ActsOn, Begins, SomeActors, all_of, bytes_at}
+use Rattle.engine.specs.View.{EngineView}
+use Rattle.engine.specs.Engine.{CountsOf, IsTrace, Starts, ActorsAt}
+use Rattle.engine.specs.Actors.{ActorsStand, past_at, ActsOn, SomeActors, all_of, bytes_at, StandAt}
+use Rattle.engine.specs.Going.{Begins}
 use Rattle.engine.proofs.Counting.{counts_acted, counts_opened}
 use Rattle.engine.proofs.Courses.{settled_by}
 use Rattle.engine.proofs.Nothing.{none_at_start, nothing_seen}
@@ -36,29 +37,29 @@ given_begin plan given few e =
     let l : length given ≡ length (roles_given plan opening Root) = sym (length-map given (λ (r : Role). r.0)) ∙ ap length e in
     omega arith
 
-module _ {N C : Type 0} (stands : C → Tree → Type 0) (lim : Limits) where
-  pub some_begin : (e : Engine N C) → Begins stands lim e → SomeActors stands e
-  some_begin e h = record { tree = opening; taken = 0; of = h.actors }
+module _ {C : Type 0} (stands : C → Tree → Type 0) (lim : Limits) where
+  pub some_begin : (e : EngineView C) → Begins stands lim e → SomeActors stands e.actors
+  some_begin e h = record { plan = plan_tree e.plan; tree = opening; taken = 0; of = h.actors }
 
   -- with every action taken it stands for no bytes
-  pub starts : (e d : Engine N C) → Begins stands lim e → 1 ≤ e.ahead → d.plan ≡ e.plan → d.reader ≡ e.reader → d.ahead ≡ e.ahead → d.counts ≡ e.counts → d.refused ≡ e.refused → d.ended ≡ e.ended
-      → d.buffer.most ≡ e.buffer.most
-      → ActsOn stands e d opening 0
-      → (d.tracing ≡ true → IsTrace (plan_tree d.plan.now) lim [] false d.trace.items) → Starts stands lim d
-  starts e d h one plan reader ahead counts refused ended most a traced =
+  pub starts : (e d : EngineView C) → Begins stands lim e → 1 ≤ e.ahead → d.plan ≡ e.plan → d.reader ≡ e.reader → d.ahead ≡ e.ahead → d.actors.counts ≡ e.actors.counts → d.bytes ≡ e.bytes → d.refused ≡ e.refused → d.ended ≡ e.ended
+      → d.actors.buffer.most ≡ e.actors.buffer.most
+      → ActsOn stands (plan_tree e.plan) d.actors opening 0 e.out d.out
+      → (d.tracing ≡ true → IsTrace (plan_tree d.plan) lim [] false d.trace) → Starts stands lim d
+  starts e d h one plan reader ahead counts bytes refused ended most a traced =
       let is = h.actors.beside.buffer.is_past in
-      let pl = plan_tree e.plan.now in
-      let plan' : plan_tree d.plan.now ≡ pl = ap (λ z. plan_tree z.now) plan in
-      let acts : Actors stands d opening (all_of (plan_tree d.plan.now) opening) = subst (λ z. Actors stands d opening z) (ap (λ z. all_of (plan_tree z.now) opening) (sym plan)) a.actors in
-      let before : length e.buffer.rows ≡ length (held pl opening (so_far pl opening 0)) = rows_count e.buffer (past_at pl opening 0 h.actors.fed) h.actors.beside.buffer in
-      let behind : length d.buffer.rows ≡ length (held pl opening (so_far pl opening (all_of pl opening))) = rows_count d.buffer (past_at (plan_tree d.plan.now) opening (all_of (plan_tree d.plan.now) opening) acts.fed) acts.beside.buffer
+      let pl = plan_tree e.plan in
+      let plan' : plan_tree d.plan ≡ pl = ap (λ z. plan_tree z) plan in
+      let acts : ActorsAt stands d opening (all_of (plan_tree d.plan) opening) = subst (λ z. StandAt stands (plan_tree z) d.actors opening (all_of (plan_tree z) opening)) (sym plan) a.actors in
+      let before : length e.actors.buffer.rows ≡ length (held pl opening (so_far pl opening 0)) = rows_count e.actors.buffer (past_at pl opening 0 h.actors.fed) h.actors.beside.buffer in
+      let behind : length d.actors.buffer.rows ≡ length (held pl opening (so_far pl opening (all_of pl opening))) = rows_count d.actors.buffer (past_at (plan_tree d.plan) opening (all_of (plan_tree d.plan) opening) acts.fed) acts.beside.buffer
       ∙ ap (λ (z : PlanTree). length (held z opening (so_far z opening (all_of z opening)))) plan' in
-      let c0 : CountsOf pl [] e.ahead e.buffer e.counts = counts_opened is.core is.good pl is.placed e.ahead one e.buffer e.counts h.given h.peak h.most before in
-      let c1 : CountsOf pl [] e.ahead d.buffer e.counts = counts_acted is.core is.good pl is.placed [] e.ahead 0 e.buffer d.buffer e.counts before behind most c0 in
-      let c : CountsOf (plan_tree d.plan.now) [] d.ahead d.buffer d.counts = subst (λ (z : PlanTree). CountsOf z [] d.ahead d.buffer d.counts) (sym plan')
-      (subst (λ z. CountsOf pl [] z d.buffer d.counts) (sym ahead) (subst (λ z. CountsOf pl [] e.ahead d.buffer z) (sym counts) c1)) in
+      let c0 : CountsOf pl [] e.ahead e.actors.buffer e.actors.counts = counts_opened is.core is.good pl is.placed e.ahead one e.actors.buffer e.actors.counts h.given h.peak h.most before in
+      let c1 : CountsOf pl [] e.ahead d.actors.buffer e.actors.counts = counts_acted is.core is.good pl is.placed [] e.ahead 0 e.actors.buffer d.actors.buffer e.actors.counts before behind most c0 in
+      let c : CountsOf (plan_tree d.plan) [] d.ahead d.actors.buffer d.actors.counts = subst (λ (z : PlanTree). CountsOf z [] d.ahead d.actors.buffer d.actors.counts) (sym plan')
+      (subst (λ z. CountsOf pl [] z d.actors.buffer d.actors.counts) (sym ahead) (subst (λ z. CountsOf pl [] e.ahead d.actors.buffer z) (sym counts) c1)) in
       let fresh : d.refused ≡ None = refused ∙ h.fresh in
-      let out : d.out.items ≡ bytes_at pl opening (all_of pl opening) = a.goes.grew ∙ (ap (λ (z : List ℕ). z ++ a.goes.more) h.out ∙ sym a.goes.written) in
+      let out : d.out ≡ bytes_at pl opening (all_of pl opening) = a.goes.grew ∙ (ap (λ (z : List ℕ). z ++ a.goes.more) h.out ∙ sym a.goes.written) in
       record {
         of = record {
           given = [];
@@ -66,12 +67,12 @@ module _ {N C : Type 0} (stands : C → Tree → Type 0) (lim : Limits) where
           parts = record { limits = h.limits; reader = subst (λ (z : ReaderView). Stands z lim [] false []) (sym reader) h.reader; actors = acts; counts = c };
           none = ap waiting reader ∙ h.none;
           closing = ended ∙ h.unended;
-          bytes = ap (λ z. z.bytes) counts ∙ h.bytes;
+          bytes = bytes ∙ h.bytes;
           fault = subst (λ z. IsFault z lim [] false) (sym fresh) (none_at_start lim);
           lasting = λ m. let x = sym fresh ∙ m in cc;
           kept = λ n. absurd (n fresh);
         };
         fresh = fresh;
-        settled = settled_by (plan_tree d.plan.now) lim [] false [] d.out.items (nothing_seen lim) (ap (λ (z : PlanTree). bytes_at z opening (all_of z opening)) plan' ∙ sym out);
+        settled = settled_by (plan_tree d.plan) lim [] false [] d.out (nothing_seen lim) (ap (λ (z : PlanTree). bytes_at z opening (all_of z opening)) plan' ∙ sym out);
         traced = traced;
       }

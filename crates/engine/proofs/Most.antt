@@ -5,7 +5,7 @@ use Rattle.gcx_base.specs.declared.limits.Limits.{Limits}
 use Rattle.gcx_model.specs.declared.fault.DocFault.{DocFault}
 use Rattle.gcx_model.specs.Tree.{Tree}
 use Rattle.run_words.specs.Writing.{Sinks}
-use Rattle.engine.specs.declared.engine.Engine.{Engine}
+use Rattle.engine.specs.View.{EngineView}
 use Rattle.engine.specs.declared.report.Ended.{Ended}
 use Rattle.engine.specs.declared.report.Ended.TheVariants as ends
 use Rattle.engine.specs.Engine.{Kept, Lost, MostIs, OnAnswer, Peaks}
@@ -20,11 +20,11 @@ unless_any ends.WriteFault X h = h
 unless_any ends.Memory X h = tt
 
 -- output and trace don't matter to it
-pub most_written : {N C : Type 0} (e d : Engine N C) → d ≡ record e { out = d.out; trace = d.trace } → (lent : ℕ) → MostIs lent e → MostIs lent d
-most_written e d same lent h = subst (λ (z : Engine _ _). MostIs lent z) (sym same) h
+pub most_written : {C : Type 0} (e d : EngineView C) → d ≡ record e { out = d.out; trace = d.trace } → (lent : ℕ) → MostIs lent e → MostIs lent d
+most_written e d same lent h = subst (λ (z : EngineView _). MostIs lent z) (sym same) h
 
 -- Where memory didn't run out in a call that fed bytes it is kept, and so it is behind the end of the run.
-pub most_ends : {N C : Type 0} (stands : C → Tree → Type 0) (lim : Limits) (old d u : Engine N C) (b : List ℕ) (was : Bool) (c : List ℕ) (ended : Bool) (r : Result ⊤ DocFault) (x : Ended) (out trace : List ℕ) (k k1 : Sinks)
+pub most_ends : {C : Type 0} (stands : C → Tree → Type 0) (lim : Limits) (old d u : EngineView C) (b : List ℕ) (was : Bool) (c : List ℕ) (ended : Bool) (r : Result ⊤ DocFault) (x : Ended) (out trace : List ℕ) (k k1 : Sinks)
     → EndsWaiting r x out trace k k1 → OnAnswer r (Lost lim old d b was c ended) (Kept stands lim old d b was c ended) → u ≡ record d { out = u.out; trace = u.trace }
     → (lent : ℕ) → MostIs lent old → UnlessMemory x (MostIs lent u)
 most_ends stands lim old d u b was c ended r x out trace k k1 (inl (memory, is, same)) fed rest lent h = subst (λ (z : Ended). UnlessMemory z (MostIs lent u)) (sym is) tt

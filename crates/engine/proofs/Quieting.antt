@@ -1,5 +1,5 @@
 -- Tokens behind which no action is possible that wasn't before.
-use Rattle.std.proofs.Common.{◌≡◌, ◌⊎◌, ⊎_elim, ℕ, ◌==◌, ◌||◌, ◌&&◌, true, false, not, List, [], ◌∷◌, ◌++◌, length, map, refl, sym, ◌∙◌, ap, subst, inl, arith, Some, eq-eqb, eqb-true}
+use Rattle.std.proofs.Common.{◌≡◌, ⊎_elim, ℕ, ◌==◌, ◌||◌, ◌&&◌, true, false, not, List, [], ◌∷◌, ◌++◌, length, map, refl, sym, ◌∙◌, ap, subst, inl, arith, Some, eq-eqb, eqb-true}
 use Rattle.std.specs.Prelude.{nat_eq}
 use Rattle.std.proofs.lemmas.Bool.{false≢true, true≢false, and_parts, cases_Bool, or_parts}
 use Rattle.gcx_base.specs.declared.ids.Role.{Role}
@@ -30,7 +30,7 @@ use Rattle.projector.specs.Projector.{ClosedOne, Changes, DoesBy}
 use Rattle.projector.specs.declared.projector.Fed.{Fed}
 use Rattle.projector.specs.declared.projector.Fed.TheVariants.{Opened, Closed}
 use Rattle.engine.proofs.RowsHeld.{held_row, row_node}
-use Rattle.engine.specs.Going.{is_quiet}
+use Rattle.engine.specs.Actors.{is_quiet}
 use Rattle.engine.proofs.Feeding.{shut_comes}
 
 some_of : {X : Type 0} (xs : List X) → not (nat_eq (length xs) 0) ≡ true → (x : X) × In x xs

@@ -14,10 +14,10 @@ use Rattle.run_laws.proofs.Summing.{taken_is_given}
 use Rattle.doc_laws.proofs.TreeBounds.{seen_within}
 use Rattle.doc_reader.specs.Standing.{said_of}
 use Rattle.buf_tree.specs.View.{capped}
-use Rattle.engine.specs.Engine.{StandsOf, past_at}
-use Rattle.engine.specs.Going.{all_of}
+use Rattle.engine.specs.Engine.{StandsOf}
+use Rattle.engine.specs.Actors.{past_at, all_of}
 use Rattle.engine.specs.Runs.{Numbers, Reports}
-use Rattle.engine.specs.declared.engine.Engine.{Engine}
+use Rattle.engine.specs.View.{EngineView}
 use Rattle.engine.specs.declared.report.Report.{Report}
 use Rattle.engine.proofs.RowsHeld.{rows_count}
 use Rattle.engine.proofs.Writing.{all_is}
@@ -43,10 +43,10 @@ module _ (plan : PlanTree) (P : Tree) (roles : length plan.roles < 2 ^ 64) (node
   taken_exact A = let less : sum_taken plan P A ≤ sum_given plan P = (taken_is_given.1 plan P A).0 in let few = given_few in capped_few (sum_taken plan P A) (omega arith)
 
 -- the numbers of an engine that stands for these bytes
-pub numbers_of : {N C : Type 0} (stands : C → Tree → Type 0) (lim : Limits) (e : Engine N C) (b : List ℕ) (ended : Bool) (t : Report) → length (plan_tree e.plan.now).roles < 2 ^ 64 → Reports t e → StandsOf stands lim e b ended
-    → Numbers (plan_tree e.plan.now) lim b ended e.ahead t
+pub numbers_of : {C : Type 0} (stands : C → Tree → Type 0) (lim : Limits) (e : EngineView C) (b : List ℕ) (ended : Bool) (t : Report) → length (plan_tree e.plan).roles < 2 ^ 64 → Reports t e → StandsOf stands lim e b ended
+    → Numbers (plan_tree e.plan) lim b ended e.ahead t
 numbers_of stands lim e b ended t roles r st =
-    let plan = plan_tree e.plan.now in
+    let plan = plan_tree e.plan in
     let ts = map said_of st.given in
     let P = seen_tree ts in
     let acts = st.parts.actors in
@@ -69,5 +69,5 @@ numbers_of stands lim e b ended t roles r st =
       among = omega arith;
       given = r.given ∙ (counts.given ∙ given_exact plan P roles nodes);
       taken = r.taken ∙ (acts.beside.taken ∙ (taken_exact plan P roles nodes (so_far plan P k) ∙ ap (sum_taken plan P) (all_is plan P)));
-      held_is = r.held_is ∙ (rows_count e.buffer (past_at plan P k acts.fed) acts.beside.buffer ∙ ap (λ (A : List Action). length (held plan P A)) (all_is plan P));
+      held_is = r.held_is ∙ (rows_count e.actors.buffer (past_at plan P k acts.fed) acts.beside.buffer ∙ ap (λ (A : List Action). length (held plan P A)) (all_is plan P));
     }

@@ -1,5 +1,5 @@
 -- The rows of a buffer and the nodes that are held.
-use Rattle.std.proofs.Common.{◌≡◌, ℕ, ◌≤◌, ◌||◌, ◌&&◌, Bool, true, false, not, length, map, sym, ◌∙◌, ap, subst, arith, Some, None, Option}
+use Rattle.std.proofs.Common.{◌≡◌, ℕ, ◌≤◌, ◌||◌, ◌&&◌, Bool, true, false, not, length, sym, ◌∙◌, ap, subst, arith, Some, None, Option}
 use Rattle.std.proofs.lemmas.List.{length-map}
 use Rattle.gcx_model.specs.Tree.{Node, serial_of, within, Tree, is_open_at}
 use Rattle.gcx_model.specs.Paths.{any}

@@ -20,7 +20,7 @@ use Rattle.run_words.specs.Reading.{SourceGave, ReadsOn}
 use Rattle.run_words.specs.Stops.{Stop, More, End, Fault, IsCalm, is_end}
 use Rattle.run_words.specs.Writing.{Sinks, TakesFront, Traces, TracesFront, StopsAtWrite}
 use Rattle.doc_reader.specs.Standing.{Answers}
-use Rattle.engine.specs.declared.engine.Engine.{Engine}
+use Rattle.engine.specs.View.{EngineView}
 use Rattle.engine.specs.declared.report.Ended.{Ended}
 use Rattle.engine.specs.declared.report.Ended.TheVariants as ends
 use Rattle.engine.specs.Engine.{IsSilent, IsTold, IsTrace, Kept, Lost, OnAnswer, Settles, StandsOf, Starts, TraceGrewBy, TraceGrewWithin}
@@ -76,14 +76,14 @@ trace_later Silent plan lim b more ended total is = traces_more plan lim b more 
 trace_later SomeText plan lim b more ended total is = ([], tt)
 
 -- between a turn's writing and the next one's
-tells_none : {N C : Type 0} (t : Traced) (e : Engine N C) → TellsBy t e → is_traced t ≡ false → e.trace.items ≡ []
+tells_none : {C : Type 0} (t : Traced) (e : EngineView C) → TellsBy t e → is_traced t ≡ false → e.trace ≡ []
 tells_none Silent e h isnt = h.empty
 tells_none ByToken e h isnt = absurd (false≢true (sym isnt))
 tells_none SomeText e h isnt = absurd (false≢true (sym isnt))
 
-module _ {N C : Type 0} (stands : C → Tree → Type 0) (lim : Limits) (telling : Traced) where
+module _ {C : Type 0} (stands : C → Tree → Type 0) (lim : Limits) (telling : Traced) where
   -- before the first read
-  pub between_none : (e : Engine N C) (s : SourceView) (k : Sinks) → Starts stands lim e → TellsBy telling e → Between stands lim telling e s s k k
+  pub between_none : (e : EngineView C) (s : SourceView) (k : Sinks) → Starts stands lim e → TellsBy telling e → Between stands lim telling e s s k k
   between_none e s k h t =
       let few = bytes_few stands lim e [] false h.of h.fresh in
       record {
@@ -100,28 +100,28 @@ module _ {N C : Type 0} (stands : C → Tree → Type 0) (lim : Limits) (telling
         trace = trace_starts telling t;
       }
     where
-      trace_starts : (t : Traced) → TellsBy t e → TraceBetween (plan_tree e.plan.now) lim t [] e.trace.items k.err k.err
-      trace_starts ByToken t = record { told = []; rest = e.trace.items; took = takes_none k.err; traced = h.traced t.tracing; before = Unread refl refl refl; waits_is = λ e. refl }
+      trace_starts : (t : Traced) → TellsBy t e → TraceBetween (plan_tree e.plan) lim t [] e.trace k.err k.err
+      trace_starts ByToken t = record { told = []; rest = e.trace; took = takes_none k.err; traced = h.traced t.tracing; before = Unread refl refl refl; waits_is = λ e. refl }
       trace_starts Silent t =
           let w = h.settled in
-          record { told = []; rest = trace_text (plan_tree e.plan.now) w.tokens; took = refl; traced = (w.tokens, w.seen, refl); before = Unread refl refl refl; waits_is = λ isnt. absurd (false≢true isnt) }
-      trace_starts SomeText t = record { told = []; rest = e.trace.items; took = takes_none k.err; traced = tt; before = Unread refl refl refl; waits_is = λ e. refl }
+          record { told = []; rest = trace_text (plan_tree e.plan) w.tokens; took = refl; traced = (w.tokens, w.seen, refl); before = Unread refl refl refl; waits_is = λ isnt. absurd (false≢true isnt) }
+      trace_starts SomeText t = record { told = []; rest = e.trace; took = takes_none k.err; traced = tt; before = Unread refl refl refl; waits_is = λ e. refl }
 
-  module _ (e d : Engine N C) (s0 s : SourceView) (k0 k k1 : Sinks) (h : Between stands lim telling e s0 s k0 k) (same : d ≡ record e { out = d.out; trace = d.trace }) where
+  module _ (e d : EngineView C) (s0 s : SourceView) (k0 k k1 : Sinks) (h : Between stands lim telling e s0 s k0 k) (same : d ≡ record e { out = d.out; trace = d.trace }) where
     abbrev plan : PlanTree
-    plan = plan_tree e.plan.now
+    plan = plan_tree e.plan
 
     abbrev b : List ℕ
     b = joined h.pieces
 
     abbrev total : List ℕ
-    total = h.written ++ e.out.items
+    total = h.written ++ e.out
 
     abbrev trace_total : List ℕ
     trace_total = h.trace.told ++ h.trace.rest
 
-    plan_is : plan ≡ plan_tree d.plan.now
-    plan_is = ap (λ (z : Engine N C). plan_tree z.plan.now) (sym same)
+    plan_is : plan ≡ plan_tree d.plan
+    plan_is = ap (λ (z : EngineView C). plan_tree z.plan) (sym same)
 
     no_fault : FaultIs lim b false None
     no_fault = (bytes_few stands lim e b false h.of h.fresh).0
@@ -130,7 +130,7 @@ module _ {N C : Type 0} (stands : C → Tree → Type 0) (lim : Limits) (telling
     stand_now = stands_written stands lim e d b false same h.of
 
     -- a write failed
-    pub write_fails : StopsInWaiting e.out.items e.trace.items k k1 → Ran stands lim telling d ends.WriteFault s0 s k0 k1
+    pub write_fails : StopsInWaiting e.out e.trace k k1 → Ran stands lim telling d ends.WriteFault s0 s k0 k1
     write_fails stops = record {
       pieces = h.pieces;
       stop = More;
@@ -151,18 +151,18 @@ module _ {N C : Type 0} (stands : C → Tree → Type 0) (lim : Limits) (telling
       stand = stand_now;
     }
       where
-        stops_at : StopsInWaiting e.out.items e.trace.items k k1 → StopsAtWrite (is_traced telling) h.written total h.trace.told trace_total k0 k1
-        stops_at (inl (owes, still)) = inl (owes_then k0.out k.out k1.out h.written e.out.items h.took owes, traces_same (is_traced telling) k0.err k.err k1.err h.trace.told h.trace.took still)
+        stops_at : StopsInWaiting e.out e.trace k k1 → StopsAtWrite (is_traced telling) h.written total h.trace.told trace_total k0 k1
+        stops_at (inl (owes, still)) = inl (owes_then k0.out k.out k1.out h.written e.out h.took owes, traces_same (is_traced telling) k0.err k.err k1.err h.trace.told h.trace.took still)
         stops_at (inr (took, owes)) =
-            let t = trace_owes (is_traced telling) k0.err k.err k1.err h.trace.told h.trace.rest e.trace.items h.trace.took h.trace.waits_is owes (tells_none telling e h.tells) in
-            inr (t.0, takes_then k0.out k.out k1.out h.written e.out.items h.took took, t.1)
+            let t = trace_owes (is_traced telling) k0.err k.err k1.err h.trace.told h.trace.rest e.trace h.trace.took h.trace.waits_is owes (tells_none telling e h.tells) in
+            inr (t.0, takes_then k0.out k.out k1.out h.written e.out h.took took, t.1)
 
-    module _ (wrote : WroteWaiting e.out.items e.trace.items k k1) (still : is_traced telling ≡ false → k1.err ≡ k.err) where
+    module _ (wrote : WroteWaiting e.out e.trace k k1) (still : is_traced telling ≡ false → k1.err ≡ k.err) where
       took_all : Takes k0.out k1.out total
-      took_all = takes_then k0.out k.out k1.out h.written e.out.items h.took wrote.took
+      took_all = takes_then k0.out k.out k1.out h.written e.out h.took wrote.took
 
       told_all : Traces (is_traced telling) k0.err k1.err trace_total
-      told_all = traces_on (is_traced telling) k0.err k.err k1.err h.trace.told h.trace.rest e.trace.items h.trace.took h.trace.waits_is wrote.told still
+      told_all = traces_on (is_traced telling) k0.err k.err k1.err h.trace.told h.trace.rest e.trace h.trace.took h.trace.waits_is wrote.told still
 
       -- the read failed
       pub read_fails : (s1 : SourceView) → SourceGave s0 s1 h.pieces Fault → Ran stands lim telling d ends.ReadFault s0 s1 k0 k1
@@ -177,46 +177,46 @@ module _ {N C : Type 0} (stands : C → Tree → Type 0) (lim : Limits) (telling
         stand = stand_now;
       }
 
-      module _ (empty : (d.out.items ≡ []) × (d.trace.items ≡ [])) where
-        total_now : Settles (plan_tree d.plan.now) lim b false total
+      module _ (empty : (d.out ≡ []) × (d.trace ≡ [])) where
+        total_now : Settles (plan_tree d.plan) lim b false total
         total_now = subst (λ (z : PlanTree). Settles z lim b false total) plan_is h.settled
 
-        trace_now : TracedBy telling (plan_tree d.plan.now) lim b false trace_total
+        trace_now : TracedBy telling (plan_tree d.plan) lim b false trace_total
         trace_now = subst (λ (z : PlanTree). TracedBy telling z lim b false trace_total) plan_is h.trace.traced
 
         -- what a call that fed these bytes settles beyond the total
-        settled_more : (f : Engine N C) (c : List ℕ) (ended : Bool) → Kept stands lim d f b false c ended
-            → Settles (plan_tree d.plan.now) lim c ended (total ++ f.out.items)
+        settled_more : (f : EngineView C) (c : List ℕ) (ended : Bool) → Kept stands lim d f b false c ended
+            → Settles (plan_tree d.plan) lim c ended (total ++ f.out)
         settled_more f c ended k =
-            let o = settled_one (plan_tree d.plan.now) lim b false k.grew.old total k.grew.settled total_now in
-            let out : f.out.items ≡ k.grew.more = k.grew.grew ∙ ap (λ (v : List ℕ). v ++ k.grew.more) empty.0 in
-            subst (λ (v : List ℕ). Settles (plan_tree d.plan.now) lim c ended (total ++ v)) (sym out)
-            (subst (λ (v : List ℕ). Settles (plan_tree d.plan.now) lim c ended (v ++ k.grew.more)) o k.grew.settles)
+            let o = settled_one (plan_tree d.plan) lim b false k.grew.old total k.grew.settled total_now in
+            let out : f.out ≡ k.grew.more = k.grew.grew ∙ ap (λ (v : List ℕ). v ++ k.grew.more) empty.0 in
+            subst (λ (v : List ℕ). Settles (plan_tree d.plan) lim c ended (total ++ v)) (sym out)
+            (subst (λ (v : List ℕ). Settles (plan_tree d.plan) lim c ended (v ++ k.grew.more)) o k.grew.settles)
 
-        settled_lost : (f : Engine N C) (c : List ℕ) (ended : Bool) → Lost lim d f b false c ended
-            → (rest : List ℕ) × Settles (plan_tree d.plan.now) lim c ended (total ++ rest)
+        settled_lost : (f : EngineView C) (c : List ℕ) (ended : Bool) → Lost lim d f b false c ended
+            → (rest : List ℕ) × Settles (plan_tree d.plan) lim c ended (total ++ rest)
         settled_lost f c ended l =
-            let o = settled_one (plan_tree d.plan.now) lim b false l.grew.old total l.grew.settled total_now in
-            (l.grew.part ++ l.grew.rest, subst (λ (v : List ℕ). Settles (plan_tree d.plan.now) lim c ended (v ++ (l.grew.part ++ l.grew.rest))) o l.grew.settles)
+            let o = settled_one (plan_tree d.plan) lim b false l.grew.old total l.grew.settled total_now in
+            (l.grew.part ++ l.grew.rest, subst (λ (v : List ℕ). Settles (plan_tree d.plan) lim c ended (v ++ (l.grew.part ++ l.grew.rest))) o l.grew.settles)
 
         -- A call ended the run: pieces and stop are those behind it.
-        module _ (s1 : SourceView) (k2 : Sinks) (f u : Engine N C) (piece : List ℕ) (ps : List (List ℕ)) (stop : Stop) (r : Result ⊤ DocFault) (end : Ended)
+        module _ (s1 : SourceView) (k2 : Sinks) (f u : EngineView C) (piece : List ℕ) (ps : List (List ℕ)) (stop : Stop) (r : Result ⊤ DocFault) (end : Ended)
             (calm : IsCalm stop) (gave : SourceGave s0 s1 ps stop) (reads_on : ReadsOn lim ps stop) (bytes_are : joined ps ≡ b ++ piece)
             (behind : (S : List ℕ → Bool → List ℕ → Type 0) (text : List ℕ) → S b false text → SettlesBefore S ps stop text)
             (call : OnAnswer r (Lost lim d f b false (b ++ piece) (is_end stop)) (Kept stands lim d f b false (b ++ piece) (is_end stop)))
-            (traced : telling ≡ ByToken → OnAnswer r (TraceGrewWithin (plan_tree d.plan.now) lim b false (b ++ piece) (is_end stop) [] f.trace.items)
-            (TraceGrewBy (plan_tree d.plan.now) lim b false (b ++ piece) (is_end stop) [] f.trace.items))
+            (traced : telling ≡ ByToken → OnAnswer r (TraceGrewWithin (plan_tree d.plan) lim b false (b ++ piece) (is_end stop) [] f.trace)
+            (TraceGrewBy (plan_tree d.plan) lim b false (b ++ piece) (is_end stop) [] f.trace))
             (exact : Answers r lim (b ++ piece) (is_end stop)) (whole : r ≡ Ok tt → stop ≡ End) (written : u ≡ record f { out = u.out; trace = u.trace })
-            (same_plan : f.plan ≡ d.plan) (counted : f.counts.bytes ≡ length (b ++ piece)) (quiet : is_traced telling ≡ false → f.trace.items ≡ [])
-            (so : EndsWaiting r end f.out.items f.trace.items k1 k2) (unsaid : is_traced telling ≡ false → k2.err ≡ k1.err) where
+            (same_plan : f.plan ≡ d.plan) (counted : f.bytes ≡ length (b ++ piece)) (quiet : is_traced telling ≡ false → f.trace ≡ [])
+            (so : EndsWaiting r end f.out f.trace k1 k2) (unsaid : is_traced telling ≡ false → k2.err ≡ k1.err) where
           abbrev pd : PlanTree
-          pd = plan_tree d.plan.now
+          pd = plan_tree d.plan
 
           abbrev c : List ℕ
           c = b ++ piece
 
-          last_plan : pd ≡ plan_tree u.plan.now
-          last_plan = sym (ap (λ (z : Engine N C). plan_tree z.plan.now) written ∙ ap (λ z. plan_tree z.now) same_plan)
+          last_plan : pd ≡ plan_tree u.plan
+          last_plan = sym (ap (λ (z : EngineView C). plan_tree z.plan) written ∙ ap (λ z. plan_tree z) same_plan)
 
           ran : UnlessMemory end (StandsOf stands lim u c (is_end stop)) → EndsRun (Settles pd lim) (TracedBy telling pd lim) lim (is_traced telling) (run_end end) ps stop k0 k2
               → Ran stands lim telling u end s0 s1 k0 k2
@@ -225,7 +225,7 @@ module _ {N C : Type 0} (stands : C → Tree → Type 0) (lim : Limits) (telling
             stop = stop;
             gave = gave;
             reads_on = reads_on;
-            bytes = ap (λ (z : Engine N C). z.counts.bytes) written ∙ counted ∙ ap length (sym bytes_are);
+            bytes = ap (λ (z : EngineView C). z.bytes) written ∙ counted ∙ ap length (sym bytes_are);
             ends = subst (λ (z : PlanTree). EndsRun (Settles z lim) (TracedBy telling z lim) lim (is_traced telling) (run_end end) ps stop k0 k2) last_plan said;
             stand = subst (λ (l : List ℕ). UnlessMemory end (StandsOf stands lim u l (is_end stop))) (sym bytes_are) stand;
           }
@@ -271,39 +271,39 @@ module _ {N C : Type 0} (stands : C → Tree → Type 0) (lim : Limits) (telling
             stand_then : StandsOf stands lim u c (is_end stop)
             stand_then = stands_written stands lim f u c (is_end stop) written kept.of
 
-            settled_then : Settles pd lim (joined ps) (is_end stop) (total ++ f.out.items)
-            settled_then = subst (λ (l : List ℕ). Settles pd lim l (is_end stop) (total ++ f.out.items)) (sym bytes_are) (settled_more f c (is_end stop) kept)
+            settled_then : Settles pd lim (joined ps) (is_end stop) (total ++ f.out)
+            settled_then = subst (λ (l : List ℕ). Settles pd lim l (is_end stop) (total ++ f.out)) (sym bytes_are) (settled_more f c (is_end stop) kept)
 
-            trace_then : (rest : List ℕ) × TracedBy telling pd lim c (is_end stop) (trace_total ++ rest) × (is_traced telling ≡ true → rest ≡ f.trace.items)
-            trace_then = trace_kept telling pd lim b piece (is_end stop) trace_total f.trace.items trace_now (λ e. kept_of r (TraceGrewWithin pd lim b false c (is_end stop) [] f.trace.items) (TraceGrewBy pd lim b false c (is_end stop) [] f.trace.items) other (traced e))
+            trace_then : (rest : List ℕ) × TracedBy telling pd lim c (is_end stop) (trace_total ++ rest) × (is_traced telling ≡ true → rest ≡ f.trace)
+            trace_then = trace_kept telling pd lim b piece (is_end stop) trace_total f.trace trace_now (λ e. kept_of r (TraceGrewWithin pd lim b false c (is_end stop) [] f.trace) (TraceGrewBy pd lim b false c (is_end stop) [] f.trace) other (traced e))
 
             traced_then : TracedBy telling pd lim (joined ps) (is_end stop) (trace_total ++ trace_then.0)
             traced_then = subst (λ (l : List ℕ). TracedBy telling pd lim l (is_end stop) (trace_total ++ trace_then.0)) (sym bytes_are) trace_then.1
 
             -- all that waits was written
-            writes_all : WroteWaiting f.out.items f.trace.items k1 k2 → WritesAll (Settles pd lim) (TracedBy telling pd lim) (is_traced telling) (joined ps) (is_end stop) k0 k2
+            writes_all : WroteWaiting f.out f.trace k1 k2 → WritesAll (Settles pd lim) (TracedBy telling pd lim) (is_traced telling) (joined ps) (is_end stop) k0 k2
             writes_all w = record {
-              settled = total ++ f.out.items;
+              settled = total ++ f.out;
               is = settled_then;
-              wrote = takes_then k0.out k1.out k2.out total f.out.items took_all w.took;
+              wrote = takes_then k0.out k1.out k2.out total f.out took_all w.took;
               trace = trace_total ++ trace_then.0;
               traced = traced_then;
-              told = traces_on (is_traced telling) k0.err k1.err k2.err trace_total trace_then.0 f.trace.items told_all trace_then.2 w.told unsaid;
+              told = traces_on (is_traced telling) k0.err k1.err k2.err trace_total trace_then.0 f.trace told_all trace_then.2 w.told unsaid;
             }
 
             -- or a write failed
-            stops_then : StopsInWaiting f.out.items f.trace.items k1 k2 → StopsAtWrite (is_traced telling) total (total ++ f.out.items) trace_total (trace_total ++ trace_then.0) k0 k2
-            stops_then (inl (owes, still)) = inl (owes_then k0.out k1.out k2.out total f.out.items took_all owes, traces_same (is_traced telling) k0.err k1.err k2.err trace_total told_all still)
+            stops_then : StopsInWaiting f.out f.trace k1 k2 → StopsAtWrite (is_traced telling) total (total ++ f.out) trace_total (trace_total ++ trace_then.0) k0 k2
+            stops_then (inl (owes, still)) = inl (owes_then k0.out k1.out k2.out total f.out took_all owes, traces_same (is_traced telling) k0.err k1.err k2.err trace_total told_all still)
             stops_then (inr (took, owes)) =
-                let t = trace_owes (is_traced telling) k0.err k1.err k2.err trace_total trace_then.0 f.trace.items told_all trace_then.2 owes quiet in
-                inr (t.0, takes_then k0.out k1.out k2.out total f.out.items took_all took, t.1)
+                let t = trace_owes (is_traced telling) k0.err k1.err k2.err trace_total trace_then.0 f.trace told_all trace_then.2 owes quiet in
+                inr (t.0, takes_then k0.out k1.out k2.out total f.out took_all took, t.1)
 
-            stops_writing : StopsInWaiting f.out.items f.trace.items k1 k2 → EndsRun (Settles pd lim) (TracedBy telling pd lim) lim (is_traced telling) WriteFailed ps stop k0 k2
+            stops_writing : StopsInWaiting f.out f.trace k1 k2 → EndsRun (Settles pd lim) (TracedBy telling pd lim) lim (is_traced telling) WriteFailed ps stop k0 k2
             stops_writing stops = (
               calm,
               record {
                 wrote = total;
-                w = total ++ f.out.items;
+                w = total ++ f.out;
                 told = trace_total;
                 t = trace_total ++ trace_then.0;
                 reached = record {
@@ -316,7 +316,7 @@ module _ {N C : Type 0} (stands : C → Tree → Type 0) (lim : Limits) (telling
               },
             )
 
-            ends_by : (e : Ended) → WroteWaiting f.out.items f.trace.items k1 k2 → By lim c (is_end stop) r → e ≡ ended_by r
+            ends_by : (e : Ended) → WroteWaiting f.out f.trace k1 k2 → By lim c (is_end stop) r → e ≡ ended_by r
                 → UnlessMemory e (StandsOf stands lim u c (is_end stop)) × EndsRun (Settles pd lim) (TracedBy telling pd lim) lim (is_traced telling) (run_end e) ps stop k0 k2
             ends_by e w (ByOk ok is clean) by =
                 let at_end : stop ≡ End = whole ok in
@@ -334,7 +334,7 @@ module _ {N C : Type 0} (stands : C → Tree → Type 0) (lim : Limits) (telling
                 subst (λ (z : Ended). UnlessMemory z (StandsOf stands lim u c (is_end stop)) × EndsRun (Settles pd lim) (TracedBy telling pd lim) lim (is_traced telling) (run_end z) ps stop k0 k2) (sym (by ∙ is))
                 (stand_then, (calm, subst (λ (l : List ℕ). FaultIs lim l (is_end stop) (Some fault)) (sym bytes_are) has, writes_all w))
 
-          ends_so : EndsWaiting r end f.out.items f.trace.items k1 k2 → Ran stands lim telling u end s0 s1 k0 k2
+          ends_so : EndsWaiting r end f.out f.trace k1 k2 → Ran stands lim telling u end s0 s1 k0 k2
           ends_so (inl (memory, is, still)) =
               ran (subst (λ (z : Ended). UnlessMemory z (StandsOf stands lim u c (is_end stop))) (sym is) tt)
               (subst (λ (z : Ended). EndsRun (Settles pd lim) (TracedBy telling pd lim) lim (is_traced telling) (run_end z) ps stop k0 k2) (sym is) (lost (lost_of r (Lost lim d f b false c (is_end stop)) (Kept stands lim d f b false c (is_end stop)) memory call) still))
@@ -348,14 +348,14 @@ module _ {N C : Type 0} (stands : C → Tree → Type 0) (lim : Limits) (telling
           call_ends = ends_so so
 
         -- or it goes on
-        pub call_goes : (s1 : SourceView) (f : Engine N C) (piece : List ℕ) → SourceGave s0 s1 (h.pieces ++ piece ∷ []) More → length piece ≤ 65536
+        pub call_goes : (s1 : SourceView) (f : EngineView C) (piece : List ℕ) → SourceGave s0 s1 (h.pieces ++ piece ∷ []) More → length piece ≤ 65536
             → f.plan ≡ d.plan → f.refused ≡ None → TellsBy telling f → Kept stands lim d f b false (b ++ piece) false
-            → (telling ≡ ByToken → TraceGrewBy (plan_tree d.plan.now) lim b false (b ++ piece) false [] f.trace.items)
+            → (telling ≡ ByToken → TraceGrewBy (plan_tree d.plan) lim b false (b ++ piece) false [] f.trace)
             → Between stands lim telling f s0 s1 k0 k1
         call_goes s1 f piece gave short plan fresh tells kept traced =
-            let p : plan_tree d.plan.now ≡ plan_tree f.plan.now = ap (λ z. plan_tree z.now) (sym plan) in
+            let p : plan_tree d.plan ≡ plan_tree f.plan = ap (λ z. plan_tree z) (sym plan) in
             let c_is : b ++ piece ≡ joined (h.pieces ++ piece ∷ []) = sym (joined_push h.pieces piece) in
-            let t = trace_kept telling (plan_tree d.plan.now) lim b piece false trace_total f.trace.items trace_now traced in
+            let t = trace_kept telling (plan_tree d.plan) lim b piece false trace_total f.trace trace_now traced in
             let clean = (bytes_few stands lim f (b ++ piece) false kept.of fresh).0 in
             record {
               pieces = h.pieces ++ piece ∷ [];
@@ -366,15 +366,15 @@ module _ {N C : Type 0} (stands : C → Tree → Type 0) (lim : Limits) (telling
               clean = clean_more lim h.pieces piece h.clean short clean;
               written = total;
               took = took_all;
-              settled = subst (λ (z : PlanTree). Settles z lim (joined (h.pieces ++ piece ∷ [])) false (total ++ f.out.items)) p
-                  (subst (λ (l : List ℕ). Settles (plan_tree d.plan.now) lim l false (total ++ f.out.items)) c_is (settled_more f (b ++ piece) false kept));
+              settled = subst (λ (z : PlanTree). Settles z lim (joined (h.pieces ++ piece ∷ [])) false (total ++ f.out)) p
+                  (subst (λ (l : List ℕ). Settles (plan_tree d.plan) lim l false (total ++ f.out)) c_is (settled_more f (b ++ piece) false kept));
               before = LastPiece h.pieces piece refl refl (subst (λ (z : PlanTree). Settles z lim b false total) p total_now);
               trace = record {
                 told = trace_total;
                 rest = t.0;
                 took = told_all;
                 traced = subst (λ (z : PlanTree). TracedBy telling z lim (joined (h.pieces ++ piece ∷ [])) false (trace_total ++ t.0)) p
-                    (subst (λ (l : List ℕ). TracedBy telling (plan_tree d.plan.now) lim l false (trace_total ++ t.0)) c_is t.1);
+                    (subst (λ (l : List ℕ). TracedBy telling (plan_tree d.plan) lim l false (trace_total ++ t.0)) c_is t.1);
                 before = LastPiece h.pieces piece refl refl (subst (λ (z : PlanTree). TracedBy telling z lim b false trace_total) p trace_now);
                 waits_is = t.2;
               };
@@ -382,24 +382,24 @@ module _ {N C : Type 0} (stands : C → Tree → Type 0) (lim : Limits) (telling
 
 -- ---- whether a trace is told
 
-pub tells_told : {N C : Type 0} (t : Traced) (e : Engine N C) → TellsBy t e → t ≡ ByToken → IsTold e
+pub tells_told : {C : Type 0} (t : Traced) (e : EngineView C) → TellsBy t e → t ≡ ByToken → IsTold e
 tells_told ByToken e h is = h
 tells_told Silent e h is = absurd (cc)
 tells_told SomeText e h is = absurd (cc)
 
-pub tells_silent : {N C : Type 0} (t : Traced) (e : Engine N C) → TellsBy t e → is_traced t ≡ false → IsSilent e
+pub tells_silent : {C : Type 0} (t : Traced) (e : EngineView C) → TellsBy t e → is_traced t ≡ false → IsSilent e
 tells_silent Silent e h isnt = h
 tells_silent ByToken e h isnt = absurd (false≢true (sym isnt))
 tells_silent SomeText e h isnt = absurd (false≢true (sym isnt))
 
-pub tells_on : {N C : Type 0} (t : Traced) (e d : Engine N C) → TellsBy t e → d.tracing ≡ e.tracing → d.ahead ≡ e.ahead → (IsSilent e → IsSilent d)
+pub tells_on : {C : Type 0} (t : Traced) (e d : EngineView C) → TellsBy t e → d.tracing ≡ e.tracing → d.ahead ≡ e.ahead → (IsSilent e → IsSilent d)
     → TellsBy t d
 tells_on Silent e d h same ahead silent = silent h
 tells_on ByToken e d h same ahead silent = record { tracing = same ∙ h.tracing; alone = ahead ∙ h.alone }
 tells_on SomeText e d h same ahead silent = tt
 
 -- the same engine but for what waits of it
-pub tells_written : {N C : Type 0} (t : Traced) (e d : Engine N C) → TellsBy t e → d ≡ record e { out = d.out; trace = d.trace } → (IsSilent e → IsSilent d)
+pub tells_written : {C : Type 0} (t : Traced) (e d : EngineView C) → TellsBy t e → d ≡ record e { out = d.out; trace = d.trace } → (IsSilent e → IsSilent d)
     → TellsBy t d
 tells_written t e d h same silent = tells_on t e d h (ap (λ z. z.tracing) same) (ap (λ z. z.ahead) same) silent
 

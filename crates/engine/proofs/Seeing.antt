@@ -14,7 +14,7 @@ use Rattle.doc_laws.proofs.Growing.{seen_comes}
 use Rattle.doc_laws.proofs.LastTag.{seen_one}
 use Rattle.doc_reader.specs.Standing.{Token, ReaderView, Stands, Gives, GivesBy, waiting, said_of}
 use Rattle.engine.specs.Engine.{MayLimit}
-use Rattle.engine.specs.Going.{ComesWithin}
+use Rattle.engine.specs.Actors.{ComesWithin}
 
 -- these tokens are seen, and perhaps more
 pub record Seeing (lim : Limits) (b : List ℕ) (ended : Bool) (ts : List Said) : Type 0 where

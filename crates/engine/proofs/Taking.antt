@@ -20,8 +20,7 @@ use Rattle.pull_eval.specs.Acting.{Beside, SamePlaces, Takes}
 use Rattle.pull_eval.specs.declared.machine.Acted.{Acted}
 use Rattle.pull_eval.specs.declared.machine.Acted.TheVariants as acted
 use Rattle.pull_eval.specs.declared.position.Position.{Position}
-use Rattle.engine.specs.Engine.{ActorsStand, past_at}
-use Rattle.engine.specs.Going.{Goes, all_of}
+use Rattle.engine.specs.Actors.{ActorsStand, past_at, Goes, all_of}
 use Rattle.engine.proofs.Writing.{goes_act}
 use Rattle.engine.proofs.RowsHeld.{keeps_fewer}
 
@@ -47,6 +46,7 @@ module _ (plan : PlanTree) (p : Projector) (P : Tree) (k fed : ℕ) where
   heard_acted a l h = record {
     matcher = subst (λ (A : List Action). Stands p.matcher (record { plan = plan; tree = reopened P; acts = filter (is_ahead (reopened P)) A; fed = 0 }) false)
         (sym (take-append-le fed (so_far plan P k) (a ∷ []) l)) h.matcher;
+    none = h.none;
   }
 
   acted_is : (a : Action) → IsNext plan P k a → past_acted a (past_at plan P k fed) ≡ past_at plan P (suc k) fed

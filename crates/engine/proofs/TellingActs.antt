@@ -6,7 +6,6 @@ use Rattle.gcx_base.specs.declared.ids.Role.{Role}
 use Rattle.gcx_base.specs.declared.ids.Serial.{Serial}
 use Rattle.gcx_model.specs.Tree.{Tree}
 use Rattle.gcx_model.specs.Core.{PlanTree}
-use Rattle.gcx_model.specs.PlanView.{plan_tree}
 use Rattle.gcx_model.specs.Run.{Action, Wrote, Offed}
 use Rattle.gcx_model.specs.Held.{held, departed}
 use Rattle.gcx_model.specs.Points.{actions, so_far}
@@ -22,15 +21,13 @@ use Rattle.pull_eval.specs.Acting.{Takes}
 use Rattle.pull_eval.specs.declared.machine.Acted.{Acted}
 use Rattle.pull_eval.specs.declared.machine.Acted.TheVariants as acted
 use Rattle.pull_eval.specs.declared.position.Position.{Position}
-use Rattle.engine.specs.declared.engine.Engine.{Engine}
-use Rattle.engine.specs.Engine.{Actors, ActorsStand, past_at}
-use Rattle.engine.specs.Going.{ActsOne, Goes, all_of}
+use Rattle.engine.specs.Actors.{ActorsStand, past_at, ActsOne, all_of, StandAt}
 use Rattle.engine.specs.Telling.{GrewPart, acted_lines, lines_to, next_lines}
-use Rattle.engine.proofs.Acting.{Reached, there}
+use Rattle.engine.proofs.Acting.{Reached, there, reached_none, reached_on}
 use Rattle.buf_tree.proofs.Departed.{departed_rows}
 use Rattle.engine.proofs.Departing.{none_out}
-use Rattle.engine.proofs.Writing.{goes_none, goes_on}
 use Rattle.engine.proofs.Telling.{lines_behind, lines_first, lines_on, part_all}
+use Rattle.engine.specs.View.{ActorsView}
 
 -- ---- fronts of lists
 
@@ -135,63 +132,49 @@ part_next plan P k before after l h =
 
 -- ---- many actions
 
-module _ {N C : Type 0} (stands : C → Tree → Type 0) where
+module _ {C : Type 0} (stands : C → Tree → Type 0) (plan : PlanTree) where
   -- the state that a loop has reached, and what it told
-  pub record ToldReached (old e : Engine N C) (P : Tree) (k : ℕ) : Type 0 where
-    pub reached : Reached stands old e P k
+  pub record ToldReached (e : ActorsView C) (P : Tree) (k : ℕ) (u v before after : List ℕ) : Type 0 where
+    pub reached : Reached stands plan e P k u v
     pub behind : k ≤ reached.taken
-    pub told : e.trace.items ≡ old.trace.items ++ text_of_lines (lines_to (plan_tree old.plan.now) P k reached.taken)
+    pub told : after ≡ before ++ text_of_lines (lines_to plan P k reached.taken)
 
-  pub told_none : (old : Engine N C) (P : Tree) (k : ℕ) → Actors stands old P k → ToldReached old old P k
-  told_none old P k a = record {
-    reached = record { taken = k; actors = a; goes = goes_none (plan_tree old.plan.now) P k old.out.items };
+  pub told_none : (old : ActorsView C) (P : Tree) (k : ℕ) (u before : List ℕ) → StandAt stands plan old P k → ToldReached old P k u u before before
+  told_none old P k u before a = record {
+    reached = reached_none stands plan old P k u a;
     behind = omega arith;
-    told = sym (ap (λ (z : List Line). old.trace.items ++ text_of_lines z) (lines_none (plan_tree old.plan.now) P k) ∙ append-nil old.trace.items);
+    told = sym (ap (λ (z : List Line). before ++ text_of_lines z) (lines_none plan P k) ∙ append-nil before);
   }
 
-  pub told_on : (old e d : Engine N C) (P : Tree) (k : ℕ) → e.plan ≡ old.plan → (r : ToldReached old e P k) → ActsOne stands e d P r.reached.taken true
-      → d.trace.items ≡ e.trace.items ++ text_of_lines (next_lines (plan_tree e.plan.now) P r.reached.taken true) → ToldReached old d P k
-  told_on old e d P k same r o t =
-      let plan = plan_tree old.plan.now in
-      let j = r.reached.taken in
-      let t' : d.trace.items ≡ e.trace.items ++ text_of_lines (lines_to plan P j (suc j)) = subst (λ z. d.trace.items ≡ e.trace.items ++ text_of_lines (lines_to (plan_tree z.now) P j (suc j))) same t in
-      record {
-        reached = record {
-          taken = suc j;
-          actors = o.1;
-          goes = goes_on plan P k P j P (suc j) old.out.items e.out.items d.out.items r.reached.goes (subst (λ z. Goes (plan_tree z.now) P j P (suc j) e.out.items d.out.items) same o.2);
-        };
-        behind = let l = r.behind in omega arith;
-        told = lines_on old.trace.items e.trace.items d.trace.items (lines_to plan P k j) (lines_to plan P j (suc j)) r.told t'
-            ∙ ap (λ (z : List Line). old.trace.items ++ text_of_lines z) (sym (lines_split plan P k j (suc j) r.behind (omega arith)));
-      }
+  module _ (e : ActorsView C) (P : Tree) (k : ℕ) (u v before now : List ℕ) (r : ToldReached e P k u v before now) where
+    -- no more were taken than there are
+    pub told_there : r.reached.taken ≤ all_of plan P
+    told_there = there plan (stands e.machine.conds) e.projector e.machine.position e.buffer P r.reached.taken r.reached.actors
 
-  pub told_end : (old e d : Engine N C) (P : Tree) (k : ℕ) → e.plan ≡ old.plan → (r : ToldReached old e P k) → ActsOne stands e d P r.reached.taken false
-      → d.trace.items ≡ e.trace.items ++ text_of_lines (next_lines (plan_tree e.plan.now) P r.reached.taken false) → d.trace.items ≡ old.trace.items ++ text_of_lines (lines_to (plan_tree old.plan.now) P k (all_of (plan_tree old.plan.now) P))
-  told_end old e d P k same r o t =
-      let plan = plan_tree old.plan.now in
-      let n : r.reached.taken ≡ all_of plan P = subst (λ z. r.reached.taken ≡ all_of (plan_tree z.now) P) same o.0 in
-      t ∙ (append-nil e.trace.items ∙ (r.told ∙ ap (λ z. old.trace.items ++ text_of_lines (lines_to plan P k z)) n))
+    pub told_on : (d : ActorsView C) (w after : List ℕ) → ActsOne stands plan d P r.reached.taken true v w → after ≡ now ++ text_of_lines (next_lines plan P r.reached.taken true) → ToldReached d P k u w before after
+    told_on d w after o t =
+        let j = r.reached.taken in
+        record {
+          reached = reached_on stands plan e d P k u v w r.reached o;
+          behind = let l = r.behind in omega arith;
+          told = lines_on before now after (lines_to plan P k j) (lines_to plan P j (suc j)) r.told t
+              ∙ ap (λ (z : List Line). before ++ text_of_lines z) (sym (lines_split plan P k j (suc j) r.behind (omega arith)));
+        }
 
-  pub told_part : (old e d : Engine N C) (P : Tree) (k : ℕ) → e.plan ≡ old.plan → (r : ToldReached old e P k) → r.reached.taken ≤ all_of (plan_tree old.plan.now) P
-      → GrewPart e.trace.items d.trace.items (text_of_lines (lines_to (plan_tree e.plan.now) P r.reached.taken (all_of (plan_tree e.plan.now) P))) → GrewPart old.trace.items d.trace.items (text_of_lines (lines_to (plan_tree old.plan.now) P k (all_of (plan_tree old.plan.now) P)))
-  told_part old e d P k same r there h =
-      let plan = plan_tree old.plan.now in
-      let j = r.reached.taken in
-      let n = all_of plan P in
-      let h' : GrewPart e.trace.items d.trace.items (text_of_lines (lines_to plan P j n)) = subst (λ z. GrewPart e.trace.items d.trace.items (text_of_lines (lines_to (plan_tree z.now) P j (all_of (plan_tree z.now) P)))) same h in
-      subst (λ (z : List Line). GrewPart old.trace.items d.trace.items (text_of_lines z)) (sym (lines_split plan P k j n r.behind there)) (lines_behind old.trace.items e.trace.items d.trace.items (lines_to plan P k j) (lines_to plan P j n) r.told h')
+    pub told_end : (d : ActorsView C) (w after : List ℕ) → ActsOne stands plan d P r.reached.taken false v w → after ≡ now ++ text_of_lines (next_lines plan P r.reached.taken false)
+        → after ≡ before ++ text_of_lines (lines_to plan P k (all_of plan P))
+    told_end d w after o t = t ∙ (append-nil now ∙ (r.told ∙ ap (λ z. before ++ text_of_lines (lines_to plan P k z)) o.0))
 
-  -- no more were taken than there are
-  pub told_there : (old e : Engine N C) (P : Tree) (k : ℕ) → e.plan ≡ old.plan → (r : ToldReached old e P k) → r.reached.taken ≤ all_of (plan_tree old.plan.now) P
-  told_there old e P k same r =
-      subst (λ z. r.reached.taken ≤ all_of (plan_tree z.now) P) same (there (plan_tree e.plan.now) (stands e.machine.conds) e.projector e.machine.position e.buffer P r.reached.taken r.reached.actors)
+    pub told_part : (after : List ℕ) → GrewPart now after (text_of_lines (lines_to plan P r.reached.taken (all_of plan P))) → GrewPart before after (text_of_lines (lines_to plan P k (all_of plan P)))
+    told_part after h =
+        let j = r.reached.taken in
+        let n = all_of plan P in
+        subst (λ (z : List Line). GrewPart before after (text_of_lines z)) (sym (lines_split plan P k j n r.behind told_there)) (lines_behind before now after (lines_to plan P k j) (lines_to plan P j n) r.told h)
 
-  -- so what was told is a front of what is to be told
-  pub told_some : (old e : Engine N C) (P : Tree) (k : ℕ) → e.plan ≡ old.plan → (r : ToldReached old e P k) → GrewPart old.trace.items e.trace.items (text_of_lines (lines_to (plan_tree old.plan.now) P k (all_of (plan_tree old.plan.now) P)))
-  told_some old e P k same r =
-      let plan = plan_tree old.plan.now in
-      let j = r.reached.taken in
-      let n = all_of plan P in
-      subst (λ (z : List Line). GrewPart old.trace.items e.trace.items (text_of_lines z)) (sym (lines_split plan P k j n r.behind (told_there old e P k same r)))
-      (lines_first old.trace.items e.trace.items (lines_to plan P k j) (lines_to plan P j n) (part_all old.trace.items e.trace.items (text_of_lines (lines_to plan P k j)) r.told))
+    -- so what was told is a front of what is to be told
+    pub told_some : GrewPart before now (text_of_lines (lines_to plan P k (all_of plan P)))
+    told_some =
+        let j = r.reached.taken in
+        let n = all_of plan P in
+        subst (λ (z : List Line). GrewPart before now (text_of_lines z)) (sym (lines_split plan P k j n r.behind told_there))
+        (lines_first before now (lines_to plan P k j) (lines_to plan P j n) (part_all before now (text_of_lines (lines_to plan P k j)) r.told))

@@ -15,7 +15,7 @@ use Rattle.doc_laws.proofs.Growing.{seen_more}
 use Rattle.doc_laws.proofs.LastTag.{seen_one}
 use Rattle.doc_reader.specs.Standing.{Token, ReaderView, Stands, IsRefused, waiting, said_of}
 use Rattle.doc_reader.proofs.Standings.{stands_still}
-use Rattle.engine.specs.declared.engine.Engine.{Engine}
+use Rattle.engine.specs.View.{EngineView}
 use Rattle.engine.specs.Engine.{IsTrace, Kept, Lost, OnRefusal, StandsOf, TraceGrewBy, TraceGrewWithin}
 use Rattle.engine.specs.Going.{FedAll, GoesOn}
 use Rattle.engine.specs.Telling.{GrewPart, more_lines}
@@ -126,25 +126,25 @@ module _ (plan : PlanTree) where
         record { old = trace_of ts; more = text; traced = (ts, seen, refl); traces = (ts ++ ws, s, sym (trace_more ts ws)); grew = h }
 
 -- the reader took what was fed, and the tokens that waited then were told
-pub told_to : {N C : Type 0} (stands : C → Tree → Type 0) (lim : Limits) (b : List ℕ) (was : Bool) (c : List ℕ) (ended : Bool) (old e d : Engine N C) → (s : StandsOf stands lim old b was) → e.plan ≡ old.plan → e.trace ≡ old.trace
+pub told_to : {C : Type 0} (stands : C → Tree → Type 0) (lim : Limits) (b : List ℕ) (was : Bool) (c : List ℕ) (ended : Bool) (old e d : EngineView C) → (s : StandsOf stands lim old b was) → e.plan ≡ old.plan → e.trace ≡ old.trace
     → Stands e.reader lim c ended s.given → GoesOn stands lim e d c ended s.given
-    → OnRefusal d.refused (GrewPart e.trace.items d.trace.items (text_of_lines (more_lines (plan_tree e.plan.now) (seen_tree (map said_of s.given)) (waiting e.reader))))
-    (d.trace.items ≡ e.trace.items ++ text_of_lines (more_lines (plan_tree e.plan.now) (seen_tree (map said_of s.given)) (waiting e.reader)))
-    → OnRefusal d.refused (TraceGrewWithin (plan_tree old.plan.now) lim b was c ended old.trace.items d.trace.items) (TraceGrewBy (plan_tree old.plan.now) lim b was c ended old.trace.items d.trace.items)
+    → OnRefusal d.refused (GrewPart e.trace d.trace (text_of_lines (more_lines (plan_tree e.plan) (seen_tree (map said_of s.given)) (waiting e.reader))))
+    (d.trace ≡ e.trace ++ text_of_lines (more_lines (plan_tree e.plan) (seen_tree (map said_of s.given)) (waiting e.reader)))
+    → OnRefusal d.refused (TraceGrewWithin (plan_tree old.plan) lim b was c ended old.trace d.trace) (TraceGrewBy (plan_tree old.plan) lim b was c ended old.trace d.trace)
 told_to stands lim b was c ended old e d s plan trace reads goes told =
-    let T = text_of_lines (more_lines (plan_tree e.plan.now) (seen_tree (map said_of s.given)) (waiting e.reader)) in
-    subst (λ z. OnRefusal d.refused (TraceGrewWithin (plan_tree z.now) lim b was c ended old.trace.items d.trace.items) (TraceGrewBy (plan_tree z.now) lim b was c ended old.trace.items d.trace.items)) plan
-    (subst (λ z. OnRefusal d.refused (TraceGrewWithin (plan_tree e.plan.now) lim b was c ended z.items d.trace.items) (TraceGrewBy (plan_tree e.plan.now) lim b was c ended z.items d.trace.items)) trace
+    let T = text_of_lines (more_lines (plan_tree e.plan) (seen_tree (map said_of s.given)) (waiting e.reader)) in
+    subst (λ z. OnRefusal d.refused (TraceGrewWithin (plan_tree z) lim b was c ended old.trace d.trace) (TraceGrewBy (plan_tree z) lim b was c ended old.trace d.trace)) plan
+    (subst (λ z. OnRefusal d.refused (TraceGrewWithin (plan_tree e.plan) lim b was c ended z d.trace) (TraceGrewBy (plan_tree e.plan) lim b was c ended z d.trace)) trace
     (refusal_map d.refused
-    (λ h. told_within (plan_tree e.plan.now) lim b was c ended s.given e.reader e.trace.items d.trace.items s.seen reads h.1)
-    (λ lasts (h : FedAll stands lim e d c ended s.given × (d.trace.items ≡ e.trace.items ++ T)). told_by (plan_tree e.plan.now) lim b was c ended s.given e.reader e.trace.items d.trace.items s.seen reads (λ m. lasts (h.0.refused ∙ m)) h.1)
+    (λ h. told_within (plan_tree e.plan) lim b was c ended s.given e.reader e.trace d.trace s.seen reads h.1)
+    (λ lasts (h : FedAll stands lim e d c ended s.given × (d.trace ≡ e.trace ++ T)). told_by (plan_tree e.plan) lim b was c ended s.given e.reader e.trace d.trace s.seen reads (λ m. lasts (h.0.refused ∙ m)) h.1)
     (on_both d.refused _ _ _ _ goes told)))
 
 -- ---- a piece, in slices
 
-module _ {N C : Type 0} (stands : C → Tree → Type 0) (lim : Limits) where
+module _ {C : Type 0} (stands : C → Tree → Type 0) (lim : Limits) where
   -- behind a refusal more bytes change nothing
-  seen_still : (e : Engine N C) (c rest : List ℕ) (s : StandsOf stands lim e c false) → (e.refused ≡ Some Memory → ⊥) → (e.refused ≡ None → rest ≡ []) → SeenIs lim (c ++ rest) false (map said_of s.given)
+  seen_still : (e : EngineView C) (c rest : List ℕ) (s : StandsOf stands lim e c false) → (e.refused ≡ Some Memory → ⊥) → (e.refused ≡ None → rest ≡ []) → SeenIs lim (c ++ rest) false (map said_of s.given)
   seen_still e c rest s lasts none = go e.refused refl
     where
       go : (o : Option DocFault) → e.refused ≡ o → SeenIs lim (c ++ rest) false (map said_of s.given)
@@ -157,37 +157,37 @@ module _ {N C : Type 0} (stands : C → Tree → Type 0) (lim : Limits) where
 
   module _ (b : List ℕ) where
     -- what a front of a piece added
-    abbrev pub InTrace : (old e : Engine N C) → (done : List ℕ) → Type 0
-    InTrace old e done = OnRefusal e.refused (TraceGrewWithin (plan_tree old.plan.now) lim b false (b ++ done) false old.trace.items e.trace.items) (TraceGrewBy (plan_tree old.plan.now) lim b false (b ++ done) false old.trace.items e.trace.items)
+    abbrev pub InTrace : (old e : EngineView C) → (done : List ℕ) → Type 0
+    InTrace old e done = OnRefusal e.refused (TraceGrewWithin (plan_tree old.plan) lim b false (b ++ done) false old.trace e.trace) (TraceGrewBy (plan_tree old.plan) lim b false (b ++ done) false old.trace e.trace)
 
-    pub trace_begins : (old : Engine N C) → old.refused ≡ None → StandsOf stands lim old b false → InTrace old old []
+    pub trace_begins : (old : EngineView C) → old.refused ≡ None → StandsOf stands lim old b false → InTrace old old []
     trace_begins old fresh s =
-        let pl = plan_tree old.plan.now in
-        let t : TraceGrewBy pl lim b false (b ++ []) false old.trace.items old.trace.items = subst (λ (z : List ℕ). TraceGrewBy pl lim b false z false old.trace.items old.trace.items) (sym (append-nil b)) (trace_none pl lim b false (trace_of pl (map said_of s.given)) old.trace.items (map said_of s.given, s.seen, refl)) in
+        let pl = plan_tree old.plan in
+        let t : TraceGrewBy pl lim b false (b ++ []) false old.trace old.trace = subst (λ (z : List ℕ). TraceGrewBy pl lim b false z false old.trace old.trace) (sym (append-nil b)) (trace_none pl lim b false (trace_of pl (map said_of s.given)) old.trace (map said_of s.given, s.seen, refl)) in
         on_none old.refused _ _ fresh t
 
     -- a slice more, where nothing was refused before
-    pub trace_goes : (old e d : Engine N C) (done slice : List ℕ) → e.plan ≡ old.plan → e.refused ≡ None → InTrace old e done
-        → OnRefusal d.refused (TraceGrewWithin (plan_tree e.plan.now) lim (b ++ done) false ((b ++ done) ++ slice) false e.trace.items d.trace.items) (TraceGrewBy (plan_tree e.plan.now) lim (b ++ done) false ((b ++ done) ++ slice) false e.trace.items d.trace.items)
+    pub trace_goes : (old e d : EngineView C) (done slice : List ℕ) → e.plan ≡ old.plan → e.refused ≡ None → InTrace old e done
+        → OnRefusal d.refused (TraceGrewWithin (plan_tree e.plan) lim (b ++ done) false ((b ++ done) ++ slice) false e.trace d.trace) (TraceGrewBy (plan_tree e.plan) lim (b ++ done) false ((b ++ done) ++ slice) false e.trace d.trace)
         → InTrace old d (done ++ slice)
     trace_goes old e d done slice plan fresh p fed =
-        let pl = plan_tree old.plan.now in
-        let u = old.trace.items in
-        let v = e.trace.items in
-        let w = d.trace.items in
+        let pl = plan_tree old.plan in
+        let u = old.trace in
+        let v = e.trace in
+        let w = d.trace in
         let k : TraceGrewBy pl lim b false (b ++ done) false u v = from_none e.refused (TraceGrewWithin pl lim b false (b ++ done) false u v) (TraceGrewBy pl lim b false (b ++ done) false u v) fresh p in
         subst (λ (z : List ℕ). OnRefusal d.refused (TraceGrewWithin pl lim b false z false u w) (TraceGrewBy pl lim b false z false u w)) (append_assoc b done slice)
         (refusal_map d.refused
-        (λ l. trace_within_on pl lim b false (b ++ done) false ((b ++ done) ++ slice) false u v w k (subst (λ z. TraceGrewWithin (plan_tree z.now) lim (b ++ done) false ((b ++ done) ++ slice) false v w) plan l))
-        (λ lasts q. trace_on pl lim b false (b ++ done) false ((b ++ done) ++ slice) false u v w k (subst (λ z. TraceGrewBy (plan_tree z.now) lim (b ++ done) false ((b ++ done) ++ slice) false v w) plan q))
+        (λ l. trace_within_on pl lim b false (b ++ done) false ((b ++ done) ++ slice) false u v w k (subst (λ z. TraceGrewWithin (plan_tree z) lim (b ++ done) false ((b ++ done) ++ slice) false v w) plan l))
+        (λ lasts q. trace_on pl lim b false (b ++ done) false ((b ++ done) ++ slice) false u v w k (subst (λ z. TraceGrewBy (plan_tree z) lim (b ++ done) false ((b ++ done) ++ slice) false v w) plan q))
         fed)
 
     -- the rest of a piece adds nothing
-    pub trace_ends : (old e : Engine N C) (done rest : List ℕ) → (e.refused ≡ None → rest ≡ []) → InPiece stands lim b old e done → InTrace old e done → InTrace old e (done ++ rest)
+    pub trace_ends : (old e : EngineView C) (done rest : List ℕ) → (e.refused ≡ None → rest ≡ []) → InPiece stands lim b old e done → InTrace old e done → InTrace old e (done ++ rest)
     trace_ends old e done rest none p t =
-        let pl = plan_tree old.plan.now in
-        let u = old.trace.items in
-        let v = e.trace.items in
+        let pl = plan_tree old.plan in
+        let u = old.trace in
+        let v = e.trace in
         let c = b ++ done in
         subst (λ (z : List ℕ). OnRefusal e.refused (TraceGrewWithin pl lim b false z false u v) (TraceGrewBy pl lim b false z false u v)) (append_assoc b done rest)
         (refusal_map e.refused

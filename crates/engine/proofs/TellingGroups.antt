@@ -19,7 +19,8 @@ use Rattle.tree_laws.proofs.Growing.{grow_all-append}
 use Rattle.move_laws.proofs.Keeping.{so_far_stays}
 use Rattle.doc_reader.specs.Standing.{Token, said_of}
 use Rattle.engine.specs.Engine.{OnRefusal}
-use Rattle.engine.specs.Going.{all_of, lacking}
+use Rattle.engine.specs.Going.{lacking}
+use Rattle.engine.specs.Actors.{all_of}
 use Rattle.engine.specs.Telling.{GrewPart, ToldOne, ToldSome, fed_lines, lines_to, more_lines}
 use Rattle.engine.proofs.Grouping.{tree_on}
 use Rattle.engine.proofs.Telling.{lines_behind, lines_first, lines_on, part_all}

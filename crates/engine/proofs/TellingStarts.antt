@@ -9,7 +9,7 @@ use Rattle.gcx_model.specs.PlanView.{plan_tree}
 use Rattle.gcx_model.specs.Points.{actions}
 use Rattle.gcx_model.specs.Demand.{Line, act_lines, opened_line, text_of_lines, trace_lines}
 use Rattle.engine.specs.Engine.{IsTrace}
-use Rattle.engine.specs.Going.{all_of}
+use Rattle.engine.specs.Actors.{all_of}
 use Rattle.engine.specs.Telling.{lines_to}
 use Rattle.engine.proofs.Nothing.{nothing_seen}
 use Rattle.engine.proofs.Telling.{lines_on}

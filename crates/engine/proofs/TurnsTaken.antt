@@ -16,10 +16,9 @@ use Rattle.move_laws.proofs.Keeping.{taken_are_there}
 use Rattle.trace_laws.proofs.TurnsReached.{one_turn_more, turns_reach}
 use Rattle.doc_reader.specs.Standing.{said_of}
 use Rattle.buf_tree.specs.View.{capped}
-use Rattle.engine.specs.Engine.{ActorsStand, past_at}
-use Rattle.engine.specs.Going.{ComesWithin, Goes, all_of, bytes_at}
+use Rattle.engine.specs.declared.turns.Course.{Course}
+use Rattle.engine.specs.Actors.{past_at, ComesWithin, Goes, all_of, bytes_at, StandAt}
 use Rattle.engine.specs.Turns.{Reaches, Tells, TurnsOn}
-use Rattle.engine.specs.declared.turns.Actors.{Actors}
 use Rattle.engine.specs.declared.turns.Reached.{Reached}
 use Rattle.engine.proofs.Seeing.{may_parts}
 use Rattle.engine.proofs.Acting.{there}
@@ -43,7 +42,7 @@ none_more k n l = go (ltb k n) refl
     go true e = let h = ltb-true k n e in absurd (omega arith)
     go false e = refl
 
-module _ {N C : Type 0} (stands : C → Tree → Type 0) (plan : PlanTree) (ts : List Said) (s : Turned) (a : Actors N C) (h : Reaches stands plan ts s a) where
+module _ {N C : Type 0} (stands : C → Tree → Type 0) (plan : PlanTree) (ts : List Said) (s : Turned) (a : Course N C) (h : Reaches stands plan ts s a) where
   abbrev P : Tree
   P = tree_fed ts s
 
@@ -65,8 +64,8 @@ module _ {N C : Type 0} (stands : C → Tree → Type 0) (plan : PlanTree) (ts :
     tree_next = ap (λ (z : List Said). grow_all z opening) (cons_parts s.fed ts t rest e).1 ∙ grow_all-append (take s.fed ts) (t ∷ []) opening
 
     -- and was fed
-    pub fed_reaches : (d : Actors N C) → ActorsStand plan (stands d.machine.conds) d.projector d.machine.position d.buffer (grow t P) s.acted → map said_of d.tokens.items ≡ rest → d.fed ≡ a.fed + 1 → d.acted ≡ a.acted
-        → d.given ≡ capped (sum_given plan (grow t P)) → Reaches stands plan ts (turn plan ts Feed s) d
+    pub fed_reaches : (d : Course N C) → StandAt stands plan d.actors (grow t P) s.acted → map said_of d.tokens.items ≡ rest → d.fed ≡ a.fed + 1 → d.acted ≡ a.acted
+        → d.actors.counts.given ≡ capped (sum_given plan (grow t P)) → Reaches stands plan ts (turn plan ts Feed s) d
     fed_reaches d actors left f k g =
         let c = cons_parts s.fed ts t rest e in
         let l = c.0 in
@@ -74,7 +73,7 @@ module _ {N C : Type 0} (stands : C → Tree → Type 0) (plan : PlanTree) (ts :
         subst (λ (z : Turned). Reaches stands plan ts z d) (sym fed_is) (record {
           may = h.may;
           within = h.within;
-          actors = subst (λ (T : Tree). ActorsStand plan (stands d.machine.conds) d.projector d.machine.position d.buffer T s.acted) (sym tree_next) actors;
+          actors = subst (λ (T : Tree). StandAt stands plan d.actors T s.acted) (sym tree_next) actors;
           there = omega arith;
           left = left ∙ sym c.2;
           fed_is = omega arith;
@@ -91,7 +90,7 @@ module _ {N C : Type 0} (stands : C → Tree → Type 0) (plan : PlanTree) (ts :
   feed_goes w = by_left (drop s.fed ts) refl
     where
       stands_there : s.acted ≤ all_of plan P
-      stands_there = there plan (stands a.machine.conds) a.projector a.machine.position a.buffer P s.acted h.actors
+      stands_there = there plan (stands a.actors.machine.conds) a.actors.projector a.actors.machine.position a.actors.buffer P s.acted h.actors
 
       grown : Leads opening P
       grown = h.actors.beside.buffer.is_past.grown
@@ -103,7 +102,7 @@ module _ {N C : Type 0} (stands : C → Tree → Type 0) (plan : PlanTree) (ts :
           (subst (λ (T : Tree). Goes plan P s.acted T s.acted w w) (sym (tree_next t rest e)) (goes_fed plan P (grow t P) s.acted w grown (more stays (grows t P (token_comes t rest e).may)) stands_there))
 
   -- an action more
-  pub acted_reaches : (d : Actors N C) → ActorsStand plan (stands d.machine.conds) d.projector d.machine.position d.buffer P (suc s.acted) → s.acted < all_of plan P → d.tokens ≡ a.tokens → d.fed ≡ a.fed → d.acted ≡ a.acted + 1 → d.given ≡ a.given
+  pub acted_reaches : (d : Course N C) → StandAt stands plan d.actors P (suc s.acted) → s.acted < all_of plan P → d.tokens ≡ a.tokens → d.fed ≡ a.fed → d.acted ≡ a.acted + 1 → d.actors.counts.given ≡ a.actors.counts.given
       → (u v : List ℕ) → Goes plan P s.acted P (suc s.acted) u v → TurnsOn stands plan ts s Act d u v
   acted_reaches d actors l tokens f k g u v goes =
       let is : turn plan ts Act s ≡ record { fed = s.fed; acted = suc s.acted } = ap (λ z. record { fed = s.fed; acted = z }) (one_more s.acted (length (actions plan P)) l) in
@@ -125,7 +124,7 @@ module _ {N C : Type 0} (stands : C → Tree → Type 0) (plan : PlanTree) (ts :
       TurnsAt z = Reaches stands plan ts z d × Goes plan P s.acted (tree_fed ts z) z.acted u v
 
   -- no action is left
-  pub still_reaches : (d : Actors N C) → ActorsStand plan (stands d.machine.conds) d.projector d.machine.position d.buffer P s.acted → s.acted ≡ all_of plan P → d.tokens ≡ a.tokens → d.fed ≡ a.fed → d.acted ≡ a.acted → d.given ≡ a.given
+  pub still_reaches : (d : Course N C) → StandAt stands plan d.actors P s.acted → s.acted ≡ all_of plan P → d.tokens ≡ a.tokens → d.fed ≡ a.fed → d.acted ≡ a.acted → d.actors.counts.given ≡ a.actors.counts.given
       → (u v : List ℕ) → v ≡ u → TurnsOn stands plan ts s Act d u v
   still_reaches d actors l tokens f k g u v same =
       let is : turn plan ts Act s ≡ s = ap (λ z. record { fed = s.fed; acted = z }) (none_more s.acted (length (actions plan P)) (omega arith)) in
@@ -146,13 +145,13 @@ module _ {N C : Type 0} (stands : C → Tree → Type 0) (plan : PlanTree) (ts :
       TurnsAt z = Reaches stands plan ts z d × Goes plan P s.acted (tree_fed ts z) z.acted u v
 
   -- the numbers
-  pub tells : length plan.roles < 2 ^ 64 → (r : Reached) → r.fed ≡ a.fed → r.acted ≡ a.acted → r.held ≡ length a.buffer.rows → r.nodes ≡ a.buffer.nodes → r.given ≡ a.given → r.taken ≡ a.buffer.taken → Tells plan ts s r
+  pub tells : length plan.roles < 2 ^ 64 → (r : Reached) → r.fed ≡ a.fed → r.acted ≡ a.acted → r.held ≡ length a.actors.buffer.rows → r.nodes ≡ a.actors.buffer.nodes → r.given ≡ a.actors.counts.given → r.taken ≡ a.actors.buffer.taken → Tells plan ts s r
   tells roles r f k held_is nodes g t =
       let few : length P.nodes ≤ 2 ^ 40 + 1 = (h.within (take s.fed ts) (drop s.fed ts) (sym (take-append-drop s.fed ts))).0 in
       record {
         fed_is = f ∙ h.fed_is;
         acted_is = k ∙ h.acted_is;
-        held_is = held_is ∙ rows_count a.buffer (past_at plan P s.acted h.actors.fed) h.actors.beside.buffer;
+        held_is = held_is ∙ rows_count a.actors.buffer (past_at plan P s.acted h.actors.fed) h.actors.beside.buffer;
         nodes_is = nodes ∙ h.actors.beside.buffer.nodes;
         given_is = g ∙ (h.given_is ∙ given_exact plan P roles few);
         taken_is = t ∙ (h.actors.beside.taken ∙ taken_exact plan P roles few (so_far plan P s.acted));
@@ -160,15 +159,12 @@ module _ {N C : Type 0} (stands : C → Tree → Type 0) (plan : PlanTree) (ts :
 
 -- ---- some turns, one after the other
 
-abbrev pub from_start : Turned
-from_start = record { fed = 0; acted = 0 }
-
 -- what the first turns reached
-pub record TurnedTo {N C : Type 0} (stands : C → Tree → Type 0) (plan : PlanTree) (ts : List Said) (turns : List Turn) (a : Actors N C) (before after : List ℕ) : Type 0 where
+pub record TurnedTo {N C : Type 0} (stands : C → Tree → Type 0) (plan : PlanTree) (ts : List Said) (turns : List Turn) (a : Course N C) (before after : List ℕ) : Type 0 where
   pub reaches : Reaches stands plan ts (turned plan ts turns) a
   pub goes : Goes plan opening 0 (tree_fed ts (turned plan ts turns)) (turned plan ts turns).acted before after
 
-pub turned_on : {N C : Type 0} (stands : C → Tree → Type 0) (plan : PlanTree) (ts : List Said) (turns : List Turn) (t : Turn) (a d : Actors N C) (u v w : List ℕ) → TurnedTo stands plan ts turns a u v
+pub turned_on : {N C : Type 0} (stands : C → Tree → Type 0) (plan : PlanTree) (ts : List Said) (turns : List Turn) (t : Turn) (a d : Course N C) (u v w : List ℕ) → TurnedTo stands plan ts turns a u v
     → TurnsOn stands plan ts (turned plan ts turns) t d v w → TurnedTo stands plan ts (turns ++ t ∷ []) d u w
 turned_on stands plan ts turns t a d u v w h o =
     let e : turn plan ts t (turned plan ts turns) ≡ turned plan ts (turns ++ t ∷ []) = sym (one_turn_more plan ts turns t) in

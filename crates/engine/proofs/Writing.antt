@@ -9,7 +9,7 @@ use Rattle.gcx_model.specs.Run.{Action, bytes_of}
 use Rattle.gcx_model.specs.Growth.{Leads}
 use Rattle.gcx_model.specs.Points.{actions, so_far}
 use Rattle.move_laws.proofs.Keeping.{so_far_stays}
-use Rattle.engine.specs.Going.{Goes, bytes_at, all_of}
+use Rattle.engine.specs.Actors.{Goes, bytes_at, all_of}
 
 module _ (plan : PlanTree) where
   pub goes_none : (P : Tree) (k : ℕ) (w : List ℕ) → Goes plan P k P k w w

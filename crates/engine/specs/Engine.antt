@@ -8,31 +8,14 @@ use Rattle.gcx_model.specs.Core.{PlanTree}
 use Rattle.gcx_model.specs.PlanView.{plan_tree}
 use Rattle.gcx_model.specs.Run.{bytes_written}
 use Rattle.gcx_model.specs.Held.{sum_given}
-use Rattle.gcx_model.specs.Points.{actions, so_far}
-use Rattle.gcx_model.specs.Past.{Past}
+use Rattle.gcx_model.specs.Points.{actions}
 use Rattle.gcx_model.specs.Demand.{peak_of, text_of_lines, trace_lines}
 use Rattle.gcx_model.specs.Seen.{SeenIs, seen_tree}
 use Rattle.doc_reader.specs.Standing.{Token, Stands, IsFault, waiting, said_of}
 use Rattle.buf_tree.specs.View.{View, capped}
-use Rattle.projector.specs.Projector.{Projects, Places}
-use Rattle.projector.specs.declared.projector.Projector.{Projector}
-use Rattle.pull_eval.specs.Acting.{Beside}
-use Rattle.pull_eval.specs.declared.position.Position.{Position}
-use Rattle.engine.specs.declared.engine.Counts.{Counts}
-use Rattle.engine.specs.declared.engine.Engine.{Engine}
-
--- the plan over the tree P with the first k actions of its run, of which so many were taken before the last token
-abbrev pub past_at : PlanTree → Tree → (k fed : ℕ) → Past
-past_at plan P k fed = record { plan = plan; tree = P; acts = so_far plan P k; fed = fed }
-
--- The two actors stand for the tree P with the first k actions of the plan's run taken. No departure is kept.
-pub record ActorsStand (plan : PlanTree) (stands : Tree → Type 0) (p : Projector) (w : Position) (v : View) (P : Tree) (k : ℕ) : Type 0 where
-  pub fed : ℕ
-  pub projects : Projects p (past_at plan P k fed)
-  pub keeps : Places p v
-  pub gone : v.gone ≡ []
-  pub beside : Beside w v (past_at plan P k fed) k
-  pub stand : stands P
+use Rattle.engine.specs.declared.actors.Tallied.{Tallied}
+use Rattle.engine.specs.Actors.{IsBalanced, StandAt}
+use Rattle.engine.specs.View.{EngineView}
 
 -- A greatest number of rows: with one token at a time it is the peak, else at least the peak, and above it by less than `ahead`.
 pub record Peaks (peak ahead most : ℕ) : Type 0 where
@@ -40,7 +23,7 @@ pub record Peaks (peak ahead most : ℕ) : Type 0 where
   pub near : most < peak + ahead
 
 -- The numbers of these tokens: of the roles given, and of the rows that were counted.
-pub record CountsOf (plan : PlanTree) (ts : List Said) (ahead : ℕ) (v : View) (n : Counts) : Type 0 where
+pub record CountsOf (plan : PlanTree) (ts : List Said) (ahead : ℕ) (v : View) (n : Tallied) : Type 0 where
   pub given : n.given ≡ capped (sum_given plan (seen_tree ts))
   pub peak : Peaks (peak_of plan ts) ahead n.peak
   pub among : n.peak ≤ length (seen_tree ts).nodes
@@ -52,38 +35,38 @@ pub record MayLimit (lim : Limits) : Type 0 where
   pub bytes : lim.bytes ≤ 1099511627776
 
 -- The most rows that the store ever had: those that were counted, or those that it had had when it was lent.
-abbrev pub MostIs : {N C : Type 0} → (lent : ℕ) → Engine N C → Type 0
-MostIs lent e = e.buffer.most ≡ max lent e.counts.peak
+abbrev pub MostIs : {C : Type 0} → (lent : ℕ) → EngineView C → Type 0
+MostIs lent e = e.actors.buffer.most ≡ max lent e.actors.counts.peak
 
 -- So it is later too, whatever the store had had.
-abbrev pub KeepsMost : {N C : Type 0} → (old new : Engine N C) → Type 0
+abbrev pub KeepsMost : {C : Type 0} → (old new : EngineView C) → Type 0
 KeepsMost old new = (lent : ℕ) → MostIs lent old → MostIs lent new
 
 -- the actors of an engine stand for the state (P, k)
-abbrev pub Actors : {N C : Type 0} → (C → Tree → Type 0) → Engine N C → Tree → ℕ → Type 0
-Actors stands e P k = ActorsStand (plan_tree e.plan.now) (stands e.machine.conds) e.projector e.machine.position e.buffer P k
+abbrev pub ActorsAt : {C : Type 0} → (C → Tree → Type 0) → EngineView C → Tree → ℕ → Type 0
+ActorsAt stands e P k = StandAt stands (plan_tree e.plan) e.actors P k
 
 -- The reader was fed these bytes and gave these tokens. The actors stand for them with every action taken, and the counts are theirs.
-pub record PartsStand {N C : Type 0} (stands : C → Tree → Type 0) (lim : Limits) (e : Engine N C) (b : List ℕ) (ended : Bool) (given : List Token) : Type 0 where
+pub record PartsStand {C : Type 0} (stands : C → Tree → Type 0) (lim : Limits) (e : EngineView C) (b : List ℕ) (ended : Bool) (given : List Token) : Type 0 where
   pub limits : MayLimit lim
   pub reader : Stands e.reader lim b ended given
-  pub actors : Actors stands e (seen_tree (map said_of given)) (length (actions (plan_tree e.plan.now) (seen_tree (map said_of given))))
-  pub counts : CountsOf (plan_tree e.plan.now) (map said_of given) e.ahead e.buffer e.counts
+  pub actors : ActorsAt stands e (seen_tree (map said_of given)) (length (actions (plan_tree e.plan) (seen_tree (map said_of given))))
+  pub counts : CountsOf (plan_tree e.plan) (map said_of given) e.ahead e.actors.buffer e.actors.counts
 
 -- An engine stands for these bytes: it was fed them, no token waits, and every action is taken that is possible behind the tokens seen. What it answers is their fault, and no want of memory.
-pub record StandsOf {N C : Type 0} (stands : C → Tree → Type 0) (lim : Limits) (e : Engine N C) (b : List ℕ) (ended : Bool) : Type 0 where
+pub record StandsOf {C : Type 0} (stands : C → Tree → Type 0) (lim : Limits) (e : EngineView C) (b : List ℕ) (ended : Bool) : Type 0 where
   pub given : List Token
   pub seen : SeenIs lim b ended (map said_of given)
   pub parts : PartsStand stands lim e b ended given
   pub none : waiting e.reader ≡ []
   pub closing : e.ended ≡ ended
-  pub bytes : e.counts.bytes ≡ length b
+  pub bytes : e.bytes ≡ length b
   pub fault : IsFault e.refused lim b ended
   pub lasting : e.refused ≡ Some Memory → ⊥
   pub kept : (e.refused ≡ None → ⊥) → e.reader.refused ≡ e.refused
 
 -- It does so for some bytes.
-pub record StandsSome {N C : Type 0} (stands : C → Tree → Type 0) (e : Engine N C) (ended : Bool) : Type 0 where
+pub record StandsSome {C : Type 0} (stands : C → Tree → Type 0) (e : EngineView C) (ended : Bool) : Type 0 where
   pub limits : Limits
   pub read : List ℕ
   pub of : StandsOf stands limits e read ended
@@ -102,7 +85,7 @@ OnAnswer (Ok u) lost kept = kept
 OnAnswer (Err f) lost kept = OnFault f lost kept
 
 -- Where memory ran out nothing is asked of an engine: it only answers so again.
-abbrev pub MayGoOn : {N C : Type 0} → (C → Tree → Type 0) → Engine N C → (ended : Bool) → Type 0
+abbrev pub MayGoOn : {C : Type 0} → (C → Tree → Type 0) → EngineView C → (ended : Bool) → Type 0
 MayGoOn stands e ended = OnRefusal e.refused (Unit {0}) (StandsSome stands e ended)
 
 -- what the plan's run writes over the tree of the tokens seen in these bytes
@@ -129,8 +112,8 @@ pub record GrewWithin (plan : PlanTree) (lim : Limits) (b : List ℕ) (was : Boo
   pub grew : after ≡ before ++ part
 
 -- No more roles are taken back than were given.
-abbrev pub Balanced : {N C : Type 0} → Engine N C → Type 0
-Balanced e = e.buffer.taken ≤ e.counts.given
+abbrev pub Balanced : {C : Type 0} → EngineView C → Type 0
+Balanced e = IsBalanced e.actors
 
 -- the text of the lines of the demand run over the tokens seen in these bytes
 abbrev pub IsTrace : PlanTree → Limits → List ℕ → (ended : Bool) → List ℕ → Type 0
@@ -154,29 +137,29 @@ pub record TraceGrewWithin (plan : PlanTree) (lim : Limits) (b : List ℕ) (was 
   pub grew : after ≡ before ++ part
 
 -- A trace is wanted, and behind each token every possible action is taken.
-pub record IsTold {N C : Type 0} (e : Engine N C) : Type 0 where
+pub record IsTold {C : Type 0} (e : EngineView C) : Type 0 where
   pub tracing : e.tracing ≡ true
   pub alone : e.ahead ≡ 1
 
 -- An engine before any byte, as `new` makes it: what the plan's run writes before any token waits, and so does its trace.
-pub record Starts {N C : Type 0} (stands : C → Tree → Type 0) (lim : Limits) (e : Engine N C) : Type 0 where
+pub record Starts {C : Type 0} (stands : C → Tree → Type 0) (lim : Limits) (e : EngineView C) : Type 0 where
   pub of : StandsOf stands lim e [] false
   pub fresh : e.refused ≡ None
-  pub settled : Settles (plan_tree e.plan.now) lim [] false e.out.items
-  pub traced : e.tracing ≡ true → IsTrace (plan_tree e.plan.now) lim [] false e.trace.items
+  pub settled : Settles (plan_tree e.plan) lim [] false e.out
+  pub traced : e.tracing ≡ true → IsTrace (plan_tree e.plan) lim [] false e.trace
 
 -- No trace is wanted, and none waits.
-pub record IsSilent {N C : Type 0} (e : Engine N C) : Type 0 where
+pub record IsSilent {C : Type 0} (e : EngineView C) : Type 0 where
   pub untold : e.tracing ≡ false
-  pub empty : e.trace.items ≡ []
+  pub empty : e.trace ≡ []
 
 -- What a call that fed these bytes made: the output grew by what they settle, and the engine stands for them; or memory ran out
 -- on the way.
-pub record Lost {N C : Type 0} (lim : Limits) (old new : Engine N C) (b : List ℕ) (was : Bool) (c : List ℕ) (ended : Bool) : Type 0 where
-  pub grew : GrewWithin (plan_tree old.plan.now) lim b was c ended old.out.items new.out.items
+pub record Lost {C : Type 0} (lim : Limits) (old new : EngineView C) (b : List ℕ) (was : Bool) (c : List ℕ) (ended : Bool) : Type 0 where
+  pub grew : GrewWithin (plan_tree old.plan) lim b was c ended old.out new.out
   pub balance : Balanced new
 
-pub record Kept {N C : Type 0} (stands : C → Tree → Type 0) (lim : Limits) (old new : Engine N C) (b : List ℕ) (was : Bool) (c : List ℕ) (ended : Bool) : Type 0 where
+pub record Kept {C : Type 0} (stands : C → Tree → Type 0) (lim : Limits) (old new : EngineView C) (b : List ℕ) (was : Bool) (c : List ℕ) (ended : Bool) : Type 0 where
   pub of : StandsOf stands lim new c ended
-  pub grew : GrewBy (plan_tree old.plan.now) lim b was c ended old.out.items new.out.items
+  pub grew : GrewBy (plan_tree old.plan) lim b was c ended old.out new.out
   pub most : KeepsMost old new

@@ -1,6 +1,8 @@
+pub mod View
+pub mod Actors
 pub mod Engine
 pub mod Going
-pub mod Feeding
+pub mod Calls
 pub mod Runs
 pub mod Telling
 pub mod Turns

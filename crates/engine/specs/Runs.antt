@@ -17,7 +17,7 @@ use Rattle.run_words.specs.Reading.{SourceGave, ReadsOn, AreClean}
 use Rattle.run_words.specs.Stops.{Stop, More, is_end}
 use Rattle.run_words.specs.Writing.{Sinks, Traces}
 use Rattle.engine.specs.Engine.{IsSilent, IsTold, IsTrace, Peaks, Settles, StandsOf}
-use Rattle.engine.specs.declared.engine.Engine.{Engine}
+use Rattle.engine.specs.View.{EngineView}
 use Rattle.engine.specs.declared.report.Report.{Report}
 use Rattle.engine.specs.declared.report.Ended.{Ended}
 use Rattle.engine.specs.declared.report.Ended.TheVariants as ends
@@ -34,13 +34,13 @@ abbrev pub sinks : (out err : SinkView) → Sinks
 sinks o e = record { out = o; err = e }
 
 -- the report has the numbers of the engine's parts
-pub record Reports {N C : Type 0} (t : Report) (e : Engine N C) : Type 0 where
-  pub bytes : t.taken_bytes ≡ e.counts.bytes
-  pub nodes : t.nodes ≡ e.buffer.nodes
-  pub peak : t.peak ≡ e.counts.peak
-  pub given : t.given ≡ e.counts.given
-  pub taken : t.taken ≡ e.buffer.taken
-  pub held_is : t.held ≡ length e.buffer.rows
+pub record Reports {C : Type 0} (t : Report) (e : EngineView C) : Type 0 where
+  pub bytes : t.taken_bytes ≡ e.bytes
+  pub nodes : t.nodes ≡ e.actors.buffer.nodes
+  pub peak : t.peak ≡ e.actors.counts.peak
+  pub given : t.given ≡ e.actors.counts.given
+  pub taken : t.taken ≡ e.actors.buffer.taken
+  pub held_is : t.held ≡ length e.actors.buffer.rows
 
 -- The numbers of the tags that are seen in these bytes, with every action taken that is possible: the nodes, those held at most and now, and the roles given and taken back.
 pub record Numbers (plan : PlanTree) (lim : Limits) (bytes : List ℕ) (ended : Bool) (ahead : ℕ) (t : Report) : Type 0 where
@@ -70,7 +70,7 @@ pub data Traced : Type 0 where
   SomeText : Traced
 
 -- the engines of which so much is told
-abbrev pub TellsBy : {N C : Type 0} → Traced → Engine N C → Type 0
+abbrev pub TellsBy : {C : Type 0} → Traced → EngineView C → Type 0
 TellsBy Silent e = IsSilent e
 TellsBy ByToken e = IsTold e
 TellsBy SomeText e = Unit {0}
@@ -89,14 +89,28 @@ TracedBy SomeText plan lim = λ b ended t. Unit {0}
 
 -- A run: what the source gave, what was written of it and of its trace, and what the engine stands for behind it. No read came
 -- behind a fault of the bytes.
-pub record Ran {N C : Type 0} (stands : C → Tree → Type 0) (lim : Limits) (t : Traced) (e : Engine N C) (ended_by : Ended) (left now : SourceView) (before after : Sinks) : Type 0 where
+pub record Ran {C : Type 0} (stands : C → Tree → Type 0) (lim : Limits) (t : Traced) (e : EngineView C) (ended_by : Ended) (left now : SourceView) (before after : Sinks) : Type 0 where
   pub pieces : List (List ℕ)
   pub stop : Stop
   pub gave : SourceGave left now pieces stop
   pub reads_on : ReadsOn lim pieces stop
-  pub bytes : e.counts.bytes ≡ length (joined pieces)
-  pub ends : EndsRun (Settles (plan_tree e.plan.now) lim) (TracedBy t (plan_tree e.plan.now) lim) lim (is_traced t) (run_end ended_by) pieces stop before after
+  pub bytes : e.bytes ≡ length (joined pieces)
+  pub ends : EndsRun (Settles (plan_tree e.plan) lim) (TracedBy t (plan_tree e.plan) lim) lim (is_traced t) (run_end ended_by) pieces stop before after
   pub stand : UnlessMemory ended_by (StandsOf stands lim e (joined pieces) (is_end stop))
+
+-- It is an engine of the same plan, of groups as long, over the same loans.
+pub record SamePlan {C : Type 0} (old new : EngineView C) : Type 0 where
+  pub plan : new.plan ≡ old.plan
+  pub ahead : new.ahead ≡ old.ahead
+  pub loans : new.actors.buffer.loans ≡ old.actors.buffer.loans
+
+-- What a run leaves of its three ports: what else the source keeps, and that faults were counted on, of the source, the sink
+-- and the trace's sink.
+pub record KeepsPorts (keeps : Type 0) (read read_now write write_now trace trace_now : ℕ) : Type 0 where
+  pub kept : keeps
+  pub read_count : read ≤ read_now
+  pub write_count : write ≤ write_now
+  pub trace_count : trace ≤ trace_now
 
 -- The rest is said of private functions.
 
@@ -122,7 +136,7 @@ EndsWaiting r end out trace a b = ((ended_by r ≡ ends.Memory) × (end ≡ ends
     ⊎ ((ended_by r ≡ ends.Memory → ⊥) × (end ≡ ends.WriteFault) × StopsInWaiting out trace a b))
 
 -- Between two reads an engine stands for some bytes, and nothing is refused.
-pub record GoesOnFrom {N C : Type 0} (stands : C → Tree → Type 0) (lim : Limits) (e : Engine N C) : Type 0 where
+pub record GoesOnFrom {C : Type 0} (stands : C → Tree → Type 0) (lim : Limits) (e : EngineView C) : Type 0 where
   pub read : List ℕ
   pub of : StandsOf stands lim e read false
   pub fresh : e.refused ≡ None
@@ -137,7 +151,7 @@ pub record TraceBetween (plan : PlanTree) (lim : Limits) (t : Traced) (pieces : 
   pub waits_is : is_traced t ≡ true → rest ≡ waits
 
 -- Between two reads: what is settled by the bytes read is written or waits, and what those before the last read settle is written.
-pub record Between {N C : Type 0} (stands : C → Tree → Type 0) (lim : Limits) (t : Traced) (e : Engine N C) (left now : SourceView) (a b : Sinks) : Type 0 where
+pub record Between {C : Type 0} (stands : C → Tree → Type 0) (lim : Limits) (t : Traced) (e : EngineView C) (left now : SourceView) (a b : Sinks) : Type 0 where
   pub pieces : List (List ℕ)
   pub of : StandsOf stands lim e (joined pieces) false
   pub fresh : e.refused ≡ None
@@ -146,9 +160,9 @@ pub record Between {N C : Type 0} (stands : C → Tree → Type 0) (lim : Limits
   pub clean : AreClean lim pieces
   pub written : List ℕ
   pub took : Takes a.out b.out written
-  pub settled : Settles (plan_tree e.plan.now) lim (joined pieces) false (written ++ e.out.items)
-  pub before : SettlesBefore (Settles (plan_tree e.plan.now) lim) pieces More written
-  pub trace : TraceBetween (plan_tree e.plan.now) lim t pieces e.trace.items a.err b.err
+  pub settled : Settles (plan_tree e.plan) lim (joined pieces) false (written ++ e.out)
+  pub before : SettlesBefore (Settles (plan_tree e.plan) lim) pieces More written
+  pub trace : TraceBetween (plan_tree e.plan) lim t pieces e.trace a.err b.err
 
 -- but for want of memory, which ends a run
 abbrev pub UnlessLost : Option Ended → Type 0 → Type 0
@@ -156,6 +170,6 @@ UnlessLost None X = X
 UnlessLost (Some ended_by) X = UnlessMemory ended_by X
 
 -- what a turn makes: it ends the run, or goes on
-abbrev pub TurnsTo : {N C : Type 0} → (C → Tree → Type 0) → Limits → Traced → Engine N C → Option Ended → (left now : SourceView) → (a b : Sinks) → Type 0
+abbrev pub TurnsTo : {C : Type 0} → (C → Tree → Type 0) → Limits → Traced → EngineView C → Option Ended → (left now : SourceView) → (a b : Sinks) → Type 0
 TurnsTo stands lim t e None left now a b = Between stands lim t e left now a b
 TurnsTo stands lim t e (Some ended_by) left now a b = Ran stands lim t e ended_by left now a b

@@ -1,5 +1,6 @@
 -- How the trace of an engine goes on from one state to a later one (this project's). This follows the code: no public clause speaks of it.
-use Rattle.std.specs.Prelude.{◌≡◌, ℕ, suc, Bool, true, false, List, [], ◌∷◌, ◌++◌, length, map, drop, Option, Some, None}
+use Rattle.std.specs.Prelude.{◌≡◌, ℕ, suc, Bool, true, false, List, [], ◌∷◌, ◌++◌, length, map, drop}
+use Rattle.gcx_base.specs.declared.ids.Role.{Role}
 use Rattle.gcx_model.specs.Tree.{Tree, Token as Said, Start, Chars, End, grow}
 use Rattle.gcx_model.specs.Core.{PlanTree}
 use Rattle.gcx_model.specs.Run.{Action}
@@ -7,6 +8,8 @@ use Rattle.gcx_model.specs.Held.{held}
 use Rattle.gcx_model.specs.Points.{so_far}
 use Rattle.gcx_model.specs.Demand.{LineKind, DocumentNode, ElementNode, TextNode, Line, Written, left, act_lines, feed_line, demand, text_of_lines}
 use Rattle.gcx_model.specs.Demand as tree
+use Rattle.engine.specs.Actors.{ComesWithin, StandAt, all_of}
+use Rattle.engine.specs.View.{ActorsView}
 use Rattle.doc_reader.specs.Standing.{Token, said_of}
 use Rattle.buf_trace.specs.declared.line.LineKind.{LineKind as CodeKind}
 use Rattle.buf_trace.specs.Lines.{kind_tree}
@@ -20,26 +23,24 @@ use Rattle.pull_eval.specs.declared.machine.Acted.TheVariants as acted
 abbrev pub GrewPart : (before after text : List ℕ) → Type 0
 GrewPart before after text = (part : List ℕ) × (rest : List ℕ) × (text ≡ part ++ rest) × (after ≡ before ++ part)
 
+-- the text of the line of the document node, which is given these roles
+abbrev pub document_text : List Role → List ℕ
+document_text given = text_of_lines (tree.Opened 0 DocumentNode (numbers given) ∷ [])
+
 -- what a line tells of the node that the token opens
 abbrev pub kind_said : Said → LineKind
 kind_said (Start name) = ElementNode name
 kind_said (Chars b) = TextNode
 kind_said End = DocumentNode
 
--- there is a kind, and it is that of the token's node
-abbrev pub IsWanted : Said → Option CodeKind → Type 0
-IsWanted t None = ⊥
-IsWanted t (Some k) = kind_tree k ≡ kind_said t
-
 -- the line of what a token did, where a node that it opened is of this kind
 abbrev pub fed_line : Fed → LineKind → Line
 fed_line (Opened s given) k = tree.Opened s.0 k (numbers given)
 fed_line (Closed s) k = tree.Closed s.0
 
--- the same where there is a kind, and a line for each of these departures
-abbrev pub told_lines : Fed → Option CodeKind → (gone : List ℕ) → List Line
-told_lines fed None gone = []
-told_lines fed (Some k) gone = fed_line fed (kind_tree k) ∷ map tree.Left gone
+-- the same, and a line for each of these departures
+abbrev pub told_lines : Fed → CodeKind → (gone : List ℕ) → List Line
+told_lines fed k gone = fed_line fed (kind_tree k) ∷ map tree.Left gone
 
 -- the line of an action, if there was one
 abbrev pub acted_lines : Acted → List Line
@@ -75,3 +76,29 @@ pub record ToldSome (plan : PlanTree) (P : Tree) (was now : List Token) (before 
   pub more : List Token
   pub waited : was ≡ more ++ now
   pub told : after ≡ before ++ text_of_lines (more_lines plan P more)
+
+-- ---- what the actors tell, from each state for which they stood
+
+-- the lines of a token, behind the actions so far
+abbrev pub token_text : PlanTree → Said → Tree → ℕ → List ℕ
+token_text plan t P k = text_of_lines (fed_lines plan t P (so_far plan P k))
+
+-- they were told
+abbrev pub TellsEach : {C : Type 0} → (C → Tree → Type 0) → ActorsView C → Said → (before after : List ℕ) → Type 0
+TellsEach stands old t before after = (plan : PlanTree) (P : Tree) (k : ℕ) → StandAt stands plan old P k → ComesWithin t P → after ≡ before ++ token_text plan t P k
+
+-- or a front of them
+abbrev pub TellsPart : {C : Type 0} → (C → Tree → Type 0) → ActorsView C → Said → (before after : List ℕ) → Type 0
+TellsPart stands old t before after = (plan : PlanTree) (P : Tree) (k : ℕ) → StandAt stands plan old P k → ComesWithin t P → GrewPart before after (token_text plan t P k)
+
+-- the lines of the next action, where there was one
+abbrev pub TellsAction : {C : Type 0} → (C → Tree → Type 0) → ActorsView C → (before after : List ℕ) → (more : Bool) → Type 0
+TellsAction stands old before after more = (plan : PlanTree) (P : Tree) (k : ℕ) → StandAt stands plan old P k → after ≡ before ++ text_of_lines (next_lines plan P k more)
+
+-- the lines of all actions that are left
+abbrev pub TellsAll : {C : Type 0} → (C → Tree → Type 0) → ActorsView C → (before after : List ℕ) → Type 0
+TellsAll stands old before after = (plan : PlanTree) (P : Tree) (k : ℕ) → StandAt stands plan old P k → after ≡ before ++ text_of_lines (lines_to plan P k (all_of plan P))
+
+-- or a front of them
+abbrev pub TellsFront : {C : Type 0} → (C → Tree → Type 0) → ActorsView C → (before after : List ℕ) → Type 0
+TellsFront stands old before after = (plan : PlanTree) (P : Tree) (k : ℕ) → StandAt stands plan old P k → GrewPart before after (text_of_lines (lines_to plan P k (all_of plan P)))

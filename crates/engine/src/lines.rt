@@ -1,12 +1,12 @@
 //! The lines of a trace, of tokens and of actions.
-ghost use Rattle.std.specs.Prelude.{◌≡◌, ◌∷◌, ◌++◌, [], true, false, None, map, IfOk, OnOk, OnErr};
+ghost use Rattle.std.specs.Prelude.{◌≡◌, ◌∷◌, ◌++◌, [], true, false, map, IfOk, OnOk, OnErr};
 ghost use Rattle.gcx_model.specs.Demand as demand;
 ghost use Rattle.gcx_model.specs.Demand.{text_of_lines};
 ghost use Rattle.doc_reader.specs.Standing.{said_of};
 ghost use Rattle.buf_trace.specs.Lines.{kind_tree};
 ghost use Rattle.buf_tree.specs.Calls.{numbers};
 ghost use Rattle.buf_tree.specs.Rows.{serials};
-ghost use Rattle.engine.specs.Telling.{GrewPart, IsWanted, acted_lines, fed_line, kind_said};
+ghost use Rattle.engine.specs.Telling.{GrewPart, acted_lines, document_text, fed_line, kind_said, told_lines};
 
 use buf_trace::{Line, LineKind, put_line};
 use doc_reader::Token;
@@ -19,7 +19,7 @@ use std::alloc::Global;
 /// The line of the document node, where it is wanted.
 pub(crate) fn opening_trace(alloc: Global, tracing: bool, given: &Given) -> Result<Vec<u8>, Memory>
     ensures silent { IfOk result (λ trace. tracing ≡ false → trace.items ≡ []) }
-    ensures opened { IfOk result (λ trace. tracing ≡ true → trace.items ≡ text_of_lines (demand.Opened 0 demand.DocumentNode (numbers given.now) ∷ [])) }
+    ensures opened { IfOk result (λ trace. tracing ≡ true → trace.items ≡ document_text given.now) }
 {
     let mut trace = Vec::new(alloc);
     if tracing {
@@ -33,24 +33,8 @@ pub(crate) fn opening_trace(alloc: Global, tracing: bool, given: &Given) -> Resu
     Ok(trace)
 }
 
-/// What a line tells of the node that the token opens, where lines are wanted.
-pub(crate) fn wanted_kind(
-    alloc: Global,
-    tracing: bool,
-    token: &Token,
-) -> Result<Option<LineKind>, Memory>
-    ensures silent { IfOk result (λ kind. tracing ≡ false → kind ≡ None) }
-    ensures wanted { IfOk result (λ kind. tracing ≡ true → IsWanted (said_of token.now) kind) }
-{
-    if tracing {
-        Ok(Some(kind_of(alloc, token)?))
-    } else {
-        Ok(None)
-    }
-}
-
 /// What a line tells of the node that the token opens.
-fn kind_of(alloc: Global, token: &Token) -> Result<LineKind, Memory>
+pub(crate) fn kind_of(alloc: Global, token: &Token) -> Result<LineKind, Memory>
     ensures { IfOk result (λ kind. kind_tree kind ≡ kind_said (said_of token.now)) }
 {
     Ok(match token {
@@ -67,7 +51,8 @@ fn put_opened(
     kind: LineKind,
     given: Given,
 ) -> Result<(), Memory>
-    ensures ok { OnOk result (trace.new.items ≡ trace.old.items ++ text_of_lines (demand.Opened serial.0 (kind_tree kind) (numbers given) ∷ [])) }
+    ensures ok { OnOk result (trace.new.items
+        ≡ trace.old.items ++ text_of_lines (demand.Opened serial.0 (kind_tree kind) (numbers given) ∷ [])) }
     ensures err { OnErr result (trace.new.items ≡ trace.old.items) }
 {
     let line = Line::Opened {
@@ -78,8 +63,26 @@ fn put_opened(
     put_line(trace, &line)
 }
 
+/// Appends the lines of a token: what it did, where a node that it opened is of this kind, and each node that left. After
+/// `Memory` a front of them stands there.
+pub(crate) fn put_token(
+    trace: &mut Vec<u8>,
+    fed: Fed,
+    kind: LineKind,
+    gone: &[Serial],
+) -> Result<(), Memory>
+    ensures told { OnOk result (trace.new.items
+        ≡ trace.old.items ++ text_of_lines (told_lines fed kind (serials gone.now))) }
+    ensures part { OnErr result (GrewPart trace.old.items trace.new.items
+        (text_of_lines (told_lines fed kind (serials gone.now)))) }
+{
+    put_fed(trace, fed, kind)?;
+    put_gone(trace, gone)?;
+    Ok(())
+}
+
 /// Appends the line of a token. A node that it opened is of this kind. After `Memory` the trace is as before.
-pub(crate) fn put_fed(trace: &mut Vec<u8>, fed: Fed, kind: LineKind) -> Result<(), Memory>
+fn put_fed(trace: &mut Vec<u8>, fed: Fed, kind: LineKind) -> Result<(), Memory>
     ensures ok { OnOk result (trace.new.items ≡ trace.old.items ++ text_of_lines (fed_line fed (kind_tree kind) ∷ [])) }
     ensures err { OnErr result (trace.new.items ≡ trace.old.items) }
 {
@@ -89,8 +92,20 @@ pub(crate) fn put_fed(trace: &mut Vec<u8>, fed: Fed, kind: LineKind) -> Result<(
     }
 }
 
+/// Appends the lines of an action: which it was, and each node that left. After `Memory` a front of them stands there.
+pub(crate) fn put_acted(trace: &mut Vec<u8>, acted: Acted, gone: &[Serial]) -> Result<(), Memory>
+    ensures told { OnOk result (trace.new.items
+        ≡ trace.old.items ++ text_of_lines (acted_lines acted ++ map demand.Left (serials gone.now))) }
+    ensures part { OnErr result (GrewPart trace.old.items trace.new.items
+        (text_of_lines (acted_lines acted ++ map demand.Left (serials gone.now)))) }
+{
+    put_action(trace, acted)?;
+    put_gone(trace, gone)?;
+    Ok(())
+}
+
 /// Appends the line of an action. After `Memory` the trace is as before.
-pub(crate) fn put_action(trace: &mut Vec<u8>, acted: Acted) -> Result<(), Memory>
+fn put_action(trace: &mut Vec<u8>, acted: Acted) -> Result<(), Memory>
     ensures ok { OnOk result (trace.new.items ≡ trace.old.items ++ text_of_lines (acted_lines acted)) }
     ensures err { OnErr result (trace.new.items ≡ trace.old.items) }
 {
@@ -103,9 +118,10 @@ pub(crate) fn put_action(trace: &mut Vec<u8>, acted: Acted) -> Result<(), Memory
 }
 
 /// Appends a line for each node that left. After `Memory` a front of the lines stands there.
-pub(crate) fn put_gone(trace: &mut Vec<u8>, gone: &[Serial]) -> Result<(), Memory>
+fn put_gone(trace: &mut Vec<u8>, gone: &[Serial]) -> Result<(), Memory>
     ensures ok { OnOk result (trace.new.items ≡ trace.old.items ++ text_of_lines (map demand.Left (serials gone.now))) }
-    ensures part { OnErr result (GrewPart trace.old.items trace.new.items (text_of_lines (map demand.Left (serials gone.now)))) }
+    ensures part { OnErr result (GrewPart trace.old.items trace.new.items
+        (text_of_lines (map demand.Left (serials gone.now)))) }
 {
     for serial in gone {
         put_line(trace, &Line::Gone(*serial))?;

@@ -5,7 +5,7 @@ ghost use Rattle.gcx_io.specs.Views.{SourceView};
 ghost use Rattle.gcx_model.specs.PlanView.{plan_tree};
 ghost use Rattle.run_words.specs.Writing.{Sinks};
 ghost use Rattle.engine.specs.Engine.{Balanced, IsSilent, MostIs, Starts, StandsOf};
-ghost use Rattle.engine.specs.Runs.{Between, EndsWaiting, GoesOnFrom, Numbers, Ran, Reports, StopsInWaiting, TellsBy, Traced, TurnsTo, UnlessLost, UnlessMemory, WroteWaiting, ended_by, sinks};
+ghost use Rattle.engine.specs.Runs.{Between, EndsWaiting, GoesOnFrom, KeepsPorts, Numbers, Ran, Reports, SamePlan, StopsInWaiting, TellsBy, Traced, TurnsTo, UnlessLost, UnlessMemory, WroteWaiting, ended_by, sinks};
 
 use crate::engine::Engine;
 use crate::report::{Ended, Report, few_roles};
@@ -25,11 +25,11 @@ fn write_waiting<N: NodeStore<Row>, C: Conds, O: Sink, E: Sink>(
     out: &mut O,
     err: &mut E,
 ) -> Result<(), Failed>
-    ensures wrote { OnOk result (WroteWaiting engine.old.out.items engine.old.trace.items
+    ensures wrote { OnOk result (WroteWaiting engine.old.out engine.old.trace
         (sinks (O.seen out.old) (E.seen err.old)) (sinks (O.seen out.new) (E.seen err.new))) }
-    ensures stops { OnErr result (StopsInWaiting engine.old.out.items engine.old.trace.items
+    ensures stops { OnErr result (StopsInWaiting engine.old.out engine.old.trace
         (sinks (O.seen out.old) (E.seen err.old)) (sinks (O.seen out.new) (E.seen err.new))) }
-    ensures empty { OnOk result ((engine.new.out.items ≡ []) × (engine.new.trace.items ≡ [])) }
+    ensures empty { OnOk result ((engine.new.out ≡ []) × (engine.new.trace ≡ [])) }
     ensures rest { engine.new ≡ record engine.old { out = engine.new.out; trace = engine.new.trace } }
     ensures write_count { O.faults out.old ≤ O.faults out.new }
     ensures trace_count { E.faults err.old ≤ E.faults err.new }
@@ -51,7 +51,7 @@ fn end_with<N: NodeStore<Row>, C: Conds, O: Sink, E: Sink>(
     err: &mut E,
     answer: Result<(), DocFault>,
 ) -> Ended
-    ensures ends { EndsWaiting answer result engine.old.out.items engine.old.trace.items
+    ensures ends { EndsWaiting answer result engine.old.out engine.old.trace
         (sinks (O.seen out.old) (E.seen err.old)) (sinks (O.seen out.new) (E.seen err.new)) }
     ensures rest { engine.new ≡ record engine.old { out = engine.new.out; trace = engine.new.trace } }
     ensures write_count { O.faults out.old ≤ O.faults out.new }
@@ -97,17 +97,13 @@ fn turn<N: NodeStore<Row>, C: Conds, D: Source, O: Sink, E: Sink>(
         before (sinks (O.seen out.new) (E.seen err.new)) }
     ensures stands { result ≡ None → (lim : Limits) → GoesOnFrom C.stands lim engine.old →
         GoesOnFrom C.stands lim engine.new }
-    ensures balanced { result ≡ Some Ended.Ok → engine.new.counts.given ≡ engine.new.buffer.taken }
+    ensures balanced { result ≡ Some Ended.Ok → engine.new.actors.counts.given ≡ engine.new.actors.buffer.taken }
     ensures most { (lent : ℕ) → MostIs lent engine.old → UnlessLost result (MostIs lent engine.new) }
-    ensures fewer { result ≡ None → engine.old.counts.bytes < engine.new.counts.bytes }
-    ensures plan { engine.new.plan ≡ engine.old.plan }
-    ensures ahead { engine.new.ahead ≡ engine.old.ahead }
+    ensures fewer { result ≡ None → engine.old.bytes < engine.new.bytes }
+    ensures same { SamePlan engine.old engine.new }
     ensures balance { Balanced engine.new }
-    ensures kept { D.keeps doc.old doc.new }
-    ensures read_count { D.faults doc.old ≤ D.faults doc.new }
-    ensures write_count { O.faults out.old ≤ O.faults out.new }
-    ensures trace_count { E.faults err.old ≤ E.faults err.new }
-    ensures loans { engine.new.buffer.loans ≡ engine.old.buffer.loans }
+    ensures ports { KeepsPorts (D.keeps doc.old doc.new) (D.faults doc.old) (D.faults doc.new)
+        (O.faults out.old) (O.faults out.new) (E.faults err.old) (E.faults err.new) }
 {
     if write_waiting(engine, out, err).is_err() {
         return Some(Ended::WriteFault);
@@ -137,16 +133,12 @@ fn run<N: NodeStore<Row>, C: Conds, D: Source, O: Sink, E: Sink>(
     ensures ran { (lim : Limits) (t : Traced) → Starts C.stands lim engine.old → TellsBy t engine.old →
         Ran C.stands lim t engine.new result (D.seen doc.old) (D.seen doc.new)
         (sinks (O.seen out.old) (E.seen err.old)) (sinks (O.seen out.new) (E.seen err.new)) }
-    ensures balanced { result ≡ Ended.Ok → engine.new.counts.given ≡ engine.new.buffer.taken }
+    ensures balanced { result ≡ Ended.Ok → engine.new.actors.counts.given ≡ engine.new.actors.buffer.taken }
     ensures most { (lent : ℕ) → MostIs lent engine.old → UnlessMemory result (MostIs lent engine.new) }
-    ensures plan { engine.new.plan ≡ engine.old.plan }
-    ensures ahead { engine.new.ahead ≡ engine.old.ahead }
+    ensures same { SamePlan engine.old engine.new }
     ensures balance { Balanced engine.new }
-    ensures kept { D.keeps doc.old doc.new }
-    ensures read_count { D.faults doc.old ≤ D.faults doc.new }
-    ensures write_count { O.faults out.old ≤ O.faults out.new }
-    ensures trace_count { E.faults err.old ≤ E.faults err.new }
-    ensures loans { engine.new.buffer.loans ≡ engine.old.buffer.loans }
+    ensures ports { KeepsPorts (D.keeps doc.old doc.new) (D.faults doc.old) (D.faults doc.new)
+        (O.faults out.old) (O.faults out.new) (E.faults err.old) (E.faults err.new) }
 {
     let mut buf = [0u8; PIECE];
     'reading: loop {
@@ -174,26 +166,22 @@ pub fn run_query<N: NodeStore<Row>, C: Conds, D: Source, O: Sink, E: Sink>(
     ensures most { (lent : ℕ) → MostIs lent engine.old → UnlessMemory result.ended (MostIs lent engine.new) }
     ensures report { Reports result engine.new }
     ensures numbers { (lim : Limits) (b : List ℕ) (ended : Bool) → StandsOf C.stands lim engine.new b ended →
-        Numbers (plan_tree engine.new.plan.now) lim b ended engine.new.ahead result }
-    ensures plan { engine.new.plan ≡ engine.old.plan }
-    ensures ahead { engine.new.ahead ≡ engine.old.ahead }
+        Numbers (plan_tree engine.new.plan) lim b ended engine.new.ahead result }
+    ensures same { SamePlan engine.old engine.new }
     ensures balance { result.taken ≤ result.given }
-    ensures kept { D.keeps doc.old doc.new }
-    ensures read_count { D.faults doc.old ≤ D.faults doc.new }
-    ensures write_count { O.faults out.old ≤ O.faults out.new }
-    ensures trace_count { E.faults err.old ≤ E.faults err.new }
-    ensures loans { engine.new.buffer.loans ≡ engine.old.buffer.loans }
+    ensures ports { KeepsPorts (D.keeps doc.old doc.new) (D.faults doc.old) (D.faults doc.new)
+        (O.faults out.old) (O.faults out.new) (E.faults err.old) (E.faults err.new) }
 {
     let ended = run(engine, alloc, doc, out, err);
-    few_roles(engine.plan);
+    few_roles(engine.plan());
     let counts = engine.counts();
     Report {
         ended,
         taken_bytes: counts.bytes,
-        nodes: engine.buffer.nodes(),
+        nodes: engine.nodes(),
         peak: counts.peak,
         given: counts.given,
         taken: counts.taken,
-        held: engine.buffer.held(),
+        held: engine.held(),
     }
 }

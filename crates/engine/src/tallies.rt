@@ -1,27 +1,26 @@
 //! What tokens did, in numbers.
 ghost use Rattle.std.specs.Prelude.{◌≡◌};
-ghost use Rattle.engine.specs.Going.{counted, is_quiet, roles_in};
+ghost use Rattle.engine.specs.Actors.{counted, is_quiet, roles_in};
 
-use crate::engine::Counts;
+use crate::actors::Tallied;
 use buf_tree::{Buffer, Row};
 use node_store::NodeStore;
 use projector::Tally;
 
 /// The counts with what a token did, behind which so many rows are held.
 #[inline(always)]
-pub(crate) fn count(counts: Counts, tally: Tally, held: u64) -> Counts
+pub(crate) fn count(counts: Tallied, tally: Tally, held: u64) -> Tallied
     ensures { result ≡ counted counts tally held }
 {
-    Counts {
+    Tallied {
         peak: counts.peak.max(held),
         given: counts.given.saturating_add(roles_of(tally)),
-        ..counts
     }
 }
 
 /// How many roles the token gave.
 #[inline(always)]
-pub(crate) fn roles_of(tally: Tally) -> u128
+fn roles_of(tally: Tally) -> u128
     ensures { result ≡ roles_in tally }
 {
     match tally {

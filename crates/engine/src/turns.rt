@@ -1,27 +1,27 @@
 //! Turns of the two actors in any order.
-ghost use Rattle.std.specs.Prelude.{◌≡◌, ◌≤◌, ◌<◌, ◌+◌, ◌^◌, ◌++◌, ℕ, true, List, length, map, IfOk, OnOk, OnErr};
+ghost use Rattle.std.specs.Prelude.{◌≡◌, ◌≤◌, ◌<◌, ◌+◌, ◌^◌, ◌++◌, true, map, IfOk, OnOk, OnErr};
 ghost use Rattle.std.specs.FinMap as store;
-ghost use Rattle.gcx_model.specs.Core.{BodyTree, PlanTree};
+ghost use Rattle.gcx_model.specs.Core.{BodyTree};
 ghost use Rattle.gcx_model.specs.Cores.{Good};
 ghost use Rattle.gcx_model.specs.Placed.{Placed};
 ghost use Rattle.gcx_model.specs.PlanView.{plan_tree};
-ghost use Rattle.gcx_model.specs.Tree.{Token as Said, opening};
+ghost use Rattle.gcx_model.specs.Tree.{opening};
 ghost use Rattle.gcx_model.specs.Growth.{may_all};
-ghost use Rattle.gcx_model.specs.Turning.{Act, Feed, Turned, turn, turned};
-ghost use Rattle.doc_reader.specs.Standing.{said_of};
 ghost use Rattle.gcx_model.specs.Seen.{AreWithin};
-ghost use Rattle.engine.specs.Turns.{Reaches, SomeTurns, Tells, TurnsOn, actions_in, turn_of, turns_of, written};
+ghost use Rattle.gcx_model.specs.Turning.{Act};
+ghost use Rattle.doc_reader.specs.Standing.{said_of};
+ghost use Rattle.engine.specs.Telling.{GrewPart};
+ghost use Rattle.engine.specs.Turns.{FeedsTurn, Reaches, SomeTurns, TakesTurn, TellsState, TellsTurned, actions_in, from_start, turn_of, written};
 
+use crate::actors::Actors;
 use crate::report::few_roles;
-use crate::tallies::roles_of;
-use buf_tree::{Buffer, Row};
+use buf_tree::Row;
 use cond_eval::Conds;
 use doc_reader::Token;
 use gcx_base::Memory;
 use gcx_model::Plan;
 use node_store::NodeStore;
 use projector::Projector;
-use pull_eval::{Acted, Machine};
 use std::alloc::Global;
 use std::collections::VecDeque;
 
@@ -43,32 +43,27 @@ pub struct Reached {
     pub taken: u128,
 }
 
-/// The two actors and the tokens that are left.
+/// The two actors, the tokens that are left, and how many turns of each were taken.
 #[derive(Drop)]
-struct Actors<'p, N: NodeStore<Row>, C: Conds> {
-    projector: Projector,
-    buffer: Buffer<N>,
-    machine: Machine<'p, C>,
+struct Course<'p, N: NodeStore<Row>, C: Conds> {
+    actors: Actors<'p, N, C>,
     tokens: VecDeque<Token>,
     fed: u64,
     acted: u64,
-    given: u128,
 }
 
-impl<'p, N: NodeStore<Row>, C: Conds> Actors<'p, N, C> {
+impl<'p, N: NodeStore<Row>, C: Conds> Course<'p, N, C> {
     /// The next token, if one is left.
     fn feed(&mut self, alloc: Global) -> Result<(), Memory>
         requires { SomeTurns C.stands self.old }
-        ensures fed { OnOk result ((plan : PlanTree) (ts : List Said) (s : Turned) → Reaches C.stands plan ts s self.old → Reaches C.stands plan ts (turn plan ts Feed s) self.new) }
+        ensures fed { OnOk result (FeedsTurn C.stands self.old self.new) }
         ensures acted { self.new.acted ≡ self.old.acted }
     {
         let Some(token) = self.tokens.pop_front() else {
             return Ok(());
         };
-        let tally = self.projector.feed_tallied(alloc, &mut self.buffer, token)?;
+        self.actors.feed_one(alloc, token)?;
         self.fed += 1;
-        self.given = self.given.saturating_add(roles_of(tally));
-        self.buffer.clear_gone();
         Ok(())
     }
 
@@ -76,20 +71,19 @@ impl<'p, N: NodeStore<Row>, C: Conds> Actors<'p, N, C> {
     fn act(&mut self, alloc: Global, out: &mut Vec<u8>) -> Result<(), Memory>
         requires turns { SomeTurns C.stands self.old }
         requires few { self.old.acted + 1 < 2 ^ 64 }
-        ensures acts { OnOk result ((plan : PlanTree) (ts : List Said) (s : Turned) → Reaches C.stands plan ts s self.old → TurnsOn C.stands plan ts s Act self.new out.old.items out.new.items) }
+        ensures acts { OnOk result (TakesTurn C.stands self.old Act self.new out.old.items out.new.items) }
         ensures acted { self.new.acted ≤ self.old.acted + 1 }
         ensures err { OnErr result (out.new.items ≡ out.old.items) }
     {
-        let acted = self.machine.act(alloc, &mut self.buffer, out)?;
-        self.acted += actions_in(acted);
-        self.buffer.clear_gone();
+        let more = self.actors.act_one(alloc, out)?;
+        self.acted += actions_in(more);
         Ok(())
     }
 
     fn turn(&mut self, alloc: Global, turn: Turn, out: &mut Vec<u8>) -> Result<(), Memory>
         requires turns { SomeTurns C.stands self.old }
         requires few { self.old.acted + 1 < 2 ^ 64 }
-        ensures turns { OnOk result ((plan : PlanTree) (ts : List Said) (s : Turned) → Reaches C.stands plan ts s self.old → TurnsOn C.stands plan ts s (turn_of turn) self.new out.old.items out.new.items) }
+        ensures turns { OnOk result (TakesTurn C.stands self.old (turn_of turn) self.new out.old.items out.new.items) }
         ensures acted { self.new.acted ≤ self.old.acted + 1 }
         ensures err { OnErr result (out.new.items ≡ out.old.items) }
     {
@@ -100,59 +94,51 @@ impl<'p, N: NodeStore<Row>, C: Conds> Actors<'p, N, C> {
     }
 
     fn reached(&self) -> Reached
-        ensures { (plan : PlanTree) (ts : List Said) (s : Turned) → length plan.roles < 2 ^ 64 → Reaches C.stands plan ts s self.now → Tells plan ts s result }
+        ensures { TellsState C.stands self.now result }
     {
         Reached {
             fed: self.fed,
             acted: self.acted,
-            held: self.buffer.held(),
-            nodes: self.buffer.nodes(),
-            given: self.given,
-            taken: self.buffer.taken(),
+            held: self.actors.held(),
+            nodes: self.actors.nodes(),
+            given: self.actors.counts().given,
+            taken: self.actors.taken(),
         }
     }
 }
 
-/// How many actions an answer tells: one, or none was left.
-fn actions_in(acted: Acted) -> u64
-    ensures is { result ≡ actions_in acted }
+/// How many actions were taken: one, or none was left.
+fn actions_in(more: bool) -> u64
+    ensures is { result ≡ actions_in more }
     ensures few { result ≤ 1 }
 {
-    match acted {
-        Acted::Wrote(_) | Acted::SignedOff(..) => 1,
-        Acted::Blocked | Acted::Finished => 0,
-    }
+    if more { 1 } else { 0 }
 }
 
 /// The actors before any turn.
-fn actors_of<'p, N: NodeStore<Row> + Drop, C: Conds + Drop>(
+fn course_of<'p, N: NodeStore<Row> + Drop, C: Conds + Drop>(
     alloc: Global,
     plan: &'p Plan,
     nodes: N,
     conds: C,
     tokens: VecDeque<Token>,
-) -> Result<Actors<'p, N, C>, Memory>
+) -> Result<Course<'p, N, C>, Memory>
     requires placed { (core : BodyTree) × Good core × Placed core (plan_tree plan.now) }
     requires empty { N.rows nodes ≡ store.empty }
     requires conds { C.stands conds opening }
     requires tokens { may_all (map said_of tokens.items) opening ≡ true }
     requires within { AreWithin (map said_of tokens.items) }
-    ensures reaches { IfOk result (λ a. Reaches C.stands (plan_tree plan.now) (map said_of tokens.items) (record { fed = 0; acted = 0 }) a) }
+    ensures reaches { IfOk result (Reaches C.stands (plan_tree plan.now) (map said_of tokens.items) from_start) }
     ensures acted { IfOk result (λ a. a.acted ≡ 0) }
 {
     let projector = Projector::new(alloc, plan)?;
     let given = projector.document(alloc)?;
-    let count = given.items().len() as u128;
-    let buffer = Buffer::new_spread(alloc, nodes, given, plan)?;
-    let machine = Machine::new(alloc, plan, conds)?;
-    Ok(Actors {
-        projector,
-        buffer,
-        machine,
+    let actors = Actors::new(alloc, plan, projector, given, nodes, conds)?;
+    Ok(Course {
+        actors,
         tokens,
         fed: 0,
         acted: 0,
-        given: count,
     })
 }
 
@@ -172,14 +158,16 @@ pub fn interleave<N: NodeStore<Row> + Drop, C: Conds + Drop>(
     requires conds { C.stands conds opening }
     requires tokens { may_all (map said_of tokens.items) opening ≡ true }
     requires within { AreWithin (map said_of tokens.items) }
-    ensures reached { IfOk result (λ r. Tells (plan_tree plan.now) (map said_of tokens.items) (turned (plan_tree plan.now) (map said_of tokens.items) (turns_of turns.now)) r) }
-    ensures written { OnOk result (out.new.items ≡ out.old.items ++ written (plan_tree plan.now) (map said_of tokens.items) turns.now) }
-    ensures err { OnErr result ((part rest : List ℕ) × (written (plan_tree plan.now) (map said_of tokens.items) turns.now ≡ part ++ rest) × (out.new.items ≡ out.old.items ++ part)) }
+    ensures reached { IfOk result (TellsTurned (plan_tree plan.now) (map said_of tokens.items) turns.now) }
+    ensures written { OnOk result (out.new.items
+        ≡ out.old.items ++ written (plan_tree plan.now) (map said_of tokens.items) turns.now) }
+    ensures err { OnErr result (GrewPart out.old.items out.new.items
+        (written (plan_tree plan.now) (map said_of tokens.items) turns.now)) }
 {
-    let mut actors = actors_of(alloc, plan, nodes, conds, tokens)?;
+    let mut course = course_of(alloc, plan, nodes, conds, tokens)?;
     for turn in turns {
-        actors.turn(alloc, *turn, out)?;
+        course.turn(alloc, *turn, out)?;
     }
     few_roles(plan);
-    Ok(actors.reached())
+    Ok(course.reached())
 }

@@ -35,9 +35,10 @@ use Rattle.run_words.specs.Reading.{CountsFault}
 use Rattle.run_words.specs.Stops.{Stop, More, End, is_end}
 use Rattle.run_words.specs.Writing.{Sinks, TakesFront, TracesFront}
 use Rattle.engine.proofs.Most.{most_fresh, unless_both}
-use Rattle.engine.specs.Engine.{past_at, IsTrace as PlanTrace, MostIs, Peaks, Settles as PlanSettles, StandsOf}
+use Rattle.engine.specs.Engine.{IsTrace as PlanTrace, MostIs, Peaks, Settles as PlanSettles, StandsOf}
+use Rattle.engine.specs.Actors.{past_at}
 use Rattle.engine.specs.Runs.{Numbers, Ran, UnlessMemory as UnlessLost, run_end, sinks}
-use Rattle.engine.specs.declared.engine.Engine.{Engine}
+use Rattle.engine.specs.View.{EngineView}
 use Rattle.engine.specs.declared.report.Ended.{Ended}
 use Rattle.engine.specs.declared.report.Ended.TheVariants as end
 use Rattle.engine.specs.declared.report.Report.{Report}
@@ -140,24 +141,24 @@ numbers_of q plan bytes t n is =
       taken = subst (λ (p : PlanTree). t.taken ≡ sum_taken p P (actions p P)) is n.taken;
     }
 
-module _ {N C : Type 0} (stands : C → Tree → Type 0) (tracing : Bool) (e : Engine N C) (t : Report) (s0 s1 : SourceView) (o p d f : SinkView)
+module _ {C : Type 0} (stands : C → Tree → Type 0) (tracing : Bool) (e : EngineView C) (t : Report) (s0 s1 : SourceView) (o p d f : SinkView)
     (r : Ran stands full_limits (telling tracing) e t.ended s0 s1 (sinks o d) (sinks p f)) where
   abbrev plan : PlanTree
-  plan = plan_tree e.plan.now
+  plan = plan_tree e.plan
 
   -- how it ended, of the lines of its trace
   ends_said : EndsRun (PlanSettles plan full_limits) (PlanTrace plan full_limits) full_limits tracing (run_end t.ended) r.pieces r.stop (sinks o d) (sinks p f)
   ends_said = ends_told tracing (PlanSettles plan full_limits) plan full_limits (run_end t.ended) r.pieces r.stop (sinks o d) (sinks p f) r.ends
 
-  stands_hold : (q : List ExprTree) (ahead : ℕ) (m : Store) (most : ℕ) → IsPlanOf q plan → e.ahead ≡ ahead → HasRows m e.buffer → most ≡ e.buffer.most
+  stands_hold : (q : List ExprTree) (ahead : ℕ) (m : Store) (most : ℕ) → IsPlanOf q plan → e.ahead ≡ ahead → HasRows m e.actors.buffer → most ≡ e.actors.buffer.most
       → StandsOf stands full_limits e (joined r.pieces) (is_end r.stop) → MostIs 0 e → HoldsSeen q ahead r.pieces r.stop (stored m most)
   stands_hold q ahead m most is one s h st fresh =
       let peak = peak_of plan (map said_of st.given) in
       record {
         tokens = map said_of st.given;
         seen = st.seen;
-        holds = holds_on plan (map said_of st.given) e.buffer st.parts.actors.fed st.parts.actors.beside.buffer q ahead m most is.is_plan s
-            (subst (λ (a : ℕ). Peaks peak a e.buffer.most) one (most_fresh peak e.ahead e.counts.peak e.buffer.most st.parts.counts.peak fresh)) h;
+        holds = holds_on plan (map said_of st.given) e.actors.buffer st.parts.actors.fed st.parts.actors.beside.buffer q ahead m most is.is_plan s
+            (subst (λ (a : ℕ). Peaks peak a e.actors.buffer.most) one (most_fresh peak e.ahead e.actors.counts.peak e.actors.buffer.most st.parts.counts.peak fresh)) h;
       }
 
   -- where the input came to its end
@@ -167,7 +168,7 @@ module _ {N C : Type 0} (stands : C → Tree → Type 0) (tracing : Bool) (e : E
       let st = subst (λ (x : Ended). UnlessLost x (StandsOf stands full_limits e (joined r.pieces) (is_end r.stop))) ok r.stand in
       (ends.0, ends.1, subst (λ (x : Stop). StandsOf stands full_limits e (joined r.pieces) (is_end x)) ends.0 st)
 
-  pub source_runs : (q : List ExprTree) (ahead : ℕ) (m : Store) (most : ℕ) → IsPlanOf q plan → e.ahead ≡ ahead → HasRows m e.buffer → most ≡ e.buffer.most
+  pub source_runs : (q : List ExprTree) (ahead : ℕ) (m : Store) (most : ℕ) → IsPlanOf q plan → e.ahead ≡ ahead → HasRows m e.actors.buffer → most ≡ e.actors.buffer.most
       → UnlessLost t.ended (MostIs 0 e) → ((b : List ℕ) (ended : Bool) → StandsOf stands full_limits e b ended → Numbers plan full_limits b ended e.ahead t)
       → SourceRuns tracing ahead q t s0 s1 o p d f (stored m most)
   source_runs q ahead m most is same s h fresh told = record {
@@ -193,10 +194,10 @@ module _ {N C : Type 0} (stands : C → Tree → Type 0) (tracing : Bool) (e : E
       subst (λ (x : Stop). CountsFault x s0.faults s1.faults) ends.0 r.gave.faults
 
   -- at Ok the store is empty
-  pub emptied_by : (m : Store) → IsPlaced plan → HasRows m e.buffer → t.ended ≡ end.Ok → m ≡ empty
+  pub emptied_by : (m : Store) → IsPlaced plan → HasRows m e.actors.buffer → t.ended ≡ end.Ok → m ≡ empty
   emptied_by m placed s ok =
       let q = at_end ok in
-      emptied_on plan (map said_of q.2.given) e.buffer q.2.parts.actors.fed q.2.parts.actors.beside.buffer (joined r.pieces) m placed q.2.seen q.1 s
+      emptied_on plan (map said_of q.2.given) e.actors.buffer q.2.parts.actors.fed q.2.parts.actors.beside.buffer (joined r.pieces) m placed q.2.seen q.1 s
 
 -- ---- where memory ran out before anything was read
 

@@ -7,14 +7,14 @@ use Rattle.run_words.specs.Stops.{Stop}
 use Rattle.run_words.specs.Writing.{Sinks}
 use Rattle.engine.specs.Engine.{IsSilent, IsTrace}
 use Rattle.engine.specs.Runs.{TellsBy, Traced, Silent, ByToken, TracedBy, is_traced}
-use Rattle.engine.specs.declared.engine.Engine.{Engine}
+use Rattle.engine.specs.View.{EngineView}
 
 -- the lines of a trace are told where one is asked for
 abbrev pub telling : Bool → Traced
 telling true = ByToken
 telling false = Silent
 
-pub tells_by : {N C : Type 0} (tracing : Bool) (e : Engine N C) → e.tracing ≡ tracing → (tracing ≡ true → e.ahead ≡ 1) → (tracing ≡ false → IsSilent e)
+pub tells_by : {C : Type 0} (tracing : Bool) (e : EngineView C) → e.tracing ≡ tracing → (tracing ≡ true → e.ahead ≡ 1) → (tracing ≡ false → IsSilent e)
     → TellsBy (telling tracing) e
 tells_by true e is one silent = record { tracing = is; alone = one refl }
 tells_by false e is one silent = silent refl

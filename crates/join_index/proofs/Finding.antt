@@ -1,5 +1,5 @@
 -- A search for an equality, and the list that is kept for it.
-use Rattle.std.proofs.Common.{◌≡◌, ◌⊎◌, ◌+◌, ◌<◌, ◌++◌, ℕ, zero, suc, true, false, not, List, [], ◌∷◌, Option, Some, None, length, take, get_or, refl, sym, ap, ◌∙◌, subst, inl, inr, arith}
+use Rattle.std.proofs.Common.{◌≡◌, ◌⊎◌, ◌+◌, ◌<◌, ◌++◌, ℕ, zero, suc, Bool, true, false, not, List, [], ◌∷◌, Option, Some, None, length, take, get_or, refl, sym, ap, ◌∙◌, subst, inl, inr, arith}
 use Rattle.std.specs.Prelude.{MatchOption, is_some, slice_get, slice_set}
 use Rattle.std.proofs.lemmas.Bool.{false≢true}
 use Rattle.std.proofs.lemmas.List.{take_more}
@@ -8,9 +8,10 @@ use Rattle.gcx_model.specs.Members.{In}
 use Rattle.buf_tree.specs.Shape.{Cell}
 use Rattle.join_index.specs.declared.equality.Listed.{Listed}
 use Rattle.join_index.specs.declared.equality.Equality.{Equality}
+use Rattle.join_index.specs.declared.seen.Seen.{Seen}
 use Rattle.join_index.specs.Equalities.{HasEquality}
 use Rattle.join_index.specs.Index.{outer_of, same_serial, serial_kept}
-use Rattle.join_index.specs.Lookups.{IsOf, KeepsList, ListsAt}
+use Rattle.join_index.specs.Lookups.{IsOf, KeepsList, KeepsSeen, ListsAt}
 use Rattle.join_index.proofs.Gathering.{in_either}
 
 module _ (qs : List Equality) (l r : OperandTree) where
@@ -40,6 +41,11 @@ module _ {X : Type 0} where
   set_get (y ∷ qs) zero q r e = refl
   set_get (y ∷ qs) (suc i) q r e = set_get qs i q r e
 
+  pub set_twice : (qs : List X) (i : ℕ) (q r : X) → slice_set (slice_set qs i q) i r ≡ slice_set qs i r
+  set_twice [] i q r = refl
+  set_twice (y ∷ qs) zero q r = refl
+  set_twice (y ∷ qs) (suc i) q r = ap (λ (zs : List X). y ∷ zs) (set_twice qs i q r)
+
 -- it is there
 pub has_at : (qs : List Equality) (i : ℕ) (q : Equality) (l r : OperandTree) → slice_get qs i ≡ Some q → IsOf q l r → HasEquality qs l r
 has_at [] i q l r e is = absurd (cc)
@@ -63,6 +69,20 @@ made_for rows p of q r l left right kept serial other lists = record {
   serial = serial;
   made_so = sym (ap not other);
   told = inr lists;
+}
+
+-- whatever was looked up in it
+pub kept_as : (rows : List Cell) (p of : ℕ) (q r : Equality) (made : Bool) (now : Seen) → KeepsList rows p of q r made → KeepsList rows p of q (record r { seen = now }) made
+kept_as rows p of q r made now k = record { left = k.left; right = k.right; list = k.list; kept = k.kept; serial = k.serial; made_so = k.made_so; told = k.told }
+
+-- which matches were looked up stays with the list, and none was in one that is made
+pub seen_still : (q : Equality) → KeepsSeen q q
+seen_still q = record { path = record { steps = refl; last = refl }; looked = inl (refl, refl) }
+
+pub seen_none : (q r : Equality) → r.seen ≡ record q.seen { of = None; below = 0 } → KeepsSeen q r
+seen_none q r e = record {
+  path = record { steps = ap (λ (s : Seen). s.steps) e; last = ap (λ (s : Seen). s.last) e };
+  looked = inr (ap (λ (s : Seen). s.of) e);
 }
 
 pub same_list : (o : Option Listed) (l m : Listed) → o ≡ Some l → o ≡ Some m → l ≡ m

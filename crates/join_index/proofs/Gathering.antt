@@ -25,8 +25,8 @@ use Rattle.gcx_model.proofs.Folds.{fold_For, fold_If}
 use Rattle.gcx_model.specs.Tree.{Tree}
 use Rattle.join_index.specs.declared.equality.Listed.{Listed}
 use Rattle.join_index.specs.declared.equality.Equality.{Equality}
-use Rattle.join_index.specs.Equalities.{VariablesDiffer, BodyHas, CondHas, GathersAll, HasEquality, ItemHas, NoneKept, SomeHas}
-use Rattle.join_index.specs.Index.{AreLists}
+use Rattle.join_index.specs.Equalities.{VariablesDiffer, BodyHas, CondHas, GathersAll, HasEquality, ItemHas, NoneKept, NothingKept, SomeHas}
+use Rattle.join_index.specs.Index.{AreLists, AreLooked}
 use Rattle.join_index.specs.Lookups.{IsOf}
 
 -- nothing is added
@@ -258,16 +258,16 @@ one_added qs ps q rel left right e is apart eq = subst (λ (z : List Equality). 
         back (inl h) = record { equality = h.equality; among = in_front qs q h.equality h.among; left = h.left; right = h.right }
         back (inr p) = record { equality = q; among = in_last qs q; left = is.0 ∙ p.0.0; right = is.1 ∙ p.0.2 }
 
-pub none_added : (qs ps : List Equality) (q : Equality) → ps ≡ qs ++ q ∷ [] → q.list ≡ None → NoneKept qs → NoneKept ps
+pub none_added : (qs ps : List Equality) (q : Equality) → ps ≡ qs ++ q ∷ [] → NothingKept q → NoneKept qs → NoneKept ps
 none_added qs ps q e none before p i = go (in_either qs q p (subst (λ (z : List Equality). In p z) e i))
   where
-    go : In p qs ⊎ (q ≡ p) → p.list ≡ None
+    go : In p qs ⊎ (q ≡ p) → NothingKept p
     go (inl j) = before p j
-    go (inr s) = ap (λ (z : Equality). z.list) (sym s) ∙ none
+    go (inr s) = subst NothingKept s none
 
 -- what was made of two operands
-pub made_is : (o : Option Equality) (q : Equality) (l r : OperandTree) → o ≡ Some q → MatchOption o (VariablesDiffer l r → ⊥) (λ p. IsOf p l r × VariablesDiffer l r × (p.list ≡ None)) → IsOf q l r × VariablesDiffer l r × (q.list ≡ None)
-made_is o q l r e m = subst (λ (z : Option Equality). MatchOption z (VariablesDiffer l r → ⊥) (λ p. IsOf p l r × VariablesDiffer l r × (p.list ≡ None))) e m
+pub made_is : (o : Option Equality) (q : Equality) (l r : OperandTree) → o ≡ Some q → MatchOption o (VariablesDiffer l r → ⊥) (λ p. IsOf p l r × VariablesDiffer l r × NothingKept p) → IsOf q l r × VariablesDiffer l r × NothingKept q
+made_is o q l r e m = subst (λ (z : Option Equality). MatchOption z (VariablesDiffer l r → ⊥) (λ p. IsOf p l r × VariablesDiffer l r × NothingKept p)) e m
 
 -- what a test of the relation tells
 pub rel_is : (rel : Rel) → false ≡ not (sameb rel_type rel Eq) → rel ≡ Eq
@@ -280,4 +280,11 @@ rel_is Ge e = absurd (false≢true e)
 
 -- where none has a list, all that are kept are right
 pub fresh_lists : (qs : List Equality) → NoneKept qs → (P : Tree) → AreLists qs P
-fresh_lists qs none P q i l e = let f : ◌≡◌ {A = Option Listed} None (Some l) = sym (none q i) ∙ e in absurd (cc)
+fresh_lists qs none P q i l e = let f : ◌≡◌ {A = Option Listed} None (Some l) = sym (none q i).list ∙ e in absurd (cc)
+
+pub fresh_looked : (qs : List Equality) → NoneKept qs → (P : Tree) → AreLooked qs P
+fresh_looked qs none P q i = record {
+  steps = (none q i).steps;
+  fits = (none q i).fits;
+  told = λ l e s g. let f : ◌≡◌ {A = Option Listed} None (Some l) = sym (none q i).list ∙ e in absurd (cc);
+}

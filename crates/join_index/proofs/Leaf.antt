@@ -1,10 +1,11 @@
 -- A comparison: what its rows and the list that is kept tell.
-use Rattle.std.proofs.Common.{◌≡◌, ℕ, Bool, true, false, cond, not, min, ltb, List, Option, Some, None, option_map, refl, sym, ◌∙◌, ap, subst, inl, inr, arith}
+use Rattle.std.proofs.Common.{◌≡◌, ℕ, Bool, true, false, cond, not, min, ltb, List, Option, Some, None, length, option_map, refl, sym, ◌∙◌, ap, subst, inl, inr, arith}
 use Rattle.std.specs.Prelude.{slice_get, slice_set}
 use Rattle.std.specs.FinMap.{get}
 use Rattle.std.proofs.lemmas.Bool.{false≢true}
 use Rattle.std.proofs.lemmas.Bool.Decides.{nat_tests}
 use Rattle.gcx_base.specs.declared.rel.Rel.TheVariants.{Eq}
+use Rattle.gcx_base.specs.declared.steps.Step.{Step}
 use Rattle.gcx_model.specs.Tree.{serial_of, Tree, is_closed}
 use Rattle.gcx_model.specs.Members.{In}
 use Rattle.gcx_model.specs.Core.{OperandTree, CondTree, Compare}
@@ -23,12 +24,16 @@ use Rattle.cond_eval.specs.Comparing.{IsNodeRow, KeepsMatches, comparison}
 use Rattle.cond_eval.specs.Reads.{NodeAt}
 use Rattle.cond_eval.proofs.Comparisons.{shut_told}
 use Rattle.cond_eval.proofs.Telling.{IsPlace, in_left, in_right, keeps_left, keeps_right, node_row, side_of}
+use Rattle.cond_memo.specs.Marks.{Fits}
 use Rattle.join_index.specs.declared.equality.Side.{Side}
 use Rattle.join_index.specs.declared.equality.Listed.{Listed}
 use Rattle.join_index.specs.declared.equality.Equality.{Equality}
-use Rattle.join_index.specs.Equalities.{path_of_side}
-use Rattle.join_index.specs.Index.{GoesAfterQuestion, IndexView, IsIndex, IsOuterClosed, IsReached, TellsTruthOf, inner_of, outer_of, raised, same_serial, serial_bound, serial_kept, variable_of}
-use Rattle.join_index.specs.Lookups.{FoundIs, IsOf, KeepsList, TellsFound}
+use Rattle.join_index.specs.Equalities.{inner_of, path_of_side}
+use Rattle.join_index.specs.Index.{GoesAfterQuestion, IndexView, IsIndex, IsLooked, IsOuterClosed, IsReached, TellsTruthOf, outer_of, raised, same_serial, serial_bound, serial_kept, variable_of}
+use Rattle.join_index.specs.Lookups.{FindsIn, FoundIs, IsOf, KeepsList, KeepsSeen}
+use Rattle.join_index.specs.Taking.{AsksPath, MayTake}
+use Rattle.join_index.proofs.Finding.{kept_as}
+use Rattle.join_index.proofs.Looking.{kept_looked, set_looked}
 use Rattle.join_index.proofs.Listing.{IsList, at_in, changes_one, moved_one, outer_moved, set_has, set_lists}
 
 -- ---- the two sides, whichever the outer one is
@@ -98,14 +103,19 @@ pair_is p s t u x e f = let g : ◌≡◌ {A = Option (ℕ × ℕ)} (Some (p, s)
 pub is_place : (bound : Bindings) (x p s : ℕ) → Some (p, s) ≡ get bound x → IsPlace bound x p
 is_place bound x p s e t u f = (pair_is p s t u (get bound x) e f).0
 
-module _ (v : View) (bound : Bindings) (k : IndexView) (i : ℕ) (q r : Equality) (p of other so : ℕ) (made found : Bool)
+module _ (v : View) (bound : Bindings) (k : IndexView) (i : ℕ) (q r0 r : Equality) (p of other so : ℕ) (made found : Bool)
     (at : slice_get k.equalities i ≡ Some q)
     (outer : Some (p, of) ≡ get bound (outer_of q).var.0)
     (inner : Some (other, so) ≡ get bound (inner_of q).var.0)
-    (lists : KeepsList v.rows p of q r made)
-    (tells : (l : Listed) → r.list ≡ Some l → TellsFound v.rows other (inner_of r).steps l.values found) where
+    (first : KeepsList v.rows p of q r0 made)
+    (seen : KeepsSeen q r0)
+    (rest : r ≡ record r0 { seen = r.seen })
+    (tells : FindsIn v other so r0 r found) where
   abbrev now : IndexView
   now = record { marked = k.marked; equalities = slice_set k.equalities i r; pairs = k.pairs; built = raised k.built (cond made 1 0) }
+
+  lists : KeepsList v.rows p of q r made
+  lists = subst (λ (z : Equality). KeepsList v.rows p of q z made) (sym rest) (kept_as v.rows p of q r0 made r.seen first)
 
   kept_is : serial_kept r ≡ Some of
   kept_is = ap (option_map (λ (l : Listed). l.of.0)) lists.kept ∙ ap Some lists.serial
@@ -126,7 +136,7 @@ module _ (v : View) (bound : Bindings) (k : IndexView) (i : ℕ) (q r : Equality
       turned false = refl
 
   module _ (closed : Bool) (shut : (d : Cell) → In d v.rows → d.place ≡ p → true ≡ not d.row.is_open) (told : (d : Cell) → In d v.rows → d.place ≡ other → closed ≡ not d.row.is_open) where
-    module _ (P : Tree) (env : Env) (is : IsIndex k P) (a : Asked v.rows bound (Compare (path_of_side q.left) Eq (path_of_side q.right)) P env) where
+    module _ (P : Tree) (env : Env) (is : IsIndex k P) (count : length P.nodes ≡ v.nodes) (a : Asked v.rows bound (Compare (path_of_side q.left) Eq (path_of_side q.right)) P env) where
       abbrev x : ℕ
       x = (outer_of q).var.0
 
@@ -159,13 +169,27 @@ module _ (v : View) (bound : Bindings) (k : IndexView) (i : ℕ) (q r : Equality
           (subst (λ (s : Side). IsListOf P s.steps lists.list.of.0 lists.list.values) (sym same_outer)
           (subst (λ (s : ℕ). IsListOf P (outer_of q).steps s lists.list.values) (sym (lists.serial ∙ serial)) listed))
 
+      inner_serial : serial_of (env y) ≡ so
+      inner_serial = sym (pair_is other so (inner_bound v bound q P env a).place (serial_of (env y)) (get bound y) inner (inner_bound v bound q P env a).pair).1
+
+      was : IsLooked q P
+      was = is.3 q (at_in k.equalities i q at)
+
+      inner_path : r0.seen.steps ≡ (inner_of q).steps
+      inner_path = seen.path.steps ∙ was.steps
+
+      asks : AsksPath v other r0.seen.steps P a.keep (env y)
+      asks = record {
+        at = at_other;
+        count = count;
+        kept = subst (λ (s : List Step). KeepsMatches P a.keep (env y) s) (sym inner_path) (inner_keeps q.left q.right v.rows bound P env a (ltb q.left.var.0 q.right.var.0));
+      }
+
+      looked : FoundIs P (env y) r0.seen.steps lists.list.values found × IsLooked r P
+      looked = tells P a.keep (env y) asks inner_serial (kept_looked q r0 first.left first.right seen P was) lists.list (sym (ap (λ (z : Equality). z.list) rest) ∙ lists.kept)
+
       found_is : FoundIs P (env y) (inner_of q).steps lists.list.values found
-      found_is = subst (λ (s : Side). FoundIs P (env y) s.steps lists.list.values found) (side_same q.left q.right r.left r.right lists.left lists.right)
-          (tells lists.list lists.kept P a.keep (env y) at_other
-          (subst (λ (s : Side). KeepsMatches P a.keep (env y) s.steps) (sym (side_same q.left q.right r.left r.right lists.left lists.right)) (inner_keeps q.left q.right v.rows bound P env a (ltb q.left.var.0 q.right.var.0))))
-        where
-          side_same : (l r m s : Side) → m ≡ l → s ≡ r → cond (ltb m.var.0 s.var.0) s m ≡ cond (ltb l.var.0 r.var.0) r l
-          side_same l r m s e f = ap (λ (z : Side). cond (ltb z.var.0 s.var.0) s z) e ∙ ap (λ (z : Side). cond (ltb l.var.0 z.var.0) z l) f
+      found_is = subst (λ (s : List Step). FoundIs P (env y) s lists.list.values found) inner_path looked.0
 
       both : BothCome P env x y (outer_of q).steps (inner_of q).steps found
       both = go found found_is
@@ -184,13 +208,13 @@ module _ (v : View) (bound : Bindings) (k : IndexView) (i : ℕ) (q r : Equality
           ∙ sym (comes q.left q.right P env (ltb q.left.var.0 q.right.var.0) found both)
 
       pub stands : IsIndex now P
-      stands = (is.0, set_lists k.equalities i r P is.1 is_list, is.2)
+      stands = (is.0, set_lists k.equalities i r P is.1 is_list, is.2, set_looked k.equalities i r P is.3 looked.1)
 
     abbrev pair_of : CondTree
     pair_of = Compare (path_of_side q.left) Eq (path_of_side q.right)
 
     reached : IsReached v (IsIndex k) bound pair_of (path_of_side q.left) (path_of_side q.right)
-    reached P env over a = ((refl, refl, refl), subst (λ (n : ℕ). is_closed P (env n) ≡ true) (outer_is q) (closed_outer P env over.0 a))
+    reached P env over a = ((refl, refl, refl), subst (λ (n : ℕ). is_closed P (env n) ≡ true) (outer_is q) (closed_outer P env over.0 over.1 a))
 
     goes : GoesAfterQuestion bound (IsReached v (IsIndex k) bound pair_of) k now
     goes = record {
@@ -200,7 +224,7 @@ module _ (v : View) (bound : Bindings) (k : IndexView) (i : ℕ) (q r : Equality
 
     pub looks : TellsTruthOf v bound pair_of k now (settle found closed)
     looks = record {
-      answers = λ P env over a. (answered P env over.0 a, (stands P env over.0 a, over.1));
+      answers = λ P env over a. (answered P env over.0 over.1 a, (stands P env over.0 over.1 a, over.1));
       goes = goes;
       kept = λ P env over a l o reached has shut. record {
         equality = r;
@@ -249,3 +273,23 @@ module _ (v : View) (bound : Bindings) (left right : Operand) (q : Equality) (is
 
   pub inner_node : {stands : Tree → Type 0} → MayAskOver v stands bound (comparison left Eq right) → (p of : ℕ) → Some (p, of) ≡ get bound (inner_of q).var.0 → IsNodeRow v.rows p
   inner_node m p of got = let pair = asked_pair m.tree m.env m.asked in record { tree = m.tree; keep = pair.keep; node = m.env (inner_of q).var.0; at = at_inner v bound q m.tree m.env pair p (is_place bound (inner_of q).var.0 p of got) }
+
+  -- the inner path, whose matches may be looked up
+  pub inner_asked : (k : IndexView) → MayAskOver v (IsIndex k) bound (comparison left Eq right) → (i : ℕ) → slice_get k.equalities i ≡ Some q → (p of : ℕ) → Some (p, of) ≡ get bound (inner_of q).var.0
+      → (r : Equality) → KeepsSeen q r → MayTake v p r.seen.steps
+  inner_asked k m i at p of got r seen =
+      let pair = asked_pair m.tree m.env m.asked in
+      let steps : r.seen.steps ≡ (inner_of q).steps = seen.path.steps ∙ (m.stand.0.3 q (at_in k.equalities i q at)).steps in
+      record {
+        tree = m.tree;
+        keep = pair.keep;
+        node = m.env (inner_of q).var.0;
+        asks = record {
+          at = at_inner v bound q m.tree m.env pair p (is_place bound (inner_of q).var.0 p of got);
+          count = m.stand.1;
+          kept = subst (λ (s : List Step). KeepsMatches m.tree pair.keep (m.env (inner_of q).var.0) s) (sym steps) (inner_keeps q.left q.right v.rows bound m.tree m.env pair (ltb q.left.var.0 q.right.var.0));
+        };
+      }
+
+  pub inner_fits : (k : IndexView) → MayAskOver v (IsIndex k) bound (comparison left Eq right) → (i : ℕ) → slice_get k.equalities i ≡ Some q → (r : Equality) → r.left ≡ q.left → r.right ≡ q.right → KeepsSeen q r → Fits r.seen.steps r.seen.last
+  inner_fits k m i at r one two seen = (kept_looked q r one two seen m.tree (m.stand.0.3 q (at_in k.equalities i q at))).fits

@@ -7,6 +7,7 @@ pub mod Holding
 pub mod Keeping
 pub mod Leaf
 pub mod Listing
+pub mod Looking
 pub mod Meeting
 pub mod Members
 pub mod Nexts

@@ -1,5 +1,5 @@
 -- A condition that is answered as marks do: the lists stay. And what the parts of a condition tell of it.
-use Rattle.std.proofs.Common.{◌≡◌, List, Option, Some, None, refl, sym, ap, subst, ◌∙◌}
+use Rattle.std.proofs.Common.{◌≡◌, ◌⊎◌, List, Option, Some, None, refl, sym, ap, subst, inl, inr, ◌∙◌}
 use Rattle.gcx_base.specs.declared.ids.VarId.{VarId}
 use Rattle.gcx_base.specs.declared.rel.Rel.{Rel}
 use Rattle.gcx_base.specs.declared.steps.Step.{Step}
@@ -9,6 +9,7 @@ use Rattle.gcx_model.specs.CondView.{core_cond_tree, operand_tree}
 use Rattle.gcx_model.specs.declared.cond.Cond.{Cond}
 use Rattle.gcx_model.specs.declared.cond.Cond as code
 use Rattle.gcx_model.specs.declared.cond.Operand.{Operand}
+use Rattle.gcx_model.specs.declared.cond.Operand.TheVariants as operand
 use Rattle.gcx_model.specs.declared.truth.Truth.{Truth}
 use Rattle.gcx_model.specs.declared.truth.Truth.TheVariants.{True}
 use Rattle.gcx_model.specs.Truth.{Env, negate, truth}
@@ -16,17 +17,19 @@ use Rattle.buf_tree.specs.View.{View}
 use Rattle.cond_eval.specs.Bindings.{Bindings}
 use Rattle.cond_eval.specs.Asking.{AnswersOver, Asked, IsLeaf, MayAskOver, Over}
 use Rattle.cond_eval.specs.Comparing.{comparison}
+use Rattle.cond_eval.specs.Literals.{IsLiteral}
 use Rattle.cond_eval.proofs.Parts.{asked_not, fold_Exists}
 use Rattle.cond_memo.specs.Marks.{AreMarks}
 use Rattle.cond_memo.specs.declared.marked.Marked.{Marked}
 use Rattle.join_index.specs.declared.equality.Equality.{Equality}
+use Rattle.join_index.specs.declared.equality.Side.{Side}
 use Rattle.join_index.specs.declared.pair.Pair.{Pair}
-use Rattle.join_index.specs.Equalities.{HasEquality}
-use Rattle.join_index.specs.Index.{AreLists, GoesAfterQuestion, HasItsList, HaveMoved, IndexView, IsIndex, IsOuterClosed, IsReached, ReachesEquality, TellsTruthOf, changes, raised}
-use Rattle.join_index.specs.Lookups.{LooksUp, MarksTell, ReachesNone}
+use Rattle.join_index.specs.Equalities.{HasEquality, path_of_side}
+use Rattle.join_index.specs.Index.{AreLists, AreLooked, GoesAfterQuestion, HasItsList, HaveMoved, IndexView, IsIndex, IsOuterClosed, IsReached, KeepsLists, ReachesEquality, TellsTruthOf, changes, raised}
+use Rattle.join_index.specs.Lookups.{GetsNoList, IsNoneOfPaths, LooksUp, MarksTell, ReachesNone}
 use Rattle.join_index.specs.Pairs.{PairsTell}
 use Rattle.join_index.specs.Sides.{ArePairs}
-use Rattle.join_index.proofs.Gathering.{fold_True}
+use Rattle.join_index.proofs.Gathering.{fold_Compare, fold_True}
 use Rattle.join_index.proofs.Listing.{changes_none, goes_also, goes_none, moved_none}
 
 module _ (v : View) (bound : Bindings) (k : IndexView) (c : CondTree) where
@@ -58,7 +61,7 @@ module _ (v : View) (bound : Bindings) (k : IndexView) (c : CondTree) where
   marks_tell l t told none = leaf_tells l t told.equalities told.built
       (λ P env over a.
       let r = told.answers P env (over.0.0, over.1) a in
-      (r.0, ((r.1.0, subst (λ (qs : List Equality). AreLists qs P) (sym told.equalities) over.0.1, subst (λ (qs : List Pair). ArePairs qs P) (sym told.pairs) over.0.2), r.1.1)))
+      (r.0, ((r.1.0, subst (λ (qs : List Equality). AreLists qs P) (sym told.equalities) over.0.1, subst (λ (qs : List Pair). ArePairs qs P) (sym told.pairs) over.0.2, subst (λ (qs : List Equality). AreLooked qs P) (sym told.equalities) over.0.3), r.1.1)))
       none
 
   -- ---- the pairs
@@ -75,6 +78,7 @@ module _ (v : View) (bound : Bindings) (k : IndexView) (c : CondTree) where
     subst (λ (z : Marked). AreMarks z P) (sym (rest_marked l t told)) over.0.0,
     subst (λ (qs : List Equality). AreLists qs P) (sym (rest_lists l t told)) over.0.1,
     (told.tells P env (over.0.2, over.1) a).1,
+    subst (λ (qs : List Equality). AreLooked qs P) (sym (rest_lists l t told)) over.0.3,
   )
 
   pub pairs_tell : (l : IndexView) (t : Truth) → PairsTell v bound c k l (Some t) → ReachesNone v bound k c → TellsTruthOf v bound c k l t
@@ -91,19 +95,25 @@ module _ (v : View) (bound : Bindings) (k : IndexView) (c : CondTree) where
       (λ P env over a.
       let s = pairs_stand l None pairs P env over a in
       let r = told.answers P env (s.0, over.1) a in
-      (r.0, ((r.1.0, subst (λ (qs : List Equality). AreLists qs P) (sym told.equalities) s.1, subst (λ (qs : List Pair). ArePairs qs P) (sym told.pairs) s.2), r.1.1)))
+      (r.0, ((r.1.0, subst (λ (qs : List Equality). AreLists qs P) (sym told.equalities) s.1, subst (λ (qs : List Pair). ArePairs qs P) (sym told.pairs) s.2, subst (λ (qs : List Equality). AreLooked qs P) (sym told.equalities) s.3), r.1.1)))
       none
 
   -- marks that stand for the same trees tell the same
   pub tells_still : (l m : IndexView) (t : Truth) → ((P : Tree) → AreMarks l.marked P → AreMarks m.marked P) → m.equalities ≡ l.equalities → m.pairs ≡ l.pairs → m.built ≡ l.built → TellsTruthOf v bound c k l t → TellsTruthOf v bound c k m t
   tells_still l m t f same twin built told = record {
-    answers = λ P env over a. let r = told.answers P env over a in (r.0, ((f P r.1.0.0, subst (λ (qs : List Equality). AreLists qs P) (sym same) r.1.0.1, subst (λ (qs : List Pair). ArePairs qs P) (sym twin) r.1.0.2), r.1.1));
+    answers = λ P env over a. let r = told.answers P env over a in (r.0, ((f P r.1.0.0, subst (λ (qs : List Equality). AreLists qs P) (sym same) r.1.0.1, subst (λ (qs : List Pair). ArePairs qs P) (sym twin) r.1.0.2, subst (λ (qs : List Equality). AreLooked qs P) (sym same) r.1.0.3), r.1.1));
     goes = record {
       moved = subst (λ (qs : List Equality). HaveMoved bound (IsReached v (IsIndex k) bound c) k.equalities qs) (sym same) told.goes.moved;
       built = built ∙ (told.goes.built ∙ ap (λ (qs : List Equality). raised k.built (changes k.equalities qs)) (sym same));
     };
     kept = λ P env over a x y reached has closed. subst (λ (qs : List Equality). HasItsList bound qs x y) (sym same) (told.kept P env over a x y reached has closed);
   }
+
+  -- what comes to no equality of two paths gets no list
+  pub no_list_kept : GetsNoList c → (qs : List Equality) → KeepsLists v (IsIndex k) bound c k.equalities qs
+  no_list_kept none qs P env over a l r reached has closed =
+      absurd (none P env has.equality.left has.equality.right
+      (subst (λ (z : OperandTree). ReachesEquality z (path_of_side has.equality.right) c env P) (sym has.left) (subst (λ (z : OperandTree). ReachesEquality l z c env P) (sym has.right) reached)))
 
   -- what marks answer again
   pub again_may : MayAskOver v (IsIndex k) bound c → (m : Marked) → m ≡ k.marked → MayAskOver v (AreMarks m) bound c
@@ -112,7 +122,7 @@ module _ (v : View) (bound : Bindings) (k : IndexView) (c : CondTree) where
   pub again_answers : (l : IndexView) (t : Truth) → AnswersOver v (AreMarks k.marked) (AreMarks l.marked) bound c t → l.equalities ≡ k.equalities → l.pairs ≡ k.pairs → AnswersOver v (IsIndex k) (IsIndex l) bound c t
   again_answers l t h same twin P env over a =
       let r = h P env (over.0.0, over.1) a in
-      (r.0, ((r.1.0, subst (λ (qs : List Equality). AreLists qs P) (sym same) over.0.1, subst (λ (qs : List Pair). ArePairs qs P) (sym twin) over.0.2), r.1.1))
+      (r.0, ((r.1.0, subst (λ (qs : List Equality). AreLists qs P) (sym same) over.0.1, subst (λ (qs : List Pair). ArePairs qs P) (sym twin) over.0.2, subst (λ (qs : List Equality). AreLooked qs P) (sym same) over.0.3), r.1.1))
 
 -- ---- a comparison
 
@@ -140,6 +150,24 @@ module _ (v : View) (bound : Bindings) (left : Operand) (rel : Rel) (right : Ope
   pairs_as k m t told = subst (λ (z : CondTree). PairsTell v bound z k m t) (sym is) told
 
 -- ---- the other kinds
+
+literal_none : (o : Operand) (s : Side) → IsLiteral o → operand_tree o ≡ path_of_side s → ⊥
+literal_none (operand.Path x steps) s is e = is
+literal_none (operand.Str b) s is e = absurd (cc)
+literal_none (operand.Num u) s is e = absurd (cc)
+
+pub literals_none : (left : Operand) (rel : Rel) (right : Operand) → IsLiteral left ⊎ IsLiteral right → IsNoneOfPaths left rel right
+literals_none left rel right (inl is) one two e f g = literal_none left one is e
+literals_none left rel right (inr is) one two e f g = literal_none right two is g
+
+module _ (c : Cond) where
+  pub exists_without : (x : VarId) (steps : List Step) → c ≡ code.Exists x steps → GetsNoList (core_cond_tree c)
+  exists_without x steps e P env one two reached = subst (λ (z : CondTree). ReachesEquality (path_of_side one) (path_of_side two) z env P) (ap core_cond_tree e ∙ fold_Exists x steps) reached
+
+  pub compare_without : (left : Operand) (rel : Rel) (right : Operand) → c ≡ code.Compare left rel right → IsNoneOfPaths left rel right → GetsNoList (core_cond_tree c)
+  compare_without left rel right e none P env one two reached =
+      let r : ReachesEquality (path_of_side one) (path_of_side two) (comparison left rel right) env P = subst (λ (z : CondTree). ReachesEquality (path_of_side one) (path_of_side two) z env P) (ap core_cond_tree e ∙ fold_Compare left rel right) reached in
+      none one two r.0 r.1 r.2
 
 module _ (v : View) (bound : Bindings) (k : IndexView) (c : Cond) where
   pub always_tells : c ≡ code.True → TellsTruthOf v bound (core_cond_tree c) k k True

@@ -12,12 +12,12 @@ use Rattle.tree_laws.proofs.Freeze.{closed_below, hits_within}
 use Rattle.tree_laws.proofs.Matches.{Grown, Matches-in}
 use Rattle.pass_laws.specs.ValueLists.{IsValueAt}
 use Rattle.buf_tree.specs.Shape.{Cell}
-use Rattle.cond_eval.specs.Reads.{IsValue}
-use Rattle.cond_eval.specs.Comparing.{AreClosed, Readable}
+use Rattle.cond_eval.specs.Reads.{IsValue, NodeAt}
+use Rattle.cond_eval.specs.Comparing.{AreClosed, KeepsMatches, Readable}
 use Rattle.cond_eval.specs.declared.sets.Member.{Member}
 use Rattle.cond_eval.proofs.Comparisons.{closed_read, read_at, same_length}
 use Rattle.cond_eval.proofs.Rows.{grown_tree}
-use Rattle.join_index.specs.Lookups.{AreValues, FindsValue, ListsAt, NoneOf, TellsFound}
+use Rattle.join_index.specs.Lookups.{AreValues, FindsValue, FoundIs, ListsAt, NoneOf}
 
 map-last : {X Y : Type 0} (f : X → Y) (xs : List X) (y : X) → map f (xs ++ y ∷ []) ≡ map f xs ++ f y ∷ []
 map-last f [] y = refl
@@ -108,7 +108,7 @@ module _ (rows : List Cell) (p : ℕ) (steps : List Step) (set : List Member) (c
           (same v).1 (subst (λ (z : List (List ℕ)). In v z) (sym all) (subst (λ (w : List ℕ). In w (map (value P) ms)) m.2 i))
 
   -- whether one of the values is found
-  pub tells_found : (vs : List (List ℕ)) (b : Bool) → FindsValue rows set vs b → TellsFound rows p steps vs b
+  pub tells_found : (vs : List (List ℕ)) (b : Bool) → FindsValue rows set vs b → (P : Tree) (keep : Node → Bool) (n : Node) → NodeAt rows P keep p n → KeepsMatches P keep n steps → FoundIs P n steps vs b
   tells_found vs true f P keep n at kept =
       let ms = filter (is_closed P) (matches P (serial_of n) steps) in
       let m = f P keep ms (closed_read rows p steps set closed P keep n at kept) in

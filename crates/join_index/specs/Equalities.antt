@@ -1,8 +1,9 @@
 -- The equalities of a plan (this project's: an equality of two paths with different variables is answered by look-ups).
-use Rattle.std.specs.Prelude.{◌≡◌, ◌≢◌, ◌⊎◌, ◌↔◌, List, None}
+use Rattle.std.specs.Prelude.{◌≡◌, ◌≢◌, ◌⊎◌, ◌↔◌, cond, ltb, List, None}
 use Rattle.gcx_base.specs.declared.rel.Rel.TheVariants.{Eq}
 use Rattle.gcx_model.specs.Members.{In}
 use Rattle.gcx_model.specs.Core.{OperandTree, Path, Str, Num, CondTree, CondTrees, Always, Exists, Compare, Not, All, Any, no_cond, more_conds, ItemTree, BodyTree, Write, Copy, For, If, Off, Nil, Then}
+use Rattle.cond_memo.specs.Marks.{Fits}
 use Rattle.join_index.specs.declared.equality.Side.{Side}
 use Rattle.join_index.specs.declared.equality.Equality.{Equality}
 
@@ -51,9 +52,18 @@ pub record HasEquality (qs : List Equality) (l r : OperandTree) : Type 0 where
   pub left : path_of_side equality.left ≡ l
   pub right : path_of_side equality.right ≡ r
 
--- none has a list yet
+-- the path whose variable hasn't the smaller number
+abbrev pub inner_of : Equality → Side
+inner_of q = cond (ltb q.left.var.0 q.right.var.0) q.right q.left
+
+-- it has no list yet
+pub record NothingKept (q : Equality) : Type 0 where
+  pub list : q.list ≡ None
+  pub steps : q.seen.steps ≡ (inner_of q).steps
+  pub fits : Fits q.seen.steps q.seen.last
+
 abbrev pub NoneKept : List Equality → Type 0
-NoneKept qs = (q : Equality) → In q qs → q.list ≡ None
+NoneKept qs = (q : Equality) → In q qs → NothingKept q
 
 -- the list grows by these equalities, where their variables differ
 abbrev pub GathersAll : (before now : List Equality) → (has : OperandTree → OperandTree → Type 0) → Type 0

@@ -14,6 +14,8 @@ use Rattle.move_laws.proofs.Keeping.{closed_stays}
 use Rattle.run_laws.proofs.Feeds.{nodes_grow}
 use Rattle.join_index.specs.declared.pair.Taken.{Taken}
 use Rattle.join_index.specs.declared.pair.Pair.{Pair}
+use Rattle.join_index.specs.declared.equality.Equality.{Equality}
+use Rattle.join_index.specs.Index.{AreLooked, HasLooked}
 use Rattle.join_index.specs.Sides.{ArePairs, AreTakenBelow, TookValues, IsTaken, IsValueBelow}
 
 module _ (P Q : Tree) (lo : Leads opening P) (l : Leads P Q) where
@@ -74,3 +76,18 @@ module _ (P Q : Tree) (lo : Leads opening P) (l : Leads P Q) where
   pairs_stay qs k q i =
       let p = k q i in
       record { outer = path_stays q.outer p.outer; inner = path_stays q.inner p.inner; meets = p.meets }
+
+  looked_stays : (n : Node) (steps : List Step) (below : ℕ) (vs : List (List ℕ)) → HasLooked P n steps below vs → HasLooked Q n steps below vs
+  looked_stays n steps below vs h = record {
+    closed = closed_below_stay n steps below h.closed;
+    none = λ v k. h.none v (value_below_was n steps below h.closed v k);
+  }
+
+  pub looked_all_stay : (qs : List Equality) → AreLooked qs P → AreLooked qs Q
+  looked_all_stay qs k q i =
+      let is = k q i in
+      record {
+        steps = is.steps;
+        fits = is.fits;
+        told = λ l e s f. let h = is.told l e s f in (h.0, stays_in h.0 h.1, h.2, looked_stays h.0 q.seen.steps q.seen.below l.values h.3);
+      }

@@ -1,5 +1,6 @@
 -- What each call tells of the matches that weren't taken yet. Private functions alone speak of it.
-use Rattle.std.specs.Prelude.{◌≡◌, ◌<◌, ◌≤◌, ◌↔◌, ◌⊎◌, ℕ, suc, Bool, true, List, length, Option, MatchOption, IfSome}
+use Rattle.std.specs.Prelude.{◌≡◌, ◌<◌, ◌≤◌, ◌↔◌, ◌⊎◌, ℕ, suc, Bool, true, List, length, Option, Some, MatchOption, IfSome}
+use Rattle.gcx_base.specs.declared.ids.Serial.{Serial}
 use Rattle.gcx_base.specs.declared.steps.Step.{Step}
 use Rattle.gcx_model.specs.Tree.{Node, serial_of, Tree, is_closed}
 use Rattle.gcx_model.specs.Paths.{matches}
@@ -13,6 +14,7 @@ use Rattle.cond_eval.specs.Comparing.{KeepsMatches}
 use Rattle.cond_eval.specs.Searches.{Finds}
 use Rattle.join_index.specs.declared.seen.Next.{Next}
 use Rattle.join_index.specs.declared.seen.Next.TheVariants.{Closed, Over, Nested}
+use Rattle.join_index.specs.declared.seen.Seen.{Seen}
 
 -- the path is asked about at the node n, whose row is at the place: all matches are kept, with their subtrees
 pub record AsksPath (v : View) (p : ℕ) (steps : List Step) (P : Tree) (keep : Node → Bool) (n : Node) : Type 0 where
@@ -26,6 +28,10 @@ pub record MayTake (v : View) (p : ℕ) (steps : List Step) : Type 0 where
   pub keep : Node → Bool
   pub node : Node
   pub asks : AsksPath v p steps tree keep node
+
+-- it is about the node of this serial: it was before and stays, or it turned to that
+abbrev pub StaysOrTurns : (before now : Seen) → Serial → Type 0
+StaysOrTurns before now of = ((now ≡ before) × (before.of ≡ Some of)) ⊎ (now ≡ record before { of = Some of; below = 0 })
 
 -- ---- rows
 

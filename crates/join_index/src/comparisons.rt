@@ -1,9 +1,11 @@
 //! The equalities of a plan.
-ghost use Rattle.std.specs.Prelude.{◌≡◌, map, OnOk};
+ghost use Rattle.std.specs.Prelude.{◌≡◌, true, map, OnOk};
 ghost use Rattle.gcx_base.specs.declared.rel.Rel.TheVariants.{Eq};
 ghost use Rattle.gcx_model.specs.CondView.{core_cond_tree, operand_tree};
 ghost use Rattle.gcx_model.specs.ItemView.{body_tree, item_tree};
+ghost use Rattle.cond_eval.specs.Literals.{IsLiteral};
 ghost use Rattle.join_index.specs.Equalities.{BodyHas, CondHas, GathersAll, ItemHas, NoneKept};
+ghost use Rattle.join_index.specs.Lookups.{GetsNoList, IsNoneOfPaths};
 
 use crate::equality::{Equality, find};
 use gcx_base::{Memory, Rel};
@@ -78,5 +80,38 @@ fn put_comparison(
     match Equality::of(alloc, left, right)? {
         Some(equality) => Ok(found.push(equality)?),
         None => Ok(()),
+    }
+}
+
+/// Whether the condition is an `exists`, or a comparison but no equality of two paths. It gets no list.
+pub(crate) fn gets_no_list(cond: &Cond) -> bool
+    ensures { result ≡ true → GetsNoList (core_cond_tree cond.now) }
+{
+    match cond {
+        Cond::Exists { .. } => true,
+        Cond::Compare { left, rel, right } => is_other(left, *rel, right),
+        _ => false,
+    }
+}
+
+/// Whether the comparison is no equality of two paths.
+fn is_other(left: &Operand, rel: Rel, right: &Operand) -> bool
+    ensures { result ≡ true → IsNoneOfPaths left.now rel right.now }
+{
+    if is_literal(left) {
+        return true;
+    }
+    if is_literal(right) {
+        return true;
+    }
+    rel != Rel::Eq
+}
+
+fn is_literal(operand: &Operand) -> bool
+    ensures { result ≡ true → IsLiteral operand.now }
+{
+    match operand {
+        Operand::Path { .. } => false,
+        Operand::Str(_) | Operand::Num(_) => true,
     }
 }

@@ -1,12 +1,16 @@
 //! An equality of two paths, and the list that is kept for it.
-ghost use Rattle.std.specs.Prelude.{◌≡◌, ◌↔◌, Bool, true, not, Some, None, IfOk, MatchOption, slice_get};
+ghost use Rattle.std.specs.Prelude.{◌≡◌, ◌↔◌, Bool, true, not, cond, ltb, Some, None, IfOk, MatchOption, slice_get};
 ghost use Rattle.gcx_model.specs.CondView.{operand_tree};
 ghost use Rattle.buf_tree.specs.Shape.{Cell};
 ghost use Rattle.cond_eval.specs.Comparing.{AreInUse, IsNodeRow};
-ghost use Rattle.join_index.specs.Equalities.{VariablesDiffer, HasEquality, path_of_side};
-ghost use Rattle.join_index.specs.Index.{inner_of, outer_of, same_serial, serial_kept};
-ghost use Rattle.join_index.specs.Lookups.{AreValues, FindsValue, IsOf, ListsAt, KeepsList, TellsFound};
+ghost use Rattle.cond_memo.specs.Marks.{Fits};
+ghost use Rattle.join_index.specs.Equalities.{VariablesDiffer, HasEquality, NothingKept, inner_of, path_of_side};
+ghost use Rattle.join_index.specs.Index.{outer_of, same_serial, serial_kept};
+ghost use Rattle.join_index.specs.Lookups.{AreValues, FindsIn, FindsValue, IsOf, IsOfSteps, ListsAt, LooksFrom, LooksOn, KeepsList, KeepsSeen};
+ghost use Rattle.join_index.specs.Taking.{MayTake};
 
+use crate::pair::Room;
+use crate::seen::{Next, Seen};
 use crate::values::{Probes, Values};
 use buf_tree::{Buffer, Row};
 use cond_eval::{Member, closed_matches, value};
@@ -36,6 +40,8 @@ pub struct Equality {
     pub left: Side,
     pub right: Side,
     pub list: Option<Listed>,
+    /// The inner path, and which of its matches were looked up in the list. None of them has a value of it.
+    pub seen: Seen,
 }
 
 impl Side {
@@ -70,7 +76,7 @@ impl Equality {
         ensures { IfOk result (λ made. MatchOption made
             (VariablesDiffer (operand_tree left.now) (operand_tree right.now) → ⊥)
             (λ q. IsOf q (operand_tree left.now) (operand_tree right.now)
-            × VariablesDiffer (operand_tree left.now) (operand_tree right.now) × (q.list ≡ None))) }
+            × VariablesDiffer (operand_tree left.now) (operand_tree right.now) × NothingKept q)) }
     {
         let (
             Operand::Path { var, steps },
@@ -87,10 +93,12 @@ impl Equality {
         }
         let left = Side::copy_of(alloc, *var, steps)?;
         let right = Side::copy_of(alloc, *other, others)?;
+        let seen = seen_of(alloc, &left, &right)?;
         Ok(Some(Equality {
             left,
             right,
             list: None,
+            seen,
         }))
     }
 
@@ -143,34 +151,100 @@ impl Equality {
         of: Serial,
     ) -> Result<bool, Memory>
         requires { IsNodeRow buffer.now.rows place.0 }
-        ensures { IfOk result (λ made. KeepsList buffer.now.rows place.0 of.0 self.old self.new made) }
+        ensures list { IfOk result (λ made. KeepsList buffer.now.rows place.0 of.0 self.old self.new made) }
+        ensures seen { IfOk result (λ _. KeepsSeen self.old self.new) }
     {
         if self.has_list_of(of) {
             return Ok(false);
         }
         let values = list_at(alloc, buffer, place, self.outer().steps.items())?;
         self.list = Some(Listed { of, values });
+        self.seen.forget();
         Ok(true)
     }
 
     /// Whether a closed match of the inner path from the row at the place has a value of the list that is kept.
     pub(crate) fn finds<N: NodeStore<Row>>(
-        &self,
+        &mut self,
         alloc: Global,
         buffer: &Buffer<N>,
         place: Place,
+        of: Serial,
+        room: &mut Room,
     ) -> Result<bool, Memory>
-        requires { IsNodeRow buffer.now.rows place.0 }
-        ensures { IfOk result (λ found. (l : Listed) → self.now.list ≡ Some l
-            → TellsFound buffer.now.rows place.0 (inner_of self.now).steps l.values found) }
+        requires may { MayTake buffer.now place.0 self.old.seen.steps }
+        requires fits { Fits self.old.seen.steps self.old.seen.last }
+        ensures rest { IfOk result (λ _. self.new ≡ record self.old { seen = self.new.seen }) }
+        ensures found { IfOk result (λ found. FindsIn buffer.now place.0 of.0 self.old self.new found) }
     {
-        match &self.list {
-            Some(list) => {
-                let set = closed_matches(alloc, buffer, place, self.inner().steps.items())?;
-                is_found(alloc, buffer, &set, &list.values)
-            }
-            None => Ok(false),
+        let Some(list) = &self.list else {
+            return Ok(false);
+        };
+        if let Some(found) = look_up(&mut self.seen, buffer, place, of, &list.values, room)? {
+            return Ok(found);
         }
+        let set = closed_matches(alloc, buffer, place, self.seen.steps.items())?;
+        is_found(alloc, buffer, &set, &list.values)
+    }
+}
+
+/// The inner one of two paths, of which no match was looked up.
+fn seen_of(alloc: Global, left: &Side, right: &Side) -> Result<Seen, Memory>
+    ensures steps { IfOk result (λ s. s.steps ≡ (cond (ltb left.now.var.0 right.now.var.0) right.now left.now).steps) }
+    ensures fits { IfOk result (λ s. Fits s.steps s.last) }
+{
+    if left.var < right.var {
+        Seen::new(alloc, &right.steps)
+    } else {
+        Seen::new(alloc, &left.steps)
+    }
+}
+
+/// Looks up the values of the closed matches that weren't looked up yet, up to the first that is one of these: true where
+/// there is one. None where an open match has others below it, which may be closed.
+fn look_up<N: NodeStore<Row>>(
+    seen: &mut Seen,
+    buffer: &Buffer<N>,
+    node: Place,
+    of: Serial,
+    values: &Values,
+    room: &mut Room,
+) -> Result<Option<bool>, Memory>
+    requires may { MayTake buffer.now node.0 seen.old.steps }
+    requires fits { Fits seen.old.steps seen.old.last }
+    ensures path { IfOk result (λ _. IsOfSteps seen.old seen.new) }
+    ensures of { IfOk result (λ _. seen.new.of ≡ Some of) }
+    ensures told { IfOk result (λ found. LooksFrom buffer.now node.0 of.0 seen.old values.now seen.new.below found) }
+{
+    seen.go_to(of);
+    look_on(seen, buffer, node, values, room)
+}
+
+/// The same from where it was.
+fn look_on<N: NodeStore<Row>>(
+    seen: &mut Seen,
+    buffer: &Buffer<N>,
+    node: Place,
+    values: &Values,
+    room: &mut Room,
+) -> Result<Option<bool>, Memory>
+    requires may { MayTake buffer.now node.0 seen.old.steps }
+    requires fits { Fits seen.old.steps seen.old.last }
+    ensures rest { IfOk result (λ _. seen.new ≡ record seen.old { below = seen.new.below }) }
+    ensures told { IfOk result (λ found. LooksOn buffer.now node.0 seen.old.steps values.now
+        seen.old.below seen.new.below found) }
+{
+    let mut next = seen.next(buffer, node, &mut room.flags)?;
+    'matches: while let Next::Closed(place) = next {
+        let bytes = value(buffer, place, &mut room.text)?;
+        if values.contains(bytes, &mut Probes::new()) {
+            return Ok(Some(true));
+        }
+        next = seen.take(buffer, node, place, &mut room.flags)?;
+    }
+    match next {
+        Next::Over => Ok(Some(false)),
+        Next::Closed(_) | Next::Nested => Ok(None),
     }
 }
 

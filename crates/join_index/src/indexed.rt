@@ -12,7 +12,7 @@ ghost use Rattle.join_index.specs.Index.{GoesAfterQuestion, IsIndex, IsReached, 
 ghost use Rattle.join_index.specs.Lookups.{LooksUp, MarksTell, ReachesNone};
 ghost use Rattle.join_index.specs.Pairs.{PairsTell};
 
-use crate::comparisons::put_body;
+use crate::comparisons::{gets_no_list, put_body};
 use crate::equality::{Equality, find};
 use crate::pair::{Pair, Room};
 use crate::shared::shared_truth;
@@ -105,7 +105,7 @@ impl Indexed {
         let Some((outer, of)) = env.get(self.equalities[index].outer().var) else {
             return Ok(None);
         };
-        let Some((inner, _)) = env.get(self.equalities[index].inner().var) else {
+        let Some((inner, inner_of)) = env.get(self.equalities[index].inner().var) else {
             return Ok(None);
         };
         if !buffer.is_closed(outer) {
@@ -113,7 +113,7 @@ impl Indexed {
         }
         let made = self.equalities[index].keep_list(alloc, buffer, outer, of)?;
         self.built = risen(self.built, made);
-        let found = self.equalities[index].finds(alloc, buffer, inner)?;
+        let found = self.equalities[index].finds(alloc, buffer, inner, inner_of, &mut self.room)?;
         Ok(Some(settle(found, buffer.is_closed(inner))))
     }
 
@@ -323,10 +323,15 @@ impl Conds for Indexed {
         requires last { AskedLast self.old.marked (core_cond_tree cond.now) }
         ensures answers { IfOk result (λ t. AnswersOver buffer.now (IsIndex self.old) (IsIndex self.new)
             env.now (core_cond_tree cond.now) t) }
+        ensures kept { IfOk result (λ _. KeepsLists buffer.now (IsIndex self.old) env.now (core_cond_tree cond.now)
+            self.old.equalities self.new.equalities) }
         ensures goes { IfOk result (λ _. GoesAfterQuestion env.now
             (IsReached buffer.now (IsIndex self.old) env.now (core_cond_tree cond.now)) self.old self.new) }
         ensures last { IfOk result (λ _. AskedLast self.new.marked (core_cond_tree cond.now)) }
     {
+        if !gets_no_list(cond) {
+            return self.truth(alloc, cond, env, buffer);
+        }
         match self.marked.again(cond, env, buffer)? {
             Some(truth) => Ok(truth),
             None => self.truth(alloc, cond, env, buffer),

@@ -8,7 +8,7 @@ ghost use Rattle.buf_tree.specs.Match.{GoesFrom};
 ghost use Rattle.buf_tree.specs.View.{InUse};
 ghost use Rattle.cond_memo.specs.Marks.{Fits};
 ghost use Rattle.cond_memo.specs.Calls.{TellsMatch};
-ghost use Rattle.join_index.specs.Taking.{AsksPath, MayTake, FindsRow, IsRowFound, StartsRow, ContinuesFrom, FirstIs, FindsMatch, FindsBehindMatch, NextGoesOn, ComesNext, ComesFrom, ComesBehind};
+ghost use Rattle.join_index.specs.Taking.{AsksPath, StaysOrTurns, MayTake, FindsRow, IsRowFound, StartsRow, ContinuesFrom, FirstIs, FindsMatch, FindsBehindMatch, NextGoesOn, ComesNext, ComesFrom, ComesBehind};
 
 use buf_tree::{Buffer, Row};
 use cond_eval::Watermark;
@@ -67,6 +67,24 @@ impl Seen {
         ensures { self.new ≡ record self.old { of = Some of; below = 0 } }
     {
         self.of = Some(of);
+        self.below = 0;
+    }
+
+    /// It is about the node of this serial: which of its matches were taken stays, where it was about that before.
+    pub(crate) fn go_to(&mut self, of: Serial)
+        ensures { StaysOrTurns self.old self.new of }
+    {
+        if self.is_of(of) {
+            return;
+        }
+        self.turn_to(of);
+    }
+
+    /// It is about no node.
+    pub(crate) fn forget(&mut self)
+        ensures { self.new ≡ record self.old { of = None; below = 0 } }
+    {
+        self.of = None;
         self.below = 0;
     }
 

@@ -1,5 +1,5 @@
 -- What feeding a token makes of a projector.
-use Rattle.std.proofs.Common.{◌≡◌, ◌≤◌, ℕ, Bool, true, false, not, ◌&&◌, List, length, take, refl, sym, ◌∙◌, ap, subst, inl, inr, Some, None, Option, ◌==◌}
+use Rattle.std.proofs.Common.{◌≡◌, ◌≤◌, ℕ, Bool, true, false, not, ◌&&◌, List, [], length, take, refl, sym, ◌∙◌, ap, subst, inl, inr, Some, None, Option, ◌==◌}
 use Rattle.std.specs.Prelude.{option_map, is_some, IsSome, Result, Ok, Err, IfOk}
 use Rattle.gcx_base.specs.declared.memory.Memory.{Memory}
 use Rattle.projector.specs.declared.projector.Fed.{Fed}
@@ -28,7 +28,7 @@ use Rattle.buf_tree.specs.Calls.{numbers, new_row, new_roles, stays, with_new}
 use Rattle.buf_tree.specs.Stands.{StandsFor}
 use Rattle.projector.specs.View.{ProjectorView}
 use Rattle.projector.specs.Signing.{HearsOf}
-use Rattle.projector.specs.Projector.{ahead_in, Projects, KeepsPlace, MayBeFed, OpenedAlone, Changes, Places}
+use Rattle.projector.specs.Projector.{ahead_in, heard, Projects, KeepsPlace, MayBeFed, OpenedAlone, Changes, Places}
 use Rattle.projector.specs.Calls.{Feeds, Tallies}
 use Rattle.projector.specs.Opening.{HasHeard, LeavesBelow, OpensBelow}
 use Rattle.projector.proofs.Pasts.{is_open, reopened_same}
@@ -37,13 +37,13 @@ use Rattle.projector.proofs.Grown.{behind, added_then, opens, heard_here, projec
 use Rattle.projector.proofs.Places.{Up, below_nodes, element_place, shallow, text_place}
 
 -- the matcher hears of all that waits
-hears : (p : ProjectorView) (m : MatcherView) (v : View) (ws : List Ahead) → ws ≡ v.waiting → HearsOf p.matcher m ws → (past : Past) → StandsFor v past → Projects p past → (t : Token) → may_come t past.tree ≡ true → HasHeard m past
-hears p m v ws e told past h q t c =
+pub hears : (m0 m : MatcherView) (v : View) (ws : List Ahead) → ws ≡ v.waiting → HearsOf m0 m ws → (past : Past) → StandsFor v past → Stands m0 (heard past) false → (t : Token) → may_come t past.tree ≡ true → HasHeard m past
+hears m0 m v ws e told past h q t c =
     let a = is_open past.tree t c in
     let r = reopened_same past.tree a.0 a.1 in
-    let s : Stands p.matcher (ahead_in past.tree (take past.fed past.acts) past) false = subst (λ (T : Tree). Stands p.matcher (ahead_in T (take past.fed past.acts) past) false) r q.matcher in
+    let s : Stands m0 (ahead_in past.tree (take past.fed past.acts) past) false = subst (λ (T : Tree). Stands m0 (ahead_in T (take past.fed past.acts) past) false) r q in
     let x = all_heard past h.is_past v.waiting h.waiting in
-    let told' : HearsOf p.matcher m v.waiting = subst (λ (z : List Ahead). HearsOf p.matcher m z) e told in
+    let told' : HearsOf m0 m v.waiting = subst (λ (z : List Ahead). HearsOf m0 m z) e told in
     let s' = told' (ahead_in past.tree (take past.fed past.acts) past) x.0 s x.1 in
     record {
       matcher = subst (λ (T : Tree). Stands m (ahead_in T past.acts past) false) (sym r) (subst (λ (A : List Action). Stands m (record { plan = past.plan; tree = past.tree; acts = A; fed = 0 }) false) x.2 s');
@@ -54,7 +54,7 @@ pub may_heard : (p : ProjectorView) (m0 m : MatcherView) (v : View) (ws : List A
 may_heard p m0 m v ws t is e told may = record {
   past = may.past;
   stands = may.stands;
-  projects = hears p m v ws e (subst (λ (z : MatcherView). HearsOf z m ws) is told) may.past may.stands may.projects t may.may;
+  projects = hears p.matcher m v ws e (subst (λ (z : MatcherView). HearsOf z m ws) is told) may.past may.stands may.projects.matcher t may.may;
   may = may.may;
 }
 
@@ -67,17 +67,17 @@ module _ (past : Past) (is : IsPast past) (kind : Kind) (k : IsNode kind) (may :
   a = is_open past.tree (token_for kind) may
 
   -- some node is open then
-  open_then : (kind : Kind) → IsNode kind → (n : Node) → past.tree.at ≡ Some n → (b : Node) × ((grow (token_for kind) past.tree).at ≡ Some b)
+  pub open_then : (kind : Kind) → IsNode kind → (n : Node) → past.tree.at ≡ Some n → (b : Node) × ((grow (token_for kind) past.tree).at ≡ Some b)
   open_then Document k n e = absurd k
   open_then (Element v) k n e = (Under n (length past.tree.nodes) (Element v), ap (λ z. (grow_at z (Start v) past.tree).at) e)
   open_then (Text v) k n e = (n, ap (λ z. (grow_at z (Chars v) past.tree).at) e)
 
-  pub projects_node : (p : ProjectorView) (m : MatcherView) → HasHeard m past → (m' : MatcherView) → ((n : Node) → past.tree.at ≡ Some n → level n ≤ 1000) → ((q : Past) → Stands m q false → may_come (token_for kind) q.tree ≡ true → ((n : Node) → q.tree.at ≡ Some n → level n ≤ 1000) → Stands m' (past_grown (token_for kind) q) (is_text kind))
+  pub projects_node : (p : ProjectorView) → p.passed ≡ [] → (m : MatcherView) → HasHeard m past → (m' : MatcherView) → ((n : Node) → past.tree.at ≡ Some n → level n ≤ 1000) → ((q : Past) → Stands m q false → may_come (token_for kind) q.tree ≡ true → ((n : Node) → q.tree.at ≡ Some n → level n ≤ 1000) → Stands m' (past_grown (token_for kind) q) (is_text kind))
       → (is_text kind ≡ true → (q : Past) → Stands m' q true → Stands p.matcher q false) → (is_text kind ≡ false → p.matcher ≡ m') → Projects p (past_fed (token_for kind) past)
-  projects_node p m h m' low enters leaves stays =
+  projects_node p none m h m' low enters leaves stays =
       let s = enters (ahead_in past.tree past.acts past) (heard_here m past a.0 a.1 h) may low in
       let b = open_then kind k a.0 a.1 in
-      projects_fed p past is (token_for kind) may b.0 b.1 (go (is_text kind) refl s)
+      projects_fed p none past is (token_for kind) may b.0 b.1 (go (is_text kind) refl s)
     where
       go : (c : Bool) → is_text kind ≡ c → Stands m' (past_grown (token_for kind) (ahead_in past.tree past.acts past)) (is_text kind) → Stands p.matcher (past_grown (token_for kind) (ahead_in past.tree past.acts past)) false
       go true e s = leaves e (past_grown (token_for kind) (ahead_in past.tree past.acts past)) (subst (λ (z : Bool). Stands m' (past_grown (token_for kind) (ahead_in past.tree past.acts past)) z) e s)
@@ -112,7 +112,7 @@ node_place kept place now v u q past h kind given stood o k text element = go (i
 
 -- a node that was opened, and went to
 module _ (old now : ProjectorView) (between : MatcherView) (v w : View) (parent : ℕ) (below : Innermost v.rows parent) (kind : Kind) (k : IsNode kind) (place : Option Place) (given : List Role)
-    (o : OpensBelow old.matcher between v w parent kind (place, given)) (may : MayBeFed (HasHeard old.matcher) v (token_for kind)) (depth : (c : Cell) → In c v.rows → c.row.is_open ≡ true → c.row.level ≤ 1000) (kept : Places old v)
+    (o : OpensBelow old.matcher between v w parent kind (place, given)) (here : Past) (there : StandsFor v here) (depth : (c : Cell) → In c v.rows → c.row.is_open ≡ true → c.row.level ≤ 1000) (kept : Places old v) (none : now.passed ≡ [])
     (text : is_text kind ≡ true → (q : Past) → Stands between q true → Stands now.matcher q false) (element : is_text kind ≡ false → now.matcher ≡ between)
     (text_place : is_text kind ≡ true → now.at ≡ old.at) (element_place : is_text kind ≡ false → now.at ≡ place) where
   low_here : (past : Past) → StandsFor v past → may_come (token_for kind) past.tree ≡ true → (n : Node) → past.tree.at ≡ Some n → level n ≤ 1000
@@ -120,8 +120,8 @@ module _ (old now : ProjectorView) (between : MatcherView) (v w : View) (parent 
 
   pub node_feeds : (s : Serial) → s.0 ≡ v.nodes → Feeds (HasHeard old.matcher) now v w (token_for kind) (Opened s given)
   node_feeds s e = record {
-    stands = λ past h heard m. (projects_node past h.is_past kind k m now old.matcher heard between (low_here past h m) o.matcher text element, o.stands past h heard m);
-    place = node_place old.at place now.at v w parent may.past may.stands kind given (HasHeard old.matcher) o.opened kept text_place element_place;
+    stands = λ past h heard m. (projects_node past h.is_past kind k m now none old.matcher heard between (low_here past h m) o.matcher text element, o.stands past h heard m);
+    place = node_place old.at place now.at v w parent here there kind given (HasHeard old.matcher) o.opened kept text_place element_place;
     fed = λ past h heard m. does_node past h.is_past kind k m given s.0 (e ∙ h.nodes) old.matcher heard (low_here past h m) o.given;
     changes = record {
       parent = parent;
@@ -135,13 +135,13 @@ module _ (old now : ProjectorView) (between : MatcherView) (v w : View) (parent 
     };
   }
 
-pub projects_end : (p : ProjectorView) (m : MatcherView) (v : View) (past : Past) (h : StandsFor v past) → may_come End past.tree ≡ true → (o : Option Place) → Up v past h (option_map (λ (p : Place). p.0) o)
+pub projects_end : (p : ProjectorView) → p.passed ≡ [] → (m : MatcherView) (v : View) (past : Past) (h : StandsFor v past) → may_come End past.tree ≡ true → (o : Option Place) → Up v past h (option_map (λ (p : Place). p.0) o)
     → (IsSome o → LeavesBelow m p.matcher) → (o ≡ None → p.matcher ≡ m) → HasHeard m past → Projects p (past_fed End past)
-projects_end p m v past h c None (inl t) up stays heard = projects_ended p past t.0 (subst (λ (z : MatcherView). HasHeard z past) (sym (stays refl)) heard)
-projects_end p m v past h c (Some pl) (inl t) up stays heard = let e = t.1 in absurd (cc)
-projects_end p m v past h c None (inr (n, s, k, e, d, i, f, g)) up stays heard = absurd (cc)
-projects_end p m v past h c (Some pl) (inr (n, s, k, e, d, i, f, g)) up stays heard =
-    projects_fed p past h.is_past End c n (ap (λ z. (grow_at z End past.tree).at) e)
+projects_end p none m v past h c None (inl t) up stays heard = projects_ended p none past t.0 (subst (λ (z : MatcherView). HasHeard z past) (sym (stays refl)) heard)
+projects_end p none m v past h c (Some pl) (inl t) up stays heard = let e = t.1 in absurd (cc)
+projects_end p none m v past h c None (inr (n, s, k, e, d, i, f, g)) up stays heard = absurd (cc)
+projects_end p none m v past h c (Some pl) (inr (n, s, k, e, d, i, f, g)) up stays heard =
+    projects_fed p none past h.is_past End c n (ap (λ z. (grow_at z End past.tree).at) e)
     (up refl (ahead_in past.tree past.acts past) n s k (heard_here m past (Under n s k) e heard) e)
 
 module _ (stood now : Past → Type 0) (v w : View) (t : Token) (are : (past : Past) → StandsFor v past → now past → may_come t past.tree ≡ true → stood past) where
@@ -178,7 +178,7 @@ pub feeds_heard : (p q : ProjectorView) (m0 m : MatcherView) (v w : View) (ws : 
     → IfOk r (λ fed. Feeds (HasHeard m) q v w t fed) → IfOk r (λ fed. Feeds (Projects p) q v w t fed)
 feeds_heard p q m0 m v w ws t (Ok fed) is e told f =
     let told' : HearsOf p.matcher m ws = subst (λ (z : MatcherView). HearsOf z m ws) is told in
-    fed_alike (HasHeard m) (Projects p) v w t (λ past h s may. hears p m v ws e told' past h s t may) q fed f
+    fed_alike (HasHeard m) (Projects p) v w t (λ past h s may. hears p.matcher m v ws e told' past h s.matcher t may) q fed f
 feeds_heard p q m0 m v w ws t (Err x) is e told f = f
 
 -- the same with the tally

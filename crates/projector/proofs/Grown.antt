@@ -114,17 +114,21 @@ pub heard_fed : (past : Past) (t : Token) → heard (past_fed t past) ≡ ahead_
 heard_fed past t = ap (λ A. ahead_in (reopened (grow t past.tree)) A past) (take-length past.acts)
 
 -- Where a node is open then, the matcher that stands for the new tree with all that was in advance before the token stands for what is in advance behind it.
-pub projects_fed : (p : ProjectorView) (past : Past) → IsPast past → (t : Token) → may_come t past.tree ≡ true → (a : Node) → (grow t past.tree).at ≡ Some a
+pub matcher_fed : (q : MatcherView) (past : Past) → IsPast past → (t : Token) → may_come t past.tree ≡ true → (a : Node) → (grow t past.tree).at ≡ Some a
+    → Stands q (past_grown t (ahead_in past.tree past.acts past)) false → Stands q (heard (past_fed t past)) false
+matcher_fed q past is t m a e s =
+    subst (λ (z : Past). Stands q z false) (sym (heard_fed past t ∙ ap (λ T. ahead_in T past.acts past) (reopened_same (grow t past.tree) a e)))
+    (moved q (past_grown t (ahead_in past.tree past.acts past)) (filter (is_ahead (grow t past.tree)) past.acts) s (fewer (past_fed t past) (past_feeds past is t m)) (signed_behind past is t))
+
+pub projects_fed : (p : ProjectorView) → p.passed ≡ [] → (past : Past) → IsPast past → (t : Token) → may_come t past.tree ≡ true → (a : Node) → (grow t past.tree).at ≡ Some a
     → Stands p.matcher (past_grown t (ahead_in past.tree past.acts past)) false → Projects p (past_fed t past)
-projects_fed p past is t m a e s = record {
-  matcher = subst (λ (z : Past). Stands p.matcher z false) (sym (heard_fed past t ∙ ap (λ T. ahead_in T past.acts past) (reopened_same (grow t past.tree) a e)))
-      (moved p.matcher (past_grown t (ahead_in past.tree past.acts past)) (filter (is_ahead (grow t past.tree)) past.acts) s (fewer (past_fed t past) (past_feeds past is t m)) (signed_behind past is t));
-}
+projects_fed p none past is t m a e s = record { matcher = matcher_fed p.matcher past is t m a e s; none = none }
 
 -- at the document's end the matcher stays
-pub projects_ended : (p : ProjectorView) (past : Past) → past.tree.at ≡ Some Root → HasHeard p.matcher past → Projects p (past_fed End past)
-projects_ended p past e h = record {
+pub projects_ended : (p : ProjectorView) → p.passed ≡ [] → (past : Past) → past.tree.at ≡ Some Root → HasHeard p.matcher past → Projects p (past_fed End past)
+projects_ended p none past e h = record {
   matcher = subst (λ (z : Past). Stands p.matcher z false) (ap (λ T. ahead_in T past.acts past) same ∙ sym (heard_fed past End)) h.matcher;
+  none = none;
 }
   where
     same : reopened past.tree ≡ reopened (grow End past.tree)

@@ -6,3 +6,5 @@ pub mod Grown
 pub mod Places
 pub mod Feeding
 pub mod Entered
+pub mod LateRows
+pub mod Loosely

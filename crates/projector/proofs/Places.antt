@@ -28,6 +28,7 @@ use Rattle.buf_tree.specs.Stands.{Seen, seen, told, StandsFor}
 use Rattle.buf_tree.proofs.Shaping.{rising_same, at_place_is, at_serial_is}
 use Rattle.buf_tree.proofs.Standing.{pair_left, held_up, parent_told}
 use Rattle.buf_tree.proofs.Feeding.{at_held, top_is}
+use Rattle.projector.specs.Opening.{HasInnermost}
 use Rattle.projector.specs.Projector.{KeepsPlace}
 
 -- a row has the number of its node
@@ -162,12 +163,19 @@ first_row [] r c i z = absurd i
 first_row (x ∷ xs) r c (inl e) z = ap (λ y. Some y) e
 first_row (x ∷ xs) r c (inr i) z = let l = r.0 c i in absurd (omega arith)
 
--- where no place is kept, the document node is the innermost open one
-pub root_innermost : (v : View) (past : Past) → StandsFor v past → (a : Node) → past.tree.at ≡ Some a → KeepsPlace None v.rows → (c : Cell) × (head v.rows ≡ Some c) × Innermost v.rows c.place
-root_innermost v past h a e k =
+-- while a node is open, a row is
+pub has_innermost : (v : View) (past : Past) → StandsFor v past → (a : Node) → past.tree.at ≡ Some a → HasInnermost v.rows
+has_innermost v past h a e =
     let q = open_row v past h a e in
-    let z = k q.0 q.1 q.3 in
-    (q.0, first_row v.rows (rising v past h) q.0 q.1 z, innermost_at v past h a e q.0 q.1 q.2)
+    record { rising = rising v past h; place = q.0.place; innermost = innermost_at v past h a e q.0 q.1 q.2 }
+
+-- where no place is kept, the document node is the innermost open one
+pub root_innermost : (rows : List Cell) → (i : HasInnermost rows) → KeepsPlace None rows → (head rows ≡ Some i.innermost.cell) × Innermost rows i.innermost.cell.place
+root_innermost rows i k =
+    let c = i.innermost.cell in (
+      first_row rows i.rising c i.innermost.among (k c i.innermost.among i.innermost.is_open),
+      record { cell = c; among = i.innermost.among; place = refl; is_open = i.innermost.is_open; last = i.innermost.last },
+    )
 
 -- ---- behind a token
 
@@ -231,13 +239,12 @@ up_place v v' u q b k past h g (Some pl) (inr (p, s, kind, e, c, i, n, f)) =
     subst (λ (z : ℕ). Innermost u.rows z) here (innermost_at u (past_fed End past) g p at r.0 r.1 r.2)
 
 -- the kept place, or the root's, is the innermost open node's
-pub kept_innermost : (v : View) (past : Past) → StandsFor v past → (a : Node) → past.tree.at ≡ Some a → (kept : Option Place) → KeepsPlace kept v.rows → (p : Place)
-    → (kept ≡ Some p) ⊎ ((kept ≡ None) × IfSome (head v.rows) (λ (c : Cell). c.place ≡ p.0)) → Innermost v.rows p.0
-kept_innermost v past h a e kept k p (inl f) = subst (λ (o : Option Place). KeepsPlace o v.rows) f k
-kept_innermost v past h a e kept k p (inr f) =
-    let r = root_innermost v past h a e (subst (λ (o : Option Place). KeepsPlace o v.rows) f.0 k) in
-    let s : r.0.place ≡ p.0 = subst (λ (o : Option Cell). IfSome o (λ (c : Cell). c.place ≡ p.0)) r.1 f.1 in
-    subst (λ (z : ℕ). Innermost v.rows z) s r.2
+pub kept_innermost : (rows : List Cell) → HasInnermost rows → (kept : Option Place) → KeepsPlace kept rows → (p : Place) → (kept ≡ Some p) ⊎ ((kept ≡ None) × IfSome (head rows) (λ (c : Cell). c.place ≡ p.0)) → Innermost rows p.0
+kept_innermost rows i kept k p (inl f) = subst (λ (o : Option Place). KeepsPlace o rows) f k
+kept_innermost rows i kept k p (inr f) =
+    let r = root_innermost rows i (subst (λ (o : Option Place). KeepsPlace o rows) f.0 k) in
+    let s : i.innermost.cell.place ≡ p.0 = subst (λ (o : Option Cell). IfSome o (λ (c : Cell). c.place ≡ p.0)) r.0 f.1 in
+    subst (λ (z : ℕ). Innermost rows z) s r.1
 
 -- in a new buffer the document node alone is open
 pub started_place : (v : View) (given : List Role) → Started v given → KeepsPlace None v.rows

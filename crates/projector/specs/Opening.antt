@@ -11,7 +11,8 @@ use Rattle.node_store.specs.declared.store.Place.{Place}
 use Rattle.matcher.specs.Calls.{GivesHere}
 use Rattle.matcher.specs.Matcher.{Stands}
 use Rattle.matcher.specs.View.{MatcherView}
-use Rattle.buf_tree.specs.View.{View}
+use Rattle.buf_tree.specs.Shape.{Cell, Rising}
+use Rattle.buf_tree.specs.View.{View, Innermost}
 use Rattle.buf_tree.specs.Calls.{Opened as OpenedBelow, numbers}
 use Rattle.buf_tree.specs.Stands.{StandsFor, StandsOpened}
 use Rattle.projector.specs.Projector.{ahead_in, OpenedAlone}
@@ -19,6 +20,12 @@ use Rattle.projector.specs.Projector.{ahead_in, OpenedAlone}
 -- it has heard of all actions of the past
 pub record HasHeard (m : MatcherView) (past : Past) : Type 0 where
   pub matcher : Stands m (ahead_in (reopened past.tree) past.acts past) false
+
+-- some of the rows is open, and they are in document order
+pub record HasInnermost (rows : List Cell) : Type 0 where
+  pub rising : Rising rows
+  pub place : ℕ
+  pub innermost : Innermost rows place
 
 -- it left the innermost open node, which was an element or a text below another node
 abbrev pub LeavesBelow : (m n : MatcherView) → Type 0

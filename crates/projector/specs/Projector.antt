@@ -26,9 +26,10 @@ ahead_in P A past = record { plan = past.plan; tree = P; acts = filter (is_ahead
 abbrev pub heard : Past → Past
 heard past = ahead_in (reopened past.tree) (take past.fed past.acts) past
 
--- The projector has fed the tokens of the past.
+-- The projector has fed the tokens of the past, and none of the open elements is passed.
 pub record Projects (p : ProjectorView) (past : Past) : Type 0 where
   pub matcher : Stands p.matcher (heard past) false
+  pub none : p.passed ≡ []
 
 -- The place kept is that of the innermost open node. Where none is kept no other node than the document node is open.
 abbrev pub KeepsPlace : Option Place → List Cell → Type 0

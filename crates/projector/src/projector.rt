@@ -15,8 +15,9 @@ ghost use Rattle.buf_tree.specs.View.{Innermost, level_in};
 ghost use Rattle.buf_tree.specs.Stands.{StandsFor, past_told};
 ghost use Rattle.projector.specs.Projector.{Projects, KeepsPlace, Places, MayBeFed};
 ghost use Rattle.projector.specs.Calls.{BeginsFor, GivesDocument, Feeds, Tallies, tally_of};
-ghost use Rattle.projector.specs.Opening.{HasHeard, LeavesBelow, MayOpenEntered, TellsTaken, OpensBelow, OpensEntered, OpensSome};
+ghost use Rattle.projector.specs.Opening.{HasHeard, LeavesBelow, MayOpenEntered, TellsTaken, OpensBelow, OpensEntered, OpensSome, HasInnermost};
 
+use crate::passed::PassedName;
 use crate::signing::sign_all;
 use buf_tree::{Buffer, Row};
 use doc_reader::Token;
@@ -62,9 +63,12 @@ impl Fed {
 /// the only error of its calls.
 #[derive(Drop)]
 pub struct Projector {
-    matcher: Matcher,
-    /// The place of the innermost open node. None is the document node's, before the first token, or none at the end.
-    at: Option<Place>,
+    pub(crate) matcher: Matcher,
+    /// The place of the innermost open node that has a row. None is the document node's, before the first token, or none at
+    /// the end.
+    pub(crate) at: Option<Place>,
+    /// The open elements below it, the outermost first: none of them is given a role, and none has a row yet.
+    pub(crate) passed: Vec<PassedName>,
 }
 
 impl Model for Projector {
@@ -72,7 +76,7 @@ impl Model for Projector {
 
     ghost Value = { ProjectorView };
 
-    ghost view = { λ p. record { matcher = p.matcher; at = p.at } };
+    ghost view = { λ p. record { matcher = p.matcher; at = p.at; passed = p.passed.items } };
 }
 
 impl Projector {
@@ -81,7 +85,11 @@ impl Projector {
         ensures { IfOk result (λ p. BeginsFor (plan_tree plan.now) p) }
     {
         let matcher = Matcher::new(alloc, plan)?;
-        Ok(Projector { matcher, at: None })
+        Ok(Projector {
+            matcher,
+            at: None,
+            passed: Vec::new(alloc),
+        })
     }
 
     /// The roles of the document node, by rising number.
@@ -155,6 +163,7 @@ impl Projector {
         kind: Kind,
     ) -> Result<Tally, Memory>
         requires place { Places self.old buffer.old }
+        requires none { self.old.passed ≡ [] }
         requires may { MayBeFed (HasHeard self.old.matcher) buffer.old (token_for kind) }
         requires kind { IsNode kind }
         requires nodes { buffer.old.nodes ≤ 2 ^ 40 + 1 }
@@ -179,6 +188,7 @@ impl Projector {
         kind: Kind,
     ) -> Result<Fed, Memory>
         requires place { Places self.old buffer.old }
+        requires none { self.old.passed ≡ [] }
         requires may { MayBeFed (HasHeard self.old.matcher) buffer.old (token_for kind) }
         requires kind { IsNode kind }
         requires nodes { buffer.old.nodes ≤ 2 ^ 40 + 1 }
@@ -198,8 +208,9 @@ impl Projector {
 
     /// Closes the innermost open node, where the matcher has heard of all statements.
     #[inline(always)]
-    fn feed_end<N: NodeStore<Row>>(&mut self, buffer: &mut Buffer<N>) -> Fed
+    pub(crate) fn feed_end<N: NodeStore<Row>>(&mut self, buffer: &mut Buffer<N>) -> Fed
         requires place { Places self.old buffer.old }
+        requires none { self.old.passed ≡ [] }
         requires may { MayBeFed (HasHeard self.old.matcher) buffer.old End }
         ensures feeds { Feeds (HasHeard self.old.matcher) self.new buffer.old buffer.new End result }
         ensures taken { buffer.new.taken ≡ buffer.old.taken }
@@ -218,7 +229,7 @@ impl Projector {
 
 /// Goes to the new node, which has this place. A text is left at once.
 #[inline(always)]
-fn go_to(matcher: &mut Matcher, at: &mut Option<Place>, text: bool, place: Option<Place>)
+pub(crate) fn go_to(matcher: &mut Matcher, at: &mut Option<Place>, text: bool, place: Option<Place>)
     ensures text { text ≡ true → (past : Past) → Stands matcher.old past true → Stands matcher.new past false }
     ensures text_place { text ≡ true → at.new ≡ at.old }
     ensures element { text ≡ false → matcher.new ≡ matcher.old }
@@ -300,7 +311,7 @@ fn open_tallied<N: NodeStore<Row>>(
 
 /// Opens the matcher's innermost node below this place. Answers its place, if it is held, and how many roles it is given.
 #[inline(always)]
-fn open_entered<N: NodeStore<Row>>(
+pub(crate) fn open_entered<N: NodeStore<Row>>(
     matcher: &Matcher,
     alloc: Global,
     buffer: &mut Buffer<N>,
@@ -354,7 +365,7 @@ fn open_listed<N: NodeStore<Row>>(
 
 /// No statement waits any more.
 #[inline(always)]
-fn clear_waiting<N: NodeStore<Row>>(buffer: &mut Buffer<N>)
+pub(crate) fn clear_waiting<N: NodeStore<Row>>(buffer: &mut Buffer<N>)
     ensures cleared { buffer.new ≡ record buffer.old { waiting = [] } }
     ensures stands { (past : Past) → StandsFor buffer.old past → StandsFor buffer.new (past_told past) }
 {
@@ -376,9 +387,12 @@ fn roles_ahead(matcher: &Matcher, alloc: Global) -> Result<Given, Memory>
 
 /// A cursor at the innermost open node, which stands at this place, or is the root.
 #[inline(always)]
-fn innermost<'a, N: NodeStore<Row>>(buffer: &'a Buffer<N>, kept: Option<Place>) -> At<'a, N, Row>
+pub(crate) fn innermost<'a, N: NodeStore<Row>>(
+    buffer: &'a Buffer<N>,
+    kept: Option<Place>,
+) -> At<'a, N, Row>
     requires place { KeepsPlace kept buffer.now.rows }
-    requires node { (past : Past) × StandsFor buffer.now past × (n : Node) × (past.tree.at ≡ Some n) }
+    requires rows { HasInnermost buffer.now.rows }
     ensures innermost { Innermost buffer.now.rows result.place.0 }
     ensures store { Shape (N.rows result.store.now) buffer.now.kept }
     ensures alike { SameButRoles buffer.now.kept buffer.now.rows }

@@ -59,8 +59,8 @@ impl<'p> Position<'p> {
         buffer.is_closed(context)
     }
 
-    /// The same of a loop whose node is closed.
-    #[inline(always)]
+    /// The same of a loop whose node is closed. Out of line, as it is rare.
+    #[inline(never)]
     fn leap_closed<N: NodeStore<Row>>(
         &mut self,
         alloc: Global,

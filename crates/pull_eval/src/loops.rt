@@ -190,7 +190,6 @@ impl<'p> Position<'p> {
     }
 
     /// The loop of the body that runs looks for its next match, if it hasn't yet.
-    #[inline(always)]
     pub(crate) fn look_ahead<N: NodeStore<Row>>(&mut self, buffer: &Buffer<N>)
         requires begun { self.old.is_begun ≡ true }
         requires beside { (past : Past) × (k : ℕ) × Beside self.old buffer.now past k }

@@ -276,7 +276,11 @@ fn put_node<N: NodeStore<Row>>(
     Ok(())
 }
 
-fn told<N: NodeStore<Row>>(alloc: Global, buffer: &Buffer<N>) -> Result<String, Fail> {
+/// The rows, and the numbers but for the last one.
+pub(super) fn told_rows<N: NodeStore<Row>>(
+    alloc: Global,
+    buffer: &Buffer<N>,
+) -> Result<String, Fail> {
     let mut out = String::new(alloc);
     let mut at = first_row(buffer);
     for _ in 0..buffer.held() {
@@ -287,7 +291,13 @@ fn told<N: NodeStore<Row>>(alloc: Global, buffer: &Buffer<N>) -> Result<String, 
         at = row_behind(buffer, buffer.serial(place).0);
     }
     write!(out, " h{} n{}", buffer.held(), buffer.nodes())?;
-    write!(out, " e{} most {}", buffer.entries(), buffer.most())?;
+    write!(out, " e{}", buffer.entries())?;
+    Ok(out)
+}
+
+fn told<N: NodeStore<Row>>(alloc: Global, buffer: &Buffer<N>) -> Result<String, Fail> {
+    let mut out = told_rows(alloc, buffer)?;
+    write!(out, " most {}", buffer.most())?;
     Ok(out)
 }
 

@@ -1,4 +1,6 @@
 //! Conditions with an index: how many lists a run makes, and how many steps a look-up takes.
+ghost use Rattle.std.specs.Prelude.{◌≤◌};
+
 use super::{How, plainly, plan_of, run_indexed};
 use crate::large::joined;
 use engine::Ended;
@@ -91,21 +93,33 @@ fn one_node_of_many_values_gets_one_list(rt: HostRuntime) -> Result<(), Fail> {
     Ok(())
 }
 
-// Compared pair by pair they would take some 10^11 steps.
-#[test]
-fn many_values_are_looked_up_among_as_many(rt: HostRuntime) -> Result<(), Fail> {
-    let alloc = rt.alloc();
+/// No value of an inner node of many values is one of the outer node, which has as many.
+fn looks_up_many(rt: &impl Abort, alloc: Global, how: How<'_>) -> Result<(), Fail>
+    requires { how.ahead ≤ 1000 }
+{
     let (outer, inner) = (keys(alloc, 0, 40_000)?, keys(alloc, 40_000, 80_000)?);
     let document = joined(alloc, &[b"<r><x>", &outer, b"</x><y>", &inner, b"</y></r>"])?;
     let plan = plan_of(alloc, JOIN)?;
+    let (ran, built) = run_indexed(rt, alloc, &plan, &document, how)?;
+    assert_eq!(rt; ran.report.ended, Ended::Ok);
+    assert_eq!(rt; (ran.out.as_slice(), built), (b"".as_slice(), 1));
+    Ok(())
+}
+
+// Compared pair by pair they would take some 10^11 steps.
+#[test]
+fn many_values_are_looked_up_among_as_many(rt: HostRuntime) -> Result<(), Fail> {
     let how = How {
         ahead: 1_000,
         ..plainly(65_536)
     };
-    let (ran, built) = run_indexed(&rt, alloc, &plan, &document, how)?;
-    assert_eq!(&rt; ran.report.ended, Ended::Ok);
-    assert_eq!(&rt; (ran.out.as_slice(), built), (b"".as_slice(), 1));
-    Ok(())
+    looks_up_many(&rt, rt.alloc(), how)
+}
+
+// Looked up again behind each token they would take some 10^10 steps.
+#[test]
+fn each_value_of_an_open_node_is_looked_up_once(rt: HostRuntime) -> Result<(), Fail> {
+    looks_up_many(&rt, rt.alloc(), plainly(65_536))
 }
 
 /// The texts of the numbers below this one.

@@ -25,10 +25,22 @@ const ITSELF: &[u8] = b"for $b in /r/y/k where $b = /r/x/k return $b";
 const GROUPS: &[u8] =
     b"for $g in /r/g return for $b in $g/y return if ($b/k = $g/x/k) then <m>{$b/k}</m> else ()";
 
+/// Values that are looked up among those of another loop's node.
+const LOOKED: &[u8] =
+    b"for $a in /r/x return for $b in /r/y return if ($a/k = $b/k) then <m>{$b/v}</m> else ()";
+
+/// The same with the other loop inside.
+const TURNED: &[u8] =
+    b"for $b in /r/y return for $a in /r/x return if ($a/k = $b/k) then <m>{$b/v}</m> else ()";
+
+/// Values of nodes that may be inside each other.
+const INSIDE: &[u8] =
+    b"for $a in /r/x return for $b in /r/y return if ($a/k = $b//k) then <m/> else ()";
+
 /// Paths whose matches may be inside each other.
 const NESTED: &[u8] = b"if (//x = //y) then <m/> else <n/>";
 
-const ROWS: [Compared; 22] = [
+const ROWS: [Compared; 29] = [
     Compared(ROOT, b"<r><x><v>1</v></x><y><k>2</k></y></r>", b"<n></n>"),
     Compared(
         ROOT,
@@ -114,6 +126,42 @@ const ROWS: [Compared; 22] = [
     Compared(
         b"if (/r/x/k = /r/x/k) then <m/> else <n/>",
         b"<r><x><k>1</k></x></r>",
+        b"<m></m>",
+    ),
+    Compared(
+        LOOKED,
+        b"<r><x><k>1</k></x><y><v>a</v><k>2</k><k>3</k><k>1</k><k>4</k></y></r>",
+        b"<m><v>a</v></m>",
+    ),
+    // Other lists, and other nodes whose values are looked up.
+    Compared(
+        LOOKED,
+        b"<r><x><k>1</k><k>4</k></x><x><k>2</k></x><y><k>3</k><k>4</k><v>a</v></y><y><k>5</k><k>2</k><v>b</v></y></r>",
+        b"<m><v>a</v></m><m><v>b</v></m>",
+    ),
+    Compared(
+        LOOKED,
+        b"<r><y><v>a</v><k>3</k><k>4</k></y><y><v>b</v><k>1</k></y><x><k>1</k></x><x><k>4</k></x><x/></r>",
+        b"<m><v>b</v></m><m><v>a</v></m>",
+    ),
+    Compared(
+        LOOKED,
+        b"<r><x><k/></x><x><k>1</k></x><y><v>a</v></y><y><v>b</v><k>2</k><k/></y><y><k>1</k><v>c</v></y></r>",
+        b"<m><v>b</v></m><m><v>c</v></m>",
+    ),
+    Compared(
+        TURNED,
+        b"<r><x><k>1</k><k>4</k></x><x><k>2</k><k>3</k></x><y><k>3</k><k>4</k><v>a</v></y><y><k>5</k><k>2</k><v>b</v></y></r>",
+        b"<m><v>a</v></m><m><v>a</v></m><m><v>b</v></m>",
+    ),
+    Compared(
+        INSIDE,
+        b"<r><x><k>2</k></x><x><k>12</k></x><y><k>3</k><k>1<k>2</k></k></y></r>",
+        b"<m></m><m></m>",
+    ),
+    Compared(
+        INSIDE,
+        b"<r><x><k>12</k></x><y><k>1<k>2</k><k/></k></y><y><k>4<k>1</k></k></y></r>",
         b"<m></m>",
     ),
 ];

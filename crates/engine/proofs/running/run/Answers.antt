@@ -1,6 +1,6 @@
-use Rattle.std.proofs.Common.{◌≤◌, [], rules, refl, ◌∙◌, arith}
+use Rattle.std.proofs.Common.{◌≤◌, [], rules, refl, arith}
 use Rattle.engine.specs.Runs.{sinks}
-use Rattle.engine.proofs.CallsOfTurns.{few_bytes}
+use Rattle.engine.proofs.CallsOfTurns.{few_bytes, plan_on, ports_on}
 use Rattle.engine.proofs.RunOn.{between_none}
 use Rattle.engine.proofs.running.run.Goals as goal
 
@@ -11,13 +11,8 @@ reading-init g c = record {
   stands = λ lim h. record { read = []; of = h.of; fresh = h.fresh };
   most = λ lent h. h;
   size = search rules;
-  plan = refl;
-  ahead = refl;
-  kept = g.met.D.Source.keeps_same c.args.doc.now;
-  read_count = omega arith;
-  write_count = omega arith;
-  trace_count = omega arith;
-  loans = refl;
+  same = record { plan = refl; ahead = refl; loans = refl };
+  ports = record { kept = g.met.D.Source.keeps_same c.args.doc.now; read_count = omega arith; write_count = omega arith; trace_count = omega arith };
 }
 
 pub turn-requires-clause-stands : goal.turn-requires-clause-stands
@@ -33,7 +28,7 @@ pub reading-smaller : goal.reading-smaller
 reading-smaller g c =
     let s = c.requires.starts in
     let q = c.reading.invariant.stands s.0 s.1 in
-    let few : c.reading.engine.counts.bytes ≤ 1099511627776 = few_bytes g.C.Conds.stands s.0 c.reading.engine q.read q.of q.fresh in
+    let few : c.reading.engine.bytes ≤ 1099511627776 = few_bytes g.C.Conds.stands s.0 c.reading.engine q.read q.of q.fresh in
     let more = c.in_default.ensures.fewer refl in
     omega arith
 
@@ -43,11 +38,12 @@ reading-preserved g c = record {
   stands = λ lim h. c.in_default.ensures.stands refl lim (c.reading.invariant.stands lim h);
   most = λ lent h. c.in_default.ensures.most lent (c.reading.invariant.most lent h);
   size = c.turn.ensures.size;
-  plan = c.turn.ensures.plan ∙ c.reading.invariant.plan;
-  ahead = c.turn.ensures.ahead ∙ c.reading.invariant.ahead;
-  kept = g.met.D.Source.keeps_on _ _ _ c.reading.invariant.kept c.turn.ensures.kept;
-  read_count = omega arith;
-  write_count = omega arith;
-  trace_count = omega arith;
-  loans = c.turn.ensures.loans ∙ c.reading.invariant.loans;
+  same = plan_on c.args.engine.now c.reading.engine c.turn.new.engine c.reading.invariant.same c.turn.ensures.same;
+  ports = ports_on _ _ _ _ _ _ _ _ _ _ _ _ (g.met.D.Source.keeps_on _ _ _) c.reading.invariant.ports c.turn.ensures.ports;
 }
+
+pub returns-in-Some-clause-same : goal.returns-in-Some-clause-same
+returns-in-Some-clause-same g c = plan_on c.args.engine.now c.reading.engine c.turn.new.engine c.reading.invariant.same c.turn.ensures.same
+
+pub returns-in-Some-clause-ports : goal.returns-in-Some-clause-ports
+returns-in-Some-clause-ports g c = ports_on _ _ _ _ _ _ _ _ _ _ _ _ (g.met.D.Source.keeps_on _ _ _) c.reading.invariant.ports c.turn.ensures.ports

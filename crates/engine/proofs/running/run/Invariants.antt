@@ -1,7 +1,7 @@
-use Rattle.std.proofs.Common.{◌≡◌, ◌-◌, ◌≤◌, ℕ, length}
+use Rattle.std.proofs.Common.{◌≡◌, ◌-◌, ℕ, length}
 use Rattle.gcx_base.specs.declared.limits.Limits.{Limits}
 use Rattle.engine.specs.Engine.{MostIs, Starts}
-use Rattle.engine.specs.Runs.{Between, GoesOnFrom, TellsBy, Traced, sinks}
+use Rattle.engine.specs.Runs.{Between, GoesOnFrom, KeepsPorts, SamePlan, TellsBy, Traced, sinks}
 use Rattle.engine.proofs.running.run.Given as goal
 
 abbrev pub invariant-reading : goal.invariant-reading
@@ -12,14 +12,10 @@ invariant-reading g l = record {
   stands : (lim : Limits) → Starts g.C.Conds.stands lim l.fn.engine → GoesOnFrom g.C.Conds.stands lim l.engine;
   most : (lent : ℕ) → MostIs lent l.fn.engine → MostIs lent l.engine;
   size : length l.buf ≡ 65536;
-  plan : l.engine.plan ≡ l.fn.engine.plan;
-  ahead : l.engine.ahead ≡ l.fn.engine.ahead;
-  kept : g.D.Source.keeps l.fn.doc l.doc;
-  read_count : g.D.Source.faults l.fn.doc ≤ g.D.Source.faults l.doc;
-  write_count : g.O.Sink.faults l.fn.out ≤ g.O.Sink.faults l.out;
-  trace_count : g.E.Sink.faults l.fn.err ≤ g.E.Sink.faults l.err;
-  loans : l.engine.buffer.loans ≡ l.fn.engine.buffer.loans;
+  same : SamePlan l.fn.engine l.engine;
+  ports : KeepsPorts (g.D.Source.keeps l.fn.doc l.doc) (g.D.Source.faults l.fn.doc) (g.D.Source.faults l.doc) (g.O.Sink.faults l.fn.out) (g.O.Sink.faults l.out)
+      (g.E.Sink.faults l.fn.err) (g.E.Sink.faults l.err);
 }
 
 abbrev pub decreases-reading : goal.decreases-reading
-decreases-reading g l = 1099511627777 - l.engine.counts.bytes
+decreases-reading g l = 1099511627777 - l.engine.bytes

@@ -11,8 +11,8 @@ use Rattle.engine.proofs.Reporting.{few_in_tree}
 use Rattle.engine.proofs.TurnsFed.{turns_on, turns_reach, turns_within}
 use Rattle.engine.proofs.turns.interleave.Goals as goal
 
-pub returns-in_err-actors-clause-err : goal.returns-in_err-actors-clause-err
-returns-in_err-actors-clause-err g c =
+pub returns-in_err-course-clause-err : goal.returns-in_err-course-clause-err
+returns-in_err-course-clause-err g c =
     let w = written (plan_tree c.args.plan.now) (map said_of c.args.tokens.items) c.args.turns.now in
     on_err_any c.from_residual.result ([], w, refl, sym (append-nil c.args.out.now.items))
 
@@ -34,7 +34,7 @@ loop-turn-preserved g c =
     let few = c.loop-turn.invariant.few in
     let one = c.in_ok-turn.ensures.acted in
     record {
-      turned = turns_on plan ts c.requires.tokens us k g.C.Conds.stands c.loop-turn.actors c.turn.new.self c.args.out.now.items c.loop-turn.out.items c.turn.new.out.items t more h
+      turned = turns_on plan ts c.requires.tokens us k g.C.Conds.stands c.loop-turn.course c.turn.new.self c.args.out.now.items c.loop-turn.out.items c.turn.new.out.items t more h
           (c.in_ok-turn.ensures.turns plan ts (turned plan ts (turns_of (take k us))) h.reaches);
       few = omega arith;
     }
@@ -45,4 +45,4 @@ returns-clause-reached g c =
     let l : length c.args.turns.now ≤ c.loop-turn.turn-index = search rules in
     c.reached.ensures (plan_tree c.args.plan.now) (map said_of c.args.tokens.items) (turned (plan_tree c.args.plan.now) (map said_of c.args.tokens.items) (turns_of c.args.turns.now))
     (few_in_tree c.args.plan.now c.few_roles.ensures)
-    (turns_reach (plan_tree c.args.plan.now) (map said_of c.args.tokens.items) c.requires.tokens c.args.turns.now c.loop-turn.turn-index g.C.Conds.stands c.loop-turn.actors l h.reaches)
+    (turns_reach (plan_tree c.args.plan.now) (map said_of c.args.tokens.items) c.requires.tokens c.args.turns.now c.loop-turn.turn-index g.C.Conds.stands c.loop-turn.course l h.reaches)

@@ -26,30 +26,30 @@ returns-in_default-new-clause-runs g c = λ q is. runs_nothing c.args.tracing c.
 pub returns-clause-runs : goal.returns-clause-runs
 returns-clause-runs g c = λ q is.
     let e = c.run_query-report.new.engine in
-    let same = c.run_query-report.ensures.plan ∙ c.in-Ok-new.ensures.plan in
+    let same = c.run_query-report.ensures.same.plan ∙ c.in-Ok-new.ensures.plan in
     let starts : Starts IsIndex full_limits c.in-Ok-new.engine = subst (λ (l : Limits). Starts IsIndex l c.in-Ok-new.engine) c.full-limits.ensures c.in-Ok-new.ensures.starts in
     let tells : TellsBy (telling c.args.tracing) c.in-Ok-new.engine = tells_by c.args.tracing c.in-Ok-new.engine c.in-Ok-new.ensures.tracing (λ told. c.in-Ok-new.ensures.ahead ∙ c.requires.ahead.2 told) c.in-Ok-new.ensures.silent in
     let ran = c.run_query-report.ensures.ran full_limits (telling c.args.tracing) starts tells in
     let fresh : MostIs 0 c.in-Ok-new.engine = subst (λ (n : ℕ). MostIs n c.in-Ok-new.engine) c.requires.new.1 c.in-Ok-new.ensures.most in
-    let of_plan : IsPlanOf q (plan_tree e.plan.now) = subst (λ p. IsPlanOf q (plan_tree p.now)) (sym same) is in
+    let of_plan : IsPlanOf q (plan_tree e.plan) = subst (λ p. IsPlanOf q (plan_tree p)) (sym same) is in
     let all = source_runs IsIndex c.args.tracing e c.run_query-report.result _ _ _ _ _ _ ran q c.args.ahead (g.N.NodeStore.rows c.finish_nodes.result.now) (g.N.NodeStore.most_held c.finish_nodes.result.now)
-    of_plan (c.run_query-report.ensures.ahead ∙ c.in-Ok-new.ensures.ahead) (c.finish_nodes.ensures.shape, c.finish_nodes.ensures.alike) c.finish_nodes.ensures.most (c.run_query-report.ensures.most 0 fresh)
+    of_plan (c.run_query-report.ensures.same.ahead ∙ c.in-Ok-new.ensures.ahead) (c.finish_nodes.ensures.shape, c.finish_nodes.ensures.alike) c.finish_nodes.ensures.most (c.run_query-report.ensures.most 0 fresh)
     (c.run_query-report.ensures.numbers full_limits) in
-    let name = same_name (c.finish_nodes.ensures.loans ∙ (c.run_query-report.ensures.loans ∙ c.in-Ok-new.ensures.loans)) in
+    let name = same_name (c.finish_nodes.ensures.loans ∙ (c.run_query-report.ensures.same.loans ∙ c.in-Ok-new.ensures.loans)) in
     let back : c.nodes-2-1.given.0 ≡ c.finish_nodes.result.now = search (rules, name) in
     rw back all
 
 pub returns-clause-emptied : goal.returns-clause-emptied
 returns-clause-emptied g c = λ ok.
     let e = c.run_query-report.new.engine in
-    let same = c.run_query-report.ensures.plan ∙ c.in-Ok-new.ensures.plan in
+    let same = c.run_query-report.ensures.same.plan ∙ c.in-Ok-new.ensures.plan in
     let starts : Starts IsIndex full_limits c.in-Ok-new.engine = subst (λ (l : Limits). Starts IsIndex l c.in-Ok-new.engine) c.full-limits.ensures c.in-Ok-new.ensures.starts in
     let tells : TellsBy (telling c.args.tracing) c.in-Ok-new.engine = tells_by c.args.tracing c.in-Ok-new.engine c.in-Ok-new.ensures.tracing (λ told. c.in-Ok-new.ensures.ahead ∙ c.requires.ahead.2 told) c.in-Ok-new.ensures.silent in
     let ran = c.run_query-report.ensures.ran full_limits (telling c.args.tracing) starts tells in
-    let placed : IsPlaced (plan_tree e.plan.now) = subst (λ p. IsPlaced (plan_tree p.now)) (sym same) c.requires.placed in
+    let placed : IsPlaced (plan_tree e.plan) = subst (λ p. IsPlaced (plan_tree p)) (sym same) c.requires.placed in
     let none : g.N.NodeStore.rows c.finish_nodes.result.now ≡ map.empty =
     emptied_by IsIndex c.args.tracing e c.run_query-report.result _ _ _ _ _ _ ran (g.N.NodeStore.rows c.finish_nodes.result.now) placed (c.finish_nodes.ensures.shape, c.finish_nodes.ensures.alike) ok in
-    let name = same_name (c.finish_nodes.ensures.loans ∙ (c.run_query-report.ensures.loans ∙ c.in-Ok-new.ensures.loans)) in
+    let name = same_name (c.finish_nodes.ensures.loans ∙ (c.run_query-report.ensures.same.loans ∙ c.in-Ok-new.ensures.loans)) in
     search (rules, name, none)
 
 pub returns-clause-memory : goal.returns-clause-memory
@@ -76,6 +76,9 @@ returns-clause-counts g c =
     let p = ap (λ (v : SinkView). v.faults) (g.met.O.Sink.sees c.run_query-report.new.out) in
     let d = ap (λ (v : SinkView). v.faults) (g.met.E.Sink.sees c.args.err.now) in
     let f = ap (λ (v : SinkView). v.faults) (g.met.E.Sink.sees c.run_query-report.new.err) in
-    let out : (g.O.Sink.seen c.args.out.now).faults ≤ (g.O.Sink.seen c.run_query-report.new.out).faults = omega (arith, o, p, c.run_query-report.ensures.write_count) in
-    let err : (g.E.Sink.seen c.args.err.now).faults ≤ (g.E.Sink.seen c.run_query-report.new.err).faults = omega (arith, d, f, c.run_query-report.ensures.trace_count) in
-    (c.run_query-report.ensures.read_count, out, err)
+    let out : (g.O.Sink.seen c.args.out.now).faults ≤ (g.O.Sink.seen c.run_query-report.new.out).faults = omega (arith, o, p, c.run_query-report.ensures.ports.write_count) in
+    let err : (g.E.Sink.seen c.args.err.now).faults ≤ (g.E.Sink.seen c.run_query-report.new.err).faults = omega (arith, d, f, c.run_query-report.ensures.ports.trace_count) in
+    (c.run_query-report.ensures.ports.read_count, out, err)
+
+pub returns-clause-kept : goal.returns-clause-kept
+returns-clause-kept g c = c.run_query-report.ensures.ports.kept

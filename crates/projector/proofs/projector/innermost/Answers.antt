@@ -12,16 +12,14 @@ use Rattle.projector.proofs.projector.innermost.Goals.{in-Some, in-None}
 
 pub root_of-place-requires : goal.root_of-place-requires
 root_of-place-requires g c = λ e.
-    let n = c.requires.node in
-    let r = root_innermost c.args.buffer.now n.0 n.1 n.2 n.3 (subst (λ (o : Option Place). KeepsPlace o c.args.buffer.now.rows) c.in-None.is c.requires.place) in
-    let f = r.1 in
+    let r = root_innermost c.args.buffer.now.rows c.requires.rows (subst (λ (o : Option Place). KeepsPlace o c.args.buffer.now.rows) c.in-None.is c.requires.place) in
+    let f = r.0 in
     absurd (cc)
 
 pub at-requires : goal.at-requires
 at-requires g c =
-    let n = c.requires.node in
     innermost_used c.args.buffer.now.rows c.match-kept.place.0
-    (kept_innermost c.args.buffer.now n.0 n.1 n.2 n.3 c.args.kept c.requires.place c.match-kept.place
+    (kept_innermost c.args.buffer.now.rows c.requires.rows c.args.kept c.requires.place c.match-kept.place
     (elim c.match-kept.branch [
       | in-Some w ↦ inl (w.in-Some.is ∙ ap (λ z. Some z) (sym w.place-is))
       | in-None w ↦ inr (w.in-None.is, subst (λ (p : Place). IfSome (head c.args.buffer.now.rows) (λ (d : Cell). d.place ≡ p.0)) (sym w.place-is) w.root_of-place.ensures)
@@ -29,9 +27,8 @@ at-requires g c =
 
 pub returns-clause-innermost : goal.returns-clause-innermost
 returns-clause-innermost g c =
-    let n = c.requires.node in
     subst (λ (p : Place). Innermost c.args.buffer.now.rows p.0) (sym c.at.ensures.place)
-    (kept_innermost c.args.buffer.now n.0 n.1 n.2 n.3 c.args.kept c.requires.place c.match-kept.place
+    (kept_innermost c.args.buffer.now.rows c.requires.rows c.args.kept c.requires.place c.match-kept.place
     (elim c.match-kept.branch [
       | in-Some w ↦ inl (w.in-Some.is ∙ ap (λ z. Some z) (sym w.place-is))
       | in-None w ↦ inr (w.in-None.is, subst (λ (p : Place). IfSome (head c.args.buffer.now.rows) (λ (d : Cell). d.place ≡ p.0)) (sym w.place-is) w.root_of-place.ensures)

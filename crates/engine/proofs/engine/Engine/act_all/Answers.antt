@@ -1,101 +1,91 @@
-use Rattle.std.proofs.Common.{◌≡◌, ◌++◌, ◌∙◌, ℕ, Bool, true, false, ap, refl, rules, subst}
-use Rattle.gcx_model.specs.Tree.{Tree}
-use Rattle.engine.specs.declared.engine.Engine.{Engine}
-use Rattle.engine.specs.Engine.{Actors}
-use Rattle.gcx_model.specs.Demand.{text_of_lines}
-use Rattle.gcx_model.specs.PlanView.{plan_tree}
-use Rattle.engine.specs.Going.{ActsOne, ActsSome, all_of}
-use Rattle.engine.specs.Telling.{GrewPart, lines_to, next_lines}
-use Rattle.engine.proofs.Acting.{on_err, reached_end, reached_none, reached_on, reached_some, some_now, some_reached}
-use Rattle.engine.proofs.Forms.{acts_on}
-use Rattle.engine.proofs.TellingActs.{told_end, told_none, told_on, told_part, told_some, told_there}
+use Rattle.std.proofs.Common.{◌≡◌, ◌∙◌, true, ap, subst, sym}
+use Rattle.std.specs.Prelude.{OnErr, OnOk}
+use Rattle.std.proofs.lemmas.Bool.{true≢false}
+use Rattle.engine.specs.Actors.{ActsOnFrom, ActsSomeFrom, SomeActors}
+use Rattle.engine.specs.View.{EngineView}
+use Rattle.engine.specs.Telling.{TellsAll, TellsFront}
+use Rattle.engine.proofs.Waiting.{err_map, ok_map}
 use Rattle.engine.proofs.engine.Engine.act_all.Goals as goal
 
-pub act_one-requires : goal.act_one-requires
-act_one-requires g c =
-    let same = ap (λ (z : Engine g.row.N.Denot g.row.C.Denot). z.plan) c.actions.invariant.rest in
-    some_reached g.C.Conds.stands c.args.self.now c.actions.self same c.requires (c.actions.invariant.reached c.requires.tree c.requires.taken c.requires.of)
+pub act_all_told-requires : goal.act_all_told-requires
+act_all_told-requires g c = subst (λ (z : EngineView g.row.C.Denot). SomeActors g.C.Conds.stands z.actors) (sym c.self.view_is) c.requires
 
-pub returns-in_err-act_one-clause-some : goal.returns-in_err-act_one-clause-some
-returns-in_err-act_one-clause-some g c =
-    let same = ap (λ (z : Engine g.row.N.Denot g.row.C.Denot). z.plan) c.actions.invariant.rest in
-    let h : (P : Tree) (k : ℕ) → Actors g.C.Conds.stands c.args.self.now P k → ActsSome c.args.self.now c.act_one.new.self P k = λ P k a.
-    let r = c.actions.invariant.reached P k a in
-    reached_some g.C.Conds.stands c.args.self.now c.actions.self c.act_one.new.self P k same r (c.in_err-act_one.ensures.some P r.taken r.actors) in
-    on_err _ _ h
+pub act_all-requires : goal.act_all-requires
+act_all-requires g c = subst (λ (z : EngineView g.row.C.Denot). SomeActors g.C.Conds.stands z.actors) (sym c.self.view_is) c.requires
 
-pub returns-then-not-branch-clause-acts : goal.returns-then-not-branch-clause-acts
-returns-then-not-branch-clause-acts g c = λ P k a.
-    let same = ap (λ (z : Engine g.row.N.Denot g.row.C.Denot). z.plan) c.actions.invariant.rest in
-    let r = c.actions.invariant.reached P k a in
-    let f : c.in_ok-act_one.field-0 ≡ false = search rules in
-    reached_end g.C.Conds.stands c.args.self.now c.actions.self c.act_one.new.self P k same r
-    (subst (λ (z : Bool). ActsOne g.C.Conds.stands c.actions.self c.act_one.new.self P r.taken z) f (c.in_ok-act_one.ensures.acts P r.taken r.actors))
+pub returns-then-self-clause-acts : goal.returns-then-self-clause-acts
+returns-then-self-clause-acts g c =
+    let old : EngineView g.row.C.Denot = record { plan = c.self.inside.plan.now; ahead = c.self.inside.ahead; tracing = c.self.inside.tracing; reader = c.self.inside.reader; actors = c.self.inside.actors; out = c.self.inside.out.items; trace = c.self.inside.trace.items; bytes = c.self.inside.bytes; refused = c.self.inside.refused; ended = c.self.inside.ended } in
+    subst (λ (z : EngineView g.row.C.Denot). OnOk c.act_all_told.result (ActsOnFrom g.C.Conds.stands z.actors c.act_all_told.new.self z.out c.act_all_told.new.out.items)) c.self.view_is c.act_all_told.ensures.acts
 
-pub actions-preserved : goal.actions-preserved
-actions-preserved g c =
-    let same = ap (λ (z : Engine g.row.N.Denot g.row.C.Denot). z.plan) c.actions.invariant.rest in
-    let t : c.in_ok-act_one.field-0 ≡ true = search rules in
-    record {
-      reached = λ P k a.
-          let r = c.actions.invariant.reached P k a in
-          reached_on g.C.Conds.stands c.args.self.now c.actions.self c.act_one.new.self P k same r
-          (subst (λ (z : Bool). ActsOne g.C.Conds.stands c.actions.self c.act_one.new.self P r.taken z) t (c.in_ok-act_one.ensures.acts P r.taken r.actors));
-      told = λ tr P k a.
-          let r = c.actions.invariant.told tr P k a in
-          let e = c.actions.self in
-          let d = c.act_one.new.self in
-          let tr' : e.tracing ≡ true = ap (λ (z : Engine g.row.N.Denot g.row.C.Denot). z.tracing) c.actions.invariant.rest ∙ tr in
-          told_on g.C.Conds.stands c.args.self.now e d P k same r
-          (subst (λ (z : Bool). ActsOne g.C.Conds.stands e d P r.reached.taken z) t (c.in_ok-act_one.ensures.acts P r.reached.taken r.reached.actors))
-          (subst (λ (z : Bool). d.trace.items ≡ e.trace.items ++ text_of_lines (next_lines (plan_tree e.plan.now) P r.reached.taken z)) t (c.in_ok-act_one.ensures.told tr' P r.reached.taken r.reached.actors));
-      rest = acts_on c.args.self.now c.actions.self c.act_one.new.self c.actions.invariant.rest c.act_one.ensures.rest;
-      most = c.act_one.ensures.most ∙ c.actions.invariant.most;
-      silent = λ s. c.act_one.ensures.silent (c.actions.invariant.silent s);
-      loans = c.act_one.ensures.loans ∙ c.actions.invariant.loans;
-    }
+pub returns-then-self-clause-some : goal.returns-then-self-clause-some
+returns-then-self-clause-some g c =
+    let old : EngineView g.row.C.Denot = record { plan = c.self.inside.plan.now; ahead = c.self.inside.ahead; tracing = c.self.inside.tracing; reader = c.self.inside.reader; actors = c.self.inside.actors; out = c.self.inside.out.items; trace = c.self.inside.trace.items; bytes = c.self.inside.bytes; refused = c.self.inside.refused; ended = c.self.inside.ended } in
+    subst (λ (z : EngineView g.row.C.Denot). OnErr c.act_all_told.result (ActsSomeFrom g.C.Conds.stands z.actors c.act_all_told.new.self z.out c.act_all_told.new.out.items)) c.self.view_is c.act_all_told.ensures.some
+
+pub returns-then-self-clause-told : goal.returns-then-self-clause-told
+returns-then-self-clause-told g c =
+    let old : EngineView g.row.C.Denot = record { plan = c.self.inside.plan.now; ahead = c.self.inside.ahead; tracing = c.self.inside.tracing; reader = c.self.inside.reader; actors = c.self.inside.actors; out = c.self.inside.out.items; trace = c.self.inside.trace.items; bytes = c.self.inside.bytes; refused = c.self.inside.refused; ended = c.self.inside.ended } in
+    subst (λ (z : EngineView g.row.C.Denot). OnOk c.act_all_told.result (z.tracing ≡ true → TellsAll g.C.Conds.stands z.actors z.trace c.act_all_told.new.trace.items)) c.self.view_is (ok_map c.act_all_told.result (λ (h : TellsAll g.C.Conds.stands old.actors old.trace c.act_all_told.new.trace.items) (wanted : old.tracing ≡ true). h) c.act_all_told.ensures.told)
+
+pub returns-then-self-clause-part : goal.returns-then-self-clause-part
+returns-then-self-clause-part g c =
+    let old : EngineView g.row.C.Denot = record { plan = c.self.inside.plan.now; ahead = c.self.inside.ahead; tracing = c.self.inside.tracing; reader = c.self.inside.reader; actors = c.self.inside.actors; out = c.self.inside.out.items; trace = c.self.inside.trace.items; bytes = c.self.inside.bytes; refused = c.self.inside.refused; ended = c.self.inside.ended } in
+    subst (λ (z : EngineView g.row.C.Denot). OnErr c.act_all_told.result (z.tracing ≡ true → TellsFront g.C.Conds.stands z.actors z.trace c.act_all_told.new.trace.items)) c.self.view_is (err_map c.act_all_told.result (λ (h : TellsFront g.C.Conds.stands old.actors old.trace c.act_all_told.new.trace.items) (wanted : old.tracing ≡ true). h) c.act_all_told.ensures.part)
+
+pub returns-then-self-clause-rest : goal.returns-then-self-clause-rest
+returns-then-self-clause-rest g c =
+    let old : EngineView g.row.C.Denot = record { plan = c.self.inside.plan.now; ahead = c.self.inside.ahead; tracing = c.self.inside.tracing; reader = c.self.inside.reader; actors = c.self.inside.actors; out = c.self.inside.out.items; trace = c.self.inside.trace.items; bytes = c.self.inside.bytes; refused = c.self.inside.refused; ended = c.self.inside.ended } in
+    ap (λ (z : EngineView g.row.C.Denot). record z { actors = c.act_all_told.new.self; out = c.act_all_told.new.out.items; trace = c.act_all_told.new.trace.items }) c.self.view_is
+
+pub returns-then-self-clause-silent : goal.returns-then-self-clause-silent
+returns-then-self-clause-silent g c =
+    let old : EngineView g.row.C.Denot = record { plan = c.self.inside.plan.now; ahead = c.self.inside.ahead; tracing = c.self.inside.tracing; reader = c.self.inside.reader; actors = c.self.inside.actors; out = c.self.inside.out.items; trace = c.self.inside.trace.items; bytes = c.self.inside.bytes; refused = c.self.inside.refused; ended = c.self.inside.ended } in
+    λ s. absurd (true≢false (sym (ap (λ (z : EngineView g.row.C.Denot). z.tracing) (sym c.self.view_is) ∙ c.if-self.true) ∙ s.untold))
+
+pub returns-clause-acts : goal.returns-clause-acts
+returns-clause-acts g c =
+    let old : EngineView g.row.C.Denot = record { plan = c.self.inside.plan.now; ahead = c.self.inside.ahead; tracing = c.self.inside.tracing; reader = c.self.inside.reader; actors = c.self.inside.actors; out = c.self.inside.out.items; trace = c.self.inside.trace.items; bytes = c.self.inside.bytes; refused = c.self.inside.refused; ended = c.self.inside.ended } in
+    subst (λ (z : EngineView g.row.C.Denot). OnOk c.act_all.result (ActsOnFrom g.C.Conds.stands z.actors c.act_all.new.self z.out c.act_all.new.out.items)) c.self.view_is c.act_all.ensures.acts
 
 pub returns-clause-some : goal.returns-clause-some
-returns-clause-some g c = λ P k a.
-    let same = ap (λ (z : Engine g.row.N.Denot g.row.C.Denot). z.plan) c.actions.invariant.rest in
-    let r = c.actions.invariant.reached P k a in
-    some_now g.C.Conds.stands c.args.self.now c.actions.self P k r.taken same r.actors r.goes
+returns-clause-some g c =
+    let old : EngineView g.row.C.Denot = record { plan = c.self.inside.plan.now; ahead = c.self.inside.ahead; tracing = c.self.inside.tracing; reader = c.self.inside.reader; actors = c.self.inside.actors; out = c.self.inside.out.items; trace = c.self.inside.trace.items; bytes = c.self.inside.bytes; refused = c.self.inside.refused; ended = c.self.inside.ended } in
+    subst (λ (z : EngineView g.row.C.Denot). OnErr c.act_all.result (ActsSomeFrom g.C.Conds.stands z.actors c.act_all.new.self z.out c.act_all.new.out.items)) c.self.view_is c.act_all.ensures.some
 
-pub actions-init : goal.actions-init
-actions-init g c = record {
-  reached = λ P k a. reached_none g.C.Conds.stands c.args.self.now P k a;
-  told = λ tr P k a. told_none g.C.Conds.stands c.args.self.now P k a;
-  rest = refl;
-  most = refl;
-  silent = λ s. s;
-  loans = refl;
-}
-
-pub returns-then-not-branch-clause-told : goal.returns-then-not-branch-clause-told
-returns-then-not-branch-clause-told g c = λ tr P k a.
-    let e = c.actions.self in
-    let d = c.act_one.new.self in
-    let same = ap (λ (z : Engine g.row.N.Denot g.row.C.Denot). z.plan) c.actions.invariant.rest in
-    let tr' : e.tracing ≡ true = ap (λ (z : Engine g.row.N.Denot g.row.C.Denot). z.tracing) c.actions.invariant.rest ∙ tr in
-    let r = c.actions.invariant.told tr P k a in
-    let f : c.in_ok-act_one.field-0 ≡ false = search rules in
-    told_end g.C.Conds.stands c.args.self.now e d P k same r
-    (subst (λ (z : Bool). ActsOne g.C.Conds.stands e d P r.reached.taken z) f (c.in_ok-act_one.ensures.acts P r.reached.taken r.reached.actors))
-    (subst (λ (z : Bool). d.trace.items ≡ e.trace.items ++ text_of_lines (next_lines (plan_tree e.plan.now) P r.reached.taken z)) f (c.in_ok-act_one.ensures.told tr' P r.reached.taken r.reached.actors))
-
-pub returns-in_err-act_one-clause-part : goal.returns-in_err-act_one-clause-part
-returns-in_err-act_one-clause-part g c =
-    let old = c.args.self.now in
-    let e = c.actions.self in
-    let d = c.act_one.new.self in
-    let same = ap (λ (z : Engine g.row.N.Denot g.row.C.Denot). z.plan) c.actions.invariant.rest in
-    let h : old.tracing ≡ true → (P : Tree) (k : ℕ) → Actors g.C.Conds.stands old P k → GrewPart old.trace.items d.trace.items (text_of_lines (lines_to (plan_tree old.plan.now) P k (all_of (plan_tree old.plan.now) P))) = λ tr P k a.
-    let tr' : e.tracing ≡ true = ap (λ (z : Engine g.row.N.Denot g.row.C.Denot). z.tracing) c.actions.invariant.rest ∙ tr in
-    let r = c.actions.invariant.told tr P k a in
-    told_part g.C.Conds.stands old e d P k same r (told_there g.C.Conds.stands old e P k same r) (c.in_err-act_one.ensures.part tr' P r.reached.taken r.reached.actors) in
-    on_err _ _ h
+-- nothing is told where no trace is wanted
+pub returns-clause-told : goal.returns-clause-told
+returns-clause-told g c =
+    let old : EngineView g.row.C.Denot = record { plan = c.self.inside.plan.now; ahead = c.self.inside.ahead; tracing = c.self.inside.tracing; reader = c.self.inside.reader; actors = c.self.inside.actors; out = c.self.inside.out.items; trace = c.self.inside.trace.items; bytes = c.self.inside.bytes; refused = c.self.inside.refused; ended = c.self.inside.ended } in
+    subst (λ (z : EngineView g.row.C.Denot). OnOk c.act_all.result (z.tracing ≡ true → TellsAll g.C.Conds.stands z.actors z.trace old.trace)) c.self.view_is (ok_map c.act_all.result (λ (h : ActsOnFrom g.C.Conds.stands old.actors c.act_all.new.self old.out c.act_all.new.out.items) (wanted : old.tracing ≡ true). absurd (true≢false (sym wanted ∙ c.if-self.false))) c.act_all.ensures.acts)
 
 pub returns-clause-part : goal.returns-clause-part
-returns-clause-part g c = λ tr P k a.
-    let same = ap (λ (z : Engine g.row.N.Denot g.row.C.Denot). z.plan) c.actions.invariant.rest in
-    told_some g.C.Conds.stands c.args.self.now c.actions.self P k same (c.actions.invariant.told tr P k a)
+returns-clause-part g c =
+    let old : EngineView g.row.C.Denot = record { plan = c.self.inside.plan.now; ahead = c.self.inside.ahead; tracing = c.self.inside.tracing; reader = c.self.inside.reader; actors = c.self.inside.actors; out = c.self.inside.out.items; trace = c.self.inside.trace.items; bytes = c.self.inside.bytes; refused = c.self.inside.refused; ended = c.self.inside.ended } in
+    subst (λ (z : EngineView g.row.C.Denot). OnErr c.act_all.result (z.tracing ≡ true → TellsFront g.C.Conds.stands z.actors z.trace old.trace)) c.self.view_is (err_map c.act_all.result (λ (h : ActsSomeFrom g.C.Conds.stands old.actors c.act_all.new.self old.out c.act_all.new.out.items) (wanted : old.tracing ≡ true). absurd (true≢false (sym wanted ∙ c.if-self.false))) c.act_all.ensures.some)
+
+pub returns-clause-rest : goal.returns-clause-rest
+returns-clause-rest g c =
+    let old : EngineView g.row.C.Denot = record { plan = c.self.inside.plan.now; ahead = c.self.inside.ahead; tracing = c.self.inside.tracing; reader = c.self.inside.reader; actors = c.self.inside.actors; out = c.self.inside.out.items; trace = c.self.inside.trace.items; bytes = c.self.inside.bytes; refused = c.self.inside.refused; ended = c.self.inside.ended } in
+    ap (λ (z : EngineView g.row.C.Denot). record z { actors = c.act_all.new.self; out = c.act_all.new.out.items; trace = old.trace }) c.self.view_is
+
+pub returns-clause-silent : goal.returns-clause-silent
+returns-clause-silent g c =
+    let old : EngineView g.row.C.Denot = record { plan = c.self.inside.plan.now; ahead = c.self.inside.ahead; tracing = c.self.inside.tracing; reader = c.self.inside.reader; actors = c.self.inside.actors; out = c.self.inside.out.items; trace = c.self.inside.trace.items; bytes = c.self.inside.bytes; refused = c.self.inside.refused; ended = c.self.inside.ended } in
+    λ s. record { untold = ap (λ (z : EngineView g.row.C.Denot). z.tracing) c.self.view_is ∙ s.untold; empty = ap (λ (z : EngineView g.row.C.Denot). z.trace) c.self.view_is ∙ s.empty }
+
+pub returns-then-self-clause-same : goal.returns-then-self-clause-same
+returns-then-self-clause-same g c = record {
+  projector = c.act_all_told.ensures.projector ∙ ap (λ (z : EngineView g.row.C.Denot). z.actors.projector) c.self.view_is;
+  counts = c.act_all_told.ensures.counts ∙ ap (λ (z : EngineView g.row.C.Denot). z.actors.counts) c.self.view_is;
+  most = c.act_all_told.ensures.most ∙ ap (λ (z : EngineView g.row.C.Denot). z.actors.buffer.most) c.self.view_is;
+  loans = c.act_all_told.ensures.loans ∙ ap (λ (z : EngineView g.row.C.Denot). z.actors.buffer.loans) c.self.view_is;
+}
+
+pub returns-clause-same : goal.returns-clause-same
+returns-clause-same g c = record {
+  projector = c.act_all.ensures.projector ∙ ap (λ (z : EngineView g.row.C.Denot). z.actors.projector) c.self.view_is;
+  counts = c.act_all.ensures.counts ∙ ap (λ (z : EngineView g.row.C.Denot). z.actors.counts) c.self.view_is;
+  most = c.act_all.ensures.most ∙ ap (λ (z : EngineView g.row.C.Denot). z.actors.buffer.most) c.self.view_is;
+  loans = c.act_all.ensures.loans ∙ ap (λ (z : EngineView g.row.C.Denot). z.actors.buffer.loans) c.self.view_is;
+}

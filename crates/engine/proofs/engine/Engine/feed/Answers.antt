@@ -1,43 +1,48 @@
-use Rattle.std.proofs.Common.{◌++◌, false}
+use Rattle.std.proofs.Common.{◌++◌, false, ap, sym, ◌∙◌}
 use Rattle.gcx_model.specs.PlanView.{plan_tree}
 use Rattle.engine.specs.Engine.{Kept, Lost, StandsSome, TraceGrewBy, TraceGrewWithin}
 use Rattle.engine.proofs.Courses.{asked_none, exact_by, on_answer, some_none}
+use Rattle.engine.proofs.Forms.{same_none}
+use Rattle.engine.specs.View.{EngineView}
 use Rattle.engine.proofs.engine.Engine.feed.Goals as goal
 
 pub returns-in-Some-clause-fed : goal.returns-in-Some-clause-fed
-returns-in-Some-clause-fed g c = λ lim b s fresh. some_none c.args.self.now.refused c.in-Some.fault _ c.in-Some.is fresh
+returns-in-Some-clause-fed g c = λ lim b s fresh. some_none c.args.self.now.refused c.in-Some.fault _ (ap (λ (z : EngineView g.row.C.Denot). z.refused) (sym c.self.view_is) ∙ c.in-Some.is) fresh
 
 pub returns-in-Some-clause-exact : goal.returns-in-Some-clause-exact
-returns-in-Some-clause-exact g c = λ lim b s fresh. some_none c.args.self.now.refused c.in-Some.fault _ c.in-Some.is fresh
+returns-in-Some-clause-exact g c = λ lim b s fresh. some_none c.args.self.now.refused c.in-Some.fault _ (ap (λ (z : EngineView g.row.C.Denot). z.refused) (sym c.self.view_is) ∙ c.in-Some.is) fresh
 
 pub returns-in-Some-clause-bytes : goal.returns-in-Some-clause-bytes
-returns-in-Some-clause-bytes g c = λ fresh. some_none c.args.self.now.refused c.in-Some.fault _ c.in-Some.is fresh
+returns-in-Some-clause-bytes g c = λ fresh. some_none c.args.self.now.refused c.in-Some.fault _ (ap (λ (z : EngineView g.row.C.Denot). z.refused) (sym c.self.view_is) ∙ c.in-Some.is) fresh
 
 pub feed_piece-requires-clause-stands : goal.feed_piece-requires-clause-stands
-feed_piece-requires-clause-stands g c = asked_none c.args.self.now.refused (Unit {0}) (StandsSome g.C.Conds.stands c.args.self.now false) c.in-None.is c.requires
+feed_piece-requires-clause-stands g c = asked_none c.args.self.now.refused (Unit {0}) (StandsSome g.C.Conds.stands c.args.self.now false) (ap (λ (z : EngineView g.row.C.Denot). z.refused) (sym c.self.view_is) ∙ c.in-None.is) c.requires
 
 pub returns-in-None-clause-fed : goal.returns-in-None-clause-fed
 returns-in-None-clause-fed g c = λ lim b s fresh.
     let old = c.args.self.now in
     let d = c.feed_piece.new.self in
     let w = b ++ c.args.piece.now in
-    on_answer d.refused c.answer.result (Lost lim old d b false w false) (Kept g.C.Conds.stands lim old d b false w false) c.answer.ensures (c.feed_piece.ensures.fed lim b s)
+    on_answer d.refused c.answer.result (Lost lim old d b false w false) (Kept g.C.Conds.stands lim old d b false w false) c.answer.ensures (c.feed_piece.ensures.fed lim b s fresh)
 
 pub returns-in-None-clause-exact : goal.returns-in-None-clause-exact
 returns-in-None-clause-exact g c = λ lim b s fresh.
     let old = c.args.self.now in
     let d = c.feed_piece.new.self in
-    exact_by g.C.Conds.stands lim old d b false (b ++ c.args.piece.now) false c.answer.result c.answer.ensures (c.feed_piece.ensures.fed lim b s)
+    exact_by g.C.Conds.stands lim old d b false (b ++ c.args.piece.now) false c.answer.result c.answer.ensures (c.feed_piece.ensures.fed lim b s fresh)
 
 pub returns-in-None-clause-again : goal.returns-in-None-clause-again
-returns-in-None-clause-again g c = λ f e. some_none c.args.self.now.refused f _ e c.in-None.is
+returns-in-None-clause-again g c = λ f e. some_none c.args.self.now.refused f _ e (ap (λ (z : EngineView g.row.C.Denot). z.refused) (sym c.self.view_is) ∙ c.in-None.is)
 
 pub returns-in-Some-clause-traced : goal.returns-in-Some-clause-traced
-returns-in-Some-clause-traced g c = λ lim b s fresh told. some_none c.args.self.now.refused c.in-Some.fault _ c.in-Some.is fresh
+returns-in-Some-clause-traced g c = λ lim b s fresh told. some_none c.args.self.now.refused c.in-Some.fault _ (ap (λ (z : EngineView g.row.C.Denot). z.refused) (sym c.self.view_is) ∙ c.in-Some.is) fresh
 
 pub returns-in-None-clause-traced : goal.returns-in-None-clause-traced
 returns-in-None-clause-traced g c = λ lim b s fresh told.
     let old = c.args.self.now in
     let d = c.feed_piece.new.self in
     let w = b ++ c.args.piece.now in
-    on_answer d.refused c.answer.result (TraceGrewWithin (plan_tree old.plan.now) lim b false w false old.trace.items d.trace.items) (TraceGrewBy (plan_tree old.plan.now) lim b false w false old.trace.items d.trace.items) c.answer.ensures (c.feed_piece.ensures.traced lim b s told)
+    on_answer d.refused c.answer.result (TraceGrewWithin (plan_tree old.plan) lim b false w false old.trace d.trace) (TraceGrewBy (plan_tree old.plan) lim b false w false old.trace d.trace) c.answer.ensures (c.feed_piece.ensures.traced lim b s fresh told)
+
+pub returns-in-Some-clause-same : goal.returns-in-Some-clause-same
+returns-in-Some-clause-same g c = same_none c.args.self.now

@@ -1,8 +1,9 @@
 use Rattle.std.proofs.Common.{◌≡◌, ◌+◌, ◌++◌, ℕ, false, List, length}
 use Rattle.gcx_base.specs.declared.limits.Limits.{Limits}
-use Rattle.engine.specs.Engine.{IsSilent, IsTold, StandsOf}
+use Rattle.engine.specs.Engine.{IsTold, StandsOf}
 use Rattle.engine.proofs.Courses.{InPiece}
 use Rattle.engine.proofs.TellingCalls.{InTrace}
+use Rattle.engine.specs.Calls.{SameRun}
 use Rattle.engine.proofs.engine.Engine.feed_piece.Given as goal
 
 abbrev pub invariant-slices : goal.invariant-slices
@@ -11,10 +12,8 @@ invariant-slices g l = record {
   parts : done ++ l.rest ≡ l.fn.piece;
   fed : (lim : Limits) (b : List ℕ) → StandsOf g.C.Conds.stands lim l.fn.self b false → InPiece g.C.Conds.stands lim b l.fn.self l.self done;
   traced : (lim : Limits) (b : List ℕ) → StandsOf g.C.Conds.stands lim l.fn.self b false → IsTold l.fn.self → InTrace g.C.Conds.stands lim b l.fn.self l.self done;
-  bytes : l.self.counts.bytes ≡ l.fn.self.counts.bytes + length done;
-  same : (l.self.plan ≡ l.fn.self.plan) × (l.self.ahead ≡ l.fn.self.ahead) × (l.self.tracing ≡ l.fn.self.tracing);
-  silent : IsSilent l.fn.self → IsSilent l.self;
-  loans : l.self.buffer.loans ≡ l.fn.self.buffer.loans;
+  bytes : l.self.bytes ≡ l.fn.self.bytes + length done;
+  same : SameRun l.fn.self l.self;
 }
 
 abbrev pub decreases-slices : goal.decreases-slices

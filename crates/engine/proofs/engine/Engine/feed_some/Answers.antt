@@ -2,19 +2,21 @@ use Rattle.std.proofs.Common.{◌≡◌, ◌∙◌, ◌+◌, ◌<◌, ◌≤◌,
 use Rattle.gcx_base.specs.declared.limits.Limits.{Limits}
 use Rattle.gcx_model.specs.PlanView.{plan_tree}
 use Rattle.gcx_model.specs.Seen.{seen_tree}
-use Rattle.doc_reader.specs.Standing.{Token, Keeps, ReaderView, Stands, said_of, waiting}
+use Rattle.doc_reader.specs.Standing.{Token, ReaderView, Stands, said_of, waiting}
 use Rattle.std.specs.Prelude.{map}
 use Rattle.std.proofs.lemmas.Bool.{false≢true, true≢false}
-use Rattle.engine.specs.declared.engine.Engine.{Engine}
+use Rattle.engine.specs.View.{EngineView}
 use Rattle.gcx_model.specs.Points.{actions, so_far}
 use Rattle.gcx_model.specs.Demand.{Line, text_of_lines}
-use Rattle.engine.specs.Engine.{Balanced, IsTold, PartsStand}
-use Rattle.engine.specs.Going.{FeedsSome, all_of}
-use Rattle.engine.specs.Telling.{GrewPart, ToldOne, fed_lines, more_lines}
+use Rattle.engine.specs.Engine.{Balanced, IsTold, PartsStand, IsSilent}
+use Rattle.engine.specs.Going.{FeedsSome}
+use Rattle.engine.specs.Actors.{all_of, BalancesEach, FeedsEach, IsQuietFor, MayFeed}
+use Rattle.engine.specs.Telling.{GrewPart, ToldOne, fed_lines, more_lines, TellsEach, TellsPart}
 use Rattle.engine.proofs.TellingGroups.{nil_of, one_part, one_text}
 use Rattle.engine.proofs.Acting.{on_err}
-use Rattle.engine.proofs.Forms.{fed_on, keeps_none, keeps_on, read_on}
+use Rattle.engine.proofs.Forms.{fed_alone_none, fed_alone_on, fed_alone_read, one_form}
 use Rattle.engine.proofs.Grouping.{comes_next, group_begins, group_given, group_on, group_stops, may_next, some_ahead}
+use Rattle.engine.specs.Calls.{FeedsAlone}
 use Rattle.engine.proofs.engine.Engine.feed_some.Goals as goal
 
 pub tokens-init : goal.tokens-init
@@ -25,11 +27,7 @@ tokens-init g c = record {
   none = λ y. refl;
   first = λ y. refl;
   told = λ s lim b ended given p. (refl, refl);
-  keeps = keeps_none c.args.self.now.reader;
-  rest = refl;
-  bytes = refl;
-  silent = λ s. s;
-  loans = refl;
+  same = fed_alone_none c.args.self.now;
 }
 
 pub feed_one-requires : goal.feed_one-requires
@@ -37,21 +35,26 @@ feed_one-requires g c =
     let q = c.requires in
     let inv = c.tokens.invariant in
     let e = c.tokens.self in
-    let r = c.next.new.self in
+    let e1 = c.next_token.new.self in
+    let r = e1.reader in
+    let step : e1 ≡ record e { reader = r } = c.next_token.ensures.rest in
     let x = inv.group q.limits q.read q.ended q.given q.of in
-    let plan = ap (λ (z : Engine g.row.N.Denot g.row.C.Denot). z.plan) inv.rest in
-    may_next g.C.Conds.stands q.limits q.read q.ended q.given c.args.self.now e e r c.in-Some.token c.tokens.quiet true x.0 plan c.in-Some.ensures.takes (c.in-Some.ensures.stands q.limits q.read q.ended (q.given ++ x.0.more) x.0.reader) (record e { reader = r }) refl
+    let plan = ap (λ (z : EngineView g.row.C.Denot). z.plan) inv.same.rest in
+    subst (λ (z : EngineView g.row.C.Denot). MayFeed g.C.Conds.stands z.actors (said_of c.in-Some.token)) (sym step)
+    (may_next g.C.Conds.stands q.limits q.read q.ended q.given c.args.self.now e e r c.in-Some.token c.tokens.quiet true x.0 plan c.in-Some.ensures.takes (c.in-Some.ensures.stands q.limits q.read q.ended (q.given ++ x.0.more) x.0.reader))
 
 pub returns-in_err-still-clause-balance : goal.returns-in_err-still-clause-balance
 returns-in_err-still-clause-balance g c =
     let inv = c.tokens.invariant in
     let e = c.tokens.self in
-    let r = c.next.new.self in
-    let plan = ap (λ (z : Engine g.row.N.Denot g.row.C.Denot). z.plan) inv.rest in
+    let e1 = c.next_token.new.self in
+    let r = e1.reader in
+    let step : e1 ≡ record e { reader = r } = c.next_token.ensures.rest in
+    let plan = ap (λ (z : EngineView g.row.C.Denot). z.plan) inv.same.rest in
     let h : (lim : Limits) (b : List ℕ) (ended : Bool) (given : List Token) → PartsStand g.C.Conds.stands lim c.args.self.now b ended given → Balanced c.feed_one.new.self = λ lim b ended given p.
     let x = inv.group lim b ended given p in
     let comes = comes_next g.C.Conds.stands lim b ended given c.args.self.now e e r c.in-Some.token c.tokens.quiet true x.0 plan c.in-Some.ensures.takes (c.in-Some.ensures.stands lim b ended (given ++ x.0.more) x.0.reader) in
-    c.in_err-still.ensures.balance (seen_tree (map said_of (given ++ x.0.more))) (all_of (plan_tree c.args.self.now.plan.now) (seen_tree (map said_of given))) x.0.actors comes (group_given g.C.Conds.stands lim b ended given c.args.self.now e c.tokens.quiet x.0 plan) in
+    subst (λ (z : EngineView g.row.C.Denot). BalancesEach g.C.Conds.stands z.actors c.feed_one.new.self.actors (said_of c.in-Some.token)) step c.in_err-still.ensures.balance (plan_tree e.plan) (seen_tree (map said_of (given ++ x.0.more))) (all_of (plan_tree c.args.self.now.plan) (seen_tree (map said_of given))) x.0.actors comes (group_given g.C.Conds.stands lim b ended given c.args.self.now e c.tokens.quiet x.0 plan) in
     on_err _ _ h
 
 pub tokens-preserved : goal.tokens-preserved
@@ -59,12 +62,19 @@ tokens-preserved g c =
     let inv = c.tokens.invariant in
     let old = c.args.self.now in
     let e = c.tokens.self in
-    let r = c.next.new.self in
+    let e1 = c.next_token.new.self in
+    let r = e1.reader in
+    let step : e1 ≡ record e { reader = r } = c.next_token.ensures.rest in
     let t = c.in-Some.token in
     let d = c.feed_one.new.self in
     let o = c.in_ok-still.ensures in
-    let plan = ap (λ (z : Engine g.row.N.Denot g.row.C.Denot). z.plan) inv.rest in
-    let same : d.reader ≡ r = ap (λ (z : Engine g.row.N.Denot g.row.C.Denot). z.reader) c.feed_one.ensures.rest in
+    let form : d ≡ one_form (record e { reader = r }) d = subst (λ (z : EngineView g.row.C.Denot). d ≡ one_form z d) step c.feed_one.ensures.rest in
+    let feeds = subst (λ (z : EngineView g.row.C.Denot). FeedsEach g.C.Conds.stands z.actors d.actors (said_of t)) step o.feeds in
+    let quietly = subst (λ (z : EngineView g.row.C.Denot). c.in_ok-still.still ≡ true → IsQuietFor g.C.Conds.stands z.actors (said_of t)) step o.quiet in
+    let tells = subst (λ (z : EngineView g.row.C.Denot). z.tracing ≡ true → TellsEach g.C.Conds.stands z.actors (said_of t) z.trace d.trace) step o.told in
+    let plan = ap (λ (z : EngineView g.row.C.Denot). z.plan) inv.same.rest in
+    let same : d.reader ≡ r = ap (λ (z : EngineView g.row.C.Denot). z.reader) form in
+    let same_plan : d.plan ≡ e.plan = ap (λ (z : EngineView g.row.C.Denot). z.plan) form in
     let takes : waiting e.reader ≡ t ∷ waiting r = c.in-Some.ensures.takes in
     let one_less = ap length takes in
     let now = ap (λ (z : ReaderView). length (waiting z)) same in
@@ -77,9 +87,9 @@ tokens-preserved g c =
           let few = x.1 in
           let reads = c.in-Some.ensures.stands lim b ended (given ++ f.more) f.reader in
           let comes = comes_next g.C.Conds.stands lim b ended given old e d r t c.tokens.quiet c.in_ok-still.still f plan takes reads in
-          let ahead : length f.more < old.ahead = let l = c.tokens-test.true in omega arith in
-          let one = o.feeds (seen_tree (map said_of (given ++ f.more))) (all_of (plan_tree old.plan.now) (seen_tree (map said_of given))) f.actors comes in
-          let n = group_on g.C.Conds.stands lim b ended given old e d r t c.tokens.quiet c.in_ok-still.still f plan takes reads ahead one same o.quiet in
+          let ahead : length f.more < old.ahead = let l = c.tokens-test.true in let bound = ap (λ (z : EngineView g.row.C.Denot). z.ahead) c.self.view_is in omega arith in
+          let one = feeds (plan_tree e.plan) (seen_tree (map said_of (given ++ f.more))) (all_of (plan_tree old.plan) (seen_tree (map said_of given))) f.actors comes in
+          let n = group_on g.C.Conds.stands lim b ended given old e d r t c.tokens.quiet c.in_ok-still.still f plan takes reads ahead one same same_plan quietly in
           let m : (n : FeedsSome g.C.Conds.stands lim old d b ended given (c.in_ok-still.still && c.tokens.quiet)) × (length n.more ≤ c.tokens._index + 1) = (n.0, let k = n.1 in omega arith) in
           subst (λ (z : Bool). (n : FeedsSome g.C.Conds.stands lim old d b ended given z) × (length n.more ≤ c.tokens._index + 1)) (sym c.both-quiet.ensures) m;
       fewer = omega arith;
@@ -87,7 +97,7 @@ tokens-preserved g c =
       none = λ y. absurd (true≢false y);
       first = λ y. absurd (omega arith);
       told = λ s lim b ended given p.
-          let plan' = plan_tree old.plan.now in
+          let plan' = plan_tree old.plan in
           let P = seen_tree (map said_of given) in
           let k = all_of plan' P in
           let x = inv.group lim b ended given p in
@@ -95,66 +105,61 @@ tokens-preserved g c =
           let few = x.1 in
           let alone = s.alone in
           let l = c.tokens-test.true in
+          let bound = ap (λ (z : EngineView g.row.C.Denot). z.ahead) c.self.view_is in
           let zero : c.tokens._index ≡ 0 = omega arith in
           let none : f.more ≡ [] = nil_of f.more (omega arith) in
           let Q = seen_tree (map said_of (given ++ f.more)) in
-          let was : (waiting old.reader ≡ waiting e.reader) × (e.trace.items ≡ old.trace.items) = subst (λ (z : Bool). ToldOne plan' P (actions plan' P) (waiting old.reader) (waiting e.reader) old.trace.items e.trace.items z) (inv.first zero) (inv.told s lim b ended given p) in
-          let tr : e.tracing ≡ true = ap (λ (z : Engine g.row.N.Denot g.row.C.Denot). z.tracing) inv.rest ∙ s.tracing in
-          let pe = ap (λ (z : Engine g.row.N.Denot g.row.C.Denot). plan_tree z.plan.now) inv.rest in
-          let text = one_text plan' (plan_tree e.plan.now) pe given f.more none t in
+          let was : (waiting old.reader ≡ waiting e.reader) × (e.trace ≡ old.trace) = subst (λ (z : Bool). ToldOne plan' P (actions plan' P) (waiting old.reader) (waiting e.reader) old.trace e.trace z) (inv.first zero) (inv.told s lim b ended given p) in
+          let tr : e.tracing ≡ true = ap (λ (z : EngineView g.row.C.Denot). z.tracing) inv.same.rest ∙ s.tracing in
+          let pe = ap (λ (z : EngineView g.row.C.Denot). plan_tree z.plan) inv.same.rest in
+          let text = one_text plan' (plan_tree e.plan) pe given f.more none t in
           let reads = c.in-Some.ensures.stands lim b ended (given ++ f.more) f.reader in
           let comes = comes_next g.C.Conds.stands lim b ended given old e d r t c.tokens.quiet c.in_ok-still.still f plan takes reads in
-          let one : d.trace.items ≡ e.trace.items ++ text_of_lines (fed_lines (plan_tree e.plan.now) (said_of t) Q (so_far (plan_tree e.plan.now) Q k)) = o.told tr Q k f.actors comes in (
+          let one : d.trace ≡ e.trace ++ text_of_lines (fed_lines (plan_tree e.plan) (said_of t) Q (so_far (plan_tree e.plan) Q k)) = tells tr (plan_tree e.plan) Q k f.actors comes in (
             t,
             was.0 ∙ (takes ∙ ap (λ (z : ReaderView). t ∷ waiting z) (sym same)),
-            one ∙ (ap (λ (z : List Line). e.trace.items ++ text_of_lines z) text ∙ ap (λ (z : List ℕ). z ++ text_of_lines (fed_lines plan' (said_of t) P (actions plan' P))) was.1),
+            one ∙ (ap (λ (z : List Line). e.trace ++ text_of_lines z) text ∙ ap (λ (z : List ℕ). z ++ text_of_lines (fed_lines plan' (said_of t) P (actions plan' P))) was.1),
           );
-      keeps = keeps_on old.reader e.reader d.reader inv.keeps (subst (λ (z : ReaderView). Keeps e.reader z) (sym same) c.in-Some.ensures.keeps);
-      rest = fed_on old e d r inv.rest c.feed_one.ensures.rest;
-      bytes = c.feed_one.ensures.bytes ∙ inv.bytes;
-      silent = λ s. c.feed_one.ensures.silent (record { untold = (inv.silent s).untold; empty = (inv.silent s).empty });
-      loans = c.feed_one.ensures.loans ∙ inv.loans;
+      same = fed_alone_on old e d r inv.same c.in-Some.ensures.keeps form (c.feed_one.ensures.machine ∙ ap (λ (z : EngineView g.row.C.Denot). z.actors.machine) step) (subst (λ (z : EngineView g.row.C.Denot). IsSilent z → IsSilent d) step c.feed_one.ensures.silent) (c.feed_one.ensures.loans ∙ ap (λ (z : EngineView g.row.C.Denot). z.actors.buffer.loans) step);
     }
 
-pub returns-in_err-still-clause-keeps : goal.returns-in_err-still-clause-keeps
-returns-in_err-still-clause-keeps g c =
-    let same : c.feed_one.new.self.reader ≡ c.next.new.self = ap (λ (z : Engine g.row.N.Denot g.row.C.Denot). z.reader) c.feed_one.ensures.rest in
-    keeps_on c.args.self.now.reader c.tokens.self.reader c.feed_one.new.self.reader c.tokens.invariant.keeps (subst (λ (z : ReaderView). Keeps c.tokens.self.reader z) (sym same) c.in-Some.ensures.keeps)
-
-pub returns-in_err-still-clause-rest : goal.returns-in_err-still-clause-rest
-returns-in_err-still-clause-rest g c = fed_on c.args.self.now c.tokens.self c.feed_one.new.self c.next.new.self c.tokens.invariant.rest c.feed_one.ensures.rest
-
-pub returns-in_err-still-clause-silent : goal.returns-in_err-still-clause-silent
-returns-in_err-still-clause-silent g c = λ s. let t = c.tokens.invariant.silent s in c.feed_one.ensures.silent (record { untold = t.untold; empty = t.empty })
+pub returns-in_err-still-clause-same : goal.returns-in_err-still-clause-same
+returns-in_err-still-clause-same g c =
+    let e = c.tokens.self in
+    let e1 = c.next_token.new.self in
+    let r = e1.reader in
+    let step : e1 ≡ record e { reader = r } = c.next_token.ensures.rest in
+    let d = c.feed_one.new.self in
+    let form : d ≡ one_form (record e { reader = r }) d = subst (λ (z : EngineView g.row.C.Denot). d ≡ one_form z d) step c.feed_one.ensures.rest in
+    fed_alone_on c.args.self.now e d r c.tokens.invariant.same c.in-Some.ensures.keeps form (c.feed_one.ensures.machine ∙ ap (λ (z : EngineView g.row.C.Denot). z.actors.machine) step) (subst (λ (z : EngineView g.row.C.Denot). IsSilent z → IsSilent d) step c.feed_one.ensures.silent) (c.feed_one.ensures.loans ∙ ap (λ (z : EngineView g.row.C.Denot). z.actors.buffer.loans) step)
 
 pub returns-in_default-clause-feeds : goal.returns-in_default-clause-feeds
 returns-in_default-clause-feeds g c = λ lim b ended given p.
     let e = c.tokens.self in
-    let r = c.next.new.self in
+    let e1 = c.next_token.new.self in
+    let r = e1.reader in
+    let step : e1 ≡ record e { reader = r } = c.next_token.ensures.rest in
     let x = c.tokens.invariant.group lim b ended given p in
     let t : (waiting e.reader ≡ []) × (waiting r ≡ []) = c.in_default.ensures.takes in
     let s : Stands r lim b ended ((given ++ x.0.more) ++ []) = c.in_default.ensures.stands lim b ended (given ++ x.0.more) x.0.reader in
-    group_stops g.C.Conds.stands lim b ended given c.args.self.now e c.tokens.quiet r x.0 t.0 t.1 s
+    subst (λ (z : EngineView g.row.C.Denot). FeedsSome g.C.Conds.stands lim c.args.self.now z b ended given c.tokens.quiet) (sym step)
+    (group_stops g.C.Conds.stands lim b ended given c.args.self.now e c.tokens.quiet r x.0 t.0 t.1 s)
 
 pub returns-in_default-clause-none : goal.returns-in_default-clause-none
-returns-in_default-clause-none g c = λ y. let t : (waiting c.tokens.self.reader ≡ []) × (waiting c.next.new.self ≡ []) = c.in_default.ensures.takes in t.1
+returns-in_default-clause-none g c = λ y. let t : (waiting c.tokens.self.reader ≡ []) × (waiting c.next_token.new.self.reader ≡ []) = c.in_default.ensures.takes in t.1
 
 pub returns-in_default-clause-fewer : goal.returns-in_default-clause-fewer
 returns-in_default-clause-fewer g c = λ y.
-    let t : (waiting c.tokens.self.reader ≡ []) × (waiting c.next.new.self ≡ []) = c.in_default.ensures.takes in
+    let t : (waiting c.tokens.self.reader ≡ []) × (waiting c.next_token.new.self.reader ≡ []) = c.in_default.ensures.takes in
     let before = ap length t.0 in
     let now = ap length t.1 in
     let less = c.tokens.invariant.some y in
     omega arith
 
-pub returns-in_default-clause-keeps : goal.returns-in_default-clause-keeps
-returns-in_default-clause-keeps g c = keeps_on c.args.self.now.reader c.tokens.self.reader c.next.new.self c.tokens.invariant.keeps c.in_default.ensures.keeps
-
-pub returns-in_default-clause-rest : goal.returns-in_default-clause-rest
-returns-in_default-clause-rest g c = read_on c.args.self.now c.tokens.self c.next.new.self c.tokens.invariant.rest
-
-pub returns-in_default-clause-silent : goal.returns-in_default-clause-silent
-returns-in_default-clause-silent g c = λ s. let t = c.tokens.invariant.silent s in record { untold = t.untold; empty = t.empty }
+pub returns-in_default-clause-same : goal.returns-in_default-clause-same
+returns-in_default-clause-same g c =
+    subst (λ (z : EngineView g.row.C.Denot). FeedsAlone c.args.self.now z) (sym c.next_token.ensures.rest)
+    (fed_alone_read c.args.self.now c.tokens.self c.next_token.new.self.reader c.tokens.invariant.same c.in_default.ensures.keeps)
 
 pub returns-clause-feeds : goal.returns-clause-feeds
 returns-clause-feeds g c = λ lim b ended given p. (c.tokens.invariant.group lim b ended given p).0
@@ -164,6 +169,7 @@ returns-clause-none g c = λ y.
     let q = c.requires in
     let n = c.tokens.invariant.none y in
     let l = c.tokens-test.false in
+    let bound = ap (λ (z : EngineView g.row.C.Denot). z.ahead) c.self.view_is in
     let one = some_ahead g.C.Conds.stands q.limits q.read q.ended q.given c.args.self.now q.of in
     absurd (omega arith)
 
@@ -175,14 +181,16 @@ returns-in_err-still-clause-part g c =
     let inv = c.tokens.invariant in
     let old = c.args.self.now in
     let e = c.tokens.self in
-    let r = c.next.new.self in
+    let e1 = c.next_token.new.self in
+    let r = e1.reader in
+    let step : e1 ≡ record e { reader = r } = c.next_token.ensures.rest in
     let t = c.in-Some.token in
     let d = c.feed_one.new.self in
-    let plan = ap (λ (z : Engine g.row.N.Denot g.row.C.Denot). z.plan) inv.rest in
+    let plan = ap (λ (z : EngineView g.row.C.Denot). z.plan) inv.same.rest in
     let takes : waiting e.reader ≡ t ∷ waiting r = c.in-Some.ensures.takes in
     let h : IsTold old → (lim : Limits) (b : List ℕ) (ended : Bool) (given : List Token) → PartsStand g.C.Conds.stands lim old b ended given
-    → GrewPart old.trace.items d.trace.items (text_of_lines (more_lines (plan_tree old.plan.now) (seen_tree (map said_of given)) (waiting old.reader))) = λ s lim b ended given p.
-    let plan' = plan_tree old.plan.now in
+    → GrewPart old.trace d.trace (text_of_lines (more_lines (plan_tree old.plan) (seen_tree (map said_of given)) (waiting old.reader))) = λ s lim b ended given p.
+    let plan' = plan_tree old.plan in
     let P = seen_tree (map said_of given) in
     let k = all_of plan' P in
     let x = inv.group lim b ended given p in
@@ -190,29 +198,31 @@ returns-in_err-still-clause-part g c =
     let few = x.1 in
     let alone = s.alone in
     let l = c.tokens-test.true in
+    let bound = ap (λ (z : EngineView g.row.C.Denot). z.ahead) c.self.view_is in
     let zero : c.tokens._index ≡ 0 = omega arith in
     let none : f.more ≡ [] = nil_of f.more (omega arith) in
     let Q = seen_tree (map said_of (given ++ f.more)) in
-    let was : (waiting old.reader ≡ waiting e.reader) × (e.trace.items ≡ old.trace.items) = subst (λ (z : Bool). ToldOne plan' P (actions plan' P) (waiting old.reader) (waiting e.reader) old.trace.items e.trace.items z) (inv.first zero) (inv.told s lim b ended given p) in
-    let tr : e.tracing ≡ true = ap (λ (z : Engine g.row.N.Denot g.row.C.Denot). z.tracing) inv.rest ∙ s.tracing in
-    let pe = ap (λ (z : Engine g.row.N.Denot g.row.C.Denot). plan_tree z.plan.now) inv.rest in
-    let text = one_text plan' (plan_tree e.plan.now) pe given f.more none t in
+    let was : (waiting old.reader ≡ waiting e.reader) × (e.trace ≡ old.trace) = subst (λ (z : Bool). ToldOne plan' P (actions plan' P) (waiting old.reader) (waiting e.reader) old.trace e.trace z) (inv.first zero) (inv.told s lim b ended given p) in
+    let tr : e.tracing ≡ true = ap (λ (z : EngineView g.row.C.Denot). z.tracing) inv.same.rest ∙ s.tracing in
+    let pe = ap (λ (z : EngineView g.row.C.Denot). plan_tree z.plan) inv.same.rest in
+    let text = one_text plan' (plan_tree e.plan) pe given f.more none t in
     let reads = c.in-Some.ensures.stands lim b ended (given ++ f.more) f.reader in
     let comes = comes_next g.C.Conds.stands lim b ended given old e e r t c.tokens.quiet true f plan takes reads in
-    let one : GrewPart e.trace.items d.trace.items (text_of_lines (fed_lines (plan_tree e.plan.now) (said_of t) Q (so_far (plan_tree e.plan.now) Q k))) = c.in_err-still.ensures.part tr Q k f.actors comes in
-    one_part plan' P t (waiting r) (waiting old.reader) old.trace.items d.trace.items (was.0 ∙ takes)
-    (subst (λ (z : List ℕ). GrewPart z d.trace.items (text_of_lines (fed_lines plan' (said_of t) P (actions plan' P)))) was.1
-    (subst (λ (z : List Line). GrewPart e.trace.items d.trace.items (text_of_lines z)) text one)) in
+    let one : GrewPart e.trace d.trace (text_of_lines (fed_lines (plan_tree e.plan) (said_of t) Q (so_far (plan_tree e.plan) Q k))) = subst (λ (z : EngineView g.row.C.Denot). z.tracing ≡ true → TellsPart g.C.Conds.stands z.actors (said_of t) z.trace d.trace) step c.in_err-still.ensures.part tr (plan_tree e.plan) Q k f.actors comes in
+    one_part plan' P t (waiting r) (waiting old.reader) old.trace d.trace (was.0 ∙ takes)
+    (subst (λ (z : List ℕ). GrewPart z d.trace (text_of_lines (fed_lines plan' (said_of t) P (actions plan' P)))) was.1
+    (subst (λ (z : List Line). GrewPart e.trace d.trace (text_of_lines z)) text one)) in
     on_err _ _ h
 
 pub returns-in_default-clause-told : goal.returns-in_default-clause-told
 returns-in_default-clause-told g c = λ s lim b ended given p.
     let old = c.args.self.now in
     let e = c.tokens.self in
-    let plan = plan_tree old.plan.now in
+    let plan = plan_tree old.plan in
     let P = seen_tree (map said_of given) in
-    let t : (waiting e.reader ≡ []) × (waiting c.next.new.self ≡ []) = c.in_default.ensures.takes in
-    subst (λ (z : List Token). ToldOne plan P (actions plan P) (waiting old.reader) z old.trace.items e.trace.items c.tokens.any) (t.0 ∙ sym t.1) (c.tokens.invariant.told s lim b ended given p)
+    let t : (waiting e.reader ≡ []) × (waiting c.next_token.new.self.reader ≡ []) = c.in_default.ensures.takes in
+    subst (λ (z : List ℕ). ToldOne plan P (actions plan P) (waiting old.reader) (waiting c.next_token.new.self.reader) old.trace z c.tokens.any) (sym (ap (λ (z : EngineView g.row.C.Denot). z.trace) c.next_token.ensures.rest))
+    (subst (λ (z : List Token). ToldOne plan P (actions plan P) (waiting old.reader) z old.trace e.trace c.tokens.any) (t.0 ∙ sym t.1) (c.tokens.invariant.told s lim b ended given p))
 
 pub returns-clause-told : goal.returns-clause-told
 returns-clause-told g c = λ s lim b ended given p. c.tokens.invariant.told s lim b ended given p

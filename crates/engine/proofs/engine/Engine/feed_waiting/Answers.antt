@@ -2,7 +2,7 @@ use Rattle.std.proofs.Common.{◌∙◌, ◌++◌, [], ℕ, Bool, List, ap, map,
 use Rattle.std.proofs.lemmas.List.{append-nil}
 use Rattle.gcx_base.specs.declared.limits.Limits.{Limits}
 use Rattle.doc_reader.specs.Standing.{Token}
-use Rattle.engine.specs.declared.engine.Engine.{Engine}
+use Rattle.engine.specs.View.{EngineView}
 use Rattle.gcx_model.specs.PlanView.{plan_tree}
 use Rattle.gcx_model.specs.Seen.{seen_tree}
 use Rattle.gcx_model.specs.Core.{PlanTree}
@@ -13,19 +13,15 @@ use Rattle.engine.specs.Going.{Breaks}
 use Rattle.engine.specs.Telling.{GrewPart, ToldSome, more_lines}
 use Rattle.engine.proofs.TellingGroups.{part_on, some_on}
 use Rattle.engine.proofs.Acting.{on_err}
-use Rattle.engine.proofs.Forms.{all_on, keeps_none, keeps_on}
+use Rattle.engine.proofs.Forms.{alone_none, alone_on}
 use Rattle.engine.proofs.Waiting.{breaks_on, feeds_none, feeds_on}
 use Rattle.engine.proofs.engine.Engine.feed_waiting.Goals as goal
 
 pub groups-init : goal.groups-init
 groups-init g c = record {
   feeds = λ lim b ended given p. feeds_none g.C.Conds.stands lim b ended given c.args.self.now p;
-  told = λ s lim b ended given p. record { more = []; waited = refl; told = sym (append-nil c.args.self.now.trace.items) };
-  keeps = keeps_none c.args.self.now.reader;
-  rest = refl;
-  bytes = refl;
-  silent = λ s. s;
-  loans = refl;
+  told = λ s lim b ended given p. record { more = []; waited = refl; told = sym (append-nil c.args.self.now.trace) };
+  same = alone_none c.args.self.now;
 }
 
 pub feed_group-requires : goal.feed_group-requires
@@ -40,21 +36,17 @@ groups-preserved g c =
     let old = c.args.self.now in
     let e = c.groups.self in
     let d = c.feed_group.new.self in
-    let plan = ap (λ (z : Engine g.row.N.Denot g.row.C.Denot). z.plan) inv.rest in
+    let plan = ap (λ (z : EngineView g.row.C.Denot). z.plan) inv.same.rest in
     record {
       feeds = λ lim b ended given p. let f = inv.feeds lim b ended given p in feeds_on g.C.Conds.stands lim b ended given old e d plan f (c.in_ok-feed_group.ensures.feeds lim b ended (given ++ f.more) f.parts);
       told = λ s lim b ended given p.
           let f = inv.feeds lim b ended given p in
-          let pl = plan_tree old.plan.now in
-          let s' : IsTold e = record { tracing = ap (λ (z : Engine g.row.N.Denot g.row.C.Denot). z.tracing) inv.rest ∙ s.tracing; alone = ap (λ (z : Engine g.row.N.Denot g.row.C.Denot). z.ahead) inv.rest ∙ s.alone } in
-          let pe = ap (λ (z : Engine g.row.N.Denot g.row.C.Denot). plan_tree z.plan.now) inv.rest in
-          some_on pl given f.more (waiting old.reader) (waiting e.reader) (waiting d.reader) old.trace.items e.trace.items d.trace.items f.waited (inv.told s lim b ended given p)
-          (subst (λ (z : PlanTree). ToldSome z (seen_tree (map said_of (given ++ f.more))) (waiting e.reader) (waiting d.reader) e.trace.items d.trace.items) pe (c.in_ok-feed_group.ensures.told s' lim b ended (given ++ f.more) f.parts));
-      keeps = keeps_on old.reader e.reader d.reader inv.keeps c.feed_group.ensures.keeps;
-      rest = all_on old e d inv.rest c.feed_group.ensures.rest;
-      bytes = c.feed_group.ensures.bytes ∙ inv.bytes;
-      silent = λ s. c.feed_group.ensures.silent (inv.silent s);
-      loans = c.feed_group.ensures.loans ∙ inv.loans;
+          let pl = plan_tree old.plan in
+          let s' : IsTold e = record { tracing = ap (λ (z : EngineView g.row.C.Denot). z.tracing) inv.same.rest ∙ s.tracing; alone = ap (λ (z : EngineView g.row.C.Denot). z.ahead) inv.same.rest ∙ s.alone } in
+          let pe = ap (λ (z : EngineView g.row.C.Denot). plan_tree z.plan) inv.same.rest in
+          some_on pl given f.more (waiting old.reader) (waiting e.reader) (waiting d.reader) old.trace e.trace d.trace f.waited (inv.told s lim b ended given p)
+          (subst (λ (z : PlanTree). ToldSome z (seen_tree (map said_of (given ++ f.more))) (waiting e.reader) (waiting d.reader) e.trace d.trace) pe (c.in_ok-feed_group.ensures.told s' lim b ended (given ++ f.more) f.parts));
+      same = alone_on old e d inv.same c.feed_group.ensures.same;
     }
 
 pub returns-in_err-feed_group-clause-breaks : goal.returns-in_err-feed_group-clause-breaks
@@ -63,7 +55,7 @@ returns-in_err-feed_group-clause-breaks g c =
     let old = c.args.self.now in
     let e = c.groups.self in
     let d = c.feed_group.new.self in
-    let plan = ap (λ (z : Engine g.row.N.Denot g.row.C.Denot). z.plan) inv.rest in
+    let plan = ap (λ (z : EngineView g.row.C.Denot). z.plan) inv.same.rest in
     let h : (lim : Limits) (b : List ℕ) (ended : Bool) (given : List Token) → PartsStand g.C.Conds.stands lim old b ended given → Breaks lim old d b ended given = λ lim b ended given p.
     let f = inv.feeds lim b ended given p in breaks_on g.C.Conds.stands lim b ended given old e d plan f (c.in_err-feed_group.ensures.breaks lim b ended (given ++ f.more) f.parts) in
     on_err _ _ h
@@ -74,7 +66,7 @@ returns-clause-feeds g c = λ lim b ended given p.
     let old = c.args.self.now in
     let e = c.groups.self in
     let d = c.feed_group.new.self in
-    let plan = ap (λ (z : Engine g.row.N.Denot g.row.C.Denot). z.plan) inv.rest in
+    let plan = ap (λ (z : EngineView g.row.C.Denot). z.plan) inv.same.rest in
     let f = inv.feeds lim b ended given p in
     feeds_on g.C.Conds.stands lim b ended given old e d plan f (c.in_ok-feed_group.ensures.feeds lim b ended (given ++ f.more) f.parts)
 
@@ -85,13 +77,13 @@ returns-in_err-feed_group-clause-part g c =
     let e = c.groups.self in
     let d = c.feed_group.new.self in
     let h : IsTold old → (lim : Limits) (b : List ℕ) (ended : Bool) (given : List Token) → PartsStand g.C.Conds.stands lim old b ended given
-    → GrewPart old.trace.items d.trace.items (text_of_lines (more_lines (plan_tree old.plan.now) (seen_tree (map said_of given)) (waiting old.reader))) = λ s lim b ended given p.
+    → GrewPart old.trace d.trace (text_of_lines (more_lines (plan_tree old.plan) (seen_tree (map said_of given)) (waiting old.reader))) = λ s lim b ended given p.
     let f = inv.feeds lim b ended given p in
-    let pl = plan_tree old.plan.now in
-    let s' : IsTold e = record { tracing = ap (λ (z : Engine g.row.N.Denot g.row.C.Denot). z.tracing) inv.rest ∙ s.tracing; alone = ap (λ (z : Engine g.row.N.Denot g.row.C.Denot). z.ahead) inv.rest ∙ s.alone } in
-    let pe = ap (λ (z : Engine g.row.N.Denot g.row.C.Denot). plan_tree z.plan.now) inv.rest in
-    part_on pl given f.more (waiting old.reader) (waiting e.reader) old.trace.items e.trace.items d.trace.items f.waited (inv.told s lim b ended given p)
-    (subst (λ (z : PlanTree). GrewPart e.trace.items d.trace.items (text_of_lines (more_lines z (seen_tree (map said_of (given ++ f.more))) (waiting e.reader)))) pe (c.in_err-feed_group.ensures.part s' lim b ended (given ++ f.more) f.parts)) in
+    let pl = plan_tree old.plan in
+    let s' : IsTold e = record { tracing = ap (λ (z : EngineView g.row.C.Denot). z.tracing) inv.same.rest ∙ s.tracing; alone = ap (λ (z : EngineView g.row.C.Denot). z.ahead) inv.same.rest ∙ s.alone } in
+    let pe = ap (λ (z : EngineView g.row.C.Denot). plan_tree z.plan) inv.same.rest in
+    part_on pl given f.more (waiting old.reader) (waiting e.reader) old.trace e.trace d.trace f.waited (inv.told s lim b ended given p)
+    (subst (λ (z : PlanTree). GrewPart e.trace d.trace (text_of_lines (more_lines z (seen_tree (map said_of (given ++ f.more))) (waiting e.reader)))) pe (c.in_err-feed_group.ensures.part s' lim b ended (given ++ f.more) f.parts)) in
     on_err _ _ h
 
 pub returns-clause-told : goal.returns-clause-told
@@ -101,8 +93,14 @@ returns-clause-told g c = λ s lim b ended given p.
     let e = c.groups.self in
     let d = c.feed_group.new.self in
     let f = inv.feeds lim b ended given p in
-    let pl = plan_tree old.plan.now in
-    let s' : IsTold e = record { tracing = ap (λ (z : Engine g.row.N.Denot g.row.C.Denot). z.tracing) inv.rest ∙ s.tracing; alone = ap (λ (z : Engine g.row.N.Denot g.row.C.Denot). z.ahead) inv.rest ∙ s.alone } in
-    let pe = ap (λ (z : Engine g.row.N.Denot g.row.C.Denot). plan_tree z.plan.now) inv.rest in
-    some_on pl given f.more (waiting old.reader) (waiting e.reader) (waiting d.reader) old.trace.items e.trace.items d.trace.items f.waited (inv.told s lim b ended given p)
-    (subst (λ (z : PlanTree). ToldSome z (seen_tree (map said_of (given ++ f.more))) (waiting e.reader) (waiting d.reader) e.trace.items d.trace.items) pe (c.in_ok-feed_group.ensures.told s' lim b ended (given ++ f.more) f.parts))
+    let pl = plan_tree old.plan in
+    let s' : IsTold e = record { tracing = ap (λ (z : EngineView g.row.C.Denot). z.tracing) inv.same.rest ∙ s.tracing; alone = ap (λ (z : EngineView g.row.C.Denot). z.ahead) inv.same.rest ∙ s.alone } in
+    let pe = ap (λ (z : EngineView g.row.C.Denot). plan_tree z.plan) inv.same.rest in
+    some_on pl given f.more (waiting old.reader) (waiting e.reader) (waiting d.reader) old.trace e.trace d.trace f.waited (inv.told s lim b ended given p)
+    (subst (λ (z : PlanTree). ToldSome z (seen_tree (map said_of (given ++ f.more))) (waiting e.reader) (waiting d.reader) e.trace d.trace) pe (c.in_ok-feed_group.ensures.told s' lim b ended (given ++ f.more) f.parts))
+
+pub returns-in_err-feed_group-clause-same : goal.returns-in_err-feed_group-clause-same
+returns-in_err-feed_group-clause-same g c = alone_on c.args.self.now c.groups.self c.feed_group.new.self c.groups.invariant.same c.feed_group.ensures.same
+
+pub returns-clause-same : goal.returns-clause-same
+returns-clause-same g c = alone_on c.args.self.now c.groups.self c.feed_group.new.self c.groups.invariant.same c.feed_group.ensures.same

@@ -6,7 +6,7 @@ use Rattle.cond_memo.specs.Again.{TellsAgain}
 use Rattle.cond_memo.specs.Marks.{AreMarks}
 use Rattle.cond_memo.specs.declared.marked.Marked.{Marked}
 use Rattle.join_index.specs.Index.{IndexView}
-use Rattle.join_index.proofs.Others.{again_answers, again_may, goes_still}
+use Rattle.join_index.proofs.Others.{again_answers, again_may, goes_still, no_list_kept}
 use Rattle.join_index.proofs.indexed.IndexedConds.truth_again.Goals as goal
 
 pub again-requires-clause-may : goal.again-requires-clause-may
@@ -25,3 +25,6 @@ returns-in-Some-clause-answers g c =
 pub returns-in-Some-clause-goes : goal.returns-in-Some-clause-goes
 returns-in-Some-clause-goes g c =
     goes_still c.args.buffer.now c.args.env.now c.args.self.now (core_cond_tree c.args.cond.now) (record { marked = c.again.new.self; equalities = c.self.inside.equalities.items; pairs = c.self.inside.pairs.items; built = c.self.inside.built }) (ap (λ (z : IndexView). z.equalities) c.self.view_is) (ap (λ (z : IndexView). z.built) c.self.view_is)
+
+pub returns-in-Some-clause-kept : goal.returns-in-Some-clause-kept
+returns-in-Some-clause-kept g c = no_list_kept c.args.buffer.now c.args.env.now c.args.self.now (core_cond_tree c.args.cond.now) (c.gets_no_list.ensures c.if-not-gets_no_list.false) _

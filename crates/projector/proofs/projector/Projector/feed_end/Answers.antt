@@ -17,13 +17,20 @@ use Rattle.projector.specs.View.{ProjectorView}
 use Rattle.projector.specs.Projector.{KeepsPlace, Places}
 use Rattle.projector.specs.Calls.{Feeds}
 use Rattle.projector.specs.Opening.{HasHeard}
-use Rattle.projector.proofs.Places.{Up, up_from, up_place, serial_is}
+use Rattle.projector.proofs.Pasts.{is_open}
+use Rattle.projector.proofs.Places.{Up, has_innermost, up_from, up_place, serial_is}
 use Rattle.projector.proofs.Feeding.{projects_end}
 use Rattle.projector.proofs.projector.Projector.feed_end.Given.{Over}
 use Rattle.projector.proofs.projector.Projector.feed_end.Goals as goal
 
 pub innermost-here-requires-clause-place : goal.innermost-here-requires-clause-place
 innermost-here-requires-clause-place g c = subst (λ (p : ProjectorView). Places p c.args.buffer.now) (sym c.self.view_is) c.requires.place
+
+pub innermost-here-requires-clause-rows : goal.innermost-here-requires-clause-rows
+innermost-here-requires-clause-rows g c =
+    let m = c.requires.may in
+    let a = is_open m.past.tree End m.may in
+    has_innermost c.args.buffer.now m.past m.stands a.0 a.1
 
 -- the parent's place, in any past for which the buffer stands
 goes_up : (g : Over) (c : goal.After-go_up g) (past : Past) (h : StandsFor c.args.buffer.now past) → Up c.args.buffer.now past h (option_map (λ (p : Place). p.0) c.above-above.result)
@@ -47,11 +54,11 @@ pub returns-clause-feeds : goal.returns-clause-feeds
 returns-clause-feeds g c =
     let m = c.requires.may in
     let i = c.innermost-here.ensures.innermost in
-    subst (λ (z : MatcherView). Feeds (HasHeard z) (record { matcher = c.go_up.new.matcher; at = c.go_up.new.at }) c.args.buffer.now c.close_node.new.self End (Closed c.serial-serial.result))
+    subst (λ (z : MatcherView). Feeds (HasHeard z) (record { matcher = c.go_up.new.matcher; at = c.go_up.new.at; passed = c.self.inside.passed.items }) c.args.buffer.now c.close_node.new.self End (Closed c.serial-serial.result))
     (ap (λ (p : ProjectorView). p.matcher) c.self.view_is)
     (record {
       stands = λ past h heard may. (
-        projects_end (record { matcher = c.go_up.new.matcher; at = c.go_up.new.at }) c.self.inside.matcher c.args.buffer.now past h may c.above-above.result (goes_up g c past h) c.go_up.ensures.node c.go_up.ensures.document heard,
+        projects_end (record { matcher = c.go_up.new.matcher; at = c.go_up.new.at; passed = c.self.inside.passed.items }) (ap (λ (p : ProjectorView). p.passed) c.self.view_is ∙ c.requires.none) c.self.inside.matcher c.args.buffer.now past h may c.above-above.result (goes_up g c past h) c.go_up.ensures.node c.go_up.ensures.document heard,
         c.close_node.ensures.stands (past_told past) (c.clear_waiting.ensures.stands past h) may,
       );
       place = (let s = c.close_node.ensures.stands (past_told m.past) (c.clear_waiting.ensures.stands m.past m.stands) m.may in

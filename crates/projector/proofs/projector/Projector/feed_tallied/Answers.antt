@@ -1,4 +1,4 @@
-use Rattle.std.proofs.Common.{sym, ap, subst, inl, inr}
+use Rattle.std.proofs.Common.{sym, ◌∙◌, ap, subst, inl, inr}
 use Rattle.std.specs.Prelude.{Ok, IfOk}
 use Rattle.gcx_model.specs.Tree.{Token, Start, Chars, End}
 use Rattle.doc_reader.specs.Standing.{said_of}
@@ -16,6 +16,15 @@ tally_node-requires-in-Text-clause-place g c = subst (λ (p : ProjectorView). Pl
 
 pub feed_end-requires-clause-place : goal.feed_end-requires-clause-place
 feed_end-requires-clause-place g c = subst (λ (p : ProjectorView). Places p c.args.buffer.now) (sym c.self.view_is) c.requires.place
+
+pub tally_node-requires-clause-none : goal.tally_node-requires-clause-none
+tally_node-requires-clause-none g c = ap (λ (p : ProjectorView). p.passed) c.self.view_is ∙ c.requires.may.projects.none
+
+pub tally_node-requires-in-Text-clause-none : goal.tally_node-requires-in-Text-clause-none
+tally_node-requires-in-Text-clause-none g c = ap (λ (p : ProjectorView). p.passed) c.self.view_is ∙ c.requires.may.projects.none
+
+pub feed_end-requires-clause-none : goal.feed_end-requires-clause-none
+feed_end-requires-clause-none g c = ap (λ (p : ProjectorView). p.passed) c.self.view_is ∙ c.requires.may.projects.none
 
 pub tally_node-requires-clause-may : goal.tally_node-requires-clause-may
 tally_node-requires-clause-may g c =

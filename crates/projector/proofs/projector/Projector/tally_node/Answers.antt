@@ -8,18 +8,18 @@ use Rattle.projector.specs.Projector.{MayBeFed, Places}
 use Rattle.projector.specs.Calls.{Tallies}
 use Rattle.projector.specs.Opening.{HasHeard}
 use Rattle.projector.proofs.Pasts.{is_open}
-use Rattle.projector.proofs.Places.{level_is}
+use Rattle.projector.proofs.Places.{has_innermost, level_is}
 use Rattle.projector.proofs.Feeding.{node_feeds}
 use Rattle.projector.proofs.projector.Projector.tally_node.Goals as goal
 
 pub innermost-requires-clause-place : goal.innermost-requires-clause-place
 innermost-requires-clause-place g c = subst (λ (p : ProjectorView). Places p c.args.buffer.now) (sym c.self.view_is) c.requires.place
 
-pub innermost-requires-clause-node : goal.innermost-requires-clause-node
-innermost-requires-clause-node g c =
+pub innermost-requires-clause-rows : goal.innermost-requires-clause-rows
+innermost-requires-clause-rows g c =
     let m = c.requires.may in
     let a = is_open m.past.tree (token_for c.args.kind) m.may in
-    (m.past, m.stands, a.0, a.1)
+    has_innermost c.args.buffer.now m.past m.stands a.0 a.1
 
 pub open_tallied-requires-clause-depth : goal.open_tallied-requires-clause-depth
 open_tallied-requires-clause-depth g c =
@@ -33,12 +33,13 @@ open_tallied-requires-clause-may g c = subst (λ (p : ProjectorView). MayBeFed (
 pub returns-clause-feeds : goal.returns-clause-feeds
 returns-clause-feeds g c =
     let o = c.in_ok-place.ensures.opens in
-    subst (λ (p : ProjectorView). Tallies (HasHeard p.matcher) (record { matcher = c.go_to.new.matcher; at = c.go_to.new.at }) c.args.buffer.now c.open_tallied.new.buffer (token_for c.args.kind) (tallies.Opened c.in_ok-place.count))
+    subst (λ (p : ProjectorView). Tallies (HasHeard p.matcher) (record { matcher = c.go_to.new.matcher; at = c.go_to.new.at; passed = c.self.inside.passed.items }) c.args.buffer.now c.open_tallied.new.buffer (token_for c.args.kind) (tallies.Opened c.in_ok-place.count))
     c.self.view_is
     (record {
       fed = Opened (record { 0 = c.args.buffer.now.nodes }) o.given;
-      feeds = node_feeds (record { matcher = c.self.inside.matcher; at = c.self.inside.at }) (record { matcher = c.go_to.new.matcher; at = c.go_to.new.at }) c.open_tallied.new.matcher c.args.buffer.now c.open_tallied.new.buffer c.innermost.result.place.0
-          c.innermost.ensures.innermost c.args.kind c.requires.kind c.in_ok-place.place o.given o.opens (subst (λ (p : ProjectorView). MayBeFed (HasHeard p.matcher) c.args.buffer.now (token_for c.args.kind)) (sym c.self.view_is) c.requires.may) c.requires.depth (subst (λ (p : ProjectorView). Places p c.args.buffer.now) (sym c.self.view_is) c.requires.place)
+      feeds = node_feeds (record { matcher = c.self.inside.matcher; at = c.self.inside.at; passed = c.self.inside.passed.items }) (record { matcher = c.go_to.new.matcher; at = c.go_to.new.at; passed = c.self.inside.passed.items }) c.open_tallied.new.matcher c.args.buffer.now c.open_tallied.new.buffer c.innermost.result.place.0
+          c.innermost.ensures.innermost c.args.kind c.requires.kind c.in_ok-place.place o.given o.opens c.requires.may.past c.requires.may.stands c.requires.depth (subst (λ (p : ProjectorView). Places p c.args.buffer.now) (sym c.self.view_is) c.requires.place)
+          (ap (λ (p : ProjectorView). p.passed) c.self.view_is ∙ c.requires.none)
           (λ e. c.go_to.ensures.text (c.is_text-text.ensures ∙ e)) (λ e. c.go_to.ensures.element (c.is_text-text.ensures ∙ e)) (λ e. c.go_to.ensures.text_place (c.is_text-text.ensures ∙ e)) (λ e. c.go_to.ensures.element_place (c.is_text-text.ensures ∙ e))
           (record { 0 = c.args.buffer.now.nodes }) refl;
       is = sym (ap tallies.Opened o.many);
