@@ -1,5 +1,6 @@
 """What the scripts of bench/ have in common: files of the repository, the program, documents, and what a command takes."""
 import contextlib
+import glob
 import os
 import re
 import shutil
@@ -12,6 +13,7 @@ HERE = os.path.dirname(os.path.abspath(__file__))
 TOP = os.path.dirname(HERE)
 PROGRAM = f"{TOP}/crates/gcx/out/gcx"
 PIECE = 1 << 16
+CRATES = "/usr/share/cargo/registry"
 
 
 def text_of(path):
@@ -45,12 +47,58 @@ def items(seed, count):
     yield b"</items>"
 
 
+def made_items(count):
+    """The document of `generate 5 COUNT`, in pieces."""
+    return items(5, count)
+
+
+def records(count):
+    """Records with attributes and mixed content; one in three has a mail."""
+    yield b"<records>"
+    for first in range(0, count, 5_000):
+        yield b"".join(record(i) for i in range(first, min(first + 5_000, count)))
+    yield b"</records>"
+
+
+def record(i):
+    mail = b"<mail>r%d@example.org</mail>" % i if i % 3 == 0 else b""
+    return (
+        b'<record id="%d" age="%d"><name>Name %d</name>%s<about>Some words about the <em>record</em> of number %d, which is'
+        b" written down in a sentence, and in <em>another</em> one that says no more &amp; no less.</about></record>"
+    ) % (i, (7 * i) % 90, i, mail, i)
+
+
+# The name of each query, its document with the bytes of an item, its text, and as a path.
+QUERIES = [
+    ("price", made_items, 52, "<r>{for $i in /items/item return if ($i/price >= 50) then $i/note else ()}</r>", "/items/item[price >= 50]/note"),
+    ("items", made_items, 52, "/items/item", "/items/item"),
+    ("notes", made_items, 52, "//note", "//note"),
+    ("mail", records, 229, "for $p in /records/record return if (exists($p/mail)) then $p/name else ()", "/records/record[mail]/name"),
+    ("age", records, 229, "for $p in /records/record return if ($p/age >= 60) then $p/name else ()", "/records/record[@age >= 60]/name"),
+]
+
+
 def compiled(work, name, *options):
     """The program of a C file of this folder, made where it isn't there yet."""
     made = f"{work}/{name}"
     if not os.path.exists(made):
         subprocess.run(["cc", "-O2", "-o", made, f"{HERE}/{name}.c", *options], check=True)
     return made
+
+
+def with_crate(work, name, crate):
+    """The program of a Rust file of this folder over a crate of Debian's, made where it isn't there yet; None where it can't be made."""
+    if not shutil.which("cargo") or not glob.glob(f"{CRATES}/{crate}-*"):
+        return None
+    folder = f"{work}/{name}_in_rust"
+    os.makedirs(f"{folder}/.cargo", exist_ok=True)
+    package = f'[package]\nname = "{name}"\nversion = "0.0.0"\nedition = "2021"\n'
+    target = f'[[bin]]\nname = "{name}"\npath = "{HERE}/{name}.rs"\n'
+    write(f"{folder}/Cargo.toml", [f'{package}{target}[dependencies]\n{crate} = "*"\n'.encode()])
+    source = f'[source.crates-io]\nreplace-with = "debian"\n[source.debian]\ndirectory = "{CRATES}"\n'
+    write(f"{folder}/.cargo/config.toml", [source.encode()])
+    done = subprocess.run(["cargo", "build", "--offline", "--release", "--quiet"], cwd=folder, check=False)
+    return None if done.returncode else f"{folder}/target/release/{name}"
 
 
 class Took(NamedTuple):
@@ -93,11 +141,11 @@ def best(command, work, times=3):
     return min(runs)
 
 
-def instructions(command, work, *options):
+def instructions(command, work, *options, stdin=None):
     """The instructions that a command takes, by callgrind, and what it wrote; it must end with 0."""
     calls = f"{work}/calls"
     words = ["valgrind", "--tool=callgrind", f"--callgrind-out-file={calls}", *options, *command]
-    done = subprocess.run(words, stdout=subprocess.PIPE, stderr=subprocess.PIPE, check=False)
+    done = subprocess.run(words, stdin=stdin, stdout=subprocess.PIPE, stderr=subprocess.PIPE, check=False)
     if done.returncode:
         raise SystemExit(f"{command} ended with {done.returncode} below valgrind: {done.stderr.decode(errors='replace')[-2000:]}")
     with open(calls, encoding="utf-8") as it:

@@ -83,4 +83,4 @@ mode_of ns (mode.CDSect n) = laws.InCDSect (brackets_of n)
 mode_of ns (mode.InReference r) = laws.InReference (referring_of r)
 
 abbrev pub scan_state : Scan → State
-scan_state m = record { mode = mode_of m.names m.mode; names = m.names; rooted = m.rooted; typed = m.typed; run = m.run; name = m.name.items; attrs = m.attrs; attr = m.attr.items; pending = m.tokens.pending; tokens = m.tokens.tokens }
+scan_state m = record { mode = mode_of m.names m.mode; names = m.names; rooted = m.rooted; typed = m.typed; run = m.tokens.run; name = m.name.items; attrs = m.attrs; attr = m.attr.items; pending = m.tokens.pending; tokens = m.tokens.tokens }

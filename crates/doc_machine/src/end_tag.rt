@@ -16,7 +16,7 @@ pub fn close_element(m: &mut Scan) -> Result<(), Memory>
     requires { (scan_state m.old).pending ≡ [] }
     ensures { Closes result (scan_state m.old) (scan_state m.new) }
 {
-    m.tokens.add_end(&mut m.run)?;
+    m.tokens.add_end()?;
     m.tokens.end_tag();
     m.names.pop();
     m.mode = Mode::Between;

@@ -40,7 +40,7 @@ fn name_length(m: &Scan) -> usize
 fn passed(m: &Scan, limits: Limits, place: u64, deep: Option<u64>) -> Option<Refusal>
     ensures { IsLimit result (limited limits place deep (scan_state m.now)) (scan_state m.now) }
 {
-    if m.run.len() > limits.text as usize {
+    if m.tokens.run_len() > limits.text as usize {
         return Some(Refusal::TextLong(place));
     }
     if let Some(at) = deep {

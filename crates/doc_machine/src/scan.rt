@@ -1,12 +1,9 @@
 use crate::mode::Mode;
-use doc_tokens::{AttrNames, OpenNames, Run, Tokens};
-use std::alloc::Global;
+use doc_tokens::{AttrNames, OpenNames, Tokens};
 
 /// What was read.
 #[derive(Drop)]
 pub struct Scan {
-    /// What the fields take their memory from.
-    pub alloc: Global,
     /// Where in the grammar it stands.
     pub mode: Mode,
     /// The names of the open elements.
@@ -15,8 +12,6 @@ pub struct Scan {
     pub rooted: bool,
     /// Whether there was a root element or a document type declaration.
     pub typed: bool,
-    /// The text since the last tag, or of a value.
-    pub run: Run,
     /// The name of the tag that is being read.
     pub name: Vec<u8>,
     /// The names of its attributes.

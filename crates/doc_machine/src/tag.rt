@@ -41,7 +41,7 @@ fn begin_tag(m: &mut Scan) -> Result<(), Memory>
     requires { IsNameBytes m.old.name.items }
     ensures { Becomes result (scan_state m.old) (begun (scan_state m.old)) (scan_state m.new) }
 {
-    m.tokens.begin_tag(m.alloc, &mut m.run, &m.name)
+    m.tokens.begin_tag(&m.name)
 }
 
 /// Behind a whole tag.
@@ -183,7 +183,7 @@ pub fn end_value(m: &mut Scan) -> Result<(), Memory>
     ensures { Becomes result (scan_state m.old) (valued (scan_state m.old)) (scan_state m.new) }
 {
     m.attrs.push(&m.attr)?;
-    m.tokens.add_attribute(m.alloc, &mut m.run, &m.attr)?;
+    m.tokens.add_attribute(&m.attr)?;
     m.attr.clear();
     m.mode = Mode::ValueEnd;
     Ok(())
@@ -196,7 +196,7 @@ pub(crate) fn in_value(m: &mut Scan, quote: Quote, c: char) -> Result<bool, Memo
 {
     let end = char::from(quote.byte());
     if c != end && is_text(c) {
-        m.run.push(c)?;
+        m.tokens.push(c)?;
         m.mode = Mode::InValue(quote);
         Ok(true)
     } else if c == end {
@@ -226,7 +226,7 @@ pub(crate) fn in_value_reference(
             Ok(true)
         }
         Referred::Done(c) => {
-            m.run.push(c)?;
+            m.tokens.push(c)?;
             m.mode = Mode::InValue(quote);
             Ok(true)
         }

@@ -37,7 +37,7 @@ pub(crate) fn between(m: &mut Scan, c: char) -> Result<bool, Memory>
 {
     let inside = m.names.has_open();
     if inside && is_text(c) {
-        m.run.push(c)?;
+        m.tokens.push(c)?;
         m.mode = Mode::Between;
         Ok(true)
     } else if c == '<' {
@@ -77,7 +77,7 @@ pub(crate) fn in_reference(m: &mut Scan, referring: Referring, c: char) -> Resul
             Ok(true)
         }
         Referred::Done(c) => {
-            m.run.push(c)?;
+            m.tokens.push(c)?;
             m.mode = Mode::Between;
             Ok(true)
         }
@@ -106,7 +106,7 @@ fn bracket(m: &mut Scan, brackets: Brackets) -> Result<(), Memory>
         Brackets::None => Mode::CDSect(Brackets::One),
         Brackets::One => Mode::CDSect(Brackets::Two),
         Brackets::Two => {
-            m.run.push(']')?;
+            m.tokens.push(']')?;
             Mode::CDSect(Brackets::Two)
         }
     };
@@ -124,8 +124,8 @@ pub(crate) fn cdsect(m: &mut Scan, brackets: Brackets, c: char) -> Result<bool, 
         m.mode = Mode::Between;
         Ok(true)
     } else if is_xml_char(c) {
-        m.run.push_str(brackets.text())?;
-        m.run.push(c)?;
+        m.tokens.push_str(brackets.text())?;
+        m.tokens.push(c)?;
         m.mode = Mode::CDSect(Brackets::None);
         Ok(true)
     } else {

@@ -2,14 +2,13 @@
 use Rattle.std.proofs.Common.{ℕ, zero, suc, ◌≡◌, ◌+◌, ◌-◌, ◌<◌, ◌≤◌, Bool, true, false, not, ◌&&◌, ◌||◌, eqb, List, [], ◌∷◌, ◌++◌, length, take, drop, get_or, Some, Ok, refl, sym, ap, ◌∙◌, subst, append_assoc, append-nil, arith, length-append, length-take, length-drop, eq-eqb, ltb-true, inl, inr}
 use Rattle.std.specs.Prelude.{nat_lt}
 use Rattle.std.specs.Char.{len_utf8}
-use Rattle.std.specs.List.{list_all, list_any}
+use Rattle.std.specs.List.{list_all}
 use Rattle.std.specs.Str.{chars, IsUtf8, IsAscii, IsCharBoundary}
 use Rattle.std.proofs.lemmas.Bool.{true≢false, false≢true, le-ltb, cases_lt, not-true, cond-false, cond-true, and_right, and_parts, and_from}
 use Rattle.std.proofs.lemmas.Bool.Decides.{nat_tests}
-use Rattle.std.proofs.lemmas.List.{take-append-drop, drop-drop, take_all, take-take, get_or-take, get_or-drop}
+use Rattle.std.proofs.lemmas.List.{take-append-drop, drop-drop, take_all, take-take, get_or-take}
 use Rattle.std.proofs.lemmas.List.Folds.{list_all-append}
 use Rattle.std.proofs.lemmas.Str.{chars-IsAscii, IsCharBoundary-before_ascii, encode_ascii, length-encode, len_utf8_bounds}
-use Rattle.memchr.specs.Find.{Nowhere, Passes, is_byte, is_byte3}
 use lib.Utf8.{encode, encodes}
 use Rattle.gcx_base.specs.Characters.{is_char, is_start_char, is_part_char}
 use Rattle.gcx_base.specs.declared.limits.Limits.{Limits}
@@ -287,47 +286,6 @@ name_span_front span text most end n m few b f = by span m
     by Comment m = absurd (false≢true m)
     by Instruction m = absurd (false≢true m)
     by CDSect m = absurd (false≢true m)
-
--- ---- bytes searched in blocks
-
-any_not : (p : ℕ → Bool) (xs : List ℕ) (k : ℕ) → list_any p xs ≡ false → k < length xs → p (get_or xs k 0) ≡ true → ⊥
-any_not p [] k e l h = omega arith
-any_not p (x ∷ xs) zero e l h = by (p x) h e
-  where
-    by : (b : Bool) → b ≡ true → b || list_any p xs ≡ false → ⊥
-    by true f g = true≢false g
-    by false f g = false≢true f
-any_not p (x ∷ xs) (suc k) e l h = any_not p xs k (by (p x) e) (omega arith) h
-  where
-    by : (b : Bool) → b || list_any p xs ≡ false → list_any p xs ≡ false
-    by true g = absurd (true≢false g)
-    by false g = g
-
-pub any_of_three : (a b c : ℕ) (xs : List ℕ) → (list_any (is_byte a) xs || list_any (is_byte b) xs) || list_any (is_byte c) xs ≡ list_any (is_byte3 a b c) xs
-any_of_three a b c [] = refl
-any_of_three a b c (x ∷ xs) = by (eqb x a) (eqb x b) (eqb x c) (list_any (is_byte a) xs) (list_any (is_byte b) xs) (list_any (is_byte c) xs) ∙ ap (λ r. ((eqb x a || eqb x b) || eqb x c) || r) (any_of_three a b c xs)
-  where
-    by : (p q r s t u : Bool) → ((p || s) || (q || t)) || (r || u) ≡ ((p || q) || r) || ((s || t) || u)
-    by true q r s t u = refl
-    by false true r true t u = refl
-    by false true r false t u = refl
-    by false false true true t u = refl
-    by false false true false true u = refl
-    by false false true false false u = refl
-    by false false false true t u = refl
-    by false false false false true u = refl
-    by false false false false false u = refl
-
-pub none_block : (p : ℕ → Bool) (bytes : List ℕ) (at n : ℕ) → n ≡ 16 → at + 16 ≤ length bytes → Nowhere (Passes p bytes) 0 at → list_any p (take n (drop at bytes)) ≡ false → Nowhere (Passes p bytes) 0 (at + 16)
-none_block p bytes at n is l h e k a b f =
-    elim (cases_lt k at) [
-      | inl below ↦ h k a below f
-      | inr from ↦
-          let i = k - at in
-          let same : at + i ≡ k = omega arith in
-          any_not p (take n (drop at bytes)) i e (omega (arith, is, length-take n (drop at bytes), length-drop at bytes))
-          (ap p (get_or-take n (drop at bytes) i 0 (omega arith) ∙ get_or-drop at bytes i 0 ∙ ap (λ j. get_or bytes j 0) same) ∙ f)
-    ]
 
 -- ---- the name of an end tag
 

@@ -1,3 +1,4 @@
 pub mod Spans
+pub mod Blocks
 pub mod Reading
 pub mod Wholes

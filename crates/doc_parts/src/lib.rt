@@ -2,6 +2,7 @@
 #![tactic(auto)]
 
 mod front;
+mod lanes;
 mod name;
 mod reference;
 mod span;

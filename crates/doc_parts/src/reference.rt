@@ -70,12 +70,12 @@ pub(crate) fn whole_reference(m: &mut Scan, limits: &Limits, rest: &str) -> Resu
     ensures moves { IfOk result (λ n. Moves limits.now (scan_state m.old) rest.now n (scan_state m.new)) }
     ensures tokens { OnErr result ((scan_state m.new).tokens ≡ (scan_state m.old).tokens) }
 {
-    if m.run.len() >= limits.text as usize {
+    if m.tokens.run_len() >= limits.text as usize {
         return Ok(0);
     }
     match entity_front(rest.as_bytes()) {
         Some(entity) => {
-            m.run.push(entity.character())?;
+            m.tokens.push(entity.character())?;
             Ok(entity.size())
         }
         None => Ok(0),

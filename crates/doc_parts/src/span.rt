@@ -1,13 +1,13 @@
 //! Characters that are read as a whole.
-ghost use Rattle.std.specs.Prelude.{◌≡◌, ◌≤◌, ◌||◌, length, MatchOption, ⊤};
-ghost use Rattle.std.specs.List.{list_any};
+ghost use Rattle.std.specs.Prelude.{◌≡◌, ◌≤◌, length, MatchOption, ⊤};
 ghost use Rattle.std.specs.Str.{IsCharBoundary};
-ghost use Rattle.memchr.specs.Find.{IsFirstByte, Nowhere, Passes, is_byte, is_byte3};
+ghost use Rattle.memchr.specs.Find.{IsFirstByte, Nowhere, Passes, is_byte3};
 ghost use Rattle.doc_chars.specs.Stream.{AreChars};
 ghost use Rattle.doc_machine.specs.Machine.{scan_state};
 ghost use Rattle.doc_machine.specs.Steps.{Becomes};
 ghost use Rattle.doc_parts.specs.Spans.{is_name_span, IsStop, IsSpanFront, IsSameFront, Allows, spread};
 
+use crate::lanes::{BLOCK, others_run};
 use crate::name::part_front;
 use doc_machine::{Brackets, Mode, Quote, Scan};
 use gcx_base::{Limits, Memory};
@@ -41,37 +41,10 @@ fn boundary_within(text: &str, most: usize) -> usize
     end
 }
 
-/// How many bytes are looked at in one go.
-const BLOCK: usize = 16;
-
 /// From how many bytes on they are searched many at a time.
 const FAR: usize = 1024;
 
-/// Whether one of the bytes is this one, in one pass that doesn't stop early.
-#[inline(always)]
-fn has_byte(a: u8, bytes: &[u8]) -> bool
-    ensures { result ≡ list_any (is_byte a) bytes.now }
-{
-    let mut found = false;
-    for x in bytes {
-        found |= *x == a;
-    }
-    found
-}
-
-/// Whether one of the bytes is among these.
-#[inline(always)]
-fn has_one_of(a: u8, b: u8, c: u8, bytes: &[u8]) -> bool
-    ensures { result ≡ (list_any (is_byte a) bytes.now || list_any (is_byte b) bytes.now)
-        || list_any (is_byte c) bytes.now }
-{
-    let first = has_byte(a, bytes);
-    let second = has_byte(b, bytes);
-    let third = has_byte(c, bytes);
-    first || second || third
-}
-
-/// How many bytes stand in the blocks at the front without one of these, up to `FAR`.
+/// How many bytes stand at the front without one of these, as far as blocks tell, up to some `FAR`.
 #[inline(always)]
 fn blocks_without(a: u8, b: u8, c: u8, bytes: &[u8]) -> usize
     ensures within { result ≤ length bytes.now }
@@ -79,8 +52,9 @@ fn blocks_without(a: u8, b: u8, c: u8, bytes: &[u8]) -> usize
 {
     let mut at = 0;
     while at < FAR && bytes.len() - at >= BLOCK {
-        if has_one_of(a, b, c, &bytes[at..at + BLOCK]) {
-            return at;
+        let run = others_run(a, b, c, bytes, at);
+        if run < BLOCK {
+            return at + run;
         }
         at += BLOCK;
     }
@@ -130,7 +104,8 @@ impl Span {
     {
         let found = match self {
             Span::Text => first_of(b'<', b'&', b'&', bytes),
-            Span::Value(quote) => first_of(b'<', b'&', quote.byte(), bytes),
+            Span::Value(Quote::Double) => first_of(b'<', b'&', b'"', bytes),
+            Span::Value(Quote::Single) => first_of(b'<', b'&', b'\'', bytes),
             Span::TagName | Span::AttributeName => None,
             Span::Comment => memchr(b'-', bytes),
             Span::Instruction => memchr(b'?', bytes),
@@ -162,7 +137,7 @@ pub(crate) fn span_at(m: &Scan, limits: &Limits) -> Option<(Span, usize)>
     ensures { MatchOption result ⊤ (λ p. Allows limits.now p.1 p.0 (scan_state m.now)) }
 {
     let most = limits.text as usize;
-    let run = m.run.len();
+    let run = m.tokens.run_len();
     if run > most {
         return None;
     }
@@ -184,7 +159,7 @@ pub(crate) fn keep(m: &mut Scan, span: Span, front: &str) -> Result<(), Memory>
     ensures { Becomes result (scan_state m.old) (spread span (scan_state m.old) front.now) (scan_state m.new) }
 {
     match span {
-        Span::Text | Span::Value(_) | Span::CDSect => m.run.push_str(front)?,
+        Span::Text | Span::Value(_) | Span::CDSect => m.tokens.push_str(front)?,
         Span::TagName => m.name.extend_from_slice(front.as_bytes())?,
         Span::AttributeName => m.attr.extend_from_slice(front.as_bytes())?,
         Span::Comment | Span::Instruction => {}

@@ -1,6 +1,8 @@
 //! What is read as a whole.
-ghost use Rattle.std.specs.Prelude.{◌≡◌, ◌≤◌, length, OnErr, IfOk};
+ghost use Rattle.std.specs.Prelude.{◌≡◌, ◌≤◌, true, length, IsTrue, OnErr, IfOk};
+ghost use Rattle.gcx_model.specs.Fronts.{is_inside};
 ghost use Rattle.doc_chars.specs.Stream.{AreChars};
+ghost use Rattle.doc_laws.specs.Machine.{Between};
 ghost use Rattle.doc_machine.specs.Machine.{scan_state};
 ghost use Rattle.doc_machine.specs.Sound.{IsSound};
 ghost use Rattle.doc_parts.specs.Reading.{Moves, Stops};
@@ -84,7 +86,7 @@ fn read_value(m: &mut Scan, limits: &Limits, quote: Quote, rest: &str) -> Result
     }
 }
 
-/// Reads the part at the front, if it is whole and plain, and says how many bytes it takes.
+/// Reads the part at the front that stands elsewhere, if it is whole and plain, and says how many bytes it takes.
 #[inline(always)]
 fn read_part(m: &mut Scan, limits: &Limits, rest: &str) -> Result<usize, Memory>
     requires chars { AreChars rest.now }
@@ -92,16 +94,43 @@ fn read_part(m: &mut Scan, limits: &Limits, rest: &str) -> Result<usize, Memory>
     ensures moves { IfOk result (λ n. Moves limits.now (scan_state m.old) rest.now n (scan_state m.new)) }
     ensures tokens { OnErr result ((scan_state m.new).tokens ≡ (scan_state m.old).tokens) }
 {
-    if m.run.len() > limits.text as usize {
+    if m.tokens.run_len() > limits.text as usize {
         return Ok(0);
     }
     match m.mode {
-        Mode::Between if m.names.has_open() => read_between(m, limits, rest),
         Mode::StartSpace => whole_attribute(m, limits, rest),
         Mode::InValue(quote) => read_value(m, limits, quote, rest),
         Mode::ValueEnd => whole_tag_end(m, limits, rest),
         Mode::EndName(i) => Ok(match_name(m, limits, i, rest)),
         _ => read_span(m, limits, rest),
+    }
+}
+
+/// Whether it stands between two tags of an element, within the limit of text.
+#[inline(always)]
+fn is_between(m: &Scan, limits: &Limits) -> bool
+    ensures mode { IsTrue result → (scan_state m.now).mode ≡ Between }
+    ensures inside { IsTrue result → is_inside (scan_state m.now).names ≡ true }
+    ensures run { IsTrue result → length (scan_state m.now).run ≤ limits.now.text }
+{
+    match m.mode {
+        Mode::Between => m.names.has_open() && m.tokens.run_len() <= limits.text as usize,
+        _ => false,
+    }
+}
+
+/// Reads the part at the front, wherever it stands: mostly between two tags.
+#[inline(always)]
+fn read_next(m: &mut Scan, limits: &Limits, rest: &str) -> Result<usize, Memory>
+    requires chars { AreChars rest.now }
+    requires sound { IsSound (scan_state m.old) }
+    ensures moves { IfOk result (λ n. Moves limits.now (scan_state m.old) rest.now n (scan_state m.new)) }
+    ensures tokens { OnErr result ((scan_state m.new).tokens ≡ (scan_state m.old).tokens) }
+{
+    if is_between(m, limits) {
+        read_between(m, limits, rest)
+    } else {
+        read_part(m, limits, rest)
     }
 }
 
@@ -115,7 +144,7 @@ pub fn read_front(m: &mut Scan, limits: &Limits, text: &str) -> Result<usize, Me
     let mut at = 0;
     loop {
         let (_, rest) = text.split_at(at);
-        let n = read_part(m, limits, rest)?;
+        let n = read_next(m, limits, rest)?;
         if n == 0 {
             return Ok(at);
         }

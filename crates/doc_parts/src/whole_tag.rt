@@ -20,7 +20,7 @@ fn open_named(m: &mut Scan, name: &[u8]) -> Result<(), Memory>
     requires { IsNameBytes name.now }
     ensures { Becomes result (scan_state m.old) (opened (begun (named (scan_state m.old) name.now))) (scan_state m.new) }
 {
-    m.tokens.begin_tag(m.alloc, &mut m.run, name)?;
+    m.tokens.begin_tag(name)?;
     m.names.push(name)?;
     behind_tag(m);
     Ok(())
@@ -31,7 +31,7 @@ fn empty_named(m: &mut Scan, name: &[u8]) -> Result<(), Memory>
     requires { IsNameBytes name.now }
     ensures { Becomes result (scan_state m.old) (emptied (begun (named (scan_state m.old) name.now))) (scan_state m.new) }
 {
-    m.tokens.begin_tag(m.alloc, &mut m.run, name)?;
+    m.tokens.begin_tag(name)?;
     empty_element(m)
 }
 
@@ -41,7 +41,7 @@ fn begin_named(m: &mut Scan, name: &[u8]) -> Result<(), Memory>
     ensures { Becomes result (scan_state m.old)
         (record (begun (named (scan_state m.old) name.now)) { mode = StartSpace }) (scan_state m.new) }
 {
-    m.tokens.begin_tag(m.alloc, &mut m.run, name)?;
+    m.tokens.begin_tag(name)?;
     m.name.clear();
     m.name.extend_from_slice(name)?;
     m.mode = Mode::StartSpace;

@@ -5,5 +5,6 @@ pub mod Givings
 pub mod Judgings
 pub mod Counts
 pub mod Standings
+pub mod Owning
 pub mod Accepting
 pub mod Reading

@@ -15,12 +15,11 @@ use Rattle.doc_laws.proofs.Faults.{start_reads}
 use Rattle.doc_laws.proofs.LastTag.{longest_so_far}
 use Rattle.doc_laws.proofs.Pieces.{Stands as Kept, fault_stays, end_cut, end_short, end_whole, stands_place}
 use Rattle.doc_laws.proofs.Unique.{fault_one}
-use Rattle.doc_tokens.specs.Tokens.{TakesFirst}
 use Rattle.doc_tokens.specs.declared.token.Token.{Token}
 use Rattle.doc_tokens.specs.declared.token.Token.TheVariants.{EndOfDocument}
-use Rattle.doc_reader.specs.Standing.{ReaderView, end_token, waiting, with_given, Gives, GivesBy, IsFault, IsReading, HasRead, HasStopped, HasLost, GoesOnBy, GoesOn, Stands, IsRefused, given_token}
+use Rattle.doc_reader.specs.Standing.{ReaderView, end_token, waiting, with_given, Gives, GivesBy, IsFault, IsReading, HasRead, HasStopped, HasLost, GoesOnBy, GoesOn, Stands, IsRefused, with_tokens, given_token, said_of}
 use Rattle.doc_reader.specs.Piece.{Took, IsSame, Ends}
-use Rattle.doc_reader.proofs.Givings.{map-append, gives_open, gives_whole, gives_more}
+use Rattle.doc_reader.proofs.Givings.{map-append, said-map, gives_open, gives_whole, gives_more}
 use Rattle.doc_reader.proofs.Pieces.{kept_of, all_read, took_more, no_fault_yet}
 
 some_none : (f : DocFault) → Some f ≡ None → ⊥
@@ -135,49 +134,37 @@ stands_still h lim b more given n s =
     by None n q k = absurd (n refl)
     by (Some f) n q k = took_more h lim b more given f (q, k)
 
--- ---- a token is taken
+-- memory ran out behind the piece, and the tokens that wait are those before it
+pub stands_lost : (old new : ReaderView) (lim : Limits) (b more : List ℕ) (given : List Token) → old.refused ≡ None → new.limits ≡ lim → new.finished ≡ false → new.end_waits ≡ false → new.refused ≡ Some Memory → new.state.tokens ≡ old.state.tokens → Stands old lim b false given → Stands new lim (b ++ more) false given
+stands_lost old new lim b more given none l f e refused tokens s =
+    let r = reading_of old lim b given none s in
+    let lost : HasLost old.state.tokens lim (b ++ more) given = (took_more old lim b more given Memory (record { chars = r.chars; read = all_read old lim b given r }, tt)).0 in
+    stands_open new lim (b ++ more) given l f e
+    (subst (λ o. GoesOnBy o new lim (b ++ more) given) (sym refused) (subst (λ ts. HasLost ts lim (b ++ more) given) (sym tokens) lost))
+    (subst (λ o. IsFault o lim (b ++ more) false) (sym refused) tt)
 
-pub first_taken : (o : Option Token) (ts rest : List Said) (t : Token) → TakesFirst o ts rest → o ≡ Some t → (s : Said) × (ts ≡ s ∷ rest) × (t ≡ given_token s)
-first_taken o [] rest t h e = let no : ⊥ = none_some t (sym h.0 ∙ e) in absurd no
-  where
-    none_some : (t : Token) → None ≡ Some t → ⊥
-    none_some t e = cc
-first_taken o (s ∷ ts) rest t h e = (s, ap (λ l. s ∷ l) (sym h.1), same t (given_token s) (sym e ∙ h.0))
-  where
-    same : (t u : Token) → Some t ≡ Some u → t ≡ u
-    same t u e = cc
+-- ---- the first tokens are taken
 
-pub none_taken : (o : Option Token) (ts rest : List Said) → TakesFirst o ts rest → o ≡ None → (ts ≡ []) × (rest ≡ [])
-none_taken o [] rest h e = (refl, h.1)
-none_taken o (s ∷ ts) rest h e = absurd (some_no (given_token s) (sym h.0 ∙ e))
-  where
-    some_no : (t : Token) → Some t ≡ None → ⊥
-    some_no t e = cc
+module _ (h : ReaderView) (ts rest : List Said) (first : h.state.tokens ≡ ts ++ rest) (lim : Limits) (b : List ℕ) (given : List Token) where
+  given_more : (before : List Said) → given ≡ map given_token before → given ++ map given_token ts ≡ map given_token (before ++ ts)
+  given_more before e = ap (λ l. l ++ map given_token ts) e ∙ sym (map-append before ts)
 
--- a reader whose first token was taken
-abbrev pub popped : ReaderView → List Said → ReaderView
-popped h rest = record h { state = record h.state { tokens = rest } }
-
-module _ (h : ReaderView) (s : Said) (rest : List Said) (first : h.state.tokens ≡ s ∷ rest) (lim : Limits) (b : List ℕ) (given : List Token) where
-  given_more : (before : List Said) → given ≡ map given_token before → given ++ (given_token s ∷ []) ≡ map given_token (before ++ (s ∷ []))
-  given_more before e = ap (λ l. l ++ (given_token s ∷ [])) e ∙ sym (map-append before (s ∷ []))
-
-  read_popped : (chars : List ℕ) → HasRead h.state.tokens lim b chars given → HasRead rest lim b chars (given ++ (given_token s ∷ []))
-  read_popped chars r = record {
+  read_taken : (chars : List ℕ) → HasRead h.state.tokens lim b chars given → HasRead rest lim b chars (given ++ map given_token ts)
+  read_taken chars r = record {
     rest = r.rest;
     scalars_are = r.scalars_are;
     parts = r.parts;
     within = r.within;
     clean = r.clean;
-    before = r.before ++ (s ∷ []);
+    before = r.before ++ ts;
     given_are = given_more r.before r.given_are;
     state = r.state;
-    tokens_are = r.tokens_are ∙ ap (λ l. r.before ++ l) first ∙ sym (append_assoc r.before (s ∷ []) rest);
+    tokens_are = r.tokens_are ∙ ap (λ l. r.before ++ l) first ∙ sym (append_assoc r.before ts rest);
     front = r.front;
   }
 
-  reading_popped : IsReading h lim b given → IsReading (popped h rest) lim b (given ++ (given_token s ∷ []))
-  reading_popped r = record {
+  reading_taken : IsReading h lim b given → IsReading (with_tokens h rest) lim b (given ++ map given_token ts)
+  reading_taken r = record {
     chars = r.chars;
     stream = r.stream;
     place = r.place;
@@ -185,40 +172,120 @@ module _ (h : ReaderView) (s : Said) (rest : List Said) (first : h.state.tokens 
     within = r.within;
     clean = r.clean;
     short = r.short;
-    before = r.before ++ (s ∷ []);
+    before = r.before ++ ts;
     given_are = given_more r.before r.given_are;
-    front = subst (λ l. Fronts r.chars (record h.state { tokens = l })) (ap (λ l. r.before ++ l) first ∙ sym (append_assoc r.before (s ∷ []) rest)) r.front;
+    front = subst (λ l. Fronts r.chars (record h.state { tokens = l })) (ap (λ l. r.before ++ l) first ∙ sym (append_assoc r.before ts rest)) r.front;
   }
 
-  stopped_popped : HasStopped h.state.tokens lim b given → HasStopped rest lim b (given ++ (given_token s ∷ []))
-  stopped_popped q = record { chars = q.chars; read = read_popped q.chars q.read; longest = q.longest }
+  stopped_taken : HasStopped h.state.tokens lim b given → HasStopped rest lim b (given ++ map given_token ts)
+  stopped_taken q = record { chars = q.chars; read = read_taken q.chars q.read; longest = q.longest }
 
-  goes_popped : (o : Option DocFault) → GoesOnBy o h lim b given → GoesOnBy o (popped h rest) lim b (given ++ (given_token s ∷ []))
-  goes_popped None q = reading_popped q
-  goes_popped (Some Memory) q = record { chars = q.chars; read = read_popped q.chars q.read }
-  goes_popped (Some (Utf8 n)) q = stopped_popped q
-  goes_popped (Some (Syntax n)) q = stopped_popped q
-  goes_popped (Some (Truncated n)) q = stopped_popped q
-  goes_popped (Some (Depth n)) q = stopped_popped q
-  goes_popped (Some (NameLong n)) q = stopped_popped q
-  goes_popped (Some (TextLong n)) q = stopped_popped q
-  goes_popped (Some (TooLong n)) q = stopped_popped q
+  goes_taken : (o : Option DocFault) → GoesOnBy o h lim b given → GoesOnBy o (with_tokens h rest) lim b (given ++ map given_token ts)
+  goes_taken None q = reading_taken q
+  goes_taken (Some Memory) q = record { chars = q.chars; read = read_taken q.chars q.read }
+  goes_taken (Some (Utf8 n)) q = stopped_taken q
+  goes_taken (Some (Syntax n)) q = stopped_taken q
+  goes_taken (Some (Truncated n)) q = stopped_taken q
+  goes_taken (Some (Depth n)) q = stopped_taken q
+  goes_taken (Some (NameLong n)) q = stopped_taken q
+  goes_taken (Some (TextLong n)) q = stopped_taken q
+  goes_taken (Some (TooLong n)) q = stopped_taken q
 
-  on_popped : (ended : Bool) → GoesOn ended h lim b given → GoesOn ended (popped h rest) lim b (given ++ (given_token s ∷ []))
-  on_popped true q = tt
-  on_popped false q = (q.0, goes_popped h.refused q.1)
+  on_taken : (ended : Bool) → GoesOn ended h lim b given → GoesOn ended (with_tokens h rest) lim b (given ++ map given_token ts)
+  on_taken true q = tt
+  on_taken false q = (q.0, goes_taken h.refused q.1)
 
-  pub stands_popped : (ended : Bool) → Stands h lim b ended given → Stands (popped h rest) lim b ended (given ++ (given_token s ∷ []))
-  stands_popped ended q = record {
+  pub stands_taken : (ended : Bool) → Stands h lim b ended given → Stands (with_tokens h rest) lim b ended (given ++ map given_token ts)
+  stands_taken ended q = record {
     limits = q.limits;
     finished = q.finished;
     fault = q.fault;
-    gives = subst (GivesBy h.refused lim b ended) (ap (λ l. given ++ (map given_token l ++ end_token h.end_waits)) first ∙ sym (append_assoc given (given_token s ∷ []) (map given_token rest ++ end_token h.end_waits))) q.gives;
-    goes_on = on_popped ended q.goes_on;
+    gives = subst (GivesBy h.refused lim b ended) (ap (λ l. given ++ (l ++ end_token h.end_waits)) (ap (map given_token) first ∙ map-append ts rest) ∙ ap (λ l. given ++ l) (append_assoc (map given_token ts) (map given_token rest) (end_token h.end_waits)) ∙ sym (append_assoc given (map given_token ts) (map given_token rest ++ end_token h.end_waits))) q.gives;
+    goes_on = on_taken ended q.goes_on;
+  }
+
+-- the tokens that were given last, and those before them
+pub record Split (given : List Token) (ts before : List Said) : Type 0 where
+  pub first : List Said
+  pub given_are : given ≡ map given_token first
+  pub parts : before ≡ first ++ ts
+
+split_given : (given : List Token) (ts before : List Said) → given ++ map given_token ts ≡ map given_token before → Split given ts before
+split_given [] ts before e = record { first = []; given_are = refl; parts = sym (said-map before) ∙ sym (ap (map said_of) e) ∙ said-map ts }
+split_given (t ∷ given) ts [] e = absurd (none t (given ++ map given_token ts) e)
+  where
+    none : (t : Token) (l : List Token) → t ∷ l ≡ [] → ⊥
+    none t l e = cc
+split_given (t ∷ given) ts (s ∷ before) e =
+    let parts = same t (given_token s) (given ++ map given_token ts) (map given_token before) e in
+    let q = split_given given ts before parts.1 in
+    record { first = s ∷ q.first; given_are = (λ i. parts.0 i ∷ q.given_are i); parts = ap (λ l. s ∷ l) q.parts }
+  where
+    same : (t u : Token) (l m : List Token) → t ∷ l ≡ u ∷ m → (t ≡ u) × (l ≡ m)
+    same t u l m e = (cc, cc)
+
+module _ (h : ReaderView) (ts : List Said) (lim : Limits) (b : List ℕ) (given : List Token) where
+  read_put : (chars : List ℕ) → HasRead h.state.tokens lim b chars (given ++ map given_token ts) → HasRead (ts ++ h.state.tokens) lim b chars given
+  read_put chars r =
+      let q = split_given given ts r.before r.given_are in
+      record {
+        rest = r.rest;
+        scalars_are = r.scalars_are;
+        parts = r.parts;
+        within = r.within;
+        clean = r.clean;
+        before = q.first;
+        given_are = q.given_are;
+        state = r.state;
+        tokens_are = r.tokens_are ∙ ap (λ l. l ++ h.state.tokens) q.parts ∙ append_assoc q.first ts h.state.tokens;
+        front = r.front;
+      }
+
+  reading_put : IsReading h lim b (given ++ map given_token ts) → IsReading (with_tokens h (ts ++ h.state.tokens)) lim b given
+  reading_put r =
+      let q = split_given given ts r.before r.given_are in
+      record {
+        chars = r.chars;
+        stream = r.stream;
+        place = r.place;
+        count = r.count;
+        within = r.within;
+        clean = r.clean;
+        short = r.short;
+        before = q.first;
+        given_are = q.given_are;
+        front = subst (λ l. Fronts r.chars (record h.state { tokens = l })) (ap (λ l. l ++ h.state.tokens) q.parts ∙ append_assoc q.first ts h.state.tokens) r.front;
+      }
+
+  stopped_put : HasStopped h.state.tokens lim b (given ++ map given_token ts) → HasStopped (ts ++ h.state.tokens) lim b given
+  stopped_put q = record { chars = q.chars; read = read_put q.chars q.read; longest = q.longest }
+
+  goes_put : (o : Option DocFault) → GoesOnBy o h lim b (given ++ map given_token ts) → GoesOnBy o (with_tokens h (ts ++ h.state.tokens)) lim b given
+  goes_put None q = reading_put q
+  goes_put (Some Memory) q = record { chars = q.chars; read = read_put q.chars q.read }
+  goes_put (Some (Utf8 n)) q = stopped_put q
+  goes_put (Some (Syntax n)) q = stopped_put q
+  goes_put (Some (Truncated n)) q = stopped_put q
+  goes_put (Some (Depth n)) q = stopped_put q
+  goes_put (Some (NameLong n)) q = stopped_put q
+  goes_put (Some (TextLong n)) q = stopped_put q
+  goes_put (Some (TooLong n)) q = stopped_put q
+
+  on_put : (ended : Bool) → GoesOn ended h lim b (given ++ map given_token ts) → GoesOn ended (with_tokens h (ts ++ h.state.tokens)) lim b given
+  on_put true q = tt
+  on_put false q = (q.0, goes_put h.refused q.1)
+
+  pub stands_put : (ended : Bool) → Stands h lim b ended (given ++ map given_token ts) → Stands (with_tokens h (ts ++ h.state.tokens)) lim b ended given
+  stands_put ended q = record {
+    limits = q.limits;
+    finished = q.finished;
+    fault = q.fault;
+    gives = subst (GivesBy h.refused lim b ended) (append_assoc given (map given_token ts) (map given_token h.state.tokens ++ end_token h.end_waits) ∙ ap (λ l. given ++ l) (sym (append_assoc (map given_token ts) (map given_token h.state.tokens) (end_token h.end_waits))) ∙ ap (λ l. given ++ (l ++ end_token h.end_waits)) (sym (map-append ts h.state.tokens))) q.gives;
+    goes_on = on_put ended q.goes_on;
   }
 
 -- the end of the document is taken
-pub stands_told : (h : ReaderView) (lim : Limits) (b : List ℕ) (ended : Bool) (given : List Token) → h.state.tokens ≡ [] → h.end_waits ≡ true → Stands h lim b ended given → Stands (record h { end_waits = false }) lim b ended (given ++ (EndOfDocument ∷ []))
+stands_told : (h : ReaderView) (lim : Limits) (b : List ℕ) (ended : Bool) (given : List Token) → h.state.tokens ≡ [] → h.end_waits ≡ true → Stands h lim b ended given → Stands (record h { end_waits = false }) lim b ended (given ++ (EndOfDocument ∷ []))
 stands_told h lim b false given e w q = absurd (true≢false (sym w ∙ q.goes_on.0))
 stands_told h lim b true given e w q = record {
   limits = q.limits;
@@ -227,6 +294,14 @@ stands_told h lim b true given e w q = record {
   gives = subst (GivesBy h.refused lim b true) ((λ i. given ++ (map given_token (e i) ++ end_token (w i))) ∙ sym (append-nil (given ++ (EndOfDocument ∷ []))) ∙ ap (λ l. (given ++ (EndOfDocument ∷ [])) ++ (map given_token l ++ [])) (sym e)) q.gives;
   goes_on = tt;
 }
+
+-- it is taken, or doesn't wait
+pub stands_ended : (h : ReaderView) (lim : Limits) (b : List ℕ) (ended : Bool) (given : List Token) → h.state.tokens ≡ [] → Stands h lim b ended given → Stands (record h { end_waits = false }) lim b ended (given ++ end_token h.end_waits)
+stands_ended h lim b ended given none s = by h.end_waits refl
+  where
+    by : (w : Bool) → h.end_waits ≡ w → Stands (record h { end_waits = false }) lim b ended (given ++ end_token w)
+    by true e = stands_told h lim b ended given none e s
+    by false e = subst (λ l. Stands (record h { end_waits = false }) lim b ended l) (sym (append-nil given)) (subst (λ w. Stands (record h { end_waits = w }) lim b ended given) e s)
 
 -- ---- the end of the input
 

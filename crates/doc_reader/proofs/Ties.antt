@@ -1,5 +1,5 @@
 -- The characters of a stream and those of the faults are the same.
-use Rattle.std.proofs.Common.{ℕ, ◌≡◌, ◌+◌, true, List, ◌++◌, Option, Some, None}
+use Rattle.std.proofs.Common.{ℕ, ◌≡◌, true, List, ◌++◌, Option, Some, None}
 use lib.Utf8.{scalars, encodes}
 use Rattle.gcx_model.specs.Faults as faults
 use Rattle.doc_chars.specs.declared.chars.CharFault.{CharFault}

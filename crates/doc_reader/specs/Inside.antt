@@ -2,7 +2,7 @@
 -- What contracts see of a reader, and what its fields keep.
 use Rattle.std.specs.Prelude.{◌+◌, ◌≤◌, length}
 use Rattle.doc_reader.specs.Standing.{ReaderView}
-use Rattle.doc_reader.specs.declared.reader.Reader.TheInside.{Inside}
+use Rattle.doc_reader.specs.declared.lent_reader.LentReader.TheInside.{Inside}
 
 abbrev pub view_of : Inside → ReaderView
 view_of r = record { limits = r.limits; state = r.machine; carry = r.chars; place = r.place; count = r.count; refused = r.refused; finished = r.finished; end_waits = r.end_waits }

@@ -1,13 +1,11 @@
 -- These definitions follow the code; no public clause speaks of them.
--- What reading a text answers, and what taking a token does (this project's).
-use Rattle.std.specs.Prelude.{ℕ, ◌≡◌, ◌+◌, List, ◌∷◌, ◌++◌, Option, Result, Ok, Err}
+-- What reading a text answers (this project's).
+use Rattle.std.specs.Prelude.{ℕ, ◌≡◌, ◌+◌, List, ◌∷◌, ◌++◌, Result, Ok, Err}
 use Rattle.gcx_base.specs.declared.limits.Limits.{Limits}
 use Rattle.gcx_model.specs.Faults.{Refusal as Fault, size}
 use Rattle.gcx_model.specs.Tree as tree
 use Rattle.doc_laws.specs.Machine.{State}
 use Rattle.doc_laws.specs.Judging.{judged, judged_steps}
-use Rattle.doc_tokens.specs.declared.token.Token.{Token}
-use Rattle.doc_tokens.specs.Tokens.{TakesFirst}
 use Rattle.doc_machine.specs.declared.stop.Stop.{Stop}
 use Rattle.doc_machine.specs.declared.stop.Stop.TheVariants.{Refused, Memory}
 use Rattle.doc_machine.specs.Refusals.{fault}
@@ -37,8 +35,3 @@ abbrev pub Judged : {T : Type 0} → Result T Stop → Limits → ℕ → State 
 Judged (Ok x) lim place old cs new = judged_steps lim place old cs ≡ Ok new
 Judged (Err (Refused r)) lim place old cs new = Refuses lim place old cs (fault r) new.tokens
 Judged (Err Memory) lim place old cs new = ReadsFront lim place old cs new.tokens
-
--- the first token of the whole tags is taken, if there is one, and all else is the same
-pub record TakesWhole (o : Option Token) (old new : State) : Type 0 where
-  pub takes : TakesFirst o old.tokens new.tokens
-  pub same : new ≡ record old { tokens = new.tokens }

@@ -3,3 +3,4 @@ pub mod Standing
 pub mod Inside
 pub mod Piece
 pub mod Reading
+pub mod Owned

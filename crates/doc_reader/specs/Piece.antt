@@ -11,7 +11,6 @@ use Rattle.doc_laws.specs.Machine.{State, is_whole}
 use Rattle.doc_laws.specs.Judging.{judged_steps}
 use Rattle.doc_tokens.specs.declared.token.Token.{Token}
 use Rattle.doc_machine.specs.declared.stop.Stop.{Stop}
-use Rattle.doc_machine.specs.declared.stop.Stop.TheVariants.{Refused, Memory}
 use Rattle.doc_reader.specs.Judged.{Judged}
 use Rattle.doc_reader.specs.Standing.{ReaderView, IsFault, GoesOnBy}
 

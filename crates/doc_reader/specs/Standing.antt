@@ -15,6 +15,8 @@ use Rattle.doc_laws.specs.States.{Fronts}
 pub use Rattle.doc_tokens.specs.declared.token.Token.{Token}
 pub use Rattle.doc_tokens.specs.declared.token.Token.TheVariants.{EndOfDocument}
 pub use Rattle.doc_tokens.specs.Given.{given_token, said_of}
+pub use Rattle.doc_tokens.specs.declared.lent.Lent.{Lent}
+pub use Rattle.doc_tokens.specs.Parts.{lent_token, LiesWithin, AllLieWithin, AreLent}
 
 -- the end of the document node, as a reader gives it
 abbrev pub given_end : Said → Token
@@ -89,6 +91,10 @@ Answers (Err f) lim b ended = IsFault (Some f) lim b ended
 -- a state whose first tokens were given
 abbrev pub with_given : List Said → State → State
 with_given before s = record s { tokens = before ++ s.tokens }
+
+-- a reader with these tokens
+abbrev pub with_tokens : ReaderView → List Said → ReaderView
+with_tokens h rest = record h { state = record h.state { tokens = rest } }
 
 -- All characters of the bytes were read and make no fault, and a front of a character is carried.
 pub record IsReading (h : ReaderView) (lim : Limits) (b : List ℕ) (given : List Token) : Type 0 where

@@ -1,16 +1,17 @@
 //! The machine that reads characters.
-ghost use Rattle.std.specs.Prelude.{◌≡◌, ◌+◌, ◌<◌, ◌^◌, length};
+ghost use Rattle.std.specs.Prelude.{◌≡◌, ◌+◌, ◌<◌, ◌≤◌, ◌^◌, length, drop};
 ghost use Rattle.std.specs.Str.{chars};
 ghost use Rattle.doc_chars.specs.Stream.{AreChars};
 ghost use Rattle.doc_laws.specs.Machine.{start, is_whole};
+ghost use Rattle.doc_tokens.specs.Parts.{AreLent};
 ghost use Rattle.doc_machine.specs.Machine.{scan_state};
-ghost use Rattle.doc_reader.specs.Judged.{Judged, TakesWhole};
+ghost use Rattle.doc_reader.specs.Judged.{Judged};
 
 mod read;
 
 use self::read::read;
 use doc_machine::{Mode, Scan, Stop};
-use doc_tokens::{AttrNames, OpenNames, Run, Token, Tokens};
+use doc_tokens::{AttrNames, Lent, OpenNames, Tokens};
 use gcx_base::Limits;
 use std::alloc::Global;
 use std::marker::Model;
@@ -39,12 +40,10 @@ pub(crate) fn new_machine(alloc: Global) -> Machine
 {
     Machine {
         scan: Scan {
-            alloc,
             mode: Mode::Opening,
             names: OpenNames::new(alloc),
             rooted: false,
             typed: false,
-            run: Run::new(alloc),
             name: Vec::new(alloc),
             attrs: AttrNames::new(alloc),
             attr: Vec::new(alloc),
@@ -63,11 +62,21 @@ pub(crate) fn has_whole(m: &Machine) -> bool
     }
 }
 
-/// Takes the first token of the whole tags. None exactly where there is none.
-pub(crate) fn next_whole(m: &mut Machine) -> Option<Token>
-    ensures { TakesWhole result m.old m.new }
+/// The tokens of the whole tags, with their bytes.
+#[inline(always)]
+pub(crate) fn lent_whole(m: &Machine) -> (&[Lent], &[u8])
+    ensures { AreLent result.0.now result.1.now m.now.tokens }
 {
-    m.scan.tokens.next()
+    m.scan.tokens.lent()
+}
+
+/// Takes so many of them.
+#[inline(always)]
+pub(crate) fn take_whole(m: &mut Machine, count: usize)
+    requires { count ≤ length m.old.tokens }
+    ensures { m.new ≡ record m.old { tokens = drop count m.old.tokens } }
+{
+    m.scan.tokens.take(count);
 }
 
 /// Reads characters, the first of which stands at byte `place` of the document.

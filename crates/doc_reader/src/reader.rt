@@ -1,29 +1,23 @@
-ghost use Rattle.std.specs.Prelude.{◌≡◌, ◌+◌, ◌≤◌, ◌++◌, [], ℕ, List, length, Bool, false, true, OnOk};
-ghost use Rattle.doc_reader.specs.Piece.{char_fault as fault_of_char};
+ghost use Rattle.std.specs.Prelude.{◌≡◌, ◌≤◌, ◌∷◌, ◌++◌, [], ℕ, List, Bool, false, true, length, take, map, OnOk, OnErr};
+ghost use Rattle.doc_tokens.specs.Given.{given_token};
+ghost use Rattle.doc_tokens.specs.Parts.{lent_token, AllLieWithin, LiesWithin};
+ghost use Rattle.doc_reader.specs.Standing.{with_tokens, end_token, taken};
 
-use crate::machine::{Machine, has_whole, new_machine, next_whole};
-use crate::piece::read_split;
-use doc_chars::{CharFault, Chars};
-use doc_tokens::Token;
-use gcx_base::Limits;
+use crate::lent_reader::LentReader;
+use doc_tokens::{Lent, Token};
+use gcx_base::{Limits, Memory};
 use gcx_model::DocFault;
 use std::alloc::Global;
+use std::collections::VecDeque;
 use std::marker::Model;
 
 /// A reader of one document in pieces.
 #[derive(Drop)]
 pub struct Reader {
-    machine: Machine,
-    chars: Chars,
-    limits: Limits,
-    /// How many bytes the characters take that the machine read.
-    place: u64,
-    /// How many bytes were fed, of those that may be.
-    count: u64,
-    refused: Option<DocFault>,
-    finished: bool,
-    /// Whether the document ended, and the token that says so wasn't given.
-    end_waits: bool,
+    alloc: Global,
+    lent: LentReader,
+    /// The tokens that wait, but the one that says that the document ended.
+    waits: VecDeque<Token>,
 }
 
 impl Model for Reader {
@@ -31,26 +25,96 @@ impl Model for Reader {
 
     ghost Value = { ReaderView };
 
-    ghost use Rattle.doc_reader.specs.Inside.{view_of, IsInOrder};
+    ghost use Rattle.doc_reader.specs.Owned.{owned_view, IsDrained};
 
-    ghost view = { view_of };
+    ghost view = { owned_view };
 
-    ghost invariant = { IsInOrder };
+    ghost invariant = { IsDrained };
 }
 
-/// What isn't a character of a document.
-fn char_fault(fault: CharFault) -> DocFault
-    ensures { result ≡ fault_of_char fault }
+/// Puts the token behind the others.
+fn put_one(
+    alloc: Global,
+    token: Lent,
+    bytes: &[u8],
+    waits: &mut VecDeque<Token>,
+) -> Result<(), Memory>
+    requires { LiesWithin 0 (length bytes.now) bytes.now token }
+    ensures ok { OnOk result (waits.new.items ≡ waits.old.items ++ (given_token (lent_token bytes.now token) ∷ [])) }
+    ensures err { OnErr result (waits.new.items ≡ waits.old.items) }
 {
-    match fault {
-        CharFault::Utf8(place) => DocFault::Utf8(place),
-        CharFault::Char(place) => DocFault::Syntax(place),
+    let token = token.owned(alloc, bytes)?;
+    waits.push_back(token)?;
+    Ok(())
+}
+
+/// Puts the tokens behind the others, after `Memory` some of them.
+fn put_some(
+    alloc: Global,
+    lent: &[Lent],
+    bytes: &[u8],
+    waits: &mut VecDeque<Token>,
+) -> Result<(), Memory>
+    requires { AllLieWithin 0 (length bytes.now) bytes.now lent.now }
+    ensures ok { OnOk result (waits.new.items
+        ≡ waits.old.items ++ map given_token (map (lent_token bytes.now) lent.now)) }
+    ensures err { OnErr result (take (length waits.old.items) waits.new.items ≡ waits.old.items) }
+{
+    for token in lent {
+        put_one(alloc, *token, bytes, waits)?;
+    }
+    Ok(())
+}
+
+/// Puts the tokens behind the others, all or none of them.
+fn put_all(
+    alloc: Global,
+    lent: &[Lent],
+    bytes: &[u8],
+    waits: &mut VecDeque<Token>,
+) -> Result<(), Memory>
+    requires { AllLieWithin 0 (length bytes.now) bytes.now lent.now }
+    ensures ok { OnOk result (waits.new.items
+        ≡ waits.old.items ++ map given_token (map (lent_token bytes.now) lent.now)) }
+    ensures err { OnErr result (waits.new.items ≡ waits.old.items) }
+{
+    let before = waits.len();
+    match put_some(alloc, lent, bytes, waits) {
+        Ok(()) => Ok(()),
+        Err(memory) => {
+            waits.truncate(before);
+            Err(memory)
+        }
+    }
+}
+
+/// Takes the tokens that are lent, and puts them behind the others, all or none of them.
+fn own_all(alloc: Global, lent: &mut LentReader, waits: &mut VecDeque<Token>) -> Result<(), Memory>
+    ensures ok { OnOk result (waits.new.items ≡ waits.old.items ++ map given_token lent.old.state.tokens) }
+    ensures err { OnErr result (waits.new.items ≡ waits.old.items) }
+    ensures lent { lent.new ≡ with_tokens lent.old [] }
+{
+    let (tokens, bytes) = lent.lent();
+    let count = tokens.len();
+    let put = put_all(alloc, tokens, bytes, waits);
+    lent.take_lent(count);
+    put
+}
+
+/// The token that says that the document ended, where it did.
+#[inline(always)]
+fn ended_token(ended: bool) -> Option<Token>
+    ensures { taken result ≡ end_token ended }
+{
+    if ended {
+        Some(Token::EndOfDocument)
+    } else {
+        None
     }
 }
 
 impl Reader {
-    ghost use Rattle.doc_reader.specs.Standing.{Stands, IsReading, IsOpen, IsDone, IsRefused, Answers, Takes, taken, Keeps, Accepted, waiting, answer_of};
-    ghost use Rattle.doc_reader.specs.Piece.{Took, Ends, IsSame};
+    ghost use Rattle.doc_reader.specs.Standing.{Stands, IsOpen, IsDone, IsRefused, Answers, Takes, Keeps, Accepted, waiting, answer_of};
 
     /// A reader that has read nothing. The limits are at most 1,000 elements and 1,099,511,627,776 bytes.
     pub fn new(alloc: Global, limits: Limits) -> Reader
@@ -60,16 +124,9 @@ impl Reader {
         ensures open { IsOpen result }
         ensures nothing { waiting result ≡ [] }
     {
-        Reader {
-            machine: new_machine(alloc),
-            chars: Chars::new(),
-            limits,
-            place: 0,
-            count: 0,
-            refused: None,
-            finished: false,
-            end_waits: false,
-        }
+        let lent = LentReader::new(alloc, limits);
+        let waits = VecDeque::new(alloc);
+        Reader { alloc, lent, waits }
     }
 
     /// Takes the next piece. The tokens of its whole tags wait, up to the first fault, which is the error then and from then on.
@@ -95,16 +152,9 @@ impl Reader {
             → Stands self.new lim b ended (given ++ taken result) }
         ensures keeps { Keeps self.old self.new }
     {
-        match next_whole(&mut self.machine) {
+        match self.waits.pop_front() {
             Some(token) => Some(token),
-            None => {
-                if self.end_waits {
-                    self.end_waits = false;
-                    Some(Token::EndOfDocument)
-                } else {
-                    None
-                }
-            }
+            None => ended_token(self.lent.take_end()),
         }
     }
 
@@ -123,20 +173,16 @@ impl Reader {
         ensures refused { IsRefused self.old → answer_of self.new ≡ answer_of self.old }
         ensures same { IsRefused self.old → waiting self.new ≡ waiting self.old }
     {
-        self.end();
-        self.answer()
+        self.lent.finish()
     }
 
     fn answer(&self) -> Result<(), DocFault>
         ensures { result ≡ answer_of self.now }
     {
-        match self.refused {
-            Some(fault) => Err(fault),
-            None => Ok(()),
-        }
+        self.lent.answer()
     }
 
-    /// Reads a piece, unless there was a refusal.
+    /// Reads a piece, unless there was a refusal, and makes its tokens the reader's own.
     fn take(&mut self, piece: &[u8])
         requires { IsOpen self.old }
         ensures stands { (lim : Limits) (b : List ℕ) (given : List Token) → Stands self.old lim b false given
@@ -144,80 +190,13 @@ impl Reader {
         ensures open { IsOpen self.new }
         ensures again { IsRefused self.old → self.new ≡ self.old }
     {
-        if self.refused.is_some() {
+        if self.lent.is_refused() {
             return;
         }
-        if let Err(fault) = self.read_allowed(piece) {
-            self.refused = Some(fault);
-        }
-    }
-
-    /// Reads the bytes that may be, and refuses one too many.
-    fn read_allowed(&mut self, piece: &[u8]) -> Result<(), DocFault>
-        ensures took { (b : List ℕ) (given : List Token) → IsReading self.old self.old.limits b given
-            → Took result self.new self.old.limits (b ++ piece.now) given }
-        ensures same { IsSame self.old self.new }
-    {
-        let room = (self.limits.bytes - self.count) as usize;
-        if piece.len() <= room {
-            return self.read_piece(piece);
-        }
-        self.read_piece(&piece[..room])?;
-        Err(DocFault::TooLong(self.limits.bytes))
-    }
-
-    /// Reads a piece whose bytes all may be.
-    fn read_piece(&mut self, piece: &[u8]) -> Result<(), DocFault>
-        requires { self.old.count + length piece.now ≤ self.old.limits.bytes }
-        ensures took { (b : List ℕ) (given : List Token) → IsReading self.old self.old.limits b given
-            → Took result self.new self.old.limits (b ++ piece.now) given }
-        ensures same { IsSame self.old self.new }
-    {
-        let split = self.chars.split(piece);
-        self.count += piece.len() as u64;
-        let place = read_split(&mut self.machine, self.limits, self.place, split, piece)?;
-        match split.fault {
-            Some(fault) => Err(char_fault(fault)),
-            None => {
-                self.place = place;
-                Ok(())
-            }
-        }
-    }
-
-    /// What the end of the input shows.
-    fn last(&self) -> Result<(), DocFault>
-        ensures { Ends result self.now }
-    {
-        if let Err(fault) = self.chars.finish() {
-            return Err(char_fault(fault));
-        }
-        if has_whole(&self.machine) {
-            Ok(())
-        } else {
-            Err(DocFault::Truncated(self.count))
-        }
-    }
-
-    /// Ends the input, unless it ended before.
-    fn end(&mut self)
-        ensures stands { (lim : Limits) (b : List ℕ) (ended : Bool) (given : List Token) → Stands self.old lim b ended given
-            → Stands self.new lim b true given }
-        ensures done { IsDone self.new }
-        ensures again { IsDone self.old → self.new ≡ self.old }
-        ensures refused { IsRefused self.old → answer_of self.new ≡ answer_of self.old }
-        ensures same { IsRefused self.old → waiting self.new ≡ waiting self.old }
-    {
-        if self.finished {
-            return;
-        }
-        self.finished = true;
-        if self.refused.is_some() {
-            return;
-        }
-        match self.last() {
-            Ok(()) => self.end_waits = true,
-            Err(fault) => self.refused = Some(fault),
+        let _ = self.lent.feed(piece);
+        match own_all(self.alloc, &mut self.lent, &mut self.waits) {
+            Ok(()) => {}
+            Err(_) => self.lent.refuse(),
         }
     }
 }

@@ -1,3 +1,4 @@
 pub mod Lists
-pub mod Queues
 pub mod Sets
+pub mod Parts
+pub mod Keeping

@@ -27,7 +27,7 @@ impl Model for OpenNames {
 }
 
 /// The bytes from a place on.
-fn from(bytes: &[u8], start: usize) -> &[u8]
+pub(crate) fn behind(bytes: &[u8], start: usize) -> &[u8]
     ensures { result.now ≡ drop start bytes.now }
 {
     match bytes.get(start..) {
@@ -86,7 +86,7 @@ impl OpenNames {
         ensures { result.now ≡ innermost self.now }
     {
         match self.starts.last() {
-            Some(start) => from(&self.bytes, *start),
+            Some(start) => behind(&self.bytes, *start),
             None => &[],
         }
     }

@@ -1,149 +1,288 @@
-ghost use Rattle.std.specs.Prelude.{◌≡◌, ◌+◌, ◌≤◌, ◌∷◌, ◌++◌, [], map, take, drop, OnOk, OnErr};
-ghost use Rattle.std.specs.VecDeque.{deque_len, deque_capacity};
+ghost use Rattle.std.specs.Prelude.{◌≡◌, ◌+◌, ◌<◌, ◌≤◌, ◌++◌, ◌∷◌, [], length, drop, map, not, vec_len, vec_capacity, OnOk};
+ghost use Rattle.std.specs.Char.{encode_utf8};
+ghost use Rattle.gcx_base.specs.Characters.{is_white};
 ghost use Rattle.gcx_base.specs.Name.{IsNameBytes};
-ghost use Rattle.gcx_model.specs.Tree.{Start as start_of, End as end_of};
+ghost use Rattle.gcx_model.specs.Document.{is_blank};
 ghost use Rattle.gcx_model.specs.Fronts.{text_of};
-ghost use Rattle.doc_tokens.specs.Tokens.{TakesFirst, event_token};
+ghost use Rattle.gcx_model.specs.Tree.{Start as start_of, End as end_of};
+ghost use Rattle.doc_tokens.specs.Kept.{text_part};
+ghost use Rattle.doc_tokens.specs.Parts.{AreLent, moved_by};
 
-use crate::event::{Event, token_of};
-use crate::run::Run;
-use crate::token::Token;
-use gcx_base::{Memory, Name};
+use crate::lent::Lent;
+use crate::open_names::behind;
+use gcx_base::Memory;
 use std::alloc::Global;
-use std::collections::VecDeque;
 use std::marker::Model;
 
-/// The tokens that wait, seen as those of the whole tags and those of the tag that is being read.
+/// The text at hand, and the tokens that wait: those of the whole tags, and those of the tag that is being read.
 #[derive(Drop)]
 pub struct Tokens {
-    /// The ones, and behind them the others.
-    events: VecDeque<Event>,
+    /// The names and texts of the tokens, and behind them the text at hand.
+    bytes: Vec<u8>,
+    lent: Vec<Lent>,
+    /// Where the bytes of the whole tags end.
+    base: usize,
+    /// Where the text at hand begins.
+    start: usize,
+    /// How many tokens were taken.
+    taken: usize,
     /// How many are those of whole tags.
     whole: usize,
 }
 
 impl Model for Tokens {
-    ghost use Rattle.std.specs.Prelude.{◌≤◌, length};
-    ghost use Rattle.doc_tokens.specs.Tokens.{Queue, queue_of};
+    ghost use Rattle.doc_tokens.specs.Tokens.{Queue};
+    ghost use Rattle.doc_tokens.specs.Kept.{lent_queue, AreKept};
 
     ghost Value = { Queue };
 
-    ghost view = { λ t. queue_of t.whole t.events.items };
+    ghost view = { λ l. lent_queue l.bytes.items l.lent.items l.start l.taken l.whole };
 
-    ghost invariant = { λ t. t.whole ≤ length t.events.items };
+    ghost invariant = { λ l. AreKept l.bytes.items l.lent.items l.base l.start l.taken l.whole };
 }
 
-/// Empties the run, and puts it as a token behind the others, unless it is blank.
+/// White space (XML 1.0, section 2.3).
 #[inline(always)]
-fn end_run(run: &mut Run, events: &mut VecDeque<Event>)
-    requires { deque_len events.old + 1 ≤ deque_capacity events.old }
-    ensures run { run.new ≡ [] }
-    ensures events { map event_token events.new.items ≡ map event_token events.old.items ++ text_of run.old }
-    ensures len { deque_len events.new ≤ deque_len events.old + 1 }
-    ensures capacity { deque_capacity events.old ≤ deque_capacity events.new }
+fn is_white(c: u8) -> bool
+    ensures { result ≡ is_white c }
 {
-    if run.is_blank() {
-        run.clear();
-    } else {
-        let text = run.take();
-        events.push_back_reserved(Event::Text(text));
+    c == b' ' || c == b'\t' || c == b'\r' || c == b'\n'
+}
+
+/// Whether it is empty or only white space.
+#[inline(always)]
+fn is_only_white(text: &[u8]) -> bool
+    ensures { result ≡ is_blank text.now }
+{
+    text.iter().all(|c| is_white(*c))
+}
+
+/// Whether there is text from this place on that isn't only white space.
+#[inline(always)]
+fn has_text(bytes: &[u8], start: usize) -> bool
+    ensures { result ≡ not (is_blank (drop start bytes.now)) }
+{
+    !is_only_white(behind(bytes, start))
+}
+
+/// The token, where so many bytes at the front are gone.
+fn moved(token: Lent, by: usize) -> Lent
+    ensures { result ≡ moved_by by token }
+{
+    match token {
+        Lent::Start(from, to) => Lent::Start(from.saturating_sub(by), to.saturating_sub(by)),
+        Lent::Text(from, to) => Lent::Text(from.saturating_sub(by), to.saturating_sub(by)),
+        Lent::End => Lent::End,
+    }
+}
+
+/// The tokens, where so many bytes at the front are gone.
+fn move_each(lent: &mut [Lent], by: usize)
+    ensures { lent.new ≡ map (moved_by by) lent.old }
+{
+    for i in 0..lent.len() {
+        lent[i] = moved(lent[i], by);
+    }
+}
+
+/// Forgets the first `count`, and moves the others down.
+fn cut_front<T: Copy>(xs: &mut Vec<T>, count: usize)
+    requires { count ≤ vec_len xs.old }
+    ensures { xs.new.items ≡ drop count xs.old.items }
+{
+    let len = xs.len();
+    xs.as_mut_slice().copy_within(count..len, 0);
+    xs.truncate(len - count);
+}
+
+/// Forgets the first `count` tokens, and so many bytes before the others.
+fn move_down(lent: &mut Vec<Lent>, count: usize, by: usize)
+    requires { count ≤ vec_len lent.old }
+    ensures { lent.new.items ≡ map (moved_by by) (drop count lent.old.items) }
+{
+    cut_front(lent, count);
+    move_each(lent.as_mut_slice(), by);
+}
+
+/// Puts the text between two places as a token behind the others, if there is any.
+#[inline(always)]
+fn put_text(lent: &mut Vec<Lent>, from: usize, to: usize, text: bool)
+    requires { vec_len lent.old < vec_capacity lent.old }
+    ensures items { lent.new.items ≡ lent.old.items ++ text_part from to text }
+    ensures len { vec_len lent.new ≤ vec_len lent.old + 1 }
+    ensures capacity { vec_capacity lent.new ≡ vec_capacity lent.old }
+{
+    if text {
+        lent.push_reserved(Lent::Text(from, to));
     }
 }
 
 impl Tokens {
-    /// No tokens.
+    /// No text and no tokens.
     pub fn new(alloc: Global) -> Tokens
-        ensures { result ≡ record { tokens = []; pending = [] } }
+        ensures { result ≡ record { run = []; tokens = []; pending = [] } }
     {
+        let bytes = Vec::new(alloc);
+        let lent = Vec::new(alloc);
         Tokens {
-            events: VecDeque::new(alloc),
+            bytes,
+            lent,
+            base: 0,
+            start: 0,
+            taken: 0,
             whole: 0,
         }
     }
 
-    /// Takes the first token of the whole tags. None exactly where there is none.
-    pub fn next(&mut self) -> Option<Token>
-        ensures takes { TakesFirst result self.old.tokens self.new.tokens }
-        ensures pending { self.new.pending ≡ self.old.pending }
+    /// How many bytes the text at hand has.
+    #[inline(always)]
+    pub fn run_len(&self) -> usize
+        ensures { result ≡ length self.now.run }
     {
-        if self.whole == 0 {
-            return None;
+        let end = self.bytes.len();
+        end - self.start
+    }
+
+    /// Adds text at its end.
+    #[inline(always)]
+    pub fn push_str(&mut self, text: &str) -> Result<(), Memory>
+        ensures ok { OnOk result (self.new ≡ record self.old { run = self.old.run ++ text.now }) }
+        ensures tokens { self.new.tokens ≡ self.old.tokens }
+    {
+        self.bytes.extend_from_slice(text.as_bytes())?;
+        Ok(())
+    }
+
+    /// Adds a character at its end.
+    #[inline(always)]
+    pub fn push(&mut self, c: char) -> Result<(), Memory>
+        ensures ok { OnOk result (self.new ≡ record self.old { run = self.old.run ++ encode_utf8 c }) }
+        ensures tokens { self.new.tokens ≡ self.old.tokens }
+    {
+        let mut room = [0; 4];
+        self.push_str(c.encode_utf8(&mut room))
+    }
+
+    /// The tokens of the whole tags, with their bytes.
+    #[inline(always)]
+    pub fn lent(&self) -> (&[Lent], &[u8])
+        ensures { AreLent result.0.now result.1.now self.now.tokens }
+    {
+        let tokens = self.lent.as_slice();
+        let bytes = self.bytes.as_slice();
+        (&tokens[self.taken..self.whole], bytes)
+    }
+
+    /// Takes so many of them, and forgets their bytes where none of the whole tags is left.
+    #[inline(always)]
+    pub fn take(&mut self, count: usize)
+        requires { count ≤ length self.old.tokens }
+        ensures { self.new ≡ record self.old { tokens = drop count self.old.tokens } }
+    {
+        let taken = self.taken + count;
+        self.taken = taken;
+        self.settle();
+    }
+
+    /// Forgets the tokens that were taken, and their bytes, where none of the whole tags is left.
+    fn settle(&mut self)
+        ensures { self.new ≡ self.old }
+    {
+        if self.whole == 0 || self.taken < self.whole {
+            return;
         }
-        match self.events.pop_front() {
-            Some(event) => {
-                self.whole -= 1;
-                Some(token_of(event))
-            }
-            None => None,
-        }
+        cut_front(&mut self.bytes, self.base);
+        move_down(&mut self.lent, self.whole, self.base);
+        self.start -= self.base;
+        self.base = 0;
+        self.taken = 0;
+        self.whole = 0;
     }
 
     /// Forgets the tokens of the tag that is being read.
     #[inline(always)]
     pub fn forget_pending(&mut self)
-        ensures { self.new ≡ record { tokens = self.old.tokens; pending = [] } }
+        ensures { self.new ≡ record self.old { pending = [] } }
     {
-        if self.events.len() > self.whole {
-            self.events.truncate(self.whole);
-        }
+        self.lent.truncate(self.whole);
     }
 
-    /// A tag begins, behind the run: the name is whole.
-    pub fn begin_tag(&mut self, alloc: Global, run: &mut Run, name: &[u8]) -> Result<(), Memory>
+    /// A tag begins, behind the text at hand: the name is whole.
+    #[inline(always)]
+    pub fn begin_tag(&mut self, name: &[u8]) -> Result<(), Memory>
         requires { IsNameBytes name.now }
+        ensures ok { OnOk result (self.new
+            ≡ record self.old { run = []; pending = text_of self.old.run ++ (start_of name.now ∷ []) }) }
         ensures tokens { self.new.tokens ≡ self.old.tokens }
-        ensures pending { OnOk result (self.new.pending ≡ text_of run.old ++ (start_of name.now ∷ [])) }
-        ensures run { OnOk result (run.new ≡ []) }
     {
-        let name = Name::of_name(alloc, name)?;
         self.forget_pending();
-        self.events.reserve(2)?;
-        end_run(run, &mut self.events);
-        self.events.push_back_reserved(Event::Start(name));
+        self.lent.reserve(2)?;
+        let text = has_text(&self.bytes, self.start);
+        let first = self.bytes.len();
+        self.bytes.extend_from_slice(name)?;
+        let end = self.bytes.len();
+        put_text(&mut self.lent, self.start, first, text);
+        self.lent.push_reserved(Lent::Start(first, end));
+        self.start = end;
         Ok(())
     }
 
-    /// An attribute is whole, whose value is the run.
-    pub fn add_attribute(&mut self, alloc: Global, run: &mut Run, name: &[u8]) -> Result<(), Memory>
+    /// An attribute is whole, whose value is the text at hand.
+    pub fn add_attribute(&mut self, name: &[u8]) -> Result<(), Memory>
         requires { IsNameBytes name.now }
+        ensures ok { OnOk result (self.new ≡ record self.old {
+          run = [];
+          pending =
+              self.old.pending ++ (start_of name.now ∷ (text_of self.old.run ++ (end_of ∷ [])));
+        }) }
         ensures tokens { self.new.tokens ≡ self.old.tokens }
-        ensures pending { OnOk result (self.new.pending
-            ≡ self.old.pending ++ (start_of name.now ∷ (text_of run.old ++ (end_of ∷ [])))) }
-        ensures run { OnOk result (run.new ≡ []) }
     {
-        let name = Name::of_name(alloc, name)?;
-        self.events.reserve(3)?;
-        self.events.push_back_reserved(Event::Start(name));
-        end_run(run, &mut self.events);
-        self.events.push_back_reserved(Event::End);
+        self.lent.reserve(3)?;
+        let text = has_text(&self.bytes, self.start);
+        let first = self.bytes.len();
+        self.bytes.extend_from_slice(name)?;
+        let end = self.bytes.len();
+        self.lent.push_reserved(Lent::Start(first, end));
+        put_text(&mut self.lent, self.start, first, text);
+        self.lent.push_reserved(Lent::End);
+        self.start = end;
         Ok(())
     }
 
-    /// An element ends, behind the run.
-    pub fn add_end(&mut self, run: &mut Run) -> Result<(), Memory>
+    /// An element ends, behind the text at hand.
+    #[inline(always)]
+    pub fn add_end(&mut self) -> Result<(), Memory>
+        ensures ok { OnOk result (self.new ≡ record self.old {
+          run = [];
+          pending =
+              self.old.pending ++ (text_of self.old.run ++ (end_of ∷ []));
+        }) }
         ensures tokens { self.new.tokens ≡ self.old.tokens }
-        ensures pending { OnOk result (self.new.pending ≡ self.old.pending ++ (text_of run.old ++ (end_of ∷ []))) }
-        ensures run { OnOk result (run.new ≡ []) }
     {
-        self.events.reserve(2)?;
-        end_run(run, &mut self.events);
-        self.events.push_back_reserved(Event::End);
+        self.lent.reserve(2)?;
+        let text = has_text(&self.bytes, self.start);
+        let end = self.bytes.len();
+        put_text(&mut self.lent, self.start, end, text);
+        self.lent.push_reserved(Lent::End);
+        self.start = end;
         Ok(())
     }
 
-    /// An element ends, before the run.
+    /// An element ends, before the text at hand.
     pub fn add_empty_end(&mut self) -> Result<(), Memory>
+        ensures ok { OnOk result (self.new ≡ record self.old { pending = self.old.pending ++ (end_of ∷ []) }) }
         ensures tokens { self.new.tokens ≡ self.old.tokens }
-        ensures pending { OnOk result (self.new.pending ≡ self.old.pending ++ (end_of ∷ [])) }
     {
-        self.events.push_back(Event::End)?;
+        self.lent.push(Lent::End)?;
         Ok(())
     }
 
     /// The tag is whole.
+    #[inline(always)]
     pub fn end_tag(&mut self)
-        ensures { self.new ≡ record { tokens = self.old.tokens ++ self.old.pending; pending = [] } }
+        ensures { self.new ≡ record self.old { tokens = self.old.tokens ++ self.old.pending; pending = [] } }
     {
-        self.whole = self.events.len();
+        self.whole = self.lent.len();
+        self.base = self.start;
     }
 }

@@ -559,5 +559,6 @@ fn an_end_outside_the_element_is_too_soon(rt: HostRuntime) -> Result<(), Fail> {
 }
 
 mod forms;
+mod lent;
 mod limits;
 mod parts;

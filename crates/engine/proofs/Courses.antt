@@ -263,7 +263,7 @@ module _ {C : Type 0} (stands : C → Tree → Type 0) (lim : Limits) (b : List 
 
 -- ---- what calls ask, and their answers
 
-refusal_fault : (o : Option DocFault) (A : Type 0) (lim : Limits) (c : List ℕ) (ended : Bool) → OnRefusal o A (IsFault o lim c ended) → IsFault o lim c ended
+pub refusal_fault : (o : Option DocFault) (A : Type 0) (lim : Limits) (c : List ℕ) (ended : Bool) → OnRefusal o A (IsFault o lim c ended) → IsFault o lim c ended
 refusal_fault None A lim c ended h = h
 refusal_fault (Some Memory) A lim c ended h = tt
 refusal_fault (Some (Utf8 n)) A lim c ended h = h

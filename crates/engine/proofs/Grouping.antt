@@ -38,6 +38,7 @@ module _ {C : Type 0} (stands : C → Tree → Type 0) (lim : Limits) (b : List 
       let e : given ≡ given ++ [] = sym (append-nil given) in (
         record {
           more = [];
+          few = omega arith;
           waited = refl;
           limits = p.limits;
           reader = subst (λ (z : List Token). Stands old.reader lim b ended z) e p.reader;
@@ -116,6 +117,7 @@ module _ {C : Type 0} (stands : C → Tree → Type 0) (lim : Limits) (b : List 
       group_on = (
         record {
           more = f.more ++ t ∷ [];
+          few = let l = length-append f.more (t ∷ []) in omega arith;
           waited = f.waited ∙ (ap (λ (z : List Token). f.more ++ z) next ∙ (sym (append_assoc f.more (t ∷ []) (waiting r)) ∙ ap (λ (z : ReaderView). (f.more ++ t ∷ []) ++ waiting z) (sym same)));
           limits = f.limits;
           reader = reads_on;
@@ -131,6 +133,7 @@ module _ {C : Type 0} (stands : C → Tree → Type 0) (lim : Limits) (b : List 
   pub group_stops : (old e : EngineView C) (quiet : Bool) (r : ReaderView) (f : FeedsSome stands lim old e b ended given quiet) → waiting e.reader ≡ [] → waiting r ≡ [] → Stands r lim b ended ((given ++ f.more) ++ []) → FeedsSome stands lim old (record e { reader = r }) b ended given quiet
   group_stops old e quiet r f before now s = record {
     more = f.more;
+    few = f.few;
     waited = f.waited ∙ ap (λ (z : List Token). f.more ++ z) (before ∙ sym now);
     limits = f.limits;
     reader = subst (λ (z : List Token). Stands r lim b ended z) (append-nil (given ++ f.more)) s;

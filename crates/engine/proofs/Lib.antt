@@ -8,6 +8,7 @@ pub mod Counting
 pub mod Quieting
 pub mod Nothing
 pub mod Forms
+pub mod Lending
 pub mod Grouping
 pub mod Acting
 pub mod Waiting
@@ -18,6 +19,9 @@ pub mod Making
 pub mod Reporting
 pub mod TurnsTaken
 pub mod FeedingOne
+pub mod Late
+pub mod LateTokens
+pub mod LateGroups
 pub mod ReadingOn
 pub mod TurnsFed
 pub mod CallsOfTurns

@@ -1,5 +1,5 @@
 -- What a trace tells of actions.
-use Rattle.std.proofs.Common.{◌≡◌, ℕ, zero, suc, ◌<◌, ◌≤◌, true, false, List, [], ◌∷◌, ◌++◌, length, map, take, drop, refl, sym, ◌∙◌, ap, subst, arith, append_assoc}
+use Rattle.std.proofs.Common.{◌≡◌, ℕ, zero, suc, ◌<◌, ◌≤◌, Bool, true, false, List, [], ◌∷◌, ◌++◌, length, map, take, drop, refl, sym, ◌∙◌, ap, subst, arith, append_assoc}
 use Rattle.std.proofs.lemmas.List.{append-nil, length-take-le}
 use Rattle.std.proofs.Math.Seq.{drop-append_seam}
 use Rattle.gcx_base.specs.declared.ids.Role.{Role}
@@ -132,18 +132,18 @@ part_next plan P k before after l h =
 
 -- ---- many actions
 
-module _ {C : Type 0} (stands : C → Tree → Type 0) (plan : PlanTree) where
-  -- the state that a loop has reached, and what it told
+module _ {C : Type 0} (stands : C → Tree → Type 0) (plan : PlanTree) (tracing : Bool) where
+  -- the state that a loop has reached, and what it told where that is wanted
   pub record ToldReached (e : ActorsView C) (P : Tree) (k : ℕ) (u v before after : List ℕ) : Type 0 where
     pub reached : Reached stands plan e P k u v
     pub behind : k ≤ reached.taken
-    pub told : after ≡ before ++ text_of_lines (lines_to plan P k reached.taken)
+    pub told : tracing ≡ true → after ≡ before ++ text_of_lines (lines_to plan P k reached.taken)
 
   pub told_none : (old : ActorsView C) (P : Tree) (k : ℕ) (u before : List ℕ) → StandAt stands plan old P k → ToldReached old P k u u before before
   told_none old P k u before a = record {
     reached = reached_none stands plan old P k u a;
     behind = omega arith;
-    told = sym (ap (λ (z : List Line). before ++ text_of_lines z) (lines_none plan P k) ∙ append-nil before);
+    told = λ wanted. sym (ap (λ (z : List Line). before ++ text_of_lines z) (lines_none plan P k) ∙ append-nil before);
   }
 
   module _ (e : ActorsView C) (P : Tree) (k : ℕ) (u v before now : List ℕ) (r : ToldReached e P k u v before now) where
@@ -151,30 +151,31 @@ module _ {C : Type 0} (stands : C → Tree → Type 0) (plan : PlanTree) where
     pub told_there : r.reached.taken ≤ all_of plan P
     told_there = there plan (stands e.machine.conds) e.projector e.machine.position e.buffer P r.reached.taken r.reached.actors
 
-    pub told_on : (d : ActorsView C) (w after : List ℕ) → ActsOne stands plan d P r.reached.taken true v w → after ≡ now ++ text_of_lines (next_lines plan P r.reached.taken true) → ToldReached d P k u w before after
+    pub told_on : (d : ActorsView C) (w after : List ℕ) → ActsOne stands plan d P r.reached.taken true v w → (tracing ≡ true → after ≡ now ++ text_of_lines (next_lines plan P r.reached.taken true)) → ToldReached d P k u w before after
     told_on d w after o t =
         let j = r.reached.taken in
         record {
           reached = reached_on stands plan e d P k u v w r.reached o;
           behind = let l = r.behind in omega arith;
-          told = lines_on before now after (lines_to plan P k j) (lines_to plan P j (suc j)) r.told t
+          told = λ wanted.
+              lines_on before now after (lines_to plan P k j) (lines_to plan P j (suc j)) (r.told wanted) (t wanted)
               ∙ ap (λ (z : List Line). before ++ text_of_lines z) (sym (lines_split plan P k j (suc j) r.behind (omega arith)));
         }
 
-    pub told_end : (d : ActorsView C) (w after : List ℕ) → ActsOne stands plan d P r.reached.taken false v w → after ≡ now ++ text_of_lines (next_lines plan P r.reached.taken false)
+    pub told_end : (d : ActorsView C) (w after : List ℕ) → tracing ≡ true → ActsOne stands plan d P r.reached.taken false v w → after ≡ now ++ text_of_lines (next_lines plan P r.reached.taken false)
         → after ≡ before ++ text_of_lines (lines_to plan P k (all_of plan P))
-    told_end d w after o t = t ∙ (append-nil now ∙ (r.told ∙ ap (λ z. before ++ text_of_lines (lines_to plan P k z)) o.0))
+    told_end d w after wanted o t = t ∙ (append-nil now ∙ (r.told wanted ∙ ap (λ z. before ++ text_of_lines (lines_to plan P k z)) o.0))
 
-    pub told_part : (after : List ℕ) → GrewPart now after (text_of_lines (lines_to plan P r.reached.taken (all_of plan P))) → GrewPart before after (text_of_lines (lines_to plan P k (all_of plan P)))
-    told_part after h =
+    pub told_part : (after : List ℕ) → tracing ≡ true → GrewPart now after (text_of_lines (lines_to plan P r.reached.taken (all_of plan P))) → GrewPart before after (text_of_lines (lines_to plan P k (all_of plan P)))
+    told_part after wanted h =
         let j = r.reached.taken in
         let n = all_of plan P in
-        subst (λ (z : List Line). GrewPart before after (text_of_lines z)) (sym (lines_split plan P k j n r.behind told_there)) (lines_behind before now after (lines_to plan P k j) (lines_to plan P j n) r.told h)
+        subst (λ (z : List Line). GrewPart before after (text_of_lines z)) (sym (lines_split plan P k j n r.behind told_there)) (lines_behind before now after (lines_to plan P k j) (lines_to plan P j n) (r.told wanted) h)
 
     -- so what was told is a front of what is to be told
-    pub told_some : GrewPart before now (text_of_lines (lines_to plan P k (all_of plan P)))
-    told_some =
+    pub told_some : tracing ≡ true → GrewPart before now (text_of_lines (lines_to plan P k (all_of plan P)))
+    told_some wanted =
         let j = r.reached.taken in
         let n = all_of plan P in
         subst (λ (z : List Line). GrewPart before now (text_of_lines z)) (sym (lines_split plan P k j n r.behind told_there))
-        (lines_first before now (lines_to plan P k j) (lines_to plan P j n) (part_all before now (text_of_lines (lines_to plan P k j)) r.told))
+        (lines_first before now (lines_to plan P k j) (lines_to plan P j n) (part_all before now (text_of_lines (lines_to plan P k j)) (r.told wanted)))

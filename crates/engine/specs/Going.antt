@@ -1,5 +1,6 @@
--- How the parts of an engine go on from one state to a later one (this project's). This follows the code: no public clause speaks of it.
-use Rattle.std.specs.Prelude.{◌≡◌, ◌≤◌, ℕ, Bool, true, false, List, [], ◌∷◌, ◌++◌, map, Option, Some, None, Result, Ok, Err, ⊤}
+-- How the parts of an engine go on from one state to a later one (this project's). This follows the code: beside what is refused of a slice
+-- no public clause speaks of it.
+use Rattle.std.specs.Prelude.{◌≡◌, ◌≤◌, ℕ, Bool, true, false, List, [], ◌∷◌, ◌++◌, length, map, Option, Some, None, Result, Ok, Err, ⊤}
 use Rattle.gcx_base.specs.declared.limits.Limits.{Limits}
 use Rattle.gcx_base.specs.declared.memory.Memory.{Memory as Lack}
 use Rattle.gcx_model.specs.declared.fault.DocFault.{DocFault}
@@ -49,9 +50,10 @@ pub record SomeParts {C : Type 0} (stands : C → Tree → Type 0) (e : EngineVi
   pub given : List Token
   pub of : PartsStand stands limits e read ended given
 
--- Some tokens were fed, and no action taken; where they are quiet, none is possible that wasn't.
+-- Up to `ahead` tokens were fed, and no action taken; where they are quiet, none is possible that wasn't.
 pub record FeedsSome {C : Type 0} (stands : C → Tree → Type 0) (lim : Limits) (old new : EngineView C) (b : List ℕ) (ended : Bool) (given : List Token) (quiet : Bool) : Type 0 where
   pub more : List Token
+  pub few : length more ≤ old.ahead
   pub waited : waiting old.reader ≡ more ++ waiting new.reader
   pub limits : MayLimit lim
   pub reader : Stands new.reader lim b ended (given ++ more)

@@ -1,6 +1,7 @@
 pub mod View
 pub mod Actors
 pub mod Engine
+pub mod Late
 pub mod Going
 pub mod Calls
 pub mod Runs

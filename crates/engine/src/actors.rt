@@ -20,14 +20,14 @@ use gcx_base::Memory;
 use gcx_model::{Given, Plan};
 use node_store::NodeStore;
 use projector::Projector;
-use pull_eval::{Acted, Machine};
+use pull_eval::Machine;
 use std::alloc::Global;
 use std::marker::Model;
 
 /// What was counted: the greatest number of rows in the opening state or just behind a token, and the roles given to
 /// nodes.
 #[derive(Clone, Copy, Debug, PartialEq, Eq)]
-pub(crate) struct Tallied {
+pub struct Tallied {
     pub(crate) peak: u64,
     pub(crate) given: u128,
 }
@@ -35,7 +35,7 @@ pub(crate) struct Tallied {
 /// The projector, which takes the tokens of a document, and the machine, which takes the actions of a plan, over one
 /// buffer. `Memory` is want of memory, and the only error of their calls; behind it none may be made.
 #[derive(Drop)]
-pub(crate) struct Actors<'p, N: NodeStore<Row>, C: Conds> {
+pub struct Actors<'p, N: NodeStore<Row>, C: Conds> {
     pub(crate) projector: Projector,
     pub(crate) buffer: Buffer<N>,
     pub(crate) machine: Machine<'p, C>,
@@ -63,7 +63,7 @@ impl<'p, N: NodeStore<Row>, C: Conds> Model for Actors<'p, N, C> {
 impl<'p, N: NodeStore<Row> + Drop, C: Conds + Drop> Actors<'p, N, C> {
     /// The actors before any token and any action, where the projector gives the document node these roles. The store is
     /// empty.
-    pub(crate) fn new(
+    pub fn new(
         alloc: Global,
         plan: &'p Plan,
         projector: Projector,
@@ -130,8 +130,8 @@ impl<'p, N: NodeStore<Row>, C: Conds> Actors<'p, N, C> {
         Ok(quiet)
     }
 
-    /// Takes every action that is possible. No run takes as many as the loop has turns.
-    pub(crate) fn act_all(&mut self, alloc: Global, out: &mut Vec<u8>) -> Result<(), Memory>
+    /// Takes every action that is possible.
+    pub fn act_all(&mut self, alloc: Global, out: &mut Vec<u8>) -> Result<(), Memory>
         requires { SomeActors C.stands self.old }
         ensures acts { OnOk result (ActsOnFrom C.stands self.old self.new out.old.items out.new.items) }
         ensures some { OnErr result (ActsSomeFrom C.stands self.old self.new out.old.items out.new.items) }
@@ -140,16 +140,11 @@ impl<'p, N: NodeStore<Row>, C: Conds> Actors<'p, N, C> {
         ensures most { self.new.buffer.most ≡ self.old.buffer.most }
         ensures loans { self.new.buffer.loans ≡ self.old.buffer.loans }
     {
-        'actions: for _index in 0..u64::MAX {
-            if !self.act_one(alloc, out)? {
-                return Ok(());
-            }
-        }
-        Err(Memory)
+        let mut untold = Vec::new(alloc);
+        self.act_all_told(alloc, out, &mut untold, false)
     }
 
     /// Takes the next action. False where none is left.
-    #[inline(always)]
     pub(crate) fn act_one(&mut self, alloc: Global, out: &mut Vec<u8>) -> Result<bool, Memory>
         requires { SomeActors C.stands self.old }
         ensures acts { IfOk result (ActsOneFrom C.stands self.old self.new out.old.items out.new.items) }
@@ -160,18 +155,12 @@ impl<'p, N: NodeStore<Row>, C: Conds> Actors<'p, N, C> {
         ensures most { self.new.buffer.most ≡ self.old.buffer.most }
         ensures loans { self.new.buffer.loans ≡ self.old.buffer.loans }
     {
-        let acted = self.machine.act(alloc, &mut self.buffer, out)?;
-        match acted {
-            Acted::Blocked | Acted::Finished => Ok(false),
-            Acted::Wrote(_) | Acted::SignedOff(..) => {
-                self.buffer.clear_gone();
-                Ok(true)
-            }
-        }
+        let mut untold = Vec::new(alloc);
+        self.act_told(alloc, out, &mut untold, false)
     }
 
     /// How many nodes have rows.
-    pub(crate) fn held(&self) -> u64
+    pub fn held(&self) -> u64
         ensures { result ≡ length self.now.buffer.rows }
     {
         self.buffer.held()

@@ -1,5 +1,5 @@
 //! The engine.
-ghost use Rattle.std.specs.Prelude.{◌≡◌, ◌≤◌, ◌<◌, ◌+◌, ◌^◌, ◌++◌, ◌&&◌, ℕ, Bool, true, false, [], List, length, max, None, Some, Err, IfOk, OnOk, OnErr};
+ghost use Rattle.std.specs.Prelude.{◌≡◌, ◌≤◌, ◌<◌, ◌+◌, ◌^◌, ◌++◌, ℕ, Bool, true, false, [], List, length, max, None, Some, Err, IfOk, OnOk, OnErr};
 ghost use Rattle.std.specs.FinMap as map;
 ghost use Rattle.gcx_base.specs.declared.limits.Limits.{Limits};
 ghost use Rattle.gcx_model.specs.Core.{BodyTree};
@@ -8,29 +8,29 @@ ghost use Rattle.gcx_model.specs.Placed.{Placed};
 ghost use Rattle.gcx_model.specs.PlanView.{plan_tree};
 ghost use Rattle.gcx_model.specs.Tree.{opening};
 ghost use Rattle.gcx_model.specs.declared.fault.DocFault.{DocFault};
-ghost use Rattle.doc_reader.specs.Standing.{Keeps, Stands, Takes, Token, answer_by, answer_of, said_of, taken, waiting};
+ghost use Rattle.doc_reader.specs.Standing.{Keeps, answer_by, answer_of, said_of, waiting};
 ghost use Rattle.buf_tree.specs.Shape.{Shape, cells};
 ghost use Rattle.buf_tree.specs.Spread.{SameButRoles};
 ghost use Rattle.engine.specs.Actors.{ActsAlone, ActsOnFrom, ActsSomeFrom, BalancesEach, FeedsEach, IsQuietFor, MayFeed, SomeActors};
 ghost use Rattle.engine.specs.Engine.{IsSilent, MayGoOn, MostIs, OnAnswer, OnRefusal, Starts, StandsOf, StandsSome};
-ghost use Rattle.engine.specs.Going.{Begins, SomeParts, lacking, refusal_of};
+ghost use Rattle.engine.specs.Going.{Begins, SomeParts};
 ghost use Rattle.engine.specs.Telling.{TellsAll, TellsEach, TellsFront, TellsPart};
-ghost use Rattle.engine.specs.Calls.{AnswersEnd, AnswersPiece, BalancesFrom, BreaksFrom, FeedsAlone, FeedsFrom, FeedsSomeFrom, GoesAlone, FeedsAllFrom, IsEmptied, SameRun, FeedsEnd, FeedsPiece, TellsEnd, TellsOne, TellsPiece, TellsGroups, TellsWaiting, TellsWithin};
+ghost use Rattle.engine.specs.Calls.{AnswersEnd, AnswersPiece, BalancesFrom, BreaksFrom, FeedsAlone, FeedsFrom, FeedsSomeFrom, TakesNext, GoesAlone, FeedsAllFrom, IsEmptied, SameRun, FeedsEnd, FeedsPiece, TellsEnd, TellsOne, TellsPiece, TellsGroups, TellsWaiting, TellsWithin};
 
 use crate::actors::Actors;
 use crate::lines::opening_trace;
+use crate::owning::next_owned;
+use crate::slices::{cut, is_left, lacking, refusal};
+use crate::tallies::both;
 use buf_tree::Row;
 use cond_eval::Conds;
-use doc_reader::{Reader, Token};
+use doc_reader::{LentReader, Token};
 use gcx_base::{Limits, Memory};
 use gcx_model::{DocFault, Plan};
 use node_store::NodeStore;
 use projector::Projector;
 use std::alloc::Global;
 use std::marker::Model;
-
-/// The most bytes of which the tokens wait at once.
-const SLICE: usize = 4_096;
 
 /// The numbers of a run: the bytes fed, the greatest number of rows in the opening state or just behind a token, and the
 /// roles given to nodes and taken back from them.
@@ -46,7 +46,7 @@ pub struct Counts {
 #[derive(Drop)]
 pub struct Engine<'p, N: NodeStore<Row>, C: Conds> {
     plan: &'p Plan,
-    reader: Reader,
+    reader: LentReader,
     actors: Actors<'p, N, C>,
     /// The output and the trace that aren't written yet.
     out: Vec<u8>,
@@ -148,7 +148,7 @@ impl<'p, N: NodeStore<Row> + Drop, C: Conds + Drop> Engine<'p, N, C> {
         let given = projector.document(alloc)?;
         let trace = opening_trace(alloc, tracing, &given)?;
         let actors = Actors::new(alloc, plan, projector, given, nodes, conds)?;
-        let reader = Reader::new(alloc, limits);
+        let reader = LentReader::new(alloc, limits);
         Ok(Engine {
             plan,
             reader,
@@ -334,7 +334,42 @@ impl<'p, N: NodeStore<Row>, C: Conds> Engine<'p, N, C> {
         ensures part { OnErr result (TellsWithin C.stands self.old self.new) }
         ensures same { GoesAlone self.old self.new }
     {
+        self.feed_lean(alloc)?;
+        self.feed_groups(alloc)
+    }
+
+    /// The same with the tokens owned, one by one, and their lines where a trace is wanted.
+    fn feed_groups(&mut self, alloc: Global) -> Result<(), Memory>
+        requires { SomeParts C.stands self.old }
+        ensures feeds { OnOk result (FeedsFrom C.stands self.old self.new) }
+        ensures none { OnOk result (waiting self.new.reader ≡ []) }
+        ensures breaks { OnErr result (BreaksFrom C.stands self.old self.new) }
+        ensures told { OnOk result (TellsGroups C.stands self.old self.new) }
+        ensures part { OnErr result (TellsWithin C.stands self.old self.new) }
+        ensures same { GoesAlone self.old self.new }
+    {
         'groups: while self.feed_group(alloc)? {}
+        Ok(())
+    }
+
+    /// Feeds the tokens that are lent, in groups, and takes every possible action behind each group. None of them where a
+    /// trace is wanted.
+    fn feed_lean(&mut self, alloc: Global) -> Result<(), Memory>
+        requires { SomeParts C.stands self.old }
+        ensures feeds { OnOk result (FeedsFrom C.stands self.old self.new) }
+        ensures breaks { OnErr result (BreaksFrom C.stands self.old self.new) }
+        ensures told { OnOk result (TellsGroups C.stands self.old self.new) }
+        ensures part { OnErr result (TellsWithin C.stands self.old self.new) }
+        ensures same { GoesAlone self.old self.new }
+    {
+        if self.tracing {
+            return Ok(());
+        }
+        let (tokens, bytes) = self.reader.lent();
+        let count = tokens.len();
+        self.actors
+            .feed_lent(alloc, tokens, bytes, self.ahead, &mut self.out)?;
+        self.reader.take_lent(count);
         Ok(())
     }
 
@@ -375,7 +410,8 @@ impl<'p, N: NodeStore<Row>, C: Conds> Engine<'p, N, C> {
         let mut any = false;
         let mut quiet = true;
         'tokens: for _index in 0..self.ahead {
-            let Some(token) = self.next_token() else {
+            let next = self.next_token(alloc)?;
+            let Some(token) = next else {
                 return Ok((any, quiet));
             };
             any = true;
@@ -385,16 +421,13 @@ impl<'p, N: NodeStore<Row>, C: Conds> Engine<'p, N, C> {
         Ok((any, quiet))
     }
 
-    /// The next token that waits.
-    #[inline(always)]
-    fn next_token(&mut self) -> Option<Token>
-        ensures takes { Takes result (waiting self.old.reader) (waiting self.new.reader) }
-        ensures stands { (lim : Limits) (b : List ℕ) (ended : Bool) (given : List Token) →
-            Stands self.old.reader lim b ended given → Stands self.new.reader lim b ended (given ++ taken result) }
+    /// The next token that waits, with a name or text of its own.
+    fn next_token(&mut self, alloc: Global) -> Result<Option<Token>, Memory>
+        ensures gives { IfOk result (TakesNext self.old.reader self.new.reader) }
         ensures keeps { Keeps self.old.reader self.new.reader }
         ensures rest { self.new ≡ record self.old { reader = self.new.reader } }
     {
-        self.reader.next()
+        next_owned(alloc, &mut self.reader)
     }
 
     /// Feeds one token. True where no action is possible behind it that wasn't before.
@@ -434,12 +467,8 @@ impl<'p, N: NodeStore<Row>, C: Conds> Engine<'p, N, C> {
         ensures same { ActsAlone self.old.actors self.new.actors }
         ensures silent { IsSilent self.old → IsSilent self.new }
     {
-        if self.tracing {
-            return self
-                .actors
-                .act_all_told(alloc, &mut self.out, &mut self.trace);
-        }
-        self.actors.act_all(alloc, &mut self.out)
+        self.actors
+            .act_all_told(alloc, &mut self.out, &mut self.trace, self.tracing)
     }
 
     /// The output that isn't written yet.
@@ -515,46 +544,4 @@ impl<'p, N: NodeStore<Row>, C: Conds> Engine<'p, N, C> {
     {
         self.actors.conds()
     }
-}
-
-/// Whether bytes are left, and none was refused.
-fn is_left(refused: Option<DocFault>, rest: &[u8]) -> bool
-    ensures left { result ≡ true → (refused ≡ None) × (0 < length rest.now) }
-    ensures over { result ≡ false → refused ≡ None → rest.now ≡ [] }
-{
-    refused.is_none() && !rest.is_empty()
-}
-
-/// The first bytes, as many as a slice has, and those behind them.
-fn cut(bytes: &[u8]) -> (&[u8], &[u8])
-    ensures parts { result.0.now ++ result.1.now ≡ bytes.now }
-    ensures fewer { 0 < length bytes.now → length result.1.now < length bytes.now }
-{
-    bytes.split_at(bytes.len().min(SLICE))
-}
-
-/// What an answer of the reader refuses.
-fn refusal(answer: Result<(), DocFault>) -> Option<DocFault>
-    ensures { result ≡ refusal_of answer }
-{
-    match answer {
-        Ok(()) => None,
-        Err(fault) => Some(fault),
-    }
-}
-
-/// The refusal that is kept: want of memory, or else this one.
-fn lacking(refused: Option<DocFault>, fed: Result<(), Memory>) -> Option<DocFault>
-    ensures { result ≡ lacking refused fed }
-{
-    match fed {
-        Ok(()) => refused,
-        Err(Memory) => Some(DocFault::Memory),
-    }
-}
-
-fn both(still: bool, quiet: bool) -> bool
-    ensures { result ≡ (still && quiet) }
-{
-    still && quiet
 }

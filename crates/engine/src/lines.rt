@@ -92,8 +92,30 @@ fn put_fed(trace: &mut Vec<u8>, fed: Fed, kind: LineKind) -> Result<(), Memory>
     }
 }
 
+/// Appends the lines of an action, where they are wanted. After `Memory`, which comes nowhere else, a front of them stands
+/// there.
+#[inline(always)]
+pub(crate) fn tell_acted(
+    trace: &mut Vec<u8>,
+    tracing: bool,
+    acted: Acted,
+    gone: &[Serial],
+) -> Result<(), Memory>
+    ensures told { OnOk result (tracing ≡ true → trace.new.items
+        ≡ trace.old.items ++ text_of_lines (acted_lines acted ++ map demand.Left (serials gone.now))) }
+    ensures part { OnErr result ((tracing ≡ true) × GrewPart trace.old.items trace.new.items
+        (text_of_lines (acted_lines acted ++ map demand.Left (serials gone.now)))) }
+    ensures untold { tracing ≡ false → trace.new.items ≡ trace.old.items }
+{
+    if tracing {
+        return put_acted(trace, acted, gone);
+    }
+    Ok(())
+}
+
 /// Appends the lines of an action: which it was, and each node that left. After `Memory` a front of them stands there.
-pub(crate) fn put_acted(trace: &mut Vec<u8>, acted: Acted, gone: &[Serial]) -> Result<(), Memory>
+#[inline(never)]
+fn put_acted(trace: &mut Vec<u8>, acted: Acted, gone: &[Serial]) -> Result<(), Memory>
     ensures told { OnOk result (trace.new.items
         ≡ trace.old.items ++ text_of_lines (acted_lines acted ++ map demand.Left (serials gone.now))) }
     ensures part { OnErr result (GrewPart trace.old.items trace.new.items

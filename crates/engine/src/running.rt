@@ -17,7 +17,7 @@ use node_store::NodeStore;
 use std::alloc::Global;
 
 /// The most bytes of one read.
-const PIECE: usize = 65_536;
+pub const PIECE: usize = 65_536;
 
 /// Writes what waits: the output, and then the trace.
 fn write_waiting<N: NodeStore<Row>, C: Conds, O: Sink, E: Sink>(
@@ -69,7 +69,7 @@ fn end_with<N: NodeStore<Row>, C: Conds, O: Sink, E: Sink>(
 }
 
 /// How an answer of the engine ends a run.
-fn ended_by(answer: Result<(), DocFault>) -> Ended
+pub fn ended_by(answer: Result<(), DocFault>) -> Ended
     ensures { result ≡ ended_by answer }
 {
     match answer {

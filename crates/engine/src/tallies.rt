@@ -1,5 +1,5 @@
 //! What tokens did, in numbers.
-ghost use Rattle.std.specs.Prelude.{◌≡◌};
+ghost use Rattle.std.specs.Prelude.{◌≡◌, ◌&&◌, max};
 ghost use Rattle.engine.specs.Actors.{counted, is_quiet, roles_in};
 
 use crate::actors::Tallied;
@@ -15,6 +15,17 @@ pub(crate) fn count(counts: Tallied, tally: Tally, held: u64) -> Tallied
     Tallied {
         peak: counts.peak.max(held),
         given: counts.given.saturating_add(roles_of(tally)),
+    }
+}
+
+/// The counts behind a token that was passed, with which so many nodes have rows or will have them.
+#[inline(always)]
+pub(crate) fn count_held(counts: Tallied, held: u64) -> Tallied
+    ensures { result ≡ record counts { peak = max counts.peak held } }
+{
+    Tallied {
+        peak: counts.peak.max(held),
+        given: counts.given,
     }
 }
 
@@ -39,4 +50,12 @@ pub(crate) fn is_quiet<N: NodeStore<Row>>(tally: Tally, buffer: &Buffer<N>) -> b
         Tally::Opened(count) => count == 0,
         Tally::Closed => !buffer.gone().is_empty(),
     }
+}
+
+/// Whether both were quiet.
+#[inline(always)]
+pub(crate) fn both(still: bool, quiet: bool) -> bool
+    ensures { result ≡ (still && quiet) }
+{
+    still && quiet
 }

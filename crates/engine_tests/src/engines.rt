@@ -1,7 +1,9 @@
 //! Runs of the engine over objects in memory: the worked rows, in pieces of any size, over both stores and each way to
 //! find the truth of conditions.
 mod checks;
+mod counted;
 mod joins;
+mod lean;
 mod passing;
 mod rows;
 mod sides;

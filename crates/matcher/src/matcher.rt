@@ -241,6 +241,34 @@ impl Matcher {
         self.go_next(alloc, number, text)
     }
 
+    /// The same to an element of this name.
+    #[inline(always)]
+    pub fn go_name(&mut self, alloc: Global, name: &[u8]) -> Result<(), Memory>
+        ensures stands { OnOk result (StandsBehind self.old self.new (Element name.now)) }
+        ensures err { OnErr result (KeepsStanding self.old self.new) }
+    {
+        if self.is_idle(false) {
+            self.go_idle(false);
+            return Ok(());
+        }
+        let number = self.states.number(name);
+        self.go_next(alloc, number, false)
+    }
+
+    /// The same to a text, whatever its bytes are.
+    #[inline(always)]
+    pub fn go_text(&mut self, alloc: Global) -> Result<(), Memory>
+        ensures stands { OnOk result ((bytes : List ℕ) → StandsBehind self.old self.new (Text bytes)) }
+        ensures err { OnErr result (KeepsStanding self.old self.new) }
+    {
+        if self.is_idle(true) {
+            self.go_idle(true);
+            return Ok(());
+        }
+        let number = self.states.text();
+        self.go_next(alloc, number, true)
+    }
+
     /// To a node to which no path leads, nor to any below it.
     #[inline(always)]
     fn go_idle(&mut self, text: bool)

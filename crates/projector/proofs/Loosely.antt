@@ -1,6 +1,6 @@
 -- What tokens make of a projector and a buffer where rows are made late.
 use Rattle.std.proofs.Common.{◌≡◌, ℕ, ◌≤◌, ◌<◌, ◌⊎◌, true, false, List, [], ◌∷◌, ◌++◌, eqb, length, refl, sym, ◌∙◌, ap, subst, inl, inr, arith, Some, None, Option}
-use Rattle.std.specs.Prelude.{Result, Ok, Err, OnOk, slice_range, ⊤}
+use Rattle.std.specs.Prelude.{Result, Ok, Err, OnOk, OnErr, slice_range, ⊤}
 use Rattle.std.specs.FinSet.{FinSet}
 use Rattle.std.specs.Ordering.{nat_cmp}
 use Rattle.std.proofs.lemmas.Bool.{eqb-true}
@@ -41,7 +41,7 @@ use Rattle.projector.specs.Projector.{ahead_in, heard, KeepsPlace, MayBeFed, Pro
 use Rattle.projector.specs.Calls.{Feeds, tally_of}
 use Rattle.projector.specs.Opening.{HasHeard}
 use Rattle.projector.specs.Signing.{HearsOf}
-use Rattle.projector.specs.Late.{AreNamed, FeedsLate, FeedsSettled, IsNamePart, IsShallow, MakesRows, MayBeFedLate, PassedBy, PassesToken, SettlesAll, StandLoosely, cleared, passed_in, passed_of}
+use Rattle.projector.specs.Late.{AreNamed, FeedsLate, FeedsSettled, IsNamePart, IsShallow, MakesRows, MakesSome, MayBeFedLate, PassedBy, PassesToken, SettlesAll, StandLoosely, cleared, passed_in, passed_of}
 use Rattle.projector.specs.LateRows.{MayOpenLate, OpensBehind}
 use Rattle.projector.proofs.Entered.{entered_gives, enters_by}
 use Rattle.projector.proofs.Feeding.{hears, open_then, shallow_one, tallies_heard}
@@ -101,6 +101,13 @@ pub settles_same : (bytes : List ℕ) (p : ProjectorView) (v : View) → p.passe
 settles_same bytes p v none k =
     settles_all bytes p p v v refl none
     (subst (λ (xs : List PassedName). MakesRows (passed_in bytes xs) [] v v) (sym none) (record { rows = made_none v; rests = λ past h. h })) k
+
+-- where the buffer stayed, none of them was made
+pub makes_same : {T : Type 0} (bytes : List ℕ) (p : ProjectorView) (v w : View) (r : Result T Memory) → OnErr r (w ≡ v) → OnErr r (MakesSome (passed_in bytes p.passed) v w)
+makes_same bytes p v w (Ok x) e = tt
+makes_same bytes p v w (Err m) e =
+    subst (λ (z : View). MakesSome (passed_in bytes p.passed) v z) (sym e)
+    (record { made = []; left = passed_in bytes p.passed; split = refl; makes = record { rows = made_none v; rests = λ past h. h } })
 
 -- ---- a token
 

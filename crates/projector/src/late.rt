@@ -1,7 +1,9 @@
-//! Rows that are made late: an open element that is given no role gets its row once one is needed. Tests alone call this yet.
+//! Rows that are made late: an open element that is given no role gets its row once one is needed.
 ghost use Rattle.std.specs.Prelude.{◌≡◌, ◌++◌, ◌∷◌, ◌+◌, ◌≤◌, ◌^◌, ℕ, List, [], length, true, slice_range, IfOk, OnOk, OnErr};
+ghost use Rattle.gcx_base.specs.declared.kind.Kind.TheVariants as kinds;
 ghost use Rattle.gcx_model.specs.Tree.{Start, Chars, End};
 ghost use Rattle.gcx_model.specs.Past.{Past, IsNode};
+ghost use Rattle.doc_reader.specs.Standing.{LiesWithin, lent_token};
 ghost use Rattle.matcher.specs.Calls.{GivesHere};
 ghost use Rattle.buf_tree.specs.Loose.{Loosely, StandsLoosely, one_passed};
 ghost use Rattle.buf_tree.specs.PassedCalls.{OpenedPassed, RestsLoosely};
@@ -14,6 +16,7 @@ use crate::passed::PassedName;
 use crate::projector::{Projector, Tally, clear_waiting, go_to, innermost, open_entered};
 use crate::signing::sign_all;
 use buf_tree::{Buffer, Row};
+use doc_reader::Lent;
 use gcx_base::{Kind, Memory, Name, Serial, Text};
 use matcher::Matcher;
 use node_store::{NodeStore, Place};
@@ -73,14 +76,12 @@ impl Projector {
         ensures loans { buffer.new.loans ≡ buffer.old.loans }
     {
         sign_all(&mut self.matcher, buffer.waiting())?;
-        let name = Name::of_name(alloc, &bytes[from..to])?;
-        let kind = Kind::Element(name);
-        self.matcher.go(alloc, &kind)?;
+        self.matcher.go_name(alloc, &bytes[from..to])?;
         if gives_none(&self.matcher) {
             pass_element(&mut self.passed, buffer, from, to)?;
             return Ok(None);
         }
-        let count = self.open_below_rows(alloc, buffer, bytes, kind)?;
+        let count = self.open_named(alloc, buffer, bytes, from, to)?;
         Ok(Some(Tally::Opened(count)))
     }
 
@@ -106,15 +107,13 @@ impl Projector {
         ensures loans { buffer.new.loans ≡ buffer.old.loans }
     {
         sign_all(&mut self.matcher, buffer.waiting())?;
-        let text = Text::of_text(alloc, &bytes[from..to])?;
-        let kind = Kind::Text(text);
-        self.matcher.go(alloc, &kind)?;
+        self.matcher.go_text(alloc)?;
         if gives_none(&self.matcher) {
             pass_node(buffer);
             self.matcher.leave();
             return Ok(None);
         }
-        let count = self.open_below_rows(alloc, buffer, bytes, kind)?;
+        let count = self.open_text(alloc, buffer, bytes, from, to)?;
         Ok(Some(Tally::Opened(count)))
     }
 
@@ -146,8 +145,90 @@ impl Projector {
         }
     }
 
-    /// Opens the matcher's innermost node, which is of this kind, below the rows of the passed elements.
+    /// One token more, whose name or text lies in these bytes. None where it was passed.
+    ///
+    /// After `Memory` some rows of passed elements may be made, and no further token may be fed.
+    #[inline(always)]
+    pub fn feed_lean<N: NodeStore<Row>>(
+        &mut self,
+        alloc: Global,
+        buffer: &mut Buffer<N>,
+        token: Lent,
+        bytes: &[u8],
+    ) -> Result<Option<Tally>, Memory>
+        requires part { LiesWithin 0 (length bytes.now) bytes.now token }
+        requires place { Places self.old buffer.old }
+        requires may { MayBeFedLate bytes.now self.old buffer.old (lent_token bytes.now token) }
+        requires nodes { buffer.old.nodes ≤ 2 ^ 40 + 1 }
+        requires depth { Loosely IsShallow (passed_in bytes.now self.old.passed) buffer.old }
+        ensures feeds { IfOk result (FeedsLate bytes.now self.old self.new buffer.old buffer.new
+            (lent_token bytes.now token)) }
+        ensures err { OnErr result (MakesSome (passed_in bytes.now self.old.passed) buffer.old buffer.new) }
+        ensures taken { buffer.new.taken ≤ buffer.old.taken + 2 ^ 64 }
+        ensures loans { buffer.new.loans ≡ buffer.old.loans }
+    {
+        match token {
+            Lent::Start(from, to) => self.start_late(alloc, buffer, bytes, from, to),
+            Lent::Text(from, to) => self.text_late(alloc, buffer, bytes, from, to),
+            Lent::End => self.end_late(buffer),
+        }
+    }
+
+    /// Opens the matcher's innermost node, an element of this name, below the rows of the passed elements. Out of line, so
+    /// that where an element is passed no name is made.
     #[inline(never)]
+    fn open_named<N: NodeStore<Row>>(
+        &mut self,
+        alloc: Global,
+        buffer: &mut Buffer<N>,
+        bytes: &[u8],
+        from: usize,
+        to: usize,
+    ) -> Result<u64, Memory>
+        requires name { IsNamePart bytes.now from to }
+        requires place { Places self.old buffer.old }
+        requires may { MayOpenLate bytes.now self.old buffer.old
+            (kinds.Element (slice_range bytes.now from to)) }
+        requires nodes { buffer.old.nodes ≤ 2 ^ 40 + 1 }
+        requires depth { Loosely IsShallow (passed_in bytes.now self.old.passed) buffer.old }
+        ensures opens { IfOk result (OpensLate bytes.now self.old self.new buffer.old buffer.new
+            (kinds.Element (slice_range bytes.now from to))) }
+        ensures err { OnErr result (MakesSome (passed_in bytes.now self.old.passed) buffer.old buffer.new) }
+        ensures taken { buffer.new.taken ≤ buffer.old.taken + 2 ^ 64 }
+        ensures loans { buffer.new.loans ≡ buffer.old.loans }
+    {
+        let name = Name::of_name(alloc, &bytes[from..to])?;
+        self.open_below_rows(alloc, buffer, bytes, Kind::Element(name))
+    }
+
+    /// The same of a text.
+    #[inline(never)]
+    fn open_text<N: NodeStore<Row>>(
+        &mut self,
+        alloc: Global,
+        buffer: &mut Buffer<N>,
+        bytes: &[u8],
+        from: usize,
+        to: usize,
+    ) -> Result<u64, Memory>
+        requires text { IsTextPart bytes.now from to }
+        requires place { Places self.old buffer.old }
+        requires may { MayOpenLate bytes.now self.old buffer.old
+            (kinds.Text (slice_range bytes.now from to)) }
+        requires nodes { buffer.old.nodes ≤ 2 ^ 40 + 1 }
+        requires depth { Loosely IsShallow (passed_in bytes.now self.old.passed) buffer.old }
+        ensures opens { IfOk result (OpensLate bytes.now self.old self.new buffer.old buffer.new
+            (kinds.Text (slice_range bytes.now from to))) }
+        ensures err { OnErr result (MakesSome (passed_in bytes.now self.old.passed) buffer.old buffer.new) }
+        ensures taken { buffer.new.taken ≤ buffer.old.taken + 2 ^ 64 }
+        ensures loans { buffer.new.loans ≡ buffer.old.loans }
+    {
+        let text = Text::of_text(alloc, &bytes[from..to])?;
+        self.open_below_rows(alloc, buffer, bytes, Kind::Text(text))
+    }
+
+    /// Opens the matcher's innermost node, which is of this kind, below the rows of the passed elements.
+    #[inline(always)]
     fn open_below_rows<N: NodeStore<Row>>(
         &mut self,
         alloc: Global,
@@ -175,6 +256,7 @@ impl Projector {
     }
 
     /// Makes the rows of the passed elements. None is passed any more.
+    #[inline(always)]
     fn make_all<N: NodeStore<Row>>(
         &mut self,
         alloc: Global,
@@ -240,6 +322,7 @@ fn pass_node<N: NodeStore<Row>>(buffer: &mut Buffer<N>)
 }
 
 /// Makes the rows of these elements below the innermost open row, whose place is kept.
+#[inline(always)]
 fn make_rows<N: NodeStore<Row>>(
     alloc: Global,
     buffer: &mut Buffer<N>,
@@ -264,6 +347,7 @@ fn make_rows<N: NodeStore<Row>>(
 }
 
 /// Makes the row of this element, the outermost that has none.
+#[inline(never)]
 fn make_row<N: NodeStore<Row>>(
     alloc: Global,
     buffer: &mut Buffer<N>,

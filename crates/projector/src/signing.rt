@@ -7,6 +7,7 @@ use gcx_base::Memory;
 use matcher::Matcher;
 
 /// Tells the matcher of these statements, in order.
+#[inline(always)]
 pub(crate) fn sign_all(matcher: &mut Matcher, waiting: &[Ahead]) -> Result<(), Memory>
     ensures { OnOk result (HearsOf matcher.old matcher.new waiting.now) }
 {

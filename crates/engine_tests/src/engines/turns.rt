@@ -1,5 +1,5 @@
 //! The two actors by hand, in any order.
-ghost use Rattle.std.specs.Prelude.{◌≡◌, ℕ, true, [], map, IfOk};
+ghost use Rattle.std.specs.Prelude.{◌≡◌, ℕ, Bool, true, false, List, [], map, IfOk};
 ghost use Rattle.gcx_base.specs.Limits.{full_limits};
 ghost use Rattle.gcx_model.specs.Core.{BodyTree};
 ghost use Rattle.gcx_model.specs.Cores.{Good};
@@ -38,17 +38,44 @@ fn read(alloc: Global, document: &[u8]) -> Result<Reader, Fail>
     Ok(reader)
 }
 
-/// The tokens of the document.
-pub(super) fn tokens_of(alloc: Global, document: &[u8]) -> Result<VecDeque<Token>, Fail>
+/// A reader that was given a front of a document.
+fn read_front(alloc: Global, front: &[u8]) -> Result<Reader, Fail>
+    ensures { IfOk result (λ reader. Stands reader full_limits front.now false []) }
+{
+    let mut reader = Reader::new(alloc, Limits::full());
+    reader.feed(front)?;
+    Ok(reader)
+}
+
+/// The tokens that the reader gives.
+fn given_by(alloc: Global, mut reader: Reader) -> Result<VecDeque<Token>, Fail>
+    requires { (bytes : List ℕ) × (ended : Bool) × Stands reader full_limits bytes ended [] }
     ensures comes { IfOk result (λ tokens. may_all (map said_of tokens.items) opening ≡ true) }
     ensures within { IfOk result (λ tokens. AreWithin (map said_of tokens.items)) }
 {
-    let mut reader = read(alloc, document)?;
     let mut tokens = VecDeque::new(alloc);
     'given: while let Some(token) = reader.next() {
         tokens.push_back(token)?;
     }
     Ok(tokens)
+}
+
+/// The tokens of the document.
+pub(super) fn tokens_of(alloc: Global, document: &[u8]) -> Result<VecDeque<Token>, Fail>
+    ensures comes { IfOk result (λ tokens. may_all (map said_of tokens.items) opening ≡ true) }
+    ensures within { IfOk result (λ tokens. AreWithin (map said_of tokens.items)) }
+{
+    let reader = read(alloc, document)?;
+    given_by(alloc, reader)
+}
+
+/// Those that are settled by a front of a document.
+pub(super) fn tokens_of_front(alloc: Global, front: &[u8]) -> Result<VecDeque<Token>, Fail>
+    ensures comes { IfOk result (λ tokens. may_all (map said_of tokens.items) opening ≡ true) }
+    ensures within { IfOk result (λ tokens. AreWithin (map said_of tokens.items)) }
+{
+    let reader = read_front(alloc, front)?;
+    given_by(alloc, reader)
 }
 
 /// The machine and its buffer before the first action.

@@ -9,15 +9,15 @@ use Rattle.doc_parts.proofs.whole.read_front.Goals as goal
 pub loop-n-init : goal.loop-n-init
 loop-n-init c = moves_none c.args.limits.now (scan_state c.args.m.now) c.args.text.now c.utf8.text
 
-pub read_part-requires-clause-chars : goal.read_part-requires-clause-chars
-read_part-requires-clause-chars c = subst AreChars (sym c.split_at.ensures.back) (rest_all c.args.text.now c.loop-n.at c.requires.chars c.loop-n.invariant.boundary)
+pub read_next-requires-clause-chars : goal.read_next-requires-clause-chars
+read_next-requires-clause-chars c = subst AreChars (sym c.split_at.ensures.back) (rest_all c.args.text.now c.loop-n.at c.requires.chars c.loop-n.invariant.boundary)
 
 pub returns-then-n-eq0-clause-moves : goal.returns-then-n-eq0-clause-moves
 returns-then-n-eq0-clause-moves c =
     let lim = c.args.limits.now in
     let old = scan_state c.args.m.now in
     let now = scan_state c.loop-n.m in
-    let new = scan_state c.read_part.new.m in
+    let new = scan_state c.read_next.new.m in
     let text = c.args.text.now in
     let at = c.loop-n.at in
     let n = c.in_ok-n.n in
@@ -30,7 +30,7 @@ loop-n-preserved c =
     let lim = c.args.limits.now in
     let old = scan_state c.args.m.now in
     let now = scan_state c.loop-n.m in
-    let new = scan_state c.read_part.new.m in
+    let new = scan_state c.read_next.new.m in
     let text = c.args.text.now in
     let at = c.loop-n.at in
     let n = c.in_ok-n.n in

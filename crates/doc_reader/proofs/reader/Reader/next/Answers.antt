@@ -1,37 +1,62 @@
-use Rattle.std.proofs.Common.{◌≡◌, false, List, [], ◌∷◌, ◌++◌, sym, ap, ◌∙◌, subst, append-nil}
-use Rattle.gcx_model.specs.Tree.{Token as Said}
-use Rattle.doc_laws.specs.Machine.{State}
+use Rattle.std.proofs.Common.{rules, ◌≡◌, List, [], ◌∷◌, ◌++◌, map, refl, sym, ap, ◌∙◌, subst}
 use Rattle.doc_tokens.specs.declared.token.Token.{Token}
-use Rattle.doc_tokens.specs.declared.token.Token.TheVariants.{EndOfDocument}
-use Rattle.doc_reader.specs.Standing.{ReaderView, Stands}
-use Rattle.doc_reader.specs.Inside.{view_of}
-use Rattle.doc_reader.proofs.Standings.{first_taken, none_taken, stands_popped, stands_told}
+use Rattle.doc_reader.specs.Standing.{ReaderView, Stands, waiting, end_token, taken, answer_of, given_token, said_of}
+use Rattle.doc_reader.specs.Owned.{with_owned}
+use Rattle.doc_reader.proofs.Owning.{first_owned, waits_first, stands_first, none_left, takes_end}
 use Rattle.doc_reader.proofs.reader.Reader.next.Goals as goal
+
+pub take_end-requires : goal.take_end-requires
+take_end-requires c = c.self.invariant.drained
+
+pub invariant_of-self : goal.invariant_of-self
+invariant_of-self c =
+    let r = c.self.inside in
+    let parts : r.waits.items ≡ c.in-Some.token ∷ c.pop_front.new.self.items = search rules in
+    record { drained = c.self.invariant.drained; owned = (first_owned r.waits.items c.pop_front.new.self.items c.in-Some.token c.self.invariant.owned parts).1 }
+
+pub invariant_of-self-in-None : goal.invariant_of-self-in-None
+invariant_of-self-in-None c =
+    let none : c.pop_front.new.self.items ≡ [] = search rules in
+    record {
+      drained = ap (λ (h : ReaderView). h.state.tokens) c.take_end.ensures.takes ∙ c.self.invariant.drained;
+      owned = subst (λ (l : List Token). map given_token (map said_of l) ≡ l) (sym none) refl;
+    }
+
+pub returns-in-Some-clause-takes : goal.returns-in-Some-clause-takes
+returns-in-Some-clause-takes c =
+    let r = c.self.inside in
+    let parts : r.waits.items ≡ c.in-Some.token ∷ c.pop_front.new.self.items = search rules in
+    ap waiting (sym c.self.view_is) ∙ waits_first r.lent r.waits.items c.pop_front.new.self.items c.in-Some.token c.self.invariant.owned parts
 
 pub returns-in-Some-clause-stands : goal.returns-in-Some-clause-stands
 returns-in-Some-clause-stands c lim b ended given s =
-    let old = view_of c.self.inside in
-    let rest : List Said = c.next_whole.new.m.tokens in
-    let f = first_taken c.next_whole.result old.state.tokens rest c.in-Some.token c.next_whole.ensures.takes c.in-Some.is in
+    let r = c.self.inside in
+    let parts : r.waits.items ≡ c.in-Some.token ∷ c.pop_front.new.self.items = search rules in
     let now = subst (λ (v : ReaderView). Stands v lim b ended given) (sym c.self.view_is) s in
-    subst (λ (m : State). Stands (record old { state = m }) lim b ended (given ++ (c.in-Some.token ∷ []))) (sym c.next_whole.ensures.same)
-    (subst (λ (t : Token). Stands (record old { state = record old.state { tokens = rest } }) lim b ended (given ++ (t ∷ []))) (sym f.2)
-    (stands_popped old f.0 rest f.1 lim b given ended now))
+    stands_first r.lent r.waits.items c.pop_front.new.self.items c.in-Some.token lim b ended given c.self.invariant.owned parts now
 
-pub returns-else-self-clause-stands : goal.returns-else-self-clause-stands
-returns-else-self-clause-stands c lim b ended given s =
-    let old = view_of c.self.inside in
-    let f = none_taken c.next_whole.result old.state.tokens c.next_whole.new.m.tokens c.next_whole.ensures.takes c.in-None.is in
-    let same : c.next_whole.new.m ≡ old.state = c.next_whole.ensures.same ∙ ap (λ (l : List Said). record old.state { tokens = l }) (f.1 ∙ sym f.0) in
-    let now = subst (λ (v : ReaderView). Stands v lim b ended given) (sym c.self.view_is) s in
-    subst (λ (m : State). Stands (record old { state = m }) lim b ended (given ++ [])) (sym same)
-    (subst (λ (l : List Token). Stands old lim b ended l) (sym (append-nil given)) now)
+pub returns-in-None-clause-takes : goal.returns-in-None-clause-takes
+returns-in-None-clause-takes c =
+    let r = c.self.inside in
+    let none : r.waits.items ≡ [] = search rules in
+    let still : c.pop_front.new.self.items ≡ [] = search rules in
+    let drained = ap (λ (h : ReaderView). h.state.tokens) c.take_end.ensures.takes ∙ c.self.invariant.drained in
+    takes_end c.ended_token.result _ _ r.lent.end_waits (c.ended_token.ensures ∙ ap end_token c.take_end.ensures.waits)
+    (ap waiting (sym c.self.view_is) ∙ none_left r.lent r.waits.items none c.self.invariant.drained)
+    (none_left c.take_end.new.self c.pop_front.new.self.items still drained ∙ ap (λ (h : ReaderView). end_token h.end_waits) c.take_end.ensures.takes)
 
-pub returns-then-self-clause-stands : goal.returns-then-self-clause-stands
-returns-then-self-clause-stands c lim b ended given s =
-    let old = view_of c.self.inside in
-    let f = none_taken c.next_whole.result old.state.tokens c.next_whole.new.m.tokens c.next_whole.ensures.takes c.in-None.is in
-    let same : c.next_whole.new.m ≡ old.state = c.next_whole.ensures.same ∙ ap (λ (l : List Said). record old.state { tokens = l }) (f.1 ∙ sym f.0) in
+pub returns-in-None-clause-stands : goal.returns-in-None-clause-stands
+returns-in-None-clause-stands c lim b ended given s =
+    let r = c.self.inside in
+    let none : r.waits.items ≡ [] = search rules in
+    let still : c.pop_front.new.self.items ≡ [] = search rules in
     let now = subst (λ (v : ReaderView). Stands v lim b ended given) (sym c.self.view_is) s in
-    subst (λ (m : State). Stands (record old { state = m; end_waits = false }) lim b ended (given ++ (EndOfDocument ∷ []))) (sym same)
-    (stands_told old lim b ended given f.0 c.if-self.true now)
+    let below = subst (λ (l : List Token). Stands (with_owned (map said_of l) r.lent) lim b ended given) none now in
+    subst (λ (l : List Token). Stands (with_owned (map said_of l) c.take_end.new.self) lim b ended (given ++ taken c.ended_token.result)) (sym still)
+    (subst (λ (l : List Token). Stands c.take_end.new.self lim b ended (given ++ l)) (sym c.ended_token.ensures) (c.take_end.ensures.stands lim b ended given below))
+
+pub returns-in-None-clause-keeps : goal.returns-in-None-clause-keeps
+returns-in-None-clause-keeps c = record {
+  finished = ap (λ (h : ReaderView). h.finished) c.take_end.ensures.takes ∙ ap (λ (v : ReaderView). v.finished) c.self.view_is;
+  answer = ap answer_of c.take_end.ensures.takes ∙ ap answer_of c.self.view_is;
+}

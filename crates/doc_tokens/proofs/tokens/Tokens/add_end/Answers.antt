@@ -1,10 +1,19 @@
-use Rattle.gcx_model.specs.Fronts.{text_of}
-use Rattle.doc_tokens.specs.declared.event.Event.TheVariants as events
-use Rattle.doc_tokens.proofs.Queues.{run_and_one}
+use Rattle.std.proofs.Common.{rules, ap}
+use Rattle.doc_tokens.specs.Tokens.{Queue}
+use Rattle.doc_tokens.proofs.Keeping.{ended}
 use Rattle.doc_tokens.proofs.tokens.Tokens.add_end.Goals as goal
 
-pub returns-clause-tokens : goal.returns-clause-tokens
-returns-clause-tokens c = (run_and_one c.self.inside.whole c.self.inside.events.items c.reserve.new.self.items c.end_run.new.events.items c.push_back_reserved.new.self.items c.args.self.now (text_of c.args.run.now) events.End c.self.invariant c.self.view_is c.reserve.ensures.items c.end_run.ensures.events c.push_back_reserved.ensures.items).first
+pub invariant_of-self-2 : goal.invariant_of-self-2
+invariant_of-self-2 c =
+    let s = c.self.inside in
+    (ended s.bytes.items s.lent.items c.reserve.new.self.items c.put_text.new.lent.items c.push_reserved.new.self.items s.base s.start s.taken s.whole c.args.self.now c.has_text-text.result c.len-end.result c.self.invariant c.self.view_is (search rules) (search rules) c.reserve.ensures.items c.put_text.ensures.items c.push_reserved.ensures.items).kept
 
-pub returns-clause-pending : goal.returns-clause-pending
-returns-clause-pending c = (run_and_one c.self.inside.whole c.self.inside.events.items c.reserve.new.self.items c.end_run.new.events.items c.push_back_reserved.new.self.items c.args.self.now (text_of c.args.run.now) events.End c.self.invariant c.self.view_is c.reserve.ensures.items c.end_run.ensures.events c.push_back_reserved.ensures.items).behind
+pub returns-clause-ok : goal.returns-clause-ok
+returns-clause-ok c =
+    let s = c.self.inside in
+    (ended s.bytes.items s.lent.items c.reserve.new.self.items c.put_text.new.lent.items c.push_reserved.new.self.items s.base s.start s.taken s.whole c.args.self.now c.has_text-text.result c.len-end.result c.self.invariant c.self.view_is (search rules) (search rules) c.reserve.ensures.items c.put_text.ensures.items c.push_reserved.ensures.items).queue
+
+pub returns-clause-tokens : goal.returns-clause-tokens
+returns-clause-tokens c =
+    let s = c.self.inside in
+    ap (λ (q : Queue). q.tokens) (ended s.bytes.items s.lent.items c.reserve.new.self.items c.put_text.new.lent.items c.push_reserved.new.self.items s.base s.start s.taken s.whole c.args.self.now c.has_text-text.result c.len-end.result c.self.invariant c.self.view_is (search rules) (search rules) c.reserve.ensures.items c.put_text.ensures.items c.push_reserved.ensures.items).queue

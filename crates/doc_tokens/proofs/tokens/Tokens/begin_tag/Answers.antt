@@ -1,24 +1,19 @@
-use Rattle.std.proofs.Common.{rules, ap, ◌∙◌, ◌≡◌, ◌++◌, ◌∷◌, []}
-use Rattle.gcx_model.specs.Tree.{Start}
-use Rattle.gcx_model.specs.Fronts.{text_of}
-use Rattle.doc_tokens.specs.declared.event.Event.TheVariants as events
+use Rattle.std.proofs.Common.{rules, ap, ◌∙◌, []}
 use Rattle.doc_tokens.specs.Tokens.{Queue}
-use Rattle.doc_tokens.proofs.Queues.{run_and_one}
+use Rattle.doc_tokens.proofs.Keeping.{begun}
 use Rattle.doc_tokens.proofs.tokens.Tokens.begin_tag.Goals as goal
 
 pub invariant_of-self-2 : goal.invariant_of-self-2
 invariant_of-self-2 c =
-    let last : c.push_back_reserved.new.self.items ≡ c.end_run.new.events.items ++ (events.Start c.args.name.now ∷ []) = search rules in
-    (run_and_one c.self.inside.whole c.self.inside.events.items c.reserve.new.self.items c.end_run.new.events.items c.push_back_reserved.new.self.items c.forget_pending.new.self (text_of c.args.run.now) (events.Start c.args.name.now) c.self.invariant c.self.view_is c.reserve.ensures.items c.end_run.ensures.events last).within
+    let s = c.self.inside in
+    (begun s.bytes.items s.lent.items c.reserve.new.self.items c.put_text.new.lent.items c.push_reserved.new.self.items s.base s.start s.taken s.whole (record c.args.self.now { pending = [] }) c.args.name.now c.extend_from_slice.new.self.items c.has_text-text.result c.len-first.result c.len-end.result c.self.invariant (c.self.view_is ∙ c.forget_pending.ensures) (search rules) (search rules) (search rules) (search rules) c.requires c.reserve.ensures.items c.put_text.ensures.items c.push_reserved.ensures.items).kept
+
+pub returns-clause-ok : goal.returns-clause-ok
+returns-clause-ok c =
+    let s = c.self.inside in
+    (begun s.bytes.items s.lent.items c.reserve.new.self.items c.put_text.new.lent.items c.push_reserved.new.self.items s.base s.start s.taken s.whole (record c.args.self.now { pending = [] }) c.args.name.now c.extend_from_slice.new.self.items c.has_text-text.result c.len-first.result c.len-end.result c.self.invariant (c.self.view_is ∙ c.forget_pending.ensures) (search rules) (search rules) (search rules) (search rules) c.requires c.reserve.ensures.items c.put_text.ensures.items c.push_reserved.ensures.items).queue
 
 pub returns-clause-tokens : goal.returns-clause-tokens
 returns-clause-tokens c =
-    let last : c.push_back_reserved.new.self.items ≡ c.end_run.new.events.items ++ (events.Start c.args.name.now ∷ []) = search rules in
-    (run_and_one c.self.inside.whole c.self.inside.events.items c.reserve.new.self.items c.end_run.new.events.items c.push_back_reserved.new.self.items c.forget_pending.new.self (text_of c.args.run.now) (events.Start c.args.name.now) c.self.invariant c.self.view_is c.reserve.ensures.items c.end_run.ensures.events last).first
-    ∙ ap (λ (q : Queue). q.tokens) c.forget_pending.ensures
-
-pub returns-clause-pending : goal.returns-clause-pending
-returns-clause-pending c =
-    let last : c.push_back_reserved.new.self.items ≡ c.end_run.new.events.items ++ (events.Start c.args.name.now ∷ []) = search rules in
-    (run_and_one c.self.inside.whole c.self.inside.events.items c.reserve.new.self.items c.end_run.new.events.items c.push_back_reserved.new.self.items c.forget_pending.new.self (text_of c.args.run.now) (events.Start c.args.name.now) c.self.invariant c.self.view_is c.reserve.ensures.items c.end_run.ensures.events last).behind
-    ∙ ap (λ (q : Queue). q.pending ++ (text_of c.args.run.now ++ (Start c.args.name.now ∷ []))) c.forget_pending.ensures
+    let s = c.self.inside in
+    ap (λ (q : Queue). q.tokens) (begun s.bytes.items s.lent.items c.reserve.new.self.items c.put_text.new.lent.items c.push_reserved.new.self.items s.base s.start s.taken s.whole (record c.args.self.now { pending = [] }) c.args.name.now c.extend_from_slice.new.self.items c.has_text-text.result c.len-first.result c.len-end.result c.self.invariant (c.self.view_is ∙ c.forget_pending.ensures) (search rules) (search rules) (search rules) (search rules) c.requires c.reserve.ensures.items c.put_text.ensures.items c.push_reserved.ensures.items).queue

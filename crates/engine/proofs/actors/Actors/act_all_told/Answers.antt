@@ -13,7 +13,8 @@ act_told-requires g c =
 
 pub actions-init : goal.actions-init
 actions-init g c = record {
-  reached = λ plan P k a. told_none g.C.Conds.stands plan c.args.self.now P k c.args.out.now.items c.args.trace.now.items a;
+  reached = λ plan P k a. told_none g.C.Conds.stands plan c.args.tracing c.args.self.now P k c.args.out.now.items c.args.trace.now.items a;
+  untold = λ unwanted. refl;
   projector = refl;
   counts = refl;
   most = refl;
@@ -22,7 +23,6 @@ actions-init g c = record {
 
 pub actions-preserved : goal.actions-preserved
 actions-preserved g c =
-    let old = c.args.self.now in
     let e = c.actions.self in
     let d = c.act_told.new.self in
     let u = c.args.out.now.items in
@@ -36,9 +36,10 @@ actions-preserved g c =
     record {
       reached = λ plan P k a.
           let r = c.actions.invariant.reached plan P k a in
-          told_on g.C.Conds.stands plan e P k u v s t r d w n
+          told_on g.C.Conds.stands plan c.args.tracing e P k u v s t r d w n
           (subst (λ (z : Bool). ActsOne g.C.Conds.stands plan d P r.reached.taken z v w) more (o.acts plan P r.reached.taken r.reached.actors))
-          (subst (λ (z : Bool). n ≡ t ++ text_of_lines (next_lines plan P r.reached.taken z)) more (o.told plan P r.reached.taken r.reached.actors));
+          (λ wanted. subst (λ (z : Bool). n ≡ t ++ text_of_lines (next_lines plan P r.reached.taken z)) more (o.told wanted plan P r.reached.taken r.reached.actors));
+      untold = λ unwanted. (c.act_told.ensures.untold unwanted).0 ∙ c.actions.invariant.untold unwanted;
       projector = c.act_told.ensures.projector ∙ c.actions.invariant.projector;
       counts = c.act_told.ensures.counts ∙ c.actions.invariant.counts;
       most = c.act_told.ensures.most ∙ c.actions.invariant.most;
@@ -53,9 +54,6 @@ returns-in_err-act_told-clause-some g c =
     let u = c.args.out.now.items in
     let v = c.actions.out.items in
     let w = c.act_told.new.out.items in
-    let s = c.args.trace.now.items in
-    let t = c.actions.trace.items in
-    let n = c.act_told.new.trace.items in
     let h : ActsSomeFrom g.C.Conds.stands old d u w = λ plan P k a.
     let r = c.actions.invariant.reached plan P k a in
     reached_some g.C.Conds.stands plan e d P k u v w r.reached (c.in_err-act_told.ensures.some plan P r.reached.taken r.reached.actors) in
@@ -63,15 +61,11 @@ returns-in_err-act_told-clause-some g c =
 
 pub returns-then-not-branch-clause-acts : goal.returns-then-not-branch-clause-acts
 returns-then-not-branch-clause-acts g c = λ plan P k a.
-    let old = c.args.self.now in
     let e = c.actions.self in
     let d = c.act_told.new.self in
     let u = c.args.out.now.items in
     let v = c.actions.out.items in
     let w = c.act_told.new.out.items in
-    let s = c.args.trace.now.items in
-    let t = c.actions.trace.items in
-    let n = c.act_told.new.trace.items in
     let r = c.actions.invariant.reached plan P k a in
     let none : c.in_ok-act_told.field-0 ≡ false = search rules in
     reached_end g.C.Conds.stands plan e d P k u v w r.reached
@@ -83,8 +77,7 @@ returns-clause-some g c = λ plan P k a.
     some_now g.C.Conds.stands plan c.actions.self P k r.taken c.args.out.now.items c.actions.out.items r.actors r.goes
 
 pub returns-then-not-branch-clause-told : goal.returns-then-not-branch-clause-told
-returns-then-not-branch-clause-told g c = λ plan P k a.
-    let old = c.args.self.now in
+returns-then-not-branch-clause-told g c = λ wanted plan P k a.
     let e = c.actions.self in
     let d = c.act_told.new.self in
     let u = c.args.out.now.items in
@@ -95,26 +88,30 @@ returns-then-not-branch-clause-told g c = λ plan P k a.
     let n = c.act_told.new.trace.items in
     let r = c.actions.invariant.reached plan P k a in
     let none : c.in_ok-act_told.field-0 ≡ false = search rules in
-    told_end g.C.Conds.stands plan e P k u v s t r d w n
+    told_end g.C.Conds.stands plan c.args.tracing e P k u v s t r d w n wanted
     (subst (λ (z : Bool). ActsOne g.C.Conds.stands plan d P r.reached.taken z v w) none (c.in_ok-act_told.ensures.acts plan P r.reached.taken r.reached.actors))
-    (subst (λ (z : Bool). n ≡ t ++ text_of_lines (next_lines plan P r.reached.taken z)) none (c.in_ok-act_told.ensures.told plan P r.reached.taken r.reached.actors))
+    (subst (λ (z : Bool). n ≡ t ++ text_of_lines (next_lines plan P r.reached.taken z)) none (c.in_ok-act_told.ensures.told wanted plan P r.reached.taken r.reached.actors))
 
 pub returns-in_err-act_told-clause-part : goal.returns-in_err-act_told-clause-part
 returns-in_err-act_told-clause-part g c =
     let old = c.args.self.now in
     let e = c.actions.self in
-    let d = c.act_told.new.self in
     let u = c.args.out.now.items in
     let v = c.actions.out.items in
-    let w = c.act_told.new.out.items in
     let s = c.args.trace.now.items in
     let t = c.actions.trace.items in
     let n = c.act_told.new.trace.items in
-    let h : TellsFront g.C.Conds.stands old s n = λ plan P k a.
+    let h : c.args.tracing ≡ true → TellsFront g.C.Conds.stands old s n = λ wanted plan P k a.
     let r = c.actions.invariant.reached plan P k a in
-    told_part g.C.Conds.stands plan e P k u v s t r n (c.in_err-act_told.ensures.part plan P r.reached.taken r.reached.actors) in
+    told_part g.C.Conds.stands plan c.args.tracing e P k u v s t r n wanted (c.in_err-act_told.ensures.part wanted plan P r.reached.taken r.reached.actors) in
     on_err _ _ h
 
 pub returns-clause-part : goal.returns-clause-part
-returns-clause-part g c = λ plan P k a.
-    told_some g.C.Conds.stands plan c.actions.self P k c.args.out.now.items c.actions.out.items c.args.trace.now.items c.actions.trace.items (c.actions.invariant.reached plan P k a)
+returns-clause-part g c = λ wanted plan P k a.
+    told_some g.C.Conds.stands plan c.args.tracing c.actions.self P k c.args.out.now.items c.actions.out.items c.args.trace.now.items c.actions.trace.items (c.actions.invariant.reached plan P k a) wanted
+
+pub returns-in_err-act_told-clause-untold : goal.returns-in_err-act_told-clause-untold
+returns-in_err-act_told-clause-untold g c = λ unwanted. (c.act_told.ensures.untold unwanted).0 ∙ c.actions.invariant.untold unwanted
+
+pub returns-then-not-branch-clause-untold : goal.returns-then-not-branch-clause-untold
+returns-then-not-branch-clause-untold g c = λ unwanted. (c.act_told.ensures.untold unwanted).0 ∙ c.actions.invariant.untold unwanted

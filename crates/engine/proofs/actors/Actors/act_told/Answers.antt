@@ -1,4 +1,5 @@
 use Rattle.std.proofs.Common.{◌≡◌, ◌<◌, ℕ, suc, List, true, false, ap, inl, inr, map, refl, subst, sym, ◌∙◌, ◌++◌}
+use Rattle.std.proofs.lemmas.Bool.{true≢false}
 use Rattle.std.proofs.lemmas.List.{append-nil}
 use Rattle.engine.specs.Actors.{ActsOneFrom, ActsSomeFrom, SomeActors, all_of, past_at}
 use Rattle.engine.specs.View.{ActorsView}
@@ -38,8 +39,8 @@ returns-in-Blocked-clause-acts g c =
     [ inl x ↦ did_blocked plan (g.C.Conds.stands e.machine.conds) old.projector e.machine.position old.buffer e.buffer P k u v c.in_ok-acted.acted x d | inr x ↦ did_finished plan (g.C.Conds.stands e.machine.conds) old.projector e.machine.position old.buffer e.buffer P k u v c.in_ok-acted.acted x d ] in
     subst (λ (z : ActorsView g.row.C.Denot). ActsOneFrom g.C.Conds.stands z e u v false) c.self.view_is h
 
-pub returns-in_ok-put_acted-in-Wrote-clause-acts : goal.returns-in_ok-put_acted-in-Wrote-clause-acts
-returns-in_ok-put_acted-in-Wrote-clause-acts g c =
+pub returns-in_ok-tell_acted-in-Wrote-clause-acts : goal.returns-in_ok-tell_acted-in-Wrote-clause-acts
+returns-in_ok-tell_acted-in-Wrote-clause-acts g c =
     let old : ActorsView g.row.C.Denot = record { projector = c.self.inside.projector; buffer = c.self.inside.buffer; machine = c.self.inside.machine; counts = c.self.inside.counts } in
     let e : ActorsView g.row.C.Denot = record old { buffer = c.act.new.buffer; machine = c.act.new.self } in
     let n : ActorsView g.row.C.Denot = record e { buffer = c.clear_gone.new.self } in
@@ -54,8 +55,8 @@ returns-in_ok-put_acted-in-Wrote-clause-acts g c =
     acts_told g.C.Conds.stands plan old e P k u v one n (ap (λ z. record e { buffer = z }) c.clear_gone.ensures) in
     subst (λ (z : ActorsView g.row.C.Denot). ActsOneFrom g.C.Conds.stands z n u v true) c.self.view_is h
 
-pub returns-in_err-put_acted-in-Wrote-clause-some : goal.returns-in_err-put_acted-in-Wrote-clause-some
-returns-in_err-put_acted-in-Wrote-clause-some g c =
+pub returns-in_err-tell_acted-in-Wrote-clause-some : goal.returns-in_err-tell_acted-in-Wrote-clause-some
+returns-in_err-tell_acted-in-Wrote-clause-some g c =
     let old : ActorsView g.row.C.Denot = record { projector = c.self.inside.projector; buffer = c.self.inside.buffer; machine = c.self.inside.machine; counts = c.self.inside.counts } in
     let e : ActorsView g.row.C.Denot = record old { buffer = c.act.new.buffer; machine = c.act.new.self } in
     let u = c.args.out.now.items in
@@ -72,39 +73,39 @@ returns-in_err-put_acted-in-Wrote-clause-some g c =
 pub returns-in_err-acted-clause-part : goal.returns-in_err-acted-clause-part
 returns-in_err-acted-clause-part g c =
     let s = c.args.trace.now.items in
-    let h : TellsFront g.C.Conds.stands c.args.self.now s s = λ plan P k a. part_none s s (text_of_lines (lines_to plan P k (all_of plan P))) refl in
+    let h : c.args.tracing ≡ true → TellsFront g.C.Conds.stands c.args.self.now s s = λ wanted plan P k a. part_none s s (text_of_lines (lines_to plan P k (all_of plan P))) refl in
     on_err _ _ h
 
 pub returns-in-Blocked-clause-told : goal.returns-in-Blocked-clause-told
-returns-in-Blocked-clause-told g c = λ plan P k a. sym (append-nil c.args.trace.now.items)
+returns-in-Blocked-clause-told g c = λ wanted plan P k a. sym (append-nil c.args.trace.now.items)
 
-pub returns-in_ok-put_acted-in-Wrote-clause-told : goal.returns-in_ok-put_acted-in-Wrote-clause-told
-returns-in_ok-put_acted-in-Wrote-clause-told g c =
+pub returns-in_ok-tell_acted-in-Wrote-clause-told : goal.returns-in_ok-tell_acted-in-Wrote-clause-told
+returns-in_ok-tell_acted-in-Wrote-clause-told g c =
     let old : ActorsView g.row.C.Denot = record { projector = c.self.inside.projector; buffer = c.self.inside.buffer; machine = c.self.inside.machine; counts = c.self.inside.counts } in
     let e : ActorsView g.row.C.Denot = record old { buffer = c.act.new.buffer; machine = c.act.new.self } in
     let u = c.args.out.now.items in
     let v = c.act.new.out.items in
     let s = c.args.trace.now.items in
-    let w = c.put_acted.new.trace.items in
-    let h : TellsAction g.C.Conds.stands old s w true = λ plan P k a.
+    let w = c.tell_acted.new.trace.items in
+    let h : c.args.tracing ≡ true → TellsAction g.C.Conds.stands old s w true = λ wanted plan P k a.
     let t : Takes (past_at plan P k a.fed) k e.machine.position old.buffer e.buffer u v c.in_ok-acted.acted = (c.in_ok-acted.ensures.acts (past_at plan P k a.fed) k a.beside a.stand).0 in
     let one : (k < all_of plan P) × (acted_lines c.in_ok-acted.acted ++ map Left e.buffer.gone ≡ lines_to plan P k (suc k))
     = elim c.in-Wrote.is as (λ _. (k < all_of plan P) × (acted_lines c.in_ok-acted.acted ++ map Left e.buffer.gone ≡ lines_to plan P k (suc k))) [
       | inl x ↦ tells_wrote plan (g.C.Conds.stands old.machine.conds) old.projector old.machine.position e.machine.position old.buffer e.buffer P k a u v c.in_ok-acted.acted x.0 x.1 t
       | inr x ↦ tells_signed plan (g.C.Conds.stands old.machine.conds) old.projector old.machine.position e.machine.position old.buffer e.buffer P k a u v c.in_ok-acted.acted x.0 x.1 x.2 t
     ] in
-    subst (λ (z : List ℕ). w ≡ s ++ text_of_lines (acted_lines c.in_ok-acted.acted ++ map Left z)) c.gone.ensures c.in_ok-put_acted-in-Wrote.ensures.told ∙ ap (λ (z : List Line). s ++ text_of_lines z) one.1 in
-    subst (λ (z : ActorsView g.row.C.Denot). TellsAction g.C.Conds.stands z s w true) c.self.view_is h
+    subst (λ (z : List ℕ). w ≡ s ++ text_of_lines (acted_lines c.in_ok-acted.acted ++ map Left z)) c.gone.ensures (c.in_ok-tell_acted-in-Wrote.ensures.told wanted) ∙ ap (λ (z : List Line). s ++ text_of_lines z) one.1 in
+    subst (λ (z : ActorsView g.row.C.Denot). c.args.tracing ≡ true → TellsAction g.C.Conds.stands z s w true) c.self.view_is h
 
-pub returns-in_err-put_acted-in-Wrote-clause-part : goal.returns-in_err-put_acted-in-Wrote-clause-part
-returns-in_err-put_acted-in-Wrote-clause-part g c =
+pub returns-in_err-tell_acted-in-Wrote-clause-part : goal.returns-in_err-tell_acted-in-Wrote-clause-part
+returns-in_err-tell_acted-in-Wrote-clause-part g c =
     let old : ActorsView g.row.C.Denot = record { projector = c.self.inside.projector; buffer = c.self.inside.buffer; machine = c.self.inside.machine; counts = c.self.inside.counts } in
     let e : ActorsView g.row.C.Denot = record old { buffer = c.act.new.buffer; machine = c.act.new.self } in
     let u = c.args.out.now.items in
     let v = c.act.new.out.items in
     let s = c.args.trace.now.items in
-    let w = c.put_acted.new.trace.items in
-    let h : TellsFront g.C.Conds.stands old s w = λ plan P k a.
+    let w = c.tell_acted.new.trace.items in
+    let h : c.args.tracing ≡ true → TellsFront g.C.Conds.stands old s w = λ wanted plan P k a.
     let t : Takes (past_at plan P k a.fed) k e.machine.position old.buffer e.buffer u v c.in_ok-acted.acted = (c.in_ok-acted.ensures.acts (past_at plan P k a.fed) k a.beside a.stand).0 in
     let one : (k < all_of plan P) × (acted_lines c.in_ok-acted.acted ++ map Left e.buffer.gone ≡ lines_to plan P k (suc k))
     = elim c.in-Wrote.is as (λ _. (k < all_of plan P) × (acted_lines c.in_ok-acted.acted ++ map Left e.buffer.gone ≡ lines_to plan P k (suc k))) [
@@ -112,5 +113,15 @@ returns-in_err-put_acted-in-Wrote-clause-part g c =
       | inr x ↦ tells_signed plan (g.C.Conds.stands old.machine.conds) old.projector old.machine.position e.machine.position old.buffer e.buffer P k a u v c.in_ok-acted.acted x.0 x.1 x.2 t
     ] in
     part_next plan P k s w one.0 (subst (λ (z : List Line). GrewPart s w (text_of_lines z)) one.1
-    (subst (λ (z : List ℕ). GrewPart s w (text_of_lines (acted_lines c.in_ok-acted.acted ++ map Left z))) c.gone.ensures c.in_err-put_acted-in-Wrote.ensures.part)) in
-    on_err _ _ (subst (λ (z : ActorsView g.row.C.Denot). TellsFront g.C.Conds.stands z s w) c.self.view_is h)
+    (subst (λ (z : List ℕ). GrewPart s w (text_of_lines (acted_lines c.in_ok-acted.acted ++ map Left z))) c.gone.ensures c.in_err-tell_acted-in-Wrote.ensures.part.1)) in
+    on_err _ _ (subst (λ (z : ActorsView g.row.C.Denot). c.args.tracing ≡ true → TellsFront g.C.Conds.stands z s w) c.self.view_is h)
+
+pub returns-in_err-acted-clause-untold : goal.returns-in_err-acted-clause-untold
+returns-in_err-acted-clause-untold g c = λ unwanted. (refl, on_err _ _ c.in_err-acted.ensures.err)
+
+pub returns-in_ok-tell_acted-in-Wrote-clause-untold : goal.returns-in_ok-tell_acted-in-Wrote-clause-untold
+returns-in_ok-tell_acted-in-Wrote-clause-untold g c = λ unwanted. (c.tell_acted.ensures.untold unwanted, tt)
+
+-- lines that aren't wanted want no memory
+pub returns-in_err-tell_acted-in-Wrote-clause-untold : goal.returns-in_err-tell_acted-in-Wrote-clause-untold
+returns-in_err-tell_acted-in-Wrote-clause-untold g c = λ unwanted. absurd (true≢false (sym c.in_err-tell_acted-in-Wrote.ensures.part.0 ∙ unwanted))

@@ -1,106 +1,83 @@
-use Rattle.std.proofs.Common.{◌∙◌, ◌++◌, [], ℕ, Bool, List, ap, map, refl, subst, sym}
-use Rattle.std.proofs.lemmas.List.{append-nil}
-use Rattle.gcx_base.specs.declared.limits.Limits.{Limits}
-use Rattle.doc_reader.specs.Standing.{Token}
-use Rattle.engine.specs.View.{EngineView}
-use Rattle.gcx_model.specs.PlanView.{plan_tree}
-use Rattle.gcx_model.specs.Seen.{seen_tree}
+use Rattle.std.proofs.Common.{◌++◌, ◌∙◌, ap, map, subst}
 use Rattle.gcx_model.specs.Core.{PlanTree}
 use Rattle.gcx_model.specs.Demand.{text_of_lines}
+use Rattle.gcx_model.specs.PlanView.{plan_tree}
+use Rattle.gcx_model.specs.Seen.{seen_tree}
 use Rattle.doc_reader.specs.Standing.{said_of, waiting}
-use Rattle.engine.specs.Engine.{IsTold, PartsStand}
-use Rattle.engine.specs.Going.{Breaks}
+use Rattle.engine.specs.View.{EngineView}
+use Rattle.engine.specs.Engine.{IsTold}
+use Rattle.engine.specs.Calls.{BreaksFrom, FeedsFrom, TellsGroups, TellsWithin}
 use Rattle.engine.specs.Telling.{GrewPart, ToldSome, more_lines}
-use Rattle.engine.proofs.TellingGroups.{part_on, some_on}
 use Rattle.engine.proofs.Acting.{on_err}
-use Rattle.engine.proofs.Forms.{alone_none, alone_on}
-use Rattle.engine.proofs.Waiting.{breaks_on, feeds_none, feeds_on}
+use Rattle.engine.proofs.Forms.{alone_on}
+use Rattle.engine.proofs.TellingGroups.{part_on, some_on}
+use Rattle.engine.proofs.Waiting.{breaks_on, err_map, feeds_on, ok_map}
 use Rattle.engine.proofs.engine.Engine.feed_waiting.Goals as goal
 
-pub groups-init : goal.groups-init
-groups-init g c = record {
-  feeds = λ lim b ended given p. feeds_none g.C.Conds.stands lim b ended given c.args.self.now p;
-  told = λ s lim b ended given p. record { more = []; waited = refl; told = sym (append-nil c.args.self.now.trace) };
-  same = alone_none c.args.self.now;
-}
+pub returns-in_err-feed_lean-clause-breaks : goal.returns-in_err-feed_lean-clause-breaks
+returns-in_err-feed_lean-clause-breaks g c = on_err _ _ c.in_err-feed_lean.ensures.breaks
 
-pub feed_group-requires : goal.feed_group-requires
-feed_group-requires g c =
+pub returns-in_err-feed_lean-clause-part : goal.returns-in_err-feed_lean-clause-part
+returns-in_err-feed_lean-clause-part g c = on_err _ _ c.in_err-feed_lean.ensures.part
+
+pub returns-in_err-feed_lean-clause-same : goal.returns-in_err-feed_lean-clause-same
+returns-in_err-feed_lean-clause-same g c = c.feed_lean.ensures.same
+
+pub feed_groups-requires : goal.feed_groups-requires
+feed_groups-requires g c =
     let q = c.requires in
-    let f = c.groups.invariant.feeds q.limits q.read q.ended q.given q.of in
+    let f = c.in_ok-feed_lean.ensures.feeds q.limits q.read q.ended q.given q.of in
     record { limits = q.limits; read = q.read; ended = q.ended; given = q.given ++ f.more; of = f.parts }
 
-pub groups-preserved : goal.groups-preserved
-groups-preserved g c =
-    let inv = c.groups.invariant in
-    let old = c.args.self.now in
-    let e = c.groups.self in
-    let d = c.feed_group.new.self in
-    let plan = ap (λ (z : EngineView g.row.C.Denot). z.plan) inv.same.rest in
-    record {
-      feeds = λ lim b ended given p. let f = inv.feeds lim b ended given p in feeds_on g.C.Conds.stands lim b ended given old e d plan f (c.in_ok-feed_group.ensures.feeds lim b ended (given ++ f.more) f.parts);
-      told = λ s lim b ended given p.
-          let f = inv.feeds lim b ended given p in
-          let pl = plan_tree old.plan in
-          let s' : IsTold e = record { tracing = ap (λ (z : EngineView g.row.C.Denot). z.tracing) inv.same.rest ∙ s.tracing; alone = ap (λ (z : EngineView g.row.C.Denot). z.ahead) inv.same.rest ∙ s.alone } in
-          let pe = ap (λ (z : EngineView g.row.C.Denot). plan_tree z.plan) inv.same.rest in
-          some_on pl given f.more (waiting old.reader) (waiting e.reader) (waiting d.reader) old.trace e.trace d.trace f.waited (inv.told s lim b ended given p)
-          (subst (λ (z : PlanTree). ToldSome z (seen_tree (map said_of (given ++ f.more))) (waiting e.reader) (waiting d.reader) e.trace d.trace) pe (c.in_ok-feed_group.ensures.told s' lim b ended (given ++ f.more) f.parts));
-      same = alone_on old e d inv.same c.feed_group.ensures.same;
-    }
-
-pub returns-in_err-feed_group-clause-breaks : goal.returns-in_err-feed_group-clause-breaks
-returns-in_err-feed_group-clause-breaks g c =
-    let inv = c.groups.invariant in
-    let old = c.args.self.now in
-    let e = c.groups.self in
-    let d = c.feed_group.new.self in
-    let plan = ap (λ (z : EngineView g.row.C.Denot). z.plan) inv.same.rest in
-    let h : (lim : Limits) (b : List ℕ) (ended : Bool) (given : List Token) → PartsStand g.C.Conds.stands lim old b ended given → Breaks lim old d b ended given = λ lim b ended given p.
-    let f = inv.feeds lim b ended given p in breaks_on g.C.Conds.stands lim b ended given old e d plan f (c.in_err-feed_group.ensures.breaks lim b ended (given ++ f.more) f.parts) in
-    on_err _ _ h
-
 pub returns-clause-feeds : goal.returns-clause-feeds
-returns-clause-feeds g c = λ lim b ended given p.
-    let inv = c.groups.invariant in
+returns-clause-feeds g c =
     let old = c.args.self.now in
-    let e = c.groups.self in
-    let d = c.feed_group.new.self in
-    let plan = ap (λ (z : EngineView g.row.C.Denot). z.plan) inv.same.rest in
-    let f = inv.feeds lim b ended given p in
-    feeds_on g.C.Conds.stands lim b ended given old e d plan f (c.in_ok-feed_group.ensures.feeds lim b ended (given ++ f.more) f.parts)
+    let e = c.feed_lean.new.self in
+    let d = c.feed_groups.new.self in
+    let plan = ap (λ (z : EngineView g.row.C.Denot). z.plan) c.feed_lean.ensures.same.rest in
+    let from : FeedsFrom g.C.Conds.stands e d → FeedsFrom g.C.Conds.stands old d = λ h lim b ended given p.
+    let f = c.in_ok-feed_lean.ensures.feeds lim b ended given p in
+    feeds_on g.C.Conds.stands lim b ended given old e d plan f (h lim b ended (given ++ f.more) f.parts) in
+    ok_map c.feed_groups.result from c.feed_groups.ensures.feeds
 
-pub returns-in_err-feed_group-clause-part : goal.returns-in_err-feed_group-clause-part
-returns-in_err-feed_group-clause-part g c =
-    let inv = c.groups.invariant in
+pub returns-clause-breaks : goal.returns-clause-breaks
+returns-clause-breaks g c =
     let old = c.args.self.now in
-    let e = c.groups.self in
-    let d = c.feed_group.new.self in
-    let h : IsTold old → (lim : Limits) (b : List ℕ) (ended : Bool) (given : List Token) → PartsStand g.C.Conds.stands lim old b ended given
-    → GrewPart old.trace d.trace (text_of_lines (more_lines (plan_tree old.plan) (seen_tree (map said_of given)) (waiting old.reader))) = λ s lim b ended given p.
-    let f = inv.feeds lim b ended given p in
-    let pl = plan_tree old.plan in
-    let s' : IsTold e = record { tracing = ap (λ (z : EngineView g.row.C.Denot). z.tracing) inv.same.rest ∙ s.tracing; alone = ap (λ (z : EngineView g.row.C.Denot). z.ahead) inv.same.rest ∙ s.alone } in
-    let pe = ap (λ (z : EngineView g.row.C.Denot). plan_tree z.plan) inv.same.rest in
-    part_on pl given f.more (waiting old.reader) (waiting e.reader) old.trace e.trace d.trace f.waited (inv.told s lim b ended given p)
-    (subst (λ (z : PlanTree). GrewPart e.trace d.trace (text_of_lines (more_lines z (seen_tree (map said_of (given ++ f.more))) (waiting e.reader)))) pe (c.in_err-feed_group.ensures.part s' lim b ended (given ++ f.more) f.parts)) in
-    on_err _ _ h
+    let e = c.feed_lean.new.self in
+    let d = c.feed_groups.new.self in
+    let plan = ap (λ (z : EngineView g.row.C.Denot). z.plan) c.feed_lean.ensures.same.rest in
+    let from : BreaksFrom g.C.Conds.stands e d → BreaksFrom g.C.Conds.stands old d = λ h lim b ended given p.
+    let f = c.in_ok-feed_lean.ensures.feeds lim b ended given p in
+    breaks_on g.C.Conds.stands lim b ended given old e d plan f (h lim b ended (given ++ f.more) f.parts) in
+    err_map c.feed_groups.result from c.feed_groups.ensures.breaks
 
 pub returns-clause-told : goal.returns-clause-told
-returns-clause-told g c = λ s lim b ended given p.
-    let inv = c.groups.invariant in
+returns-clause-told g c =
     let old = c.args.self.now in
-    let e = c.groups.self in
-    let d = c.feed_group.new.self in
-    let f = inv.feeds lim b ended given p in
-    let pl = plan_tree old.plan in
-    let s' : IsTold e = record { tracing = ap (λ (z : EngineView g.row.C.Denot). z.tracing) inv.same.rest ∙ s.tracing; alone = ap (λ (z : EngineView g.row.C.Denot). z.ahead) inv.same.rest ∙ s.alone } in
-    let pe = ap (λ (z : EngineView g.row.C.Denot). plan_tree z.plan) inv.same.rest in
-    some_on pl given f.more (waiting old.reader) (waiting e.reader) (waiting d.reader) old.trace e.trace d.trace f.waited (inv.told s lim b ended given p)
-    (subst (λ (z : PlanTree). ToldSome z (seen_tree (map said_of (given ++ f.more))) (waiting e.reader) (waiting d.reader) e.trace d.trace) pe (c.in_ok-feed_group.ensures.told s' lim b ended (given ++ f.more) f.parts))
+    let e = c.feed_lean.new.self in
+    let d = c.feed_groups.new.self in
+    let rest = c.feed_lean.ensures.same.rest in
+    let from : TellsGroups g.C.Conds.stands e d → TellsGroups g.C.Conds.stands old d = λ h s lim b ended given p.
+    let f = c.in_ok-feed_lean.ensures.feeds lim b ended given p in
+    let s' : IsTold e = record { tracing = ap (λ (z : EngineView g.row.C.Denot). z.tracing) rest ∙ s.tracing; alone = ap (λ (z : EngineView g.row.C.Denot). z.ahead) rest ∙ s.alone } in
+    let pe = ap (λ (z : EngineView g.row.C.Denot). plan_tree z.plan) rest in
+    some_on (plan_tree old.plan) given f.more (waiting old.reader) (waiting e.reader) (waiting d.reader) old.trace e.trace d.trace f.waited (c.in_ok-feed_lean.ensures.told s lim b ended given p)
+    (subst (λ (z : PlanTree). ToldSome z (seen_tree (map said_of (given ++ f.more))) (waiting e.reader) (waiting d.reader) e.trace d.trace) pe (h s' lim b ended (given ++ f.more) f.parts)) in
+    ok_map c.feed_groups.result from c.feed_groups.ensures.told
 
-pub returns-in_err-feed_group-clause-same : goal.returns-in_err-feed_group-clause-same
-returns-in_err-feed_group-clause-same g c = alone_on c.args.self.now c.groups.self c.feed_group.new.self c.groups.invariant.same c.feed_group.ensures.same
+pub returns-clause-part : goal.returns-clause-part
+returns-clause-part g c =
+    let old = c.args.self.now in
+    let e = c.feed_lean.new.self in
+    let d = c.feed_groups.new.self in
+    let rest = c.feed_lean.ensures.same.rest in
+    let from : TellsWithin g.C.Conds.stands e d → TellsWithin g.C.Conds.stands old d = λ h s lim b ended given p.
+    let f = c.in_ok-feed_lean.ensures.feeds lim b ended given p in
+    let s' : IsTold e = record { tracing = ap (λ (z : EngineView g.row.C.Denot). z.tracing) rest ∙ s.tracing; alone = ap (λ (z : EngineView g.row.C.Denot). z.ahead) rest ∙ s.alone } in
+    let pe = ap (λ (z : EngineView g.row.C.Denot). plan_tree z.plan) rest in
+    part_on (plan_tree old.plan) given f.more (waiting old.reader) (waiting e.reader) old.trace e.trace d.trace f.waited (c.in_ok-feed_lean.ensures.told s lim b ended given p)
+    (subst (λ (z : PlanTree). GrewPart e.trace d.trace (text_of_lines (more_lines z (seen_tree (map said_of (given ++ f.more))) (waiting e.reader)))) pe (h s' lim b ended (given ++ f.more) f.parts)) in
+    err_map c.feed_groups.result from c.feed_groups.ensures.part
 
 pub returns-clause-same : goal.returns-clause-same
-returns-clause-same g c = alone_on c.args.self.now c.groups.self c.feed_group.new.self c.groups.invariant.same c.feed_group.ensures.same
+returns-clause-same g c = alone_on c.args.self.now c.feed_lean.new.self c.feed_groups.new.self c.feed_lean.ensures.same c.feed_groups.ensures.same

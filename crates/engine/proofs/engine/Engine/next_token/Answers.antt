@@ -1,16 +1,15 @@
-use Rattle.std.proofs.Common.{ap, subst, sym}
-use Rattle.doc_reader.specs.Standing.{Keeps, Stands, Takes, waiting}
+use Rattle.std.proofs.Common.{ap, subst}
+use Rattle.std.specs.Prelude.{IfOk}
+use Rattle.doc_reader.specs.Standing.{Keeps}
+use Rattle.engine.specs.Calls.{TakesNext}
 use Rattle.engine.specs.View.{EngineView}
 use Rattle.engine.proofs.engine.Engine.next_token.Goals as goal
 
-pub returns-clause-takes : goal.returns-clause-takes
-returns-clause-takes g c = subst (λ (z : EngineView g.row.C.Denot). Takes c.next.result (waiting z.reader) (waiting c.next.new.self)) c.self.view_is c.next.ensures.takes
-
-pub returns-clause-stands : goal.returns-clause-stands
-returns-clause-stands g c = λ lim b ended given s. c.next.ensures.stands lim b ended given (subst (λ (z : EngineView g.row.C.Denot). Stands z.reader lim b ended given) (sym c.self.view_is) s)
+pub returns-clause-gives : goal.returns-clause-gives
+returns-clause-gives g c = subst (λ (z : EngineView g.row.C.Denot). IfOk c.next_owned.result (TakesNext z.reader c.next_owned.new.reader)) c.self.view_is c.next_owned.ensures.gives
 
 pub returns-clause-keeps : goal.returns-clause-keeps
-returns-clause-keeps g c = subst (λ (z : EngineView g.row.C.Denot). Keeps z.reader c.next.new.self) c.self.view_is c.next.ensures.keeps
+returns-clause-keeps g c = subst (λ (z : EngineView g.row.C.Denot). Keeps z.reader c.next_owned.new.reader) c.self.view_is c.next_owned.ensures.keeps
 
 pub returns-clause-rest : goal.returns-clause-rest
-returns-clause-rest g c = ap (λ (z : EngineView g.row.C.Denot). record z { reader = c.next.new.self }) c.self.view_is
+returns-clause-rest g c = ap (λ (z : EngineView g.row.C.Denot). record z { reader = c.next_owned.new.reader }) c.self.view_is

@@ -1,12 +1,11 @@
-use Rattle.std.proofs.Common.{◌++◌, ◌∷◌, ◌∙◌, ℕ, List, [], ap, refl, subst, sym}
+use Rattle.std.proofs.Common.{◌++◌, ◌∷◌, ◌∙◌, [], ap, refl, subst, sym}
 use Rattle.std.specs.Prelude.{slice_range}
 use Rattle.gcx_base.specs.declared.kind.Kind.TheVariants.{Element}
-use Rattle.matcher.specs.Calls.{StandsBehind}
 use Rattle.matcher.specs.View.{MatcherView}
 use Rattle.buf_tree.specs.Loose.{Loosely}
 use Rattle.buf_tree.specs.View.{View}
 use Rattle.projector.specs.Late.{IsShallow, MakesSome, passed_in}
-use Rattle.projector.specs.LateRows.{MayOpenLate, OpensBehind}
+use Rattle.projector.specs.LateRows.{OpensBehind}
 use Rattle.projector.specs.Projector.{Places}
 use Rattle.projector.specs.Signing.{HearsOf}
 use Rattle.projector.specs.View.{ProjectorView}
@@ -17,11 +16,8 @@ use Rattle.projector.proofs.projector.Projector.start_late.Goals as goal
 pub returns-in_err-sign_all-clause-err : goal.returns-in_err-sign_all-clause-err
 returns-in_err-sign_all-clause-err g c = err_holds c.from_residual.result (makes_none (passed_in c.args.bytes.now c.args.self.now.passed) c.args.buffer.now)
 
-pub returns-in_err-name-clause-err : goal.returns-in_err-name-clause-err
-returns-in_err-name-clause-err g c = err_holds c.from_residual-in_err-name.result (makes_none (passed_in c.args.bytes.now c.args.self.now.passed) c.args.buffer.now)
-
-pub returns-in_err-go-clause-err : goal.returns-in_err-go-clause-err
-returns-in_err-go-clause-err g c = err_holds c.from_residual-in_err-go.result (makes_none (passed_in c.args.bytes.now c.args.self.now.passed) c.args.buffer.now)
+pub returns-in_err-go_name-clause-err : goal.returns-in_err-go_name-clause-err
+returns-in_err-go_name-clause-err g c = err_holds c.from_residual-in_err-go_name.result (makes_none (passed_in c.args.bytes.now c.args.self.now.passed) c.args.buffer.now)
 
 pub returns-in_err-pass_element-clause-err : goal.returns-in_err-pass_element-clause-err
 returns-in_err-pass_element-clause-err g c =
@@ -30,29 +26,27 @@ returns-in_err-pass_element-clause-err g c =
 
 pub returns-then-gives_none-clause-feeds : goal.returns-then-gives_none-clause-feeds
 returns-then-gives_none-clause-feeds g c =
-    passes_start c.args.bytes.now c.args.self.now c.sign_all.new.matcher c.go.new.self c.args.buffer.now c.waiting.result.now c.waiting.ensures (subst (λ (m : MatcherView). HearsOf m c.sign_all.new.matcher c.waiting.result.now) (ap (λ (p : ProjectorView). p.matcher) c.self.view_is) c.in_ok-sign_all.ensures) c.requires.depth (c.gives_none.ensures c.if-gives_none.true)
-    c.args.from c.args.to c.requires.name (subst (λ (part : List ℕ). StandsBehind c.sign_all.new.matcher c.go.new.self (Element part)) c.in_ok-name.ensures c.in_ok-go.ensures.stands) _ c.pass_element.new.buffer refl (ap (λ (p : ProjectorView). p.at) c.self.view_is)
+    passes_start c.args.bytes.now c.args.self.now c.sign_all.new.matcher c.go_name.new.self c.args.buffer.now c.waiting.result.now c.waiting.ensures (subst (λ (m : MatcherView). HearsOf m c.sign_all.new.matcher c.waiting.result.now) (ap (λ (p : ProjectorView). p.matcher) c.self.view_is) c.in_ok-sign_all.ensures) c.requires.depth (c.gives_none.ensures c.if-gives_none.true)
+    c.args.from c.args.to c.requires.name c.in_ok-go_name.ensures.stands _ c.pass_element.new.buffer refl (ap (λ (p : ProjectorView). p.at) c.self.view_is)
     (c.in_ok-pass_element.ensures.passed ∙ ap (λ (p : ProjectorView). p.passed ++ record { from = c.args.from; to = c.args.to; serial = c.args.buffer.now.nodes } ∷ []) c.self.view_is)
     c.in_ok-pass_element.ensures.buffer
 
-pub open_below_rows-requires-clause-place : goal.open_below_rows-requires-clause-place
-open_below_rows-requires-clause-place g c = subst (λ (p : ProjectorView). Places p c.args.buffer.now) (sym c.self.view_is) c.requires.place
+pub open_named-requires-clause-place : goal.open_named-requires-clause-place
+open_named-requires-clause-place g c = subst (λ (p : ProjectorView). Places p c.args.buffer.now) (sym c.self.view_is) c.requires.place
 
-pub open_below_rows-requires-clause-may : goal.open_below_rows-requires-clause-may
-open_below_rows-requires-clause-may g c =
-    subst (λ (part : List ℕ). MayOpenLate c.args.bytes.now (record { matcher = c.go.new.self; at = c.self.inside.at; passed = c.self.inside.passed.items }) c.args.buffer.now (Element part)) (sym c.in_ok-name.ensures)
-    (may_open_late c.args.bytes.now c.args.self.now c.sign_all.new.matcher c.args.buffer.now c.waiting.result.now c.waiting.ensures (subst (λ (m : MatcherView). HearsOf m c.sign_all.new.matcher c.waiting.result.now) (ap (λ (p : ProjectorView). p.matcher) c.self.view_is) c.in_ok-sign_all.ensures) (record { matcher = c.go.new.self; at = c.self.inside.at; passed = c.self.inside.passed.items }) (Element (slice_range c.args.bytes.now c.args.from c.args.to)) (ap (λ (p : ProjectorView). p.passed) c.self.view_is) (subst (λ (part : List ℕ). StandsBehind c.sign_all.new.matcher c.go.new.self (Element part)) c.in_ok-name.ensures c.in_ok-go.ensures.stands) c.requires.may)
+pub open_named-requires-clause-may : goal.open_named-requires-clause-may
+open_named-requires-clause-may g c =
+    may_open_late c.args.bytes.now c.args.self.now c.sign_all.new.matcher c.args.buffer.now c.waiting.result.now c.waiting.ensures (subst (λ (m : MatcherView). HearsOf m c.sign_all.new.matcher c.waiting.result.now) (ap (λ (p : ProjectorView). p.matcher) c.self.view_is) c.in_ok-sign_all.ensures) (record { matcher = c.go_name.new.self; at = c.self.inside.at; passed = c.self.inside.passed.items }) (Element (slice_range c.args.bytes.now c.args.from c.args.to)) (ap (λ (p : ProjectorView). p.passed) c.self.view_is) c.in_ok-go_name.ensures.stands c.requires.may
 
-pub open_below_rows-requires-clause-depth : goal.open_below_rows-requires-clause-depth
-open_below_rows-requires-clause-depth g c = subst (λ (p : ProjectorView). Loosely IsShallow (passed_in c.args.bytes.now p.passed) c.args.buffer.now) (sym c.self.view_is) c.requires.depth
+pub open_named-requires-clause-depth : goal.open_named-requires-clause-depth
+open_named-requires-clause-depth g c = subst (λ (p : ProjectorView). Loosely IsShallow (passed_in c.args.bytes.now p.passed) c.args.buffer.now) (sym c.self.view_is) c.requires.depth
 
 pub returns-in_err-count-clause-err : goal.returns-in_err-count-clause-err
 returns-in_err-count-clause-err g c =
-    err_holds c.from_residual-in_err-count.result (subst (λ (p : ProjectorView). MakesSome (passed_in c.args.bytes.now p.passed) c.args.buffer.now c.open_below_rows.new.buffer) c.self.view_is c.in_err-count.ensures.err)
+    err_holds c.from_residual-in_err-count.result (subst (λ (p : ProjectorView). MakesSome (passed_in c.args.bytes.now p.passed) c.args.buffer.now c.open_named.new.buffer) c.self.view_is c.in_err-count.ensures.err)
 
 pub returns-clause-feeds : goal.returns-clause-feeds
 returns-clause-feeds g c =
-    late_opened c.args.bytes.now c.args.self.now c.sign_all.new.matcher c.args.buffer.now c.waiting.result.now c.waiting.ensures (subst (λ (m : MatcherView). HearsOf m c.sign_all.new.matcher c.waiting.result.now) (ap (λ (p : ProjectorView). p.matcher) c.self.view_is) c.in_ok-sign_all.ensures) c.open_below_rows.new.self c.open_below_rows.new.buffer (Element (slice_range c.args.bytes.now c.args.from c.args.to)) c.in_ok-count.count
-    (subst (λ (p : ProjectorView). OpensBehind c.args.bytes.now c.sign_all.new.matcher p.passed c.open_below_rows.new.self c.args.buffer.now c.open_below_rows.new.buffer (Element (slice_range c.args.bytes.now c.args.from c.args.to)) c.in_ok-count.count) c.self.view_is
-    (subst (λ (part : List ℕ). OpensBehind c.args.bytes.now c.sign_all.new.matcher c.self.inside.passed.items c.open_below_rows.new.self c.args.buffer.now c.open_below_rows.new.buffer (Element part) c.in_ok-count.count) c.in_ok-name.ensures
-    (c.in_ok-count.ensures.opens c.sign_all.new.matcher c.in_ok-go.ensures.stands)))
+    late_opened c.args.bytes.now c.args.self.now c.sign_all.new.matcher c.args.buffer.now c.waiting.result.now c.waiting.ensures (subst (λ (m : MatcherView). HearsOf m c.sign_all.new.matcher c.waiting.result.now) (ap (λ (p : ProjectorView). p.matcher) c.self.view_is) c.in_ok-sign_all.ensures) c.open_named.new.self c.open_named.new.buffer (Element (slice_range c.args.bytes.now c.args.from c.args.to)) c.in_ok-count.count
+    (subst (λ (p : ProjectorView). OpensBehind c.args.bytes.now c.sign_all.new.matcher p.passed c.open_named.new.self c.args.buffer.now c.open_named.new.buffer (Element (slice_range c.args.bytes.now c.args.from c.args.to)) c.in_ok-count.count) c.self.view_is
+    (c.in_ok-count.ensures.opens c.sign_all.new.matcher c.in_ok-go_name.ensures.stands))

@@ -1,0 +1,46 @@
+//! How many bytes of one block, from its first, are of a kind: they are looked at in one go.
+ghost use Rattle.std.specs.Prelude.{◌≡◌, ◌+◌, ◌≤◌, length, not};
+ghost use Rattle.memchr.specs.Find.{is_byte3};
+ghost use Rattle.doc_parts.specs.Blocks.{PassesBlock, first_set};
+ghost use Rattle.doc_parts.specs.Spans.{is_short_part};
+
+use std::simd::prelude::*;
+
+/// How many bytes a block has.
+pub(crate) const BLOCK: usize = 16;
+
+/// The place of the lowest bit that is set, or `BLOCK`.
+#[inline(always)]
+fn first_set(mask: u64) -> usize
+    ensures { result ≡ first_set mask 16 }
+{
+    if mask == 0 {
+        BLOCK
+    } else {
+        mask.trailing_zeros() as usize
+    }
+}
+
+/// How many bytes come before the first that is one of these.
+#[inline(always)]
+pub(crate) fn others_run(a: u8, b: u8, c: u8, bytes: &[u8], at: usize) -> usize
+    requires { at + 16 ≤ length bytes.now }
+    ensures { PassesBlock (λ x. not (is_byte3 a b c x)) bytes.now at 16 result }
+{
+    let v = u8x16::from_slice(&bytes[at..]);
+    let stops = v.simd_eq(u8x16::splat(a))
+        | v.simd_eq(u8x16::splat(b))
+        | v.simd_eq(u8x16::splat(c));
+    first_set(stops.to_bitmask())
+}
+
+/// How many bytes are small letters: it stops at other NameChars too.
+#[inline(always)]
+pub(crate) fn letters_run(bytes: &[u8]) -> usize
+    requires { 16 ≤ length bytes.now }
+    ensures { PassesBlock is_short_part bytes.now 0 16 result }
+{
+    let v = u8x16::from_slice(bytes);
+    let stops = (v - u8x16::splat(b'a')).simd_ge(u8x16::splat(26));
+    first_set(stops.to_bitmask())
+}

@@ -1,0 +1,25 @@
+use Rattle.std.proofs.Common.{◌≡◌, ◌++◌, List, length, map, ap, ◌∙◌, subst, arith, OnOk}
+use Rattle.std.proofs.lemmas.List.{drop_all}
+use Rattle.gcx_model.specs.Tree.{Token as Said}
+use Rattle.doc_tokens.specs.Given.{given_token}
+use Rattle.doc_reader.specs.Standing.{with_tokens}
+use Rattle.doc_reader.proofs.Owning.{as_many}
+use Rattle.doc_reader.proofs.reader.own_all.Goals as goal
+
+pub put_all-put-requires : goal.put_all-put-requires
+put_all-put-requires c = c.lent.ensures.parts
+
+pub take_lent-requires : goal.take_lent-requires
+take_lent-requires c =
+    let long : length c.args.lent.now.state.tokens ≡ length c.lent.result.0.now = as_many c.lent.result.0.now c.lent.result.1.now c.args.lent.now.state.tokens c.lent.ensures in
+    omega arith
+
+pub returns-clause-ok : goal.returns-clause-ok
+returns-clause-ok c =
+    subst (λ (ts : List Said). OnOk c.put_all-put.result (c.put_all-put.new.waits.items ≡ c.args.waits.now.items ++ map given_token ts)) c.lent.ensures.tokens_are c.put_all-put.ensures.ok
+
+pub returns-clause-lent : goal.returns-clause-lent
+returns-clause-lent c =
+    let tokens = c.args.lent.now.state.tokens in
+    let long : length tokens ≡ length c.lent.result.0.now = as_many c.lent.result.0.now c.lent.result.1.now c.args.lent.now.state.tokens c.lent.ensures in
+    c.take_lent.ensures.takes ∙ ap (with_tokens c.args.lent.now) (drop_all (length c.lent.result.0.now) tokens (omega arith))
