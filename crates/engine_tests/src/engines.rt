@@ -4,6 +4,7 @@ mod checks;
 mod counted;
 mod joins;
 mod lean;
+mod manies;
 mod passing;
 mod rows;
 mod sides;

@@ -15,10 +15,13 @@ Usage:
   gcx peak QUERY DOC                        write how many nodes a run holds
   gcx gen SEED N                            write a document of N items
   gcx selfrun SEED N                        run a query over that document
+  gcx many DOC QUERY OUT ..                 write the answer of each QUERY into its OUT
   gcx check QUERY DOC TRACE                 judge a trace that run --trace wrote
 
 QUERY, DOC and TRACE are names of files; - is standard input. After -- all
 arguments are names or numbers. SEED is 0 to 4294967295, N is 1 to 100000.
+many reads DOC once, for up to 16 pairs of QUERY and OUT. Each OUT is a file, and
+is emptied before DOC is read: so is DOC where an OUT is DOC by another name.
 A query on the command line, in bash:  gcx run <(echo '/bib/book/title') bib.xml
 
 Options of run:
@@ -39,7 +42,9 @@ each line means: man gcx.
 ";
 
 /// The names of the commands.
-const COMMANDS: [&str; 7] = ["run", "whole", "explain", "peak", "gen", "selfrun", "check"];
+const COMMANDS: [&str; 8] = [
+    "run", "whole", "explain", "peak", "gen", "selfrun", "many", "check",
+];
 
 fn is_command(word: &Text) -> bool {
     let mut found = false;

@@ -193,7 +193,7 @@ module _ (q d t : List ℕ) (a m b : ShelfView) (x : List ExprTree) (ts : List T
         let w : TraceDoes t (trace_text x ts) (Err s) m b = subst (λ (p : PlanTree). TraceDoes t (trace_of p ts) (Err s) m b) is found in (
           keeps_of (Check q d t) s (beside a o e st) (beside b o e st) kept (omega arith) (omega arith)
               (causes_of (Check q d t) s (beside a o e st) (beside b o e st) (unjudged_no_write s w)
-              (λ fault. lacks a b o e st (Check q d t) t (inr (inr refl)) (cause_later t a m b h.two h.keeps (cause fault))))
+              (λ fault. lacks a b o e st (Check q d t) t (inr (inr (inl refl))) (cause_later t a m b h.two h.keeps (cause fault))))
               memory,
           unjudged s w,
         )

@@ -1,26 +1,35 @@
 -- Which status must come, where the shelf tells its names and no count rose.
-use Rattle.std.proofs.Common.{◌≡◌, ◌⊎◌, inl, inr, ℕ, ◌+◌, Bool, true, List, [], ◌∷◌, ◌++◌, length, Option, Some, None, refl, sym, ap, subst, ◌∙◌, arith, length-append}
+use Rattle.std.proofs.Common.{◌≡◌, ◌⊎◌, inl, inr, ℕ, suc, ◌+◌, Bool, true, List, [], ◌∷◌, ◌++◌, length, map, slice_get, Option, Some, None, refl, sym, ap, subst, ◌∙◌, arith, length-append}
 use Rattle.std.proofs.lemmas.List.{same_from_push}
 use Rattle.gcx_base.specs.Limits.{full_limits}
 use Rattle.gcx_io.specs.Causes.{Rose}
-use Rattle.gcx_io.specs.Shelf.{content_of}
+use Rattle.gcx_io.specs.Shelf.{IsTelling, content_of}
 use Rattle.gcx_io.specs.Views.{Miss, ShelfView, SinkView, missed}
 use Rattle.gcx_model.specs.Faults.{FaultIs}
+use Rattle.gcx_model.specs.Members.{In}
 use Rattle.gcx_model.specs.Query.{ExprTree}
 use Rattle.gcx_model.specs.declared.fault.DocFault.{DocFault}
 use Rattle.gcx_model.specs.declared.fault.QueryFault.{QueryFault}
+use Rattle.gcx_words.proofs.Within.{asked_within}
+use Rattle.gcx_words.specs.Pairs.{are_apart}
+use Rattle.gcx_words.specs.Within.{IsWithin}
+use Rattle.gcx_words.specs.declared.pairs.Pair.{Pair}
+use Rattle.run_words.specs.Ends.{Refused}
+use Rattle.gcx_cmd.proofs.ManyBytes.{doc_refused, out_holds, refused_one, stopped_there}
 use Rattle.gcx_words.specs.declared.command.Command.{Command}
-use Rattle.gcx_words.specs.declared.command.Command.TheVariants.{Run, Whole, Explain, Peak, Gen, Selfrun, Check}
+use Rattle.gcx_words.specs.declared.command.Command.TheVariants.{Run, Whole, Explain, Peak, Gen, Selfrun, Many, Check}
 use Rattle.doc_laws.proofs.Unique.{fault_one}
 use Rattle.gcx_cmd.proofs.Complete.{complete_from, document_refused_from, refused_from, refused_not, there}
 use Rattle.gcx_cmd.proofs.Says.{DocIsClean, DocSays, QuerySays, check_doc_says, check_query_says, clean_document, explain_query_says, one_query, peak_doc_says, peak_query_says, run_doc_says, run_query_says, says_of_document, says_of_query, whole_doc_says, whole_query_says}
 use Rattle.gcx_cmd.specs.CheckDoes.{CheckDoes}
-use Rattle.gcx_cmd.specs.Commands.{LacksFile, document_of, query_of, trace_of}
+use Rattle.gcx_cmd.specs.Commands.{LacksFile, document_of, queries_of, query_of, trace_of}
 use Rattle.gcx_cmd.specs.Completes.{Completes, CompletesFor, Ends, HoldsSuch, ReadsWell, WritesWell}
 use Rattle.gcx_cmd.specs.Does.{Diagnoses, Does, DoesIf, Obeys, Tells}
 use Rattle.gcx_cmd.specs.ExplainDoes.{ExplainDoes}
 use Rattle.gcx_cmd.specs.GenDoes.{GenDoes}
 use Rattle.gcx_cmd.specs.Keeps.{HasCauses, Keeps}
+use Rattle.gcx_cmd.specs.ManyAnswers.{AnswersMany}
+use Rattle.gcx_cmd.specs.ManyDoes.{ManyDoes}
 use Rattle.gcx_cmd.specs.Main.{IsDocument, IsQuery, QueryFaultOf}
 use Rattle.gcx_cmd.specs.Outside.{Outside}
 use Rattle.gcx_cmd.specs.PeakDoes.{PeakDoes}
@@ -115,11 +124,25 @@ document_not c q d t query bytes f a b told_q told_d fault (inr (inr (inl r))) l
 document_not c q d t query bytes f a b told_q told_d fault (inr (inr (inr r))) lacks =
     whole_not d bytes f a.shelf b.shelf told_d fault (r.over.doc_pieces, r.over.doc, r.over.tokens.clean.clean)
 
+-- a command of one QUERY has no others
+no_queries : (c : Command) (q : List ℕ) → query_of c ≡ Some q → (n : List ℕ) → In n (queries_of c) → ⊥
+no_queries (Run trace ahead q d) r is n among = among
+no_queries (Whole q d) r is n among = among
+no_queries (Explain q) r is n among = among
+no_queries (Peak q d) r is n among = among
+no_queries (Gen seed count) r is n among = among
+no_queries (Selfrun seed count) r is n among = among
+no_queries (Many d ps) r is n among = none_some r is
+no_queries (Check q d t) r is n among = among
+
 -- ---- what no count that stays lets come
 
 module _ (c : Command) (s : Status) (a m b : Outside) (keeps : Keeps c s a m) (diag : Diagnoses s m b) where
   rose_shelf : Rose a.shelf.faults m.shelf.faults → Rose a.shelf.faults b.shelf.faults
   rose_shelf rose = subst (λ (v : ShelfView). Rose a.shelf.faults v.faults) (sym diag.shelf) rose
+
+  rose_writes : Rose a.shelf.write_faults m.shelf.write_faults → Rose a.shelf.write_faults b.shelf.write_faults
+  rose_writes rose = subst (λ (v : ShelfView). Rose a.shelf.write_faults v.write_faults) (sym diag.shelf) rose
 
   rose_out : Rose a.out.faults m.out.faults → Rose a.out.faults b.out.faults
   rose_out rose = subst (λ (v : SinkView). Rose a.out.faults v.faults) (sym diag.out) rose
@@ -133,7 +156,10 @@ module _ (c : Command) (s : Status) (a m b : Outside) (keeps : Keeps c s a m) (d
   no_write : WritesWell c a b → s ≡ status.WriteFault → ⊥
   no_write well is = elim (subst (λ (t : Status). HasCauses c t a m) is keeps.causes) [
     | inl rose ↦ well.out (rose_out rose)
-    | inr traced ↦ well.err traced.0 (rose_err is traced.1)
+    | inr others ↦ elim others [
+      | inl traced ↦ well.err traced.0 (rose_err is traced.1)
+      | inr many ↦ well.outs many.0 (rose_writes many.1)
+    ]
   ]
 
   no_read : ReadsWell a b → (s ≡ status.ReadFault → LacksFile c a.shelf m.shelf → ⊥) → s ≡ status.ReadFault → ⊥
@@ -150,7 +176,10 @@ module _ (c : Command) (s : Status) (a m b : Outside) (keeps : Keeps c s a m) (d
     | inl is ↦ there a.shelf.names lacks.name holds.0 (ap (content_of a.shelf.names) (sym (some_same q lacks.name (sym file ∙ is))) ∙ holds.1) lacks.missing
     | inr others ↦ elim others [
       | inl is ↦ (let doc = docs lacks.name is in there a.shelf.names lacks.name doc.0 doc.1 lacks.missing)
-      | inr is ↦ (let trace = traces lacks.name is in there a.shelf.names lacks.name trace.0 trace.1 lacks.missing)
+      | inr more ↦ elim more [
+        | inl is ↦ (let trace = traces lacks.name is in there a.shelf.names lacks.name trace.0 trace.1 lacks.missing)
+        | inr among ↦ no_queries c q file lacks.name among
+      ]
     ]
   ]
 
@@ -229,6 +258,24 @@ self_well seed count status.WriteFault a m r not_write = absurd (not_write refl)
 self_well seed count status.Memory a m r not_write = inr refl
 self_well seed count (status.TraceRefused n) a m r not_write = absurd r
 
+-- `many` ends well
+many_well : (d : List ℕ) (ps : List Pair) → are_apart d ps ≡ true → (s : Status) (a m : Outside) → ManyDoes d ps s a m → ((i : ℕ) (p : Pair) → slice_get ps i ≡ Some p → HoldsSuch a.shelf.names p.query IsQuery)
+    → HoldsSuch a.shelf.names d IsDocument → IsTelling m.shelf.names → (s ≡ status.ReadFault → ⊥) → (s ≡ status.WriteFault → ⊥) → Ends status.Ok s
+many_well d ps apart status.Ok a m o hq hd telling not_read not_write = inl refl
+many_well d ps apart status.Usage a m o hq hd telling not_read not_write = absurd o.1
+many_well d ps apart (status.QueryRefused f) a m o hq hd telling not_read not_write =
+    let h = hq (length o.1.before) o.1.pair (stopped_there ps f a.shelf m.shelf o.1) in
+    absurd (refused_not h.0 f (refused_one ps f a.shelf m.shelf o.1 h.0 h.1) h.2)
+many_well d ps apart (status.DocumentRefused f) a m o hq hd telling not_read not_write =
+    absurd (none_fault f (fault_one full_limits hd.0 true None (Some f) hd.2 (doc_refused d ps apart (Refused f) a.shelf m.shelf o.1 telling f o.1.run.stops hd.0 hd.1)))
+  where
+    none_fault : (g : DocFault) → None ≡ Some g → ⊥
+    none_fault g e = cc
+many_well d ps apart status.ReadFault a m o hq hd telling not_read not_write = absurd (not_read refl)
+many_well d ps apart status.WriteFault a m o hq hd telling not_read not_write = absurd (not_write refl)
+many_well d ps apart status.Memory a m o hq hd telling not_read not_write = inr refl
+many_well d ps apart (status.TraceRefused n) a m o hq hd telling not_read not_write = absurd o.1
+
 -- ---- each command
 
 never_usage : (c : Command) (s : Status) (a m : Outside) → Obeys c s a m → s ≡ status.Usage → ⊥
@@ -238,10 +285,11 @@ never_usage (Explain q) s a m o is = subst (λ (t : Status). ExplainDoes q t a m
 never_usage (Peak q d) s a m o is = subst (λ (t : Status). PeakDoes q d t a m) is o
 never_usage (Gen seed count) s a m o is = subst (λ (t : Status). GenDoes seed count t a m) is o
 never_usage (Selfrun seed count) s a m o is = subst (λ (t : Status). SelfrunDoes seed count t a m) is o
+never_usage (Many d ps) s a m o is = (subst (λ (t : Status). ManyDoes d ps t a m) is o).1
 never_usage (Check q d t) s a m o is = subst (λ (z : Status). CheckDoes q d t z a m) is o
 
-completes_for : (c : Command) (s : Status) (a m b : Outside) → Keeps c s a m → Obeys c s a m → Diagnoses s m b → CompletesFor c s a b
-completes_for (Run trace ahead q d) s a m b keeps o diag =
+completes_for : (c : Command) → IsWithin c → (s : Status) (a m b : Outside) → Keeps c s a m → Obeys c s a m → Diagnoses s m b → CompletesFor c s a b
+completes_for (Run trace ahead q d) within s a m b keeps o diag =
     let not_judged : (n : ℕ) → s ≡ status.TraceRefused n → ⊥ = λ n is. subst (λ (t : Status). RunDoes trace ahead q d t a m) is o in
     let says = run_query_says trace ahead q d s a m o in
     let says_doc = run_doc_says trace ahead q d s a m o in
@@ -253,7 +301,7 @@ completes_for (Run trace ahead q d) s a m b keeps o diag =
       refused_document = λ n k f query doc. refused_document_if (Run trace ahead q d) s a m b keeps diag n k query doc
           (subst (λ (l : List ℕ). QuerySays l s a.shelf m.shelf) (some_same q n query) says) (subst (λ (l : List ℕ). DocSays l s a.shelf m.shelf) (some_same d k doc) says_doc) refl not_judged f;
     }
-completes_for (Whole q d) s a m b keeps o diag =
+completes_for (Whole q d) within s a m b keeps o diag =
     let not_judged : (n : ℕ) → s ≡ status.TraceRefused n → ⊥ = λ n is. subst (λ (t : Status). WholeDoes q d t a m) is o in
     let says = whole_query_says q d s a m o in
     let says_doc = whole_doc_says q d s a m o in
@@ -264,7 +312,7 @@ completes_for (Whole q d) s a m b keeps o diag =
       refused_document = λ n k f query doc. refused_document_if (Whole q d) s a m b keeps diag n k query doc
           (subst (λ (l : List ℕ). QuerySays l s a.shelf m.shelf) (some_same q n query) says) (subst (λ (l : List ℕ). DocSays l s a.shelf m.shelf) (some_same d k doc) says_doc) refl not_judged f;
     }
-completes_for (Peak q d) s a m b keeps o diag =
+completes_for (Peak q d) within s a m b keeps o diag =
     let not_judged : (n : ℕ) → s ≡ status.TraceRefused n → ⊥ = λ n is. subst (λ (t : Status). PeakDoes q d t a m) is o in
     let says = peak_query_says q d s a m o in
     let says_doc = peak_doc_says q d s a m o in
@@ -275,7 +323,7 @@ completes_for (Peak q d) s a m b keeps o diag =
       refused_document = λ n k f query doc. refused_document_if (Peak q d) s a m b keeps diag n k query doc
           (subst (λ (l : List ℕ). QuerySays l s a.shelf m.shelf) (some_same q n query) says) (subst (λ (l : List ℕ). DocSays l s a.shelf m.shelf) (some_same d k doc) says_doc) refl not_judged f;
     }
-completes_for (Explain q) s a m b keeps o diag = record {
+completes_for (Explain q) within s a m b keeps o diag = record {
   well = λ holds reads writes. explain_well q holds.0 s a m o holds.1 holds.2
       (no_read (Explain q) s a m b keeps diag reads (λ is. lacks_none (Explain q) s a m b keeps diag q IsQuery refl holds (λ d none. absurd (none_some d none)) (λ t none. absurd (none_some t none))))
       (no_write (Explain q) s a m b keeps diag writes);
@@ -284,17 +332,41 @@ completes_for (Explain q) s a m b keeps o diag = record {
       (never_usage (Explain q) s a m o));
   refused_document = λ n k f query doc. absurd (none_some k doc);
 }
-completes_for (Gen seed count) s a m b keeps o diag = record {
+completes_for (Gen seed count) within s a m b keeps o diag = record {
   well = λ writes. gen_well seed count s a m o (no_write (Gen seed count) s a m b keeps diag writes);
   refused = λ n f is. absurd (none_some n is);
   refused_document = λ n k f query doc. absurd (none_some n query);
 }
-completes_for (Selfrun seed count) s a m b keeps o diag = record {
+completes_for (Selfrun seed count) within s a m b keeps o diag = record {
   well = λ writes. self_well seed count s a m o (no_write (Selfrun seed count) s a m b keeps diag writes);
   refused = λ n f is. absurd (none_some n is);
   refused_document = λ n k f query doc. absurd (none_some n query);
 }
-completes_for (Check q d t) s a m b keeps o diag =
+completes_for (Many d ps) within s a m b keeps o diag = record {
+  well = λ hq hd telling reads writes. many_well d ps within.1 s a m o hq hd (subst (λ (v : ShelfView). IsTelling v.names) diag.shelf telling)
+      (no_read (Many d ps) s a m b keeps diag reads (λ is. many_there hq hd)) (no_write (Many d ps) s a m b keeps diag writes);
+  refused = λ n f is. absurd (none_some n is);
+  refused_document = λ n k f query doc. absurd (none_some n query);
+}
+  where
+    -- each file is there
+    many_there : ((i : ℕ) (p : Pair) → slice_get ps i ≡ Some p → HoldsSuch a.shelf.names p.query IsQuery) → HoldsSuch a.shelf.names d IsDocument → LacksFile (Many d ps) a.shelf m.shelf → ⊥
+    many_there hq hd lacks = elim lacks.is_file [
+      | inl is ↦ none_some lacks.name is
+      | inr others ↦ elim others [
+        | inl is ↦ there a.shelf.names lacks.name hd.0 (ap (content_of a.shelf.names) (sym (some_same d lacks.name is)) ∙ hd.1) lacks.missing
+        | inr more ↦ elim more [
+          | inl is ↦ none_some lacks.name is
+          | inr among ↦ (let h = found ps hq among in there a.shelf.names lacks.name h.0 h.1 lacks.missing)
+        ]
+      ]
+    ]
+      where
+        found : (xs : List Pair) → ((i : ℕ) (p : Pair) → slice_get xs i ≡ Some p → HoldsSuch a.shelf.names p.query IsQuery) → In lacks.name (map (λ p. p.query) xs) → (bytes : List ℕ) × (content_of a.shelf.names lacks.name ≡ Some bytes)
+        found [] each among = absurd among
+        found (x ∷ xs) each (inl same) = let h = each 0 x refl in (h.0, ap (content_of a.shelf.names) (sym same) ∙ h.1)
+        found (x ∷ xs) each (inr more) = found xs (λ i p is. each (suc i) p is) more
+completes_for (Check q d t) within s a m b keeps o diag =
     let says = check_query_says q d t s a m o in
     let says_doc = check_doc_says q d t s a m o in
     record {
@@ -313,4 +385,13 @@ completes_for (Check q d t) s a m b keeps o diag =
 pub completes : (words : List (List ℕ)) (s : Status) (a b : Outside) → Does words s a b → Completes words s a b
 completes words s a b does = λ c asked.
     let done : DoesIf (Some c) s a does.between = subst (λ (o : Option Command). DoesIf o s a does.between) asked does.done in
-    completes_for c s a does.between b done.0 done.1 does.diagnosed
+    completes_for c (asked_within words c asked) s a does.between b done.0 done.1 does.diagnosed
+
+-- at Ok each OUT of `many` holds the answer of its QUERY
+pub answers_many : (words : List (List ℕ)) (s : Status) (a b : Outside) → Does words s a b → AnswersMany words s a b
+answers_many words s a b does d ps asked ok telling i p query_bytes document_bytes is_p told_q told_d q doc accepted spelled =
+    let done : DoesIf (Some (Many d ps)) s a does.between = subst (λ (o : Option Command). DoesIf o s a does.between) asked does.done in
+    let r : ManyDoes d ps status.Ok a does.between = subst (λ (t : Status). ManyDoes d ps t a does.between) ok done.1 in
+    let shelf = does.diagnosed.shelf in
+    ap (λ (v : ShelfView). content_of v.names p.out) shelf
+    ∙ out_holds d ps (asked_within words (Many d ps) asked).1 a.shelf does.between.shelf r.1 (subst (λ (v : ShelfView). IsTelling v.names) shelf telling) i p query_bytes document_bytes is_p told_q told_d q doc accepted spelled

@@ -27,3 +27,9 @@ mod Obeyed
 pub mod Refuted
 pub mod RefutedWrites
 mod Texts
+mod Manies
+mod ManyKept
+mod ManyEnding
+mod ManyDone
+mod ManyTexts
+mod ManyBytes

@@ -43,7 +43,7 @@ use Rattle.gcx_cmd.specs.declared.status.Status.TheVariants as status
 -- ---- the answer
 
 -- what the bytes of a document settle is its answer
-answer_of : (q : List ExprTree) (bytes settled : List ℕ) (d : Nodes) → is_sound q ≡ true → FaultIs full_limits bytes true None → Settles q bytes true settled
+pub answer_of : (q : List ExprTree) (bytes settled : List ℕ) (d : Nodes) → is_sound q ≡ true → FaultIs full_limits bytes true None → Settles q bytes true settled
     → BytesSpell bytes d → settled ≡ answer q d
 answer_of q bytes settled d sound clean (ts, seen, is) spelled =
     let w = seen_document full_limits bytes ts clean seen in

@@ -4,7 +4,7 @@ use Rattle.gcx_gen.specs.Generated.{document}
 use Rattle.gcx_io.proofs.Written.{takes_none}
 use Rattle.gcx_io.specs.Views.{ShelfView, SinkView}
 use Rattle.gcx_words.specs.declared.command.Command.{Command}
-use Rattle.gcx_words.specs.declared.command.Command.TheVariants.{Run, Whole, Explain, Peak, Gen, Selfrun, Check}
+use Rattle.gcx_words.specs.declared.command.Command.TheVariants.{Run, Whole, Explain, Peak, Gen, Selfrun, Many, Check}
 use Rattle.run_words.specs.Writing.{TakesFront}
 use Rattle.gcx_cmd.proofs.Along.{keeps_same}
 use Rattle.gcx_cmd.proofs.Stops.{keeps_of}
@@ -48,6 +48,7 @@ lacks_obeys (Explain q) a = (nothing a, runs_out q a.shelf)
 lacks_obeys (Peak q d) a = inl (nothing a, runs_out q a.shelf)
 lacks_obeys (Gen seed count) a = (record { shelf = refl; err = refl; store = refl }, no_front a.out (document seed count))
 lacks_obeys (Selfrun seed count) a = refl
+lacks_obeys (Many d ps) a = (nothing a, inl (inr (inl ([], ps, refl, inl ([], refl)))))
 lacks_obeys (Check q d t) a = inl (nothing a, runs_out q a.shelf)
 
 pub lacks_words : (o : Option Command) (a : Outside) → DoesIf o status.Memory a a

@@ -70,10 +70,10 @@ module _ (tracing : Bool) (ahead : ℕ) (q d : List ℕ) (a b : Outside) (m : Sh
 
   -- a write fault is one of the output, or of the trace that is asked for
   write_cause : OverDoc d (λ ps stop. EndsBy x tracing status.WriteFault ps stop (sinks_of begun) (sinks_of b) × UnlessMemory status.WriteFault (HoldsSeen x ahead ps stop b.store)) m b.shelf
-      → Rose a.out.faults b.out.faults ⊎ ((tracing ≡ true) × Rose a.err.faults b.err.faults)
+      → Rose a.out.faults b.out.faults ⊎ (((tracing ≡ true) × Rose a.err.faults b.err.faults) ⊎ (⊥ × Rose a.shelf.write_faults b.shelf.write_faults))
   write_cause o = elim o.says.0.1.stops [
     | inl output ↦ inl output.0.faults
-    | inr trace ↦ inr (trace.0, trace.2.faults)
+    | inr trace ↦ inr (inl (trace.0, trace.2.faults))
   ]
 
   run_causes : (s : Status) → (s ≡ status.ReadFault → CausesFault d m b.shelf) → DocumentRuns tracing ahead x d s begun b

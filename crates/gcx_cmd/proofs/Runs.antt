@@ -57,10 +57,10 @@ use Rattle.gcx_cmd.proofs.Tells.{ends_told, telling}
 -- ---- what was written
 
 module _ (q : List ExprTree) (plan : PlanTree) (is : IsPlanOf q plan) where
-  settles_on : (b : List ℕ) (ended : Bool) (w : List ℕ) → PlanSettles plan full_limits b ended w → Settles q b ended w
+  pub settles_on : (b : List ℕ) (ended : Bool) (w : List ℕ) → PlanSettles plan full_limits b ended w → Settles q b ended w
   settles_on b ended w s = (s.tokens, s.seen, s.is ∙ plan_bytes q plan is.placed (seen_tree s.tokens))
 
-  trace_on : (b : List ℕ) (ended : Bool) (t : List ℕ) → PlanTrace plan full_limits b ended t → IsTrace q b ended t
+  pub trace_on : (b : List ℕ) (ended : Bool) (t : List ℕ) → PlanTrace plan full_limits b ended t → IsTrace q b ended t
   trace_on b ended t (ts, seen, text) = (ts, seen, text ∙ ap (λ (p : PlanTree). text_of_lines (trace_lines p ts)) is.is_plan)
 
   -- the end of the run in the words of the status

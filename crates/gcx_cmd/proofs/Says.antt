@@ -35,7 +35,7 @@ pub given_all : (bytes b : List ℕ) (left : Option (List ℕ)) → Consumes (So
 given_all bytes b None m e = absurd m
 given_all bytes b (Some rest) m e = m ∙ ap (λ (l : List ℕ). b ++ l) e ∙ append-nil b
 
-given_part : (bytes b : List ℕ) (left : Option (List ℕ)) → Consumes (Some bytes) left b → (rest : List ℕ) × (bytes ≡ b ++ rest)
+pub given_part : (bytes b : List ℕ) (left : Option (List ℕ)) → Consumes (Some bytes) left b → (rest : List ℕ) × (bytes ≡ b ++ rest)
 given_part bytes b None m = absurd m
 given_part bytes b (Some rest) m = (rest, m)
 
@@ -137,7 +137,7 @@ module _ (q bytes : List ℕ) (a b : ShelfView) (told : content_of a.names q ≡
       let all = sym (read_all q bytes (length a.given) a b w.pieces told w.reads) in
       (x, subst (λ (l : List ℕ). Accepts l x) all w.accepts, subst (λ (l : List ℕ). HasOnlyQuery l x) all w.only)
 
-  refused_query : (f : QueryFault) → RefusesText q f a b → QueryFaultOf bytes f
+  pub refused_query : (f : QueryFault) → RefusesText q f a b → QueryFaultOf bytes f
   refused_query f w = elim w.why [
     | inl whole ↦ subst (λ (l : List ℕ). QueryFaultOf l f) (sym (read_all q bytes (length a.given) a b w.pieces told whole.0)) whole.2
     | inr long ↦ (

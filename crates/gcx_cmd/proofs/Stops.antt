@@ -1,12 +1,17 @@
 -- How a command ends where QUERY isn't accepted.
-use Rattle.std.proofs.Common.{◌≡◌, ◌⊎◌, inl, inr, ℕ, ◌≤◌, List, Bool, Some, refl, arith}
+use Rattle.std.proofs.Common.{◌≡◌, ◌∙◌, ◌⊎◌, inl, inr, ℕ, ◌≤◌, List, Bool, slice_get, Some, refl, sym, ap, subst, arith}
 use Rattle.gcx_io.specs.Causes.{Rose}
-use Rattle.gcx_io.specs.Views.{ShelfView, SinkView}
+use Rattle.gcx_io.specs.Shelf.{Names}
+use Rattle.gcx_io.specs.Views.{HandleView, ShelfView, SinkView}
+use Rattle.gcx_model.specs.Members.{In}
 use Rattle.gcx_words.specs.declared.command.Command.{Command}
+use Rattle.many_run.specs.Files.{NamesStay}
+use Rattle.many_run.proofs.Filing.{calls_same, names_same}
+use Rattle.many_run.proofs.Walking.{not_there, some_is}
 use Rattle.gcx_cmd.specs.CheckDoes.{CheckDoes}
-use Rattle.gcx_cmd.specs.Commands.{HasFile, LacksFile, query_of}
+use Rattle.gcx_cmd.specs.Commands.{HasFile, LacksFile, outs_of, query_of}
 use Rattle.gcx_cmd.specs.ExplainDoes.{ExplainDoes}
-use Rattle.gcx_cmd.specs.Keeps.{HasCauses, Keeps}
+use Rattle.gcx_cmd.specs.Keeps.{HasCauses, Keeps, KeepsFiles}
 use Rattle.gcx_cmd.specs.Main.{HasNoMemory}
 use Rattle.gcx_cmd.specs.Outside.{Outside, StoreView, Untouched, beside}
 use Rattle.gcx_cmd.specs.PeakDoes.{PeakDoes}
@@ -20,13 +25,20 @@ use Rattle.gcx_cmd.specs.declared.status.Status.TheVariants as status
 pub untouched : (a m : ShelfView) (o e : SinkView) (st : StoreView) → Untouched (beside a o e st) (beside m o e st)
 untouched a m o e st = record { out = refl; err = refl; store = refl }
 
+-- a shelf that stays keeps its files, whatever the OUTs are
+files_kept : (outs : List (List ℕ)) (a b : ShelfView) → KeepsShelf a b → KeepsFiles outs a b
+files_kept outs a b k = record {
+  names = subst (λ (n : Names). NamesStay (λ name. In name outs → ⊥) a.names n) (sym k.names) (names_same (λ name. In name outs → ⊥) a.names);
+  calls = λ h within. calls_same a.given b.given h (k.given h within);
+  left = λ telling h v w at then other. ap (λ (x : HandleView). x.left) (some_is (slice_get b.given h) w v then (k.given h (not_there a.given h v at) ∙ at));
+}
+
 pub keeps_of : (c : Command) (s : Status) (a b : Outside) → KeepsShelf a.shelf b.shelf → a.out.faults ≤ b.out.faults → a.err.faults ≤ b.err.faults
     → HasCauses c s a b → HasNoMemory s → Keeps c s a b
 keeps_of c s a b k out err causes memory = record {
-  names = k.names;
-  unwritten = k.write_faults;
-  given = k.given;
-  counts = record { shelf = k.faults; out = out; err = err };
+  all = λ none. record { names = k.names; unwritten = k.write_faults; given = k.given };
+  files = files_kept (outs_of c) a.shelf b.shelf k;
+  counts = record { shelf = k.faults; write_faults = let w = k.write_faults in omega (arith, w); out = out; err = err };
   causes = causes;
   memory = memory;
 }

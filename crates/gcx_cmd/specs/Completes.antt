@@ -1,15 +1,16 @@
 -- Which status must come, where the shelf tells what its names hold and no count rose (this project's).
-use Rattle.std.specs.Prelude.{◌≡◌, ◌⊎◌, ℕ, List, true, Some, ⊤}
+use Rattle.std.specs.Prelude.{◌≡◌, ◌⊎◌, ℕ, List, true, slice_get, Some, ⊤}
 use Rattle.gcx_base.specs.Limits.{full_limits}
 use Rattle.gcx_io.specs.Causes.{Rose}
-use Rattle.gcx_io.specs.Shelf.{Names, content_of}
+use Rattle.gcx_io.specs.Shelf.{IsTelling, Names, content_of}
 use Rattle.gcx_model.specs.Faults.{FaultIs}
 use Rattle.gcx_model.specs.declared.fault.DocFault.{DocFault}
 use Rattle.gcx_model.specs.declared.fault.QueryFault.{QueryFault}
 use Rattle.gcx_words.specs.Words.{command_of}
+use Rattle.gcx_words.specs.declared.pairs.Pair.{Pair}
 use Rattle.gcx_words.specs.declared.command.Command.{Command}
-use Rattle.gcx_words.specs.declared.command.Command.TheVariants.{Run, Whole, Explain, Peak, Gen, Selfrun, Check}
-use Rattle.gcx_cmd.specs.Commands.{IsTraced, query_of, document_of}
+use Rattle.gcx_words.specs.declared.command.Command.TheVariants.{Run, Whole, Explain, Peak, Gen, Selfrun, Many, Check}
+use Rattle.gcx_cmd.specs.Commands.{IsMany, IsTraced, query_of, document_of}
 use Rattle.gcx_cmd.specs.Main.{IsQuery, IsDocument, QueryFaultOf}
 use Rattle.gcx_cmd.specs.Outside.{Outside}
 use Rattle.gcx_cmd.specs.declared.status.Status.{Status}
@@ -19,10 +20,11 @@ use Rattle.gcx_cmd.specs.declared.status.Status.TheVariants as status
 abbrev pub ReadsWell : Outside → Outside → Type 0
 ReadsWell a b = Rose a.shelf.faults b.shelf.faults → ⊥
 
--- no write of the output failed, and with a trace none of the trace
+-- no write of the output failed, with a trace none of the trace, and of `many` none of an OUT
 pub record WritesWell (c : Command) (a b : Outside) : Type 0 where
   pub out : Rose a.out.faults b.out.faults → ⊥
   pub err : IsTraced c → Rose a.err.faults b.err.faults → ⊥
+  pub outs : IsMany c → Rose a.shelf.write_faults b.shelf.write_faults → ⊥
 
 -- this status, or want of memory
 abbrev pub Ends : Status → Status → Type 0
@@ -43,6 +45,11 @@ CompletesCheck query document trace s a b =
     HoldsSuch a.shelf.names query IsQuery → HoldsSuch a.shelf.names document IsDocument → HoldsSuch a.shelf.names trace (λ bytes. ⊤)
     → ReadsWell a b → WritesWell (Check query document trace) a b → ((n : ℕ) × (s ≡ status.TraceRefused n)) ⊎ Ends status.Ok s
 
+-- Where each QUERY is accepted, DOC has no fault and the shelf still tells its names, it ends well.
+abbrev pub CompletesMany : (document : List ℕ) → List Pair → Status → Outside → Outside → Type 0
+CompletesMany document pairs s a b = ((i : ℕ) (p : Pair) → slice_get pairs i ≡ Some p → HoldsSuch a.shelf.names p.query IsQuery)
+    → HoldsSuch a.shelf.names document IsDocument → IsTelling b.shelf.names → ReadsWell a b → WritesWell (Many document pairs) a b → Ends status.Ok s
+
 abbrev pub CompletesWell : Command → Status → Outside → Outside → Type 0
 CompletesWell (Run trace ahead query document) s a b = CompletesWith (Run trace ahead query document) query document s a b
 CompletesWell (Whole query document) s a b = CompletesWith (Whole query document) query document s a b
@@ -50,6 +57,7 @@ CompletesWell (Peak query document) s a b = CompletesWith (Peak query document) 
 CompletesWell (Explain query) s a b = HoldsSuch a.shelf.names query IsQuery → ReadsWell a b → WritesWell (Explain query) a b → Ends status.Ok s
 CompletesWell (Gen seed count) s a b = WritesWell (Gen seed count) a b → Ends status.Ok s
 CompletesWell (Selfrun seed count) s a b = WritesWell (Selfrun seed count) a b → Ends status.Ok s
+CompletesWell (Many document pairs) s a b = CompletesMany document pairs s a b
 CompletesWell (Check query document trace) s a b = CompletesCheck query document trace s a b
 
 -- Of a command: it ends well where nothing is wrong, and so where QUERY is refused, or QUERY is accepted and DOC is refused.

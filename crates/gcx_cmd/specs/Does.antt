@@ -6,12 +6,13 @@ use Rattle.gcx_io.specs.Views.{SinkView}
 use Rattle.gcx_io.specs.Writing.{Takes, Owes}
 use Rattle.gcx_words.specs.Words.{command_of}
 use Rattle.gcx_words.specs.declared.command.Command.{Command}
-use Rattle.gcx_words.specs.declared.command.Command.TheVariants.{Run, Whole, Explain, Peak, Gen, Selfrun, Check}
+use Rattle.gcx_words.specs.declared.command.Command.TheVariants.{Run, Whole, Explain, Peak, Gen, Selfrun, Many, Check}
 use Rattle.gcx_cmd.specs.CheckDoes.{CheckDoes}
 use Rattle.gcx_cmd.specs.Diagnosis.{line_of}
 use Rattle.gcx_cmd.specs.ExplainDoes.{ExplainDoes}
 use Rattle.gcx_cmd.specs.GenDoes.{GenDoes}
 use Rattle.gcx_cmd.specs.Keeps.{Keeps}
+use Rattle.gcx_cmd.specs.ManyDoes.{ManyDoes}
 use Rattle.gcx_cmd.specs.Outside.{Outside}
 use Rattle.gcx_cmd.specs.PeakDoes.{PeakDoes}
 use Rattle.gcx_cmd.specs.RunDoes.{RunDoes}
@@ -28,6 +29,7 @@ Obeys (Explain query) s a b = ExplainDoes query s a b
 Obeys (Peak query document) s a b = PeakDoes query document s a b
 Obeys (Gen seed count) s a b = GenDoes seed count s a b
 Obeys (Selfrun seed count) s a b = SelfrunDoes seed count s a b
+Obeys (Many document pairs) s a b = ManyDoes document pairs s a b
 Obeys (Check query document trace) s a b = CheckDoes query document trace s a b
 
 -- the command was obeyed; where there is none, nothing happened

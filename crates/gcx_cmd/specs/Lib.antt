@@ -16,11 +16,13 @@ pub mod PeakDoes
 pub mod GenDoes
 pub mod SelfInput
 pub mod SelfrunDoes
+pub mod ManyDoes
 pub mod Keeps
 pub mod Diagnosis
 pub mod Does
 pub mod Completes
 pub mod Accepting
+pub mod ManyAnswers
 pub mod Writes
 pub mod Status
 pub mod ReadEnd

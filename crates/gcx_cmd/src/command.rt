@@ -13,6 +13,7 @@ ghost use Rattle.tree_read.specs.Document.{BytesSpell};
 ghost use Rattle.gcx_cmd.specs.Completes.{Completes};
 ghost use Rattle.gcx_cmd.specs.Does.{Does, DoesIf};
 ghost use Rattle.gcx_cmd.specs.Main.{Accepts};
+ghost use Rattle.gcx_cmd.specs.ManyAnswers.{AnswersMany};
 ghost use Rattle.gcx_cmd.specs.Outside.{outside};
 
 use crate::Status;
@@ -20,6 +21,7 @@ use crate::checking::write_check;
 use crate::diagnosis::diagnose;
 use crate::explain::write_plan;
 use crate::made::write_made;
+use crate::many::write_many;
 use crate::peak::write_peak;
 use crate::running::write_run;
 use crate::selfrun::write_selfrun;
@@ -62,6 +64,7 @@ fn obey<F: Shelf, O: Sink, E: Sink, N: NodeStore<Row> + Drop>(
         }
         Command::Gen { seed, count } => write_made(alloc, *seed, *count, out),
         Command::Selfrun { seed, count } => write_selfrun(alloc, *seed, *count, out),
+        Command::Many { document, pairs } => write_many(alloc, document, pairs.items(), files),
         Command::Check {
             query,
             document,
@@ -93,9 +96,10 @@ fn perform<F: Shelf, O: Sink, E: Sink, N: NodeStore<Row> + Drop>(
 }
 
 /// Runs one command line. `run` writes on `out` the answer of the query in the file QUERY over the document in the file
-/// DOC while it reads: before each read all that is settled; with `--trace` the trace goes to `err`. The other commands
-/// write their text. The rows of nodes of `run` and `peak` stand in the lent store, which is empty before and at Ok.
-/// Where the status isn't Ok, `err` takes a line that says why.
+/// DOC while it reads: before each read all that is settled; with `--trace` the trace goes to `err`. `many` writes so the
+/// answers of several queries into files of their own. The other commands write their text. The rows of nodes of `run`
+/// and `peak` stand in the lent store, which is empty before and at Ok. Where the status isn't Ok, `err` takes a line
+/// that says why.
 pub fn gcx_main<F: Shelf, O: Sink, E: Sink, N: NodeStore<Row> + Drop>(
     alloc: Global,
     words: &[Text],
@@ -110,6 +114,9 @@ pub fn gcx_main<F: Shelf, O: Sink, E: Sink, N: NodeStore<Row> + Drop>(
         (outside (F.seen files.new) (O.seen out.new) (E.seen err.new) (N.rows nodes.new) (N.most_held nodes.new)) }
     ensures unnamed { named words.now ≡ None → result ≡ Status.Usage }
     ensures complete { Completes words.now result
+        (outside (F.seen files.old) (O.seen out.old) (E.seen err.old) (N.rows nodes.old) (N.most_held nodes.old))
+        (outside (F.seen files.new) (O.seen out.new) (E.seen err.new) (N.rows nodes.new) (N.most_held nodes.new)) }
+    ensures answers { AnswersMany words.now result
         (outside (F.seen files.old) (O.seen out.old) (E.seen err.old) (N.rows nodes.old) (N.most_held nodes.old))
         (outside (F.seen files.new) (O.seen out.new) (E.seen err.new) (N.rows nodes.new) (N.most_held nodes.new)) }
     ensures written { (trace : Bool) (ahead : ℕ) (query document query_bytes document_bytes : List ℕ) →

@@ -9,6 +9,7 @@ mod explain;
 mod laws;
 mod lines;
 mod made;
+mod many;
 mod peak;
 mod query;
 mod real;
@@ -21,6 +22,6 @@ mod writing;
 
 pub use command::gcx_main;
 pub use diagnosis::diagnose;
-pub use laws::runs_are_accepted;
+pub use laws::{many_write_as_one, runs_are_accepted};
 pub use real::gcx_files;
 pub use status::Status;

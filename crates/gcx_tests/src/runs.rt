@@ -4,6 +4,7 @@ mod checks;
 mod commands;
 mod failing;
 mod limits;
+mod many;
 mod objects;
 
 use crate::large::{joined, repeated};

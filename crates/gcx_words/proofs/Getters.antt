@@ -1,5 +1,5 @@
 -- From clap's getters to the rows.
-use Rattle.std.proofs.Common.{◌≡◌, ℕ, Bool, true, false, List, [], ◌∷◌, codes, Option, Some, None, Result, Ok, Err, cond, refl, sym, ap, subst, ◌∙◌, arith}
+use Rattle.std.proofs.Common.{◌≡◌, ℕ, Bool, true, false, List, [], ◌∷◌, Option, Some, None, Result, Ok, Err, cond, refl, sym, ap, subst, ◌∙◌, arith}
 use Rattle.std.specs.Prelude.{option_and_then}
 use Rattle.std.specs.Str.Parse.{ParsesUnsigned, digits_value, without_leading_plus}
 use Rattle.clap.specs.Words.{Text, Row, one_text, rows_of}
@@ -10,7 +10,9 @@ use Rattle.clap.specs.declared.parser.matches.Found.{Found}
 use Rattle.clap.proofs.ValueTestLemmas.{accepts-Accepts, Accepts-accepts}
 use Rattle.clap.proofs.WalkLemmas.{one_text-rows}
 use Rattle.gcx_words.specs.Rows.{read_number, any_number_at, found_by, found_if, rows_found}
-use Rattle.gcx_words.specs.Words.{run_app, pair_app, check_app, single_app, numbers_app}
+use Rattle.gcx_words.specs.Words.{app_by}
+use Rattle.gcx_words.specs.declared.command.Name.{Name}
+use Rattle.gcx_words.specs.declared.command.Name.TheVariants as name
 use Rattle.std.specs.Prelude.{IfOk}
 use Rattle.std.proofs.Common.{inl, inr, ap₂}
 use Rattle.clap.specs.Words.{App, is_simple, is_simple_and_free, fault_of, matches_of, HasMatchesOf, FailsBy, HasKind, Kinds, kind_of}
@@ -46,33 +48,16 @@ number_found {E} G only f id r none value = subst (λ o. r ≡ option_and_then r
     go (Some t) e = number_read G only t r (value t e)
 
 -- clap's definition of a simple command speaks of these
-pub takes_run : is_simple_and_free run_app ≡ true
+pub takes : (n : Name) → is_simple_and_free (app_by n) ≡ true
 unfolding clap_on_literals
-takes_run = refl
-
-pub takes_whole : is_simple_and_free (pair_app (codes "whole")) ≡ true
-unfolding clap_on_literals
-takes_whole = refl
-
-pub takes_peak : is_simple_and_free (pair_app (codes "peak")) ≡ true
-unfolding clap_on_literals
-takes_peak = refl
-
-pub takes_explain : is_simple_and_free single_app ≡ true
-unfolding clap_on_literals
-takes_explain = refl
-
-pub takes_gen : is_simple_and_free (numbers_app (codes "gen")) ≡ true
-unfolding clap_on_literals
-takes_gen = refl
-
-pub takes_selfrun : is_simple_and_free (numbers_app (codes "selfrun")) ≡ true
-unfolding clap_on_literals
-takes_selfrun = refl
-
-pub takes_check : is_simple_and_free check_app ≡ true
-unfolding clap_on_literals
-takes_check = refl
+takes name.Run = refl
+takes name.Whole = refl
+takes name.Explain = refl
+takes name.Peak = refl
+takes name.Gen = refl
+takes name.Selfrun = refl
+takes name.Many = refl
+takes name.Check = refl
 
 simple_part : (app : App) → is_simple_and_free app ≡ true → is_simple app ≡ true
 simple_part app e = (both _ _ e).0

@@ -1,12 +1,13 @@
 -- The numbers of a command lie within their bounds.
-use Rattle.std.proofs.Common.{◌≡◌, ℕ, ◌≤◌, Bool, true, false, cond, List, Option, Some, None, refl, sym, subst, arith, nat_le, codes}
-use Rattle.std.specs.Prelude.{option_and_then, option_map, ◌&&◌, IfSome}
-use Rattle.clap.specs.Words.{Row, Text, first_of}
+use Rattle.std.proofs.Common.{◌≡◌, ℕ, ◌+◌, ◌≤◌, Bool, true, false, cond, List, [], ◌∷◌, length, Option, Some, None, refl, sym, subst, arith, nat_le, codes}
+use Rattle.std.specs.Prelude.{option_and_then, option_map, ◌&&◌, ◌%◌, nat_eq, IfSome}
+use Rattle.clap.specs.Words.{Row, Text, all_of, first_of}
 use Rattle.gcx_words.specs.Rows.{any_number_at, between, flag_at, found_by, number_at}
-use Rattle.gcx_words.specs.Words.{check_app, check_of, numbers_app, numbers_of, pair_app, pair_of, read, run_app, run_of, run_with, single_app}
+use Rattle.gcx_words.specs.Words.{app_by, as_run, command_of, found_as, many_with, named, numbers_of, pair_of, read, run_with}
+use Rattle.gcx_words.specs.Pairs.{are_apart, paired}
 use Rattle.gcx_words.specs.Within.{IsWithin}
 use Rattle.gcx_words.specs.declared.command.Command.{Command}
-use Rattle.gcx_words.specs.declared.command.Command.TheVariants.{Run, Whole, Explain, Peak, Gen, Selfrun, Check}
+use Rattle.gcx_words.specs.declared.command.Command.TheVariants.{Run, Whole, Explain, Peak, Gen, Selfrun, Many, Check}
 use Rattle.gcx_words.specs.declared.command.Name.{Name}
 use Rattle.gcx_words.specs.declared.command.Name.TheVariants as name
 
@@ -40,11 +41,12 @@ run_with_within false (Some k) query document c bound e =
     let b = bound k refl in
     subst IsWithin same (b.0, b.1, λ t. let no : ⊥ = cc in absurd no)
 
-run_of_within : (rows : List Row) (c : Command) → run_of rows ≡ Some c → IsWithin c
-run_of_within rows c e =
-    let q = and_then_some _ (first_of (codes "query") rows) c e in
-    let d = and_then_some _ (first_of (codes "document") rows) c q.2 in
-    run_with_within (flag_at (codes "trace") rows) (number_at 1 1000 (codes "ahead") rows) q.0 d.0 c (λ m is. number_some 1 1000 (codes "ahead") rows m is) d.2
+as_run_within : (rows : List Row) (c : Command) → as_run rows ≡ Some c → IsWithin c
+as_run_within rows c e =
+    let trace = flag_at (codes "trace") rows in
+    let ahead = number_at 1 1000 (codes "ahead") rows in
+    let p = and_then_some (λ (p : Text × Text). run_with trace ahead p.0 p.1) (pair_of rows) c e in
+    run_with_within trace ahead p.0.0 p.0.1 c (λ m is. number_some 1 1000 (codes "ahead") rows m is) p.2
 
 numbers_of_within : (rows : List Row) (p : ℕ × ℕ) → numbers_of rows ≡ Some p → (p.0 ≤ 4294967295) × (1 ≤ p.1) × (p.1 ≤ 100000)
 numbers_of_within rows p e =
@@ -54,26 +56,56 @@ numbers_of_within rows p e =
     let b = number_some 1 100000 (codes "count") rows n.0 n.1 in
     subst (λ (x : ℕ × ℕ). (x.0 ≤ 4294967295) × (1 ≤ x.1) × (x.1 ≤ 100000)) n.2 (a.1, b.0, b.1)
 
-read_within : (n : Name) (words : List Text) (c : Command) → read n words ≡ Some c → IsWithin c
-read_within name.Run words c e = let h = and_then_some run_of (found_by run_app words) c e in run_of_within h.0 c h.2
-read_within name.Whole words c e = let h = map_some (λ p. Whole p.0 p.1) (option_and_then pair_of (found_by (pair_app (codes "whole")) words)) c e in subst IsWithin h.2 tt
-read_within name.Explain words c e = let h = map_some Explain (option_and_then (first_of (codes "query")) (found_by single_app words)) c e in subst IsWithin h.2 tt
-read_within name.Peak words c e = let h = map_some (λ p. Peak p.0 p.1) (option_and_then pair_of (found_by (pair_app (codes "peak")) words)) c e in subst IsWithin h.2 tt
-read_within name.Gen words c e =
-    let h = map_some (λ p. Gen p.0 p.1) (option_and_then numbers_of (found_by (numbers_app (codes "gen")) words)) c e in
-    let r = and_then_some numbers_of (found_by (numbers_app (codes "gen")) words) h.0 h.1 in
-    subst IsWithin h.2 (numbers_of_within r.0 h.0 r.2)
-read_within name.Selfrun words c e =
-    let h = map_some (λ p. Selfrun p.0 p.1) (option_and_then numbers_of (found_by (numbers_app (codes "selfrun")) words)) c e in
-    let r = and_then_some numbers_of (found_by (numbers_app (codes "selfrun")) words) h.0 h.1 in
-    subst IsWithin h.2 (numbers_of_within r.0 h.0 r.2)
-read_within name.Check words c e =
-    let h = and_then_some check_of (found_by check_app words) c e in
-    let p = and_then_some (λ (p : Text × Text). option_map (λ trace. Check p.0 p.1 trace) (first_of (codes "trace") h.0)) (pair_of h.0) c h.2 in
-    let t = map_some (λ trace. Check p.0.0 p.0.1 trace) (first_of (codes "trace") h.0) c p.2 in
+at_most : (m n : ℕ) → nat_le m n ≡ true → m ≤ n
+at_most m n few = grind (arith, few)
+
+-- of 32 words at most there are 16 pairs at most
+paired_half : (words : List Text) → length (paired words) + length (paired words) ≤ length words
+paired_half [] = omega arith
+paired_half (query ∷ []) = omega arith
+paired_half (query ∷ (out ∷ words)) = let h = paired_half words in omega (arith, h)
+
+many_with_within : (document : Text) (words : List Text) (c : Command) → many_with document words ≡ Some c → IsWithin c
+many_with_within document words c e = go (nat_eq (length words % 2) 0) (nat_le (length words) 32) (are_apart document (paired words)) refl refl refl e
+  where
+    go : (a b p : Bool) → nat_eq (length words % 2) 0 ≡ a → nat_le (length words) 32 ≡ b → are_apart document (paired words) ≡ p → cond ((a && b) && p) (Some (Many document (paired words))) None ≡ Some c → IsWithin c
+    go true true true even few apart e =
+        let same : Many document (paired words) ≡ c = cc in
+        let half = paired_half words in
+        let short = at_most (length words) 32 few in
+        subst IsWithin same (omega (arith, half, short), apart)
+    go true true false even few apart e = let no : ⊥ = cc in absurd no
+    go true false p even few apart e = let no : ⊥ = cc in absurd no
+    go false b p even few apart e = let no : ⊥ = cc in absurd no
+
+found_within : (n : Name) (rows : List Row) (c : Command) → found_as n rows ≡ Some c → IsWithin c
+found_within name.Run rows c e = as_run_within rows c e
+found_within name.Whole rows c e = let h = map_some (λ p. Whole p.0 p.1) (pair_of rows) c e in subst IsWithin h.2 tt
+found_within name.Explain rows c e = let h = map_some Explain (first_of (codes "query") rows) c e in subst IsWithin h.2 tt
+found_within name.Peak rows c e = let h = map_some (λ p. Peak p.0 p.1) (pair_of rows) c e in subst IsWithin h.2 tt
+found_within name.Gen rows c e =
+    let h = map_some (λ p. Gen p.0 p.1) (numbers_of rows) c e in
+    subst IsWithin h.2 (numbers_of_within rows h.0 h.1)
+found_within name.Selfrun rows c e =
+    let h = map_some (λ p. Selfrun p.0 p.1) (numbers_of rows) c e in
+    subst IsWithin h.2 (numbers_of_within rows h.0 h.1)
+found_within name.Many rows c e =
+    let d = and_then_some (λ document. option_and_then (many_with document) (all_of (codes "pair") rows)) (first_of (codes "document") rows) c e in
+    let w = and_then_some (many_with d.0) (all_of (codes "pair") rows) c d.2 in
+    many_with_within d.0 w.0 c w.2
+found_within name.Check rows c e =
+    let p = and_then_some (λ (p : Text × Text). option_map (λ trace. Check p.0 p.1 trace) (first_of (codes "trace") rows)) (pair_of rows) c e in
+    let t = map_some (λ trace. Check p.0.0 p.0.1 trace) (first_of (codes "trace") rows) c p.2 in
     subst IsWithin t.2 tt
+
+read_within : (n : Name) (words : List Text) (c : Command) → read n words ≡ Some c → IsWithin c
+read_within n words c e = let h = and_then_some (found_as n) (found_by (app_by n) words) c e in found_within n h.0 c h.2
 
 -- of what is read under a name
 pub if_within : (n : Name) (words : List Text) (o : Option Command) → o ≡ read n words → IfSome o IsWithin
 if_within n words None is = tt
 if_within n words (Some c) is = read_within n words c (sym is)
+
+-- of what the words ask for
+pub asked_within : (words : List Text) (c : Command) → command_of words ≡ Some c → IsWithin c
+asked_within words c asked = let h = and_then_some (λ n. read n words) (named words) c asked in read_within h.0 words c h.2

@@ -1,3 +1,4 @@
+use crate::pairs::Pairs;
 use gcx_base::Text;
 
 /// The commands by their names.
@@ -9,6 +10,7 @@ pub enum Name {
     Peak,
     Gen,
     Selfrun,
+    Many,
     Check,
 }
 
@@ -45,6 +47,11 @@ pub enum Command {
     Selfrun {
         seed: u32,
         count: u32,
+    },
+    /// The answers of several queries over one reading of DOC, each in a file of its own.
+    Many {
+        document: Text,
+        pairs: Pairs,
     },
     /// Whether TRACE is the trace of QUERY over DOC.
     Check {

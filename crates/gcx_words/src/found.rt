@@ -1,6 +1,6 @@
 //! What `clap` found.
 ghost use Rattle.std.specs.Prelude.{◌≡◌, ◌≤◌, true, IfOk, map, option_map};
-ghost use Rattle.clap.specs.Words.{app_of, first_of, found_of, is_simple_and_free, rows_of};
+ghost use Rattle.clap.specs.Words.{all_of, app_of, first_of, found_of, is_simple_and_free, rows_of};
 ghost use Rattle.gcx_words.specs.Rows.{any_number_at, flag_at, found_by, number_at, rows_found};
 
 use clap::error::ErrorKind;
@@ -63,7 +63,7 @@ pub(crate) fn number_found(matches: &ArgMatches, id: &str, low: u32, high: u32) 
 }
 
 /// A text of its own.
-fn own(alloc: Global, text: &str) -> Result<Text, Memory>
+pub(crate) fn own(alloc: Global, text: &str) -> Result<Text, Memory>
     ensures { IfOk result (λ own. own ≡ text.now) }
 {
     let mut string = String::new(alloc);
@@ -83,4 +83,11 @@ pub(crate) fn own_found(
         Some(text) => Ok(Some(own(alloc, text)?)),
         None => Ok(None),
     }
+}
+
+/// The texts that were found under an id.
+pub(crate) fn texts_found<'m, 'a>(matches: &'m ArgMatches<'a>, id: &str) -> Option<&'m [&'a str]>
+    ensures { option_map (λ s. map (λ v. v.now) s.now) result ≡ all_of id.now (rows_of (found_of matches.now)) }
+{
+    matches.get_strs(id)
 }

@@ -3,8 +3,10 @@
 
 mod command;
 mod found;
+mod pairs;
 mod parsers;
 mod reading;
 
 pub use command::{Command, Name};
+pub use pairs::{Pair, Pairs};
 pub use reading::command_of;

@@ -1,8 +1,9 @@
 //! The commands of `clap`, one for each form of arguments.
 ghost use Rattle.std.specs.Prelude.{◌≡◌, IfOk};
 ghost use Rattle.clap.specs.Words.{app_of, with_rule};
-ghost use Rattle.gcx_words.specs.Words.{ahead_rule, check_app, numbers_app, pair_app, run_app, single_app, trace_rule, wanted, wanted_number};
+ghost use Rattle.gcx_words.specs.Words.{ahead_rule, app_by, check_app, many_app, numbers_app, pair_app, pair_rule, run_app, single_app, trace_rule, wanted, wanted_number};
 
+use crate::command::Name;
 use clap::builder::ValueParser;
 use clap::{Arg, ArgAction, Command};
 use gcx_base::Memory;
@@ -57,7 +58,7 @@ fn with_ahead<'a>(alloc: Global, command: Command<'a>) -> Result<Command<'a>, Me
 }
 
 /// `run [--trace] [--ahead K] QUERY DOC`.
-pub(crate) fn run_parser<'a>(alloc: Global) -> Result<Command<'a>, Memory>
+fn run_parser<'a>(alloc: Global) -> Result<Command<'a>, Memory>
     ensures { IfOk result (λ c. app_of c ≡ run_app) }
 {
     let command = with_trace(alloc, Command::new(alloc, "run"))?;
@@ -68,7 +69,7 @@ pub(crate) fn run_parser<'a>(alloc: Global) -> Result<Command<'a>, Memory>
 }
 
 /// `whole QUERY DOC`, or another command with these two.
-pub(crate) fn pair_parser<'a>(alloc: Global, name: &'a str) -> Result<Command<'a>, Memory>
+fn pair_parser<'a>(alloc: Global, name: &'a str) -> Result<Command<'a>, Memory>
     ensures { IfOk result (λ c. app_of c ≡ pair_app name.entry.now) }
 {
     let command = with_wanted(alloc, Command::new(alloc, name), "query")?;
@@ -77,7 +78,7 @@ pub(crate) fn pair_parser<'a>(alloc: Global, name: &'a str) -> Result<Command<'a
 }
 
 /// `check QUERY DOC TRACE`.
-pub(crate) fn check_parser<'a>(alloc: Global) -> Result<Command<'a>, Memory>
+fn check_parser<'a>(alloc: Global) -> Result<Command<'a>, Memory>
     ensures { IfOk result (λ c. app_of c ≡ check_app) }
 {
     let command = pair_parser(alloc, "check")?;
@@ -86,7 +87,7 @@ pub(crate) fn check_parser<'a>(alloc: Global) -> Result<Command<'a>, Memory>
 }
 
 /// `explain QUERY`.
-pub(crate) fn single_parser<'a>(alloc: Global) -> Result<Command<'a>, Memory>
+fn single_parser<'a>(alloc: Global) -> Result<Command<'a>, Memory>
     ensures { IfOk result (λ c. app_of c ≡ single_app) }
 {
     let command = with_wanted(alloc, Command::new(alloc, "explain"), "query")?;
@@ -94,11 +95,45 @@ pub(crate) fn single_parser<'a>(alloc: Global) -> Result<Command<'a>, Memory>
 }
 
 /// `gen SEED N`, or another command with these two.
-pub(crate) fn numbers_parser<'a>(alloc: Global, name: &'a str) -> Result<Command<'a>, Memory>
+fn numbers_parser<'a>(alloc: Global, name: &'a str) -> Result<Command<'a>, Memory>
     ensures { IfOk result (λ c. app_of c ≡ numbers_app name.entry.now) }
 {
     let command = Command::new(alloc, name);
     let command = with_number(alloc, command, "seed", 0, 4_294_967_295)?;
     let command = with_number(alloc, command, "count", 1, 100_000)?;
     Ok(command)
+}
+
+/// The command with one argument more, which takes at least one word.
+fn with_pairs<'a>(alloc: Global, command: Command<'a>) -> Result<Command<'a>, Memory>
+    ensures { IfOk result (λ c. app_of c ≡ with_rule (app_of command.entry) pair_rule) }
+{
+    let arg = Arg::new(alloc, "pair").required(true).num_args(1..);
+    let command = command.arg(arg)?;
+    Ok(command)
+}
+
+/// `many DOC PAIR ..`.
+fn many_parser<'a>(alloc: Global) -> Result<Command<'a>, Memory>
+    ensures { IfOk result (λ c. app_of c ≡ many_app) }
+{
+    let command = with_wanted(alloc, Command::new(alloc, "many"), "document")?;
+    let command = with_pairs(alloc, command)?;
+    Ok(command)
+}
+
+/// The parser of the command of this name.
+pub(crate) fn parser_of<'a>(alloc: Global, name: Name) -> Result<Command<'a>, Memory>
+    ensures { IfOk result (λ c. app_of c ≡ app_by name) }
+{
+    match name {
+        Name::Run => run_parser(alloc),
+        Name::Whole => pair_parser(alloc, "whole"),
+        Name::Explain => single_parser(alloc),
+        Name::Peak => pair_parser(alloc, "peak"),
+        Name::Gen => numbers_parser(alloc, "gen"),
+        Name::Selfrun => numbers_parser(alloc, "selfrun"),
+        Name::Many => many_parser(alloc),
+        Name::Check => check_parser(alloc),
+    }
 }

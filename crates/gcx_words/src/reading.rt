@@ -1,13 +1,15 @@
 //! From words to a command.
 ghost use Rattle.std.specs.Prelude.{◌≡◌, ◌+◌, ℕ, List, [], None, Ok, IfOk, IfSome, map, take};
 ghost use Rattle.clap.specs.Words.{found_of, rows_of};
-ghost use Rattle.gcx_words.specs.Words.{check_of, command_of, named, named_by, numbers_of, pair_of, run_of, run_with};
+ghost use Rattle.gcx_words.specs.Words.{as_check, command_of, as_explain, found_as, as_gen, named, named_by, numbers_of};
+ghost use Rattle.gcx_words.specs.Words.{as_many, many_with, pair_of, as_peak, read, as_run, run_with, as_selfrun, as_whole};
+ghost use Rattle.gcx_words.specs.Pairs.{are_paired};
 ghost use Rattle.gcx_words.specs.Within.{IsWithin};
-ghost use Rattle.gcx_words.specs.Words.{read, read_check, read_explain, read_gen, read_peak, read_run, read_selfrun, read_whole};
 
 use crate::command::{Command, Name};
-use crate::found::{flag_found, number_found, own_found, parsed};
-use crate::parsers::{check_parser, numbers_parser, pair_parser, run_parser, single_parser};
+use crate::found::{flag_found, number_found, own_found, parsed, texts_found};
+use crate::pairs::{Pairs, are_apart};
+use crate::parsers::parser_of;
 use clap::ArgMatches;
 use gcx_base::{Memory, Text};
 use std::alloc::Global;
@@ -28,6 +30,8 @@ fn named_by(word: &[u8]) -> Option<Name>
         Some(Name::Gen)
     } else if word == b"selfrun".as_slice() {
         Some(Name::Selfrun)
+    } else if word == b"many".as_slice() {
+        Some(Name::Many)
     } else if word == b"check".as_slice() {
         Some(Name::Check)
     } else {
@@ -74,20 +78,6 @@ fn run_with(trace: bool, ahead: Option<u32>, query: Text, document: Text) -> Opt
     }
 }
 
-fn run_of(alloc: Global, matches: &ArgMatches) -> Result<Option<Command>, Memory>
-    ensures { IfOk result (λ c. c ≡ run_of (rows_of (found_of matches.now))) }
-{
-    let Some(query) = own_found(alloc, matches, "query")? else {
-        return Ok(None);
-    };
-    let Some(document) = own_found(alloc, matches, "document")? else {
-        return Ok(None);
-    };
-    let trace = flag_found(matches, "trace");
-    let ahead = number_found(matches, "ahead", 1, 1000);
-    Ok(run_with(trace, ahead, query, document))
-}
-
 /// QUERY and DOC.
 fn pair_of(alloc: Global, matches: &ArgMatches) -> Result<Option<(Text, Text)>, Memory>
     ensures { IfOk result (λ pair. pair ≡ pair_of (rows_of (found_of matches.now))) }
@@ -101,9 +91,70 @@ fn pair_of(alloc: Global, matches: &ArgMatches) -> Result<Option<(Text, Text)>, 
     Ok(Some((query, document)))
 }
 
+/// SEED and N.
+fn numbers_of(matches: &ArgMatches) -> Option<(u32, u32)>
+    ensures { result ≡ numbers_of (rows_of (found_of matches.now)) }
+{
+    let seed = number_found(matches, "seed", 0, 4_294_967_295)?;
+    let count = number_found(matches, "count", 1, 100_000)?;
+    Some((seed, count))
+}
+
+fn as_run(alloc: Global, matches: &ArgMatches) -> Result<Option<Command>, Memory>
+    ensures { IfOk result (λ c. c ≡ as_run (rows_of (found_of matches.now))) }
+{
+    let Some((query, document)) = pair_of(alloc, matches)? else {
+        return Ok(None);
+    };
+    let trace = flag_found(matches, "trace");
+    let ahead = number_found(matches, "ahead", 1, 1000);
+    Ok(run_with(trace, ahead, query, document))
+}
+
+fn as_whole(alloc: Global, matches: &ArgMatches) -> Result<Option<Command>, Memory>
+    ensures { IfOk result (λ c. c ≡ as_whole (rows_of (found_of matches.now))) }
+{
+    match pair_of(alloc, matches)? {
+        Some((query, document)) => Ok(Some(Command::Whole { query, document })),
+        None => Ok(None),
+    }
+}
+
+fn as_explain(alloc: Global, matches: &ArgMatches) -> Result<Option<Command>, Memory>
+    ensures { IfOk result (λ c. c ≡ as_explain (rows_of (found_of matches.now))) }
+{
+    match own_found(alloc, matches, "query")? {
+        Some(query) => Ok(Some(Command::Explain { query })),
+        None => Ok(None),
+    }
+}
+
+fn as_peak(alloc: Global, matches: &ArgMatches) -> Result<Option<Command>, Memory>
+    ensures { IfOk result (λ c. c ≡ as_peak (rows_of (found_of matches.now))) }
+{
+    match pair_of(alloc, matches)? {
+        Some((query, document)) => Ok(Some(Command::Peak { query, document })),
+        None => Ok(None),
+    }
+}
+
+fn as_gen(matches: &ArgMatches) -> Option<Command>
+    ensures { result ≡ as_gen (rows_of (found_of matches.now)) }
+{
+    let (seed, count) = numbers_of(matches)?;
+    Some(Command::Gen { seed, count })
+}
+
+fn as_selfrun(matches: &ArgMatches) -> Option<Command>
+    ensures { result ≡ as_selfrun (rows_of (found_of matches.now)) }
+{
+    let (seed, count) = numbers_of(matches)?;
+    Some(Command::Selfrun { seed, count })
+}
+
 /// QUERY, DOC and TRACE.
-fn check_of(alloc: Global, matches: &ArgMatches) -> Result<Option<Command>, Memory>
-    ensures { IfOk result (λ c. c ≡ check_of (rows_of (found_of matches.now))) }
+fn as_check(alloc: Global, matches: &ArgMatches) -> Result<Option<Command>, Memory>
+    ensures { IfOk result (λ c. c ≡ as_check (rows_of (found_of matches.now))) }
 {
     let Some((query, document)) = pair_of(alloc, matches)? else {
         return Ok(None);
@@ -118,105 +169,63 @@ fn check_of(alloc: Global, matches: &ArgMatches) -> Result<Option<Command>, Memo
     }))
 }
 
-/// SEED and N.
-fn numbers_of(matches: &ArgMatches) -> Option<(u32, u32)>
-    ensures { result ≡ numbers_of (rows_of (found_of matches.now)) }
+/// Whether no word is left over, and there are 32 at most.
+fn are_paired(words: &[&str]) -> bool
+    ensures { result ≡ are_paired (map (λ w. w.now) words.now) }
 {
-    let seed = number_found(matches, "seed", 0, 4_294_967_295)?;
-    let count = number_found(matches, "count", 1, 100_000)?;
-    Some((seed, count))
+    words.len() % 2 == 0 && words.len() <= 32
 }
 
-fn read_run(alloc: Global, words: &[&str]) -> Result<Option<Command>, Memory>
-    ensures { IfOk result (λ c. c ≡ read_run (map (λ w. w.now) words.now)) }
+/// The words behind DOC come in pairs, and each OUT is a name of its own.
+fn many_with(alloc: Global, document: Text, words: &[&str]) -> Result<Option<Command>, Memory>
+    ensures { IfOk result (λ c. c ≡ many_with document (map (λ w. w.now) words.now)) }
 {
-    match parsed(run_parser(alloc)?, words)? {
-        Some(matches) => run_of(alloc, &matches),
-        None => Ok(None),
+    if !are_paired(words) {
+        return Ok(None);
     }
-}
-
-fn read_whole(alloc: Global, words: &[&str]) -> Result<Option<Command>, Memory>
-    ensures { IfOk result (λ c. c ≡ read_whole (map (λ w. w.now) words.now)) }
-{
-    let Some(matches) = parsed(pair_parser(alloc, "whole")?, words)? else {
+    let pairs = Pairs::of_words(alloc, words)?;
+    if !are_apart(document.as_bytes(), pairs.items()) {
         return Ok(None);
-    };
-    let Some((query, document)) = pair_of(alloc, &matches)? else {
-        return Ok(None);
-    };
-    Ok(Some(Command::Whole { query, document }))
-}
-
-fn read_peak(alloc: Global, words: &[&str]) -> Result<Option<Command>, Memory>
-    ensures { IfOk result (λ c. c ≡ read_peak (map (λ w. w.now) words.now)) }
-{
-    let Some(matches) = parsed(pair_parser(alloc, "peak")?, words)? else {
-        return Ok(None);
-    };
-    let Some((query, document)) = pair_of(alloc, &matches)? else {
-        return Ok(None);
-    };
-    Ok(Some(Command::Peak { query, document }))
-}
-
-fn read_check(alloc: Global, words: &[&str]) -> Result<Option<Command>, Memory>
-    ensures { IfOk result (λ c. c ≡ read_check (map (λ w. w.now) words.now)) }
-{
-    match parsed(check_parser(alloc)?, words)? {
-        Some(matches) => check_of(alloc, &matches),
-        None => Ok(None),
     }
+    Ok(Some(Command::Many { document, pairs }))
 }
 
-fn read_explain(alloc: Global, words: &[&str]) -> Result<Option<Command>, Memory>
-    ensures { IfOk result (λ c. c ≡ read_explain (map (λ w. w.now) words.now)) }
+/// DOC, and the pairs of a QUERY and an OUT.
+fn as_many(alloc: Global, matches: &ArgMatches) -> Result<Option<Command>, Memory>
+    ensures { IfOk result (λ c. c ≡ as_many (rows_of (found_of matches.now))) }
 {
-    let Some(matches) = parsed(single_parser(alloc)?, words)? else {
+    let Some(document) = own_found(alloc, matches, "document")? else {
         return Ok(None);
     };
-    let Some(query) = own_found(alloc, &matches, "query")? else {
+    let Some(words) = texts_found(matches, "pair") else {
         return Ok(None);
     };
-    Ok(Some(Command::Explain { query }))
+    many_with(alloc, document, words)
 }
 
-fn read_gen(alloc: Global, words: &[&str]) -> Result<Option<Command>, Memory>
-    ensures { IfOk result (λ c. c ≡ read_gen (map (λ w. w.now) words.now)) }
+/// The command of this name of what was found.
+fn found_as(alloc: Global, name: Name, matches: &ArgMatches) -> Result<Option<Command>, Memory>
+    ensures { IfOk result (λ c. c ≡ found_as name (rows_of (found_of matches.now))) }
 {
-    let Some(matches) = parsed(numbers_parser(alloc, "gen")?, words)? else {
-        return Ok(None);
-    };
-    let Some((seed, count)) = numbers_of(&matches) else {
-        return Ok(None);
-    };
-    Ok(Some(Command::Gen { seed, count }))
-}
-
-fn read_selfrun(alloc: Global, words: &[&str]) -> Result<Option<Command>, Memory>
-    ensures { IfOk result (λ c. c ≡ read_selfrun (map (λ w. w.now) words.now)) }
-{
-    let Some(matches) = parsed(numbers_parser(alloc, "selfrun")?, words)? else {
-        return Ok(None);
-    };
-    let Some((seed, count)) = numbers_of(&matches) else {
-        return Ok(None);
-    };
-    Ok(Some(Command::Selfrun { seed, count }))
+    match name {
+        Name::Run => as_run(alloc, matches),
+        Name::Whole => as_whole(alloc, matches),
+        Name::Explain => as_explain(alloc, matches),
+        Name::Peak => as_peak(alloc, matches),
+        Name::Gen => Ok(as_gen(matches)),
+        Name::Selfrun => Ok(as_selfrun(matches)),
+        Name::Many => as_many(alloc, matches),
+        Name::Check => as_check(alloc, matches),
+    }
 }
 
 /// The command that all of the words ask for, where the first one names this command.
 fn read(alloc: Global, name: Name, words: &[&str]) -> Result<Option<Command>, Memory>
     ensures { IfOk result (λ c. c ≡ read name (map (λ w. w.now) words.now)) }
 {
-    match name {
-        Name::Run => read_run(alloc, words),
-        Name::Whole => read_whole(alloc, words),
-        Name::Explain => read_explain(alloc, words),
-        Name::Peak => read_peak(alloc, words),
-        Name::Gen => read_gen(alloc, words),
-        Name::Selfrun => read_selfrun(alloc, words),
-        Name::Check => read_check(alloc, words),
+    match parsed(parser_of(alloc, name)?, words)? {
+        Some(matches) => found_as(alloc, name, &matches),
+        None => Ok(None),
     }
 }
 

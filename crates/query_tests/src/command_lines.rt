@@ -1,6 +1,6 @@
 //! A table of command lines. What each means is worked out from `clap`'s definition of a simple command.
 use gcx_base::{Memory, Text};
-use gcx_words::{Command, command_of};
+use gcx_words::{Command, Pair, command_of};
 use std::alloc::{AllocError, Global};
 use std::process::Abort;
 use std::test::Fail;
@@ -44,6 +44,17 @@ fn check_shown(
     format!(in alloc; "check {q} {d} {t}")
 }
 
+/// The pairs of `many`, each with a space before it.
+fn many_shown(alloc: Global, document: &Text, pairs: &[Pair]) -> Result<String, AllocError> {
+    let mut line = format!(in alloc; "many {}", document.as_str())?;
+    for pair in pairs {
+        let (query, out) = (pair.query.as_str(), pair.out.as_str());
+        let next = format!(in alloc; " {query}>{out}")?;
+        line.push_str(&next)?;
+    }
+    Ok(line)
+}
+
 /// A command and its arguments in one line, `none` where there is none.
 fn shown(alloc: Global, command: &Option<Command>) -> Result<String, AllocError> {
     match command {
@@ -61,6 +72,7 @@ fn shown(alloc: Global, command: &Option<Command>) -> Result<String, AllocError>
         Some(Command::Peak { query, document }) => over(alloc, "peak", query, document),
         Some(Command::Gen { seed, count }) => format!(in alloc; "gen {seed} {count}"),
         Some(Command::Selfrun { seed, count }) => format!(in alloc; "selfrun {seed} {count}"),
+        Some(Command::Many { document, pairs }) => many_shown(alloc, document, pairs.items()),
         Some(
             Command::Check {
                 query,
@@ -119,6 +131,35 @@ const RUNS: &[(&str, &str)] = &[
     ("run|q|é", "run false 1 q é"),
 ];
 
+const MANY: &[(&str, &str)] = &[
+    ("many|d|q|o", "many d q>o"),
+    ("many|d|q|o|q|p", "many d q>o q>p"),
+    ("many|-|-|o", "many - ->o"),
+    ("many|d|d|o", "many d d>o"),
+    ("many|--|d|q|--help", "many d q>--help"),
+    ("many|d|--|q|-o", "many d q>-o"),
+    (
+        "many|d|q|a|q|b|q|c|q|e|q|f|q|g|q|h|q|i|q|j|q|k|q|l|q|m|q|n|q|o|q|p|q|r",
+        "many d q>a q>b q>c q>e q>f q>g q>h q>i q>j q>k q>l q>m q>n q>o q>p q>r",
+    ),
+    (
+        "many|d|q|a|q|b|q|c|q|e|q|f|q|g|q|h|q|i|q|j|q|k|q|l|q|m|q|n|q|o|q|p|q|r|q|s",
+        "none",
+    ),
+    ("many|d|q|o|p|o", "none"),
+    ("many|d|q|d", "none"),
+    ("many|d|q|q", "none"),
+    ("many|d|q|p|p|o", "none"),
+    ("many|d|q|o|p|q", "none"),
+    ("many|d|q|-", "none"),
+    ("many|d|q|o|p", "none"),
+    ("many|d|q", "none"),
+    ("many|d", "none"),
+    ("many", "none"),
+    ("many|--trace|d|q|o", "none"),
+    ("many|d|q|o|--help", "none"),
+];
+
 const OTHERS: &[(&str, &str)] = &[
     ("whole|q|d", "whole q d"),
     ("whole|q", "none"),
@@ -147,7 +188,6 @@ const OTHERS: &[(&str, &str)] = &[
     ("gen|--|-0|1", "none"),
     ("selfrun|5|1000", "selfrun 5 1000"),
     ("selfrun|5|1000|1", "none"),
-    ("many|d|q|o", "none"),
     ("check|q|d|t", "check q d t"),
     ("check|q|d", "none"),
     ("check|q|d|t|t", "none"),
@@ -191,6 +231,11 @@ fn are_read(rt: &impl Abort, alloc: Global, rows: &[(&str, &str)]) -> Result<(),
         is_read(rt, alloc, line, meaning)?;
     }
     Ok(())
+}
+
+#[test]
+fn pairs_are_read(rt: HostRuntime) -> Result<(), Fail> {
+    are_read(&rt, rt.alloc(), MANY)
 }
 
 #[test]

@@ -52,11 +52,11 @@ impl Ran {
     }
 }
 
-fn text(alloc: Global, word: &[u8]) -> Result<Text, Fail> {
+pub(super) fn text(alloc: Global, word: &[u8]) -> Result<Text, Fail> {
     Ok(Text::from_bytes(alloc, word)?.ok_or("not a text")?)
 }
 
-fn texts(alloc: Global, words: &[&[u8]]) -> Result<Vec<Text>, Fail> {
+pub(super) fn texts(alloc: Global, words: &[&[u8]]) -> Result<Vec<Text>, Fail> {
     let mut texts = Vec::new(alloc);
     for word in words {
         texts.push(text(alloc, word)?)?;
@@ -65,7 +65,7 @@ fn texts(alloc: Global, words: &[&[u8]]) -> Result<Vec<Text>, Fail> {
 }
 
 /// The list of the one call that is to fail.
-fn fails(alloc: Global, call: Option<u64>) -> Result<Vec<u64>, Memory> {
+pub(super) fn fails(alloc: Global, call: Option<u64>) -> Result<Vec<u64>, Memory> {
     let mut fails = Vec::new(alloc);
     if let Some(number) = call {
         fails.push(number)?;
@@ -73,7 +73,12 @@ fn fails(alloc: Global, call: Option<u64>) -> Result<Vec<u64>, Memory> {
     Ok(fails)
 }
 
-fn put_file(alloc: Global, files: &mut MemShelf, name: &[u8], bytes: &[u8]) -> Result<(), Fail>
+pub(super) fn put_file(
+    alloc: Global,
+    files: &mut MemShelf,
+    name: &[u8],
+    bytes: &[u8],
+) -> Result<(), Fail>
     requires { files.old.kept.openings ≡ [] }
     ensures { OnOk result (files.new.kept.openings ≡ []) }
 {
@@ -99,7 +104,12 @@ fn mem_files(
     Ok(files)
 }
 
-fn mem_sink(alloc: Global, room: usize, most: usize, call: Option<u64>) -> Result<MemSink, Memory>
+pub(super) fn mem_sink(
+    alloc: Global,
+    room: usize,
+    most: usize,
+    call: Option<u64>,
+) -> Result<MemSink, Memory>
     requires { 0 < most }
 {
     MemSink::new(alloc, room, most, fails(alloc, call)?)
@@ -123,7 +133,7 @@ fn mem_ran(
 }
 
 /// The call of the program in a store of its own.
-fn mem_status(
+pub(super) fn mem_status(
     alloc: Global,
     words: &[Text],
     files: &mut MemShelf,

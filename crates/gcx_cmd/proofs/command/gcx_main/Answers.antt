@@ -6,7 +6,7 @@ use Rattle.gcx_cmd.specs.Does.{DoesIf}
 use Rattle.gcx_cmd.specs.Outside.{Outside, outside}
 use Rattle.gcx_cmd.specs.RunDoes.{RunDoes}
 use Rattle.gcx_cmd.specs.declared.status.Status.{Status}
-use Rattle.gcx_cmd.proofs.Completing.{completes}
+use Rattle.gcx_cmd.proofs.Completing.{answers_many, completes}
 use Rattle.gcx_cmd.proofs.Measures.{run_written}
 use Rattle.gcx_cmd.proofs.command.gcx_main.Goals as goal
 
@@ -32,3 +32,6 @@ returns-clause-written g c = λ trace ahead query document query_bytes document_
 
 pub returns-clause-complete : goal.returns-clause-complete
 returns-clause-complete g c = completes _ _ _ _ (returns-clause-does g c)
+
+pub returns-clause-answers : goal.returns-clause-answers
+returns-clause-answers g c = answers_many _ _ _ _ (returns-clause-does g c)

@@ -1,3 +1,7 @@
+use Rattle.std.proofs.Common.{List, sym, ap, subst, ◌∙◌}
+use Rattle.gcx_words.specs.Within.{IsWithin}
+use Rattle.gcx_words.specs.declared.command.Command.TheVariants.{Many}
+use Rattle.gcx_words.specs.declared.pairs.Pair.{Pair}
 use Rattle.gcx_cmd.specs.Runs.{stored}
 use Rattle.gcx_cmd.proofs.Obeyed.{obeyed}
 use Rattle.gcx_cmd.proofs.command.obey.Goals as goal
@@ -31,6 +35,16 @@ pub returns-in-Selfrun : goal.returns-in-Selfrun
 returns-in-Selfrun g c = record {
   does = obeyed c.args.command.now _ _ _ _ c.in-Selfrun.is
       (c.write_selfrun.ensures.does (g.F.Shelf.seen c.args.files.now) (g.E.Sink.seen c.args.err.now)
+      (stored (g.N.NodeStore.rows c.args.nodes.now) (g.N.NodeStore.most_held c.args.nodes.now)));
+}
+
+pub write_many-requires : goal.write_many-requires
+write_many-requires g c = record { within = subst IsWithin (c.in-Many.is ∙ ap (λ (ps : List Pair). Many c.in-Many.document ps) (sym c.items.ensures)) c.requires.within }
+
+pub returns-in-Many : goal.returns-in-Many
+returns-in-Many g c = record {
+  does = obeyed c.args.command.now _ _ _ _ (c.in-Many.is ∙ ap (λ (ps : List Pair). Many c.in-Many.document ps) (sym c.items.ensures))
+      (c.write_many.ensures.does (g.O.Sink.seen c.args.out.now) (g.E.Sink.seen c.args.err.now)
       (stored (g.N.NodeStore.rows c.args.nodes.now) (g.N.NodeStore.most_held c.args.nodes.now)));
 }
 

@@ -1,0 +1,14 @@
+pub mod Walking
+pub mod Lists
+pub mod Taking
+pub mod Breaking
+pub mod Going
+pub mod Pieces
+pub mod Ending
+pub mod Making
+pub mod Filing
+pub mod Resting
+pub mod Outputs
+pub mod Writing
+pub mod RunOn
+pub mod Turns

@@ -1,0 +1,9 @@
+//! Several plans over one reading of a document.
+#![tactic(auto)]
+
+mod many;
+mod part;
+mod running;
+
+pub use many::Many;
+pub use running::{ManyReport, run_many};
