@@ -9,7 +9,7 @@ use Rattle.std.specs.List.Sorted.{IsPermutation}
 use Rattle.std.specs.declared.cmp.Ordering.{Ordering}
 use Rattle.std.specs.declared.cmp.Ordering.TheVariants.{Less, Equal, Greater}
 use Rattle.std.proofs.lemmas.Bool.{false≢true, le-leb, lt-leb, le-ltb, lt-ltb}
-use Rattle.std.proofs.lemmas.Cmp.{nat_list_cmp_total}
+use Rattle.std.proofs.lemmas.Cmp.{nat_list_cmp_total, tied_itself}
 use Rattle.std.proofs.lemmas.List.{length-append, take_more, get_or_append_left}
 use Rattle.std.proofs.lemmas.List.Sorted.{Contains-permutation, ranks_by, sorted_far}
 use Rattle.std.proofs.lemmas.Map.Lookups.{exact_bytes}
@@ -38,6 +38,9 @@ first_before (a ∷ xs) (b ∷ ys) x y e f l =
 
 pub order_turned : (xs ys : List ℕ) → slice_cmp nat_cmp xs ys ≡ Less → slice_cmp nat_cmp ys xs ≡ Greater
 order_turned xs ys e = nat_list_cmp_total.antisymm ys xs ∙ ap ordering_reverse e
+
+pub order_same : (xs ys : List ℕ) → xs ≡ ys → slice_cmp nat_cmp xs ys ≡ Equal
+order_same xs ys e = subst (λ (z : List ℕ). slice_cmp nat_cmp xs z ≡ Equal) e (tied_itself nat_list_cmp_total xs)
 
 pub weak : IsStrictWeakOrder is_before
 weak = ranks_by nat_list_cmp_total (λ (x : List ℕ). x)

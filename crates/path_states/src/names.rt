@@ -30,7 +30,15 @@ fn starts_before(one: &[u8], other: &[u8]) -> bool
     }
 }
 
-/// The order of names: that of their bytes. Mostly the first ones tell it, which is quicker.
+/// The order of names, by all their bytes. Out of line, so that its slices are passed by value.
+#[inline(never)]
+fn order_far(one: &[u8], other: &[u8]) -> Ordering
+    ensures { result ≡ slice_cmp nat_cmp one.now other.now }
+{
+    one.cmp(other)
+}
+
+/// The order of names: that of their bytes. Mostly the first ones tell it, or they are the same, which is quicker.
 #[inline(always)]
 fn order(one: &[u8], other: &[u8]) -> Ordering
     ensures { result ≡ slice_cmp nat_cmp one.now other.now }
@@ -39,8 +47,10 @@ fn order(one: &[u8], other: &[u8]) -> Ordering
         Ordering::Less
     } else if starts_before(other, one) {
         Ordering::Greater
+    } else if same_bytes(one, other) {
+        Ordering::Equal
     } else {
-        one.cmp(other)
+        order_far(one, other)
     }
 }
 
