@@ -42,7 +42,8 @@ fn drop_lists(lists: Box<HighLists>) {
 }
 
 impl HighPair {
-    /// These numbers as held ones, and none signed.
+    /// These numbers as held ones, and none signed. More than one are copied out of line.
+    #[inline(always)]
     pub(crate) fn of(alloc: Global, roles: &HighRoles) -> Result<HighPair, Memory>
         requires { IsHigh roles.now }
         ensures held { IfOk result (λ pair. SameNumbers (held_numbers pair) (high_numbers roles.now)) }
@@ -81,9 +82,22 @@ impl HighPair {
         }
     }
 
-    /// Whether none is held.
+    /// Whether none is held. Where there is none at all that is told in line.
     #[inline(always)]
     pub(crate) fn is_empty(&self) -> bool
+        requires { HasLists self.now }
+        ensures { IsTrue result ↔ held_numbers self.now ≡ [] }
+    {
+        match self {
+            HighPair::Empty => true,
+            HighPair::Held(_) | HighPair::Signed(_) | HighPair::Each(_, _) | HighPair::Many(_) =>
+                self.holds_none(),
+        }
+    }
+
+    /// The same out of line.
+    #[inline(never)]
+    fn holds_none(&self) -> bool
         requires { HasLists self.now }
         ensures { IsTrue result ↔ held_numbers self.now ≡ [] }
     {
@@ -96,8 +110,21 @@ impl HighPair {
         }
     }
 
-    /// Whether one of these numbers is held.
+    /// Whether one of these numbers is held. Where there is none at all that is told in line.
+    #[inline(always)]
     pub(crate) fn meets(&self, roles: &HighRoles) -> bool
+        ensures { (result ≡ true) ↔ NumbersMeet (held_numbers self.now) (high_numbers roles.now) }
+    {
+        match self {
+            HighPair::Empty => false,
+            HighPair::Held(_) | HighPair::Signed(_) | HighPair::Each(_, _) | HighPair::Many(_) =>
+                self.meets_some(roles),
+        }
+    }
+
+    /// The same out of line.
+    #[inline(never)]
+    fn meets_some(&self, roles: &HighRoles) -> bool
         ensures { (result ≡ true) ↔ NumbersMeet (held_numbers self.now) (high_numbers roles.now) }
     {
         match self {
@@ -195,6 +222,7 @@ impl HighPair {
 }
 
 /// These numbers as held ones. Where they are one and the same it lies in place.
+#[inline(never)]
 fn of_many(alloc: Global, numbers: &[u32]) -> Result<HighPair, Memory>
     requires { 0 < length numbers.now }
     ensures held { IfOk result (λ pair. SameNumbers (held_numbers pair) numbers.now) }
