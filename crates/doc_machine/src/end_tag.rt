@@ -12,6 +12,7 @@ use crate::text::turn;
 use gcx_base::{Memory, is_space};
 
 /// Closes the innermost element.
+#[inline(always)]
 pub fn close_element(m: &mut Scan) -> Result<(), Memory>
     requires { (scan_state m.old).pending ≡ [] }
     ensures { Closes result (scan_state m.old) (scan_state m.new) }
