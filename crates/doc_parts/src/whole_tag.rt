@@ -1,5 +1,5 @@
 //! Tags that are read as a whole.
-ghost use Rattle.std.specs.Prelude.{◌≡◌, ◌∷◌, ◌++◌, ℕ, List, IsTrue, ◌↔◌, MatchOption, ⊤, length, OnErr, IfOk};
+ghost use Rattle.std.specs.Prelude.{◌≡◌, ◌≤◌, ◌∷◌, ◌++◌, ℕ, List, IsTrue, ◌↔◌, MatchOption, ⊤, length, take, OnErr, IfOk};
 ghost use Rattle.gcx_base.specs.Name.{IsNameBytes};
 ghost use Rattle.doc_chars.specs.Stream.{AreChars};
 ghost use Rattle.doc_laws.specs.Machine.{StartSpace, ValueEnd, opened, emptied, begun};
@@ -14,14 +14,16 @@ use crate::name::name_front;
 use doc_machine::{Mode, Quote, Scan, behind_tag, close_element, empty_element, open_element};
 use gcx_base::{Limits, Memory, same_bytes};
 
-/// A start tag without attributes is whole.
+/// A start tag without attributes is whole, whose name the first `n` of these bytes are.
 #[inline(always)]
-fn open_named(m: &mut Scan, name: &[u8]) -> Result<(), Memory>
-    requires { IsNameBytes name.now }
-    ensures { Becomes result (scan_state m.old) (opened (begun (named (scan_state m.old) name.now))) (scan_state m.new) }
+fn open_named(m: &mut Scan, bytes: &[u8], n: usize) -> Result<(), Memory>
+    requires name { IsNameBytes (take n bytes.now) }
+    requires within { n ≤ length bytes.now }
+    ensures { Becomes result (scan_state m.old)
+        (opened (begun (named (scan_state m.old) (take n bytes.now)))) (scan_state m.new) }
 {
-    m.tokens.begin_tag(name)?;
-    m.names.push(name)?;
+    m.tokens.begin_front(bytes, n)?;
+    m.names.push_front(bytes, n)?;
     behind_tag(m);
     Ok(())
 }
@@ -62,10 +64,11 @@ fn whole_start(m: &mut Scan, limits: &Limits, rest: &str) -> Result<usize, Memor
         return Ok(0);
     }
     let (name, after) = behind.split_at(n);
+    let bytes = behind.as_bytes();
     let name = name.as_bytes();
     let after = after.as_bytes();
     if begins(after, b">") {
-        open_named(m, name)?;
+        open_named(m, bytes, n)?;
         Ok(n + 2)
     } else if begins(after, b" ") {
         begin_named(m, name)?;

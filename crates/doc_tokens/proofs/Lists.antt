@@ -1,5 +1,5 @@
 -- Lists of names in one list of bytes.
-use Rattle.std.proofs.Common.{ℕ, ◌≡◌, ◌+◌, ◌-◌, ◌<◌, ◌≤◌, min, Bool, true, false, not, ◌&&◌, List, [], ◌∷◌, length, take, drop, get_or, reverse, refl, sym, ap, ◌∙◌, inl, inr, arith, length-take}
+use Rattle.std.proofs.Common.{ℕ, zero, suc, ◌≡◌, ◌+◌, ◌-◌, ◌<◌, ◌≤◌, min, Bool, true, false, not, ◌&&◌, List, [], ◌∷◌, ◌++◌, length, take, drop, get_or, reverse, refl, sym, ap, ◌∙◌, inl, inr, arith, length-take}
 use Rattle.std.specs.Prelude.{nat_lt, slice_range, bytes_eq}
 use Rattle.std.specs.Bool.{Decides}
 use Rattle.std.proofs.lemmas.List.{length-reverse, reverse-append, take-take, drop-take, drop_all, take_all, take_more}
@@ -79,3 +79,9 @@ looked name starts bytes k e d s p l h is =
     ap (λ j. is_fresh name (names_of (reverse (take j starts)) (take e bytes))) next
     ∙ ap (is_fresh name) (last_name starts bytes (k - 1) e d (omega arith) h)
     ∙ ap (λ m. is_fresh name (slice_range bytes m e ∷ names_of (reverse (take (k - 1) starts)) (take m bytes))) (sym is)
+
+-- behind the first list so many of the second
+pub take_behind : (xs ys : List ℕ) (n m : ℕ) → m ≡ length xs + n → take m (xs ++ ys) ≡ xs ++ take n ys
+take_behind [] ys n m e = let k : m ≡ n = omega arith in ap (λ (z : ℕ). take z ys) k
+take_behind (x ∷ xs) ys n zero e = absurd (omega arith)
+take_behind (x ∷ xs) ys n (suc m) e = let k : m ≡ length xs + n = omega arith in ap (λ (z : List ℕ). x ∷ z) (take_behind xs ys n m k)

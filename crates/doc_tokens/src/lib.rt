@@ -3,6 +3,7 @@
 #![tactic(auto)]
 
 mod attr_names;
+mod bytes;
 mod lent;
 mod open_names;
 mod token;

@@ -1,9 +1,10 @@
-ghost use Rattle.std.specs.Prelude.{◌≡◌, [], ◌∷◌, length, drop, not, OnOk};
+ghost use Rattle.std.specs.Prelude.{◌≡◌, ◌≤◌, [], ◌∷◌, length, drop, take, not, OnOk};
 ghost use Rattle.gcx_model.specs.Attributes.{is_fresh};
 ghost use Rattle.gcx_model.specs.Fronts.{is_inside};
 ghost use Rattle.doc_laws.specs.Machine.{innermost};
 ghost use Rattle.doc_tokens.specs.OpenNames.{WithoutFirst};
 
+use crate::bytes::push_front;
 use gcx_base::Memory;
 use std::alloc::Global;
 use std::marker::Model;
@@ -67,8 +68,17 @@ impl OpenNames {
     pub fn push(&mut self, name: &[u8]) -> Result<(), Memory>
         ensures { OnOk result (self.new ≡ name.now ∷ self.old) }
     {
+        self.push_front(name, name.len())
+    }
+
+    /// Opens an element, whose name the first `n` of these bytes are.
+    #[inline(always)]
+    pub fn push_front(&mut self, bytes: &[u8], n: usize) -> Result<(), Memory>
+        requires { n ≤ length bytes.now }
+        ensures { OnOk result (self.new ≡ take n bytes.now ∷ self.old) }
+    {
         self.starts.push(self.bytes.len())?;
-        self.bytes.extend_from_slice(name)?;
+        push_front(&mut self.bytes, bytes, n)?;
         Ok(())
     }
 

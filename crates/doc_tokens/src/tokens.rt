@@ -1,4 +1,4 @@
-ghost use Rattle.std.specs.Prelude.{◌≡◌, ◌+◌, ◌<◌, ◌≤◌, ◌++◌, ◌∷◌, [], length, drop, map, not, vec_len, vec_capacity, OnOk};
+ghost use Rattle.std.specs.Prelude.{◌≡◌, ◌+◌, ◌<◌, ◌≤◌, ◌++◌, ◌∷◌, [], length, drop, take, map, not, vec_len, vec_capacity, OnOk};
 ghost use Rattle.std.specs.Char.{encode_utf8};
 ghost use Rattle.gcx_base.specs.Characters.{is_white};
 ghost use Rattle.gcx_base.specs.Name.{IsNameBytes};
@@ -8,6 +8,7 @@ ghost use Rattle.gcx_model.specs.Tree.{Start as start_of, End as end_of};
 ghost use Rattle.doc_tokens.specs.Kept.{text_part};
 ghost use Rattle.doc_tokens.specs.Parts.{AreLent, moved_by};
 
+use crate::bytes::push_front;
 use crate::lent::Lent;
 use crate::open_names::behind;
 use gcx_base::Memory;
@@ -215,11 +216,23 @@ impl Tokens {
             ≡ record self.old { run = []; pending = text_of self.old.run ++ (start_of name.now ∷ []) }) }
         ensures tokens { self.new.tokens ≡ self.old.tokens }
     {
+        self.begin_front(name, name.len())
+    }
+
+    /// The same, where the name is the first `n` of these bytes.
+    #[inline(always)]
+    pub fn begin_front(&mut self, bytes: &[u8], n: usize) -> Result<(), Memory>
+        requires name { IsNameBytes (take n bytes.now) }
+        requires within { n ≤ length bytes.now }
+        ensures ok { OnOk result (self.new
+            ≡ record self.old { run = []; pending = text_of self.old.run ++ (start_of (take n bytes.now) ∷ []) }) }
+        ensures tokens { self.new.tokens ≡ self.old.tokens }
+    {
         self.forget_pending();
         self.lent.reserve(2)?;
         let text = has_text(&self.bytes, self.start);
         let first = self.bytes.len();
-        self.bytes.extend_from_slice(name)?;
+        push_front(&mut self.bytes, bytes, n)?;
         let end = self.bytes.len();
         put_text(&mut self.lent, self.start, first, text);
         self.lent.push_reserved(Lent::Start(first, end));

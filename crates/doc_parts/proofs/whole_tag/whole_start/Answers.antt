@@ -1,4 +1,4 @@
-use Rattle.std.proofs.Common.{ap, sym, subst, ◌∙◌, ◌≡◌, ◌<◌, ◌∷◌, ◌++◌, [], take, drop, arith}
+use Rattle.std.proofs.Common.{ℕ, List, length, ap, sym, subst, ◌∙◌, ◌≡◌, ◌<◌, ◌≤◌, ◌∷◌, ◌++◌, [], take, drop, arith}
 use Rattle.std.specs.Str.{IsUtf8}
 use Rattle.std.proofs.lemmas.Str.{IsUtf8-drop}
 use Rattle.gcx_base.specs.Name.{IsNameBytes}
@@ -12,18 +12,19 @@ use Rattle.doc_parts.proofs.whole_tag.whole_start.Goals as goal
 pub split_at-requires : goal.split_at-requires
 split_at-requires c = first_boundary c.args.rest.now c.requires.less.0 60 (omega arith) c.utf8.rest c.requires.less.1
 
-pub open_named-requires : goal.open_named-requires
-open_named-requires c =
-    let s = scan_state c.args.m.now in
+pub open_named-requires-clause-name : goal.open_named-requires-clause-name
+open_named-requires-clause-name c =
     let rest = c.args.rest.now in
     let less = c.requires.less in
     let behind = c.split_at.result.1.now in
     let n = c.name_front-n.result in
-    let behind_is : behind ≡ less.0 = c.split_at.ensures.back ∙ ap (drop 1) less.1 in
     let utf8 : IsUtf8 behind = subst IsUtf8 (sym c.split_at.ensures.back) (IsUtf8-drop rest 1 c.utf8.rest (first_boundary rest less.0 60 (omega arith) c.utf8.rest less.1)) in
     let some : 0 < n = omega arith in
-    let name_is : c.as_bytes-name.result.now ≡ take n behind = c.as_bytes-name.ensures.value ∙ c.split_at-2.ensures.front in
-    subst IsNameBytes (sym name_is) (name_bytes behind n utf8 some c.name_front-n.ensures)
+    subst (λ (l : List ℕ). IsNameBytes (take n l)) (sym c.as_bytes-bytes.ensures.value) (name_bytes behind n utf8 some c.name_front-n.ensures)
+
+pub open_named-requires-clause-within : goal.open_named-requires-clause-within
+open_named-requires-clause-within c =
+    subst (λ (l : List ℕ). c.name_front-n.result ≤ length l) (sym c.as_bytes-bytes.ensures.value) c.name_front-n.ensures.boundary.0
 
 pub returns-in_ok-open_named-clause-moves : goal.returns-in_ok-open_named-clause-moves
 returns-in_ok-open_named-clause-moves c =
@@ -35,7 +36,7 @@ returns-in_ok-open_named-clause-moves c =
     let behind_is : behind ≡ less.0 = c.split_at.ensures.back ∙ ap (drop 1) less.1 in
     let utf8 : IsUtf8 behind = subst IsUtf8 (sym c.split_at.ensures.back) (IsUtf8-drop rest 1 c.utf8.rest (first_boundary rest less.0 60 (omega arith) c.utf8.rest less.1)) in
     let some : 0 < n = omega arith in
-    let name_is : c.as_bytes-name.result.now ≡ take n behind = c.as_bytes-name.ensures.value ∙ c.split_at-2.ensures.front in
+    let name_is : take n c.as_bytes-bytes.result.now ≡ take n behind = ap (λ (l : List ℕ). take n l) c.as_bytes-bytes.ensures.value in
     let found = c.begins.ensures c.if-begins.true in
     let tail : drop n behind ≡ (62 ∷ []) ++ found.0 = sym (c.as_bytes-after.ensures.value ∙ c.split_at-2.ensures.back) ∙ found.1 in
     let front = start_front rest behind ((62 ∷ [])) found.0 n (less.1 ∙ ap (λ l. 60 ∷ l) (sym behind_is)) utf8 some c.name_front-n.ensures tail in

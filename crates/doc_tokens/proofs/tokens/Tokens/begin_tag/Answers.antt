@@ -1,19 +1,15 @@
-use Rattle.std.proofs.Common.{rules, ap, ◌∙◌, []}
-use Rattle.doc_tokens.specs.Tokens.{Queue}
-use Rattle.doc_tokens.proofs.Keeping.{begun}
+use Rattle.std.proofs.Common.{ℕ, List, [], ◌∷◌, ◌++◌, ◌≡◌, length, sym, subst, arith}
+use Rattle.std.specs.Prelude.{OnOk}
+use Rattle.std.proofs.lemmas.List.{take_all}
+use Rattle.gcx_base.specs.Name.{IsNameBytes}
+use Rattle.gcx_model.specs.Fronts.{text_of}
+use Rattle.gcx_model.specs.Tree.{Start}
 use Rattle.doc_tokens.proofs.tokens.Tokens.begin_tag.Goals as goal
 
-pub invariant_of-self-2 : goal.invariant_of-self-2
-invariant_of-self-2 c =
-    let s = c.self.inside in
-    (begun s.bytes.items s.lent.items c.reserve.new.self.items c.put_text.new.lent.items c.push_reserved.new.self.items s.base s.start s.taken s.whole (record c.args.self.now { pending = [] }) c.args.name.now c.extend_from_slice.new.self.items c.has_text-text.result c.len-first.result c.len-end.result c.self.invariant (c.self.view_is ∙ c.forget_pending.ensures) (search rules) (search rules) (search rules) (search rules) c.requires c.reserve.ensures.items c.put_text.ensures.items c.push_reserved.ensures.items).kept
+pub begin_front-requires-clause-name : goal.begin_front-requires-clause-name
+begin_front-requires-clause-name c = subst IsNameBytes (sym (take_all (length c.args.name.now) c.args.name.now (omega arith))) c.requires
 
 pub returns-clause-ok : goal.returns-clause-ok
 returns-clause-ok c =
-    let s = c.self.inside in
-    (begun s.bytes.items s.lent.items c.reserve.new.self.items c.put_text.new.lent.items c.push_reserved.new.self.items s.base s.start s.taken s.whole (record c.args.self.now { pending = [] }) c.args.name.now c.extend_from_slice.new.self.items c.has_text-text.result c.len-first.result c.len-end.result c.self.invariant (c.self.view_is ∙ c.forget_pending.ensures) (search rules) (search rules) (search rules) (search rules) c.requires c.reserve.ensures.items c.put_text.ensures.items c.push_reserved.ensures.items).queue
-
-pub returns-clause-tokens : goal.returns-clause-tokens
-returns-clause-tokens c =
-    let s = c.self.inside in
-    ap (λ (q : Queue). q.tokens) (begun s.bytes.items s.lent.items c.reserve.new.self.items c.put_text.new.lent.items c.push_reserved.new.self.items s.base s.start s.taken s.whole (record c.args.self.now { pending = [] }) c.args.name.now c.extend_from_slice.new.self.items c.has_text-text.result c.len-first.result c.len-end.result c.self.invariant (c.self.view_is ∙ c.forget_pending.ensures) (search rules) (search rules) (search rules) (search rules) c.requires c.reserve.ensures.items c.put_text.ensures.items c.push_reserved.ensures.items).queue
+    subst (λ (z : List ℕ). OnOk c.begin_front.result (c.begin_front.new.self ≡ record c.args.self.now { run = []; pending = text_of c.args.self.now.run ++ (Start z ∷ []) }))
+    (take_all (length c.args.name.now) c.args.name.now (omega arith)) c.begin_front.ensures.ok
