@@ -311,6 +311,7 @@ pub(crate) fn covers(spread: &Option<Spread>, row: &Row) -> bool
 }
 
 /// Whether the role is spread.
+#[inline(always)]
 pub(crate) fn is_spread(spread: &Option<Spread>, role: Role) -> bool
     ensures { result ≡ is_spread_in spread.now role.0 }
 {

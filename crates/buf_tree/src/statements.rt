@@ -25,7 +25,7 @@ use crate::buffer::Buffer;
 use crate::edits::{settle, sign};
 use crate::recount::recount;
 use crate::row::Row;
-use crate::spread::Spread;
+use crate::spread::{Spread, is_spread};
 use crate::sweep::{drop_below, has_other_base, sweep, take_own};
 use crate::trail::Trail;
 use gcx_base::{Memory, Serial, VarId};
@@ -138,7 +138,61 @@ fn withdraw<N: NodeStore<Row>>(
 
 /// Takes the role of the statement from the rows that lose it, and takes out the rows below the base that nothing
 /// keeps then. Answers how many roles were taken.
+#[inline(always)]
 fn take<N: NodeStore<Row>>(
+    nodes: &mut N,
+    gone: &mut Vec<Serial>,
+    spread: &Option<Spread>,
+    off: &Off,
+    place: Place,
+    others: bool,
+    trail: &mut Trail,
+) -> u64
+    requires shape { Shaped (N.rows nodes.old) }
+    requires nested { Nested (cells (N.rows nodes.old)) }
+    requires tidy { Tidy (cells (N.rows nodes.old)) }
+    requires rows { length (cells (N.rows nodes.old)) < 2 ^ 64 }
+    requires covers { TellsCovered spread.now (cells (N.rows nodes.old)) }
+    requires taking { TakingFrom (top_for spread.now off.now) (cells (N.rows nodes.old)) place.0 off.now others }
+    requires departures { vec_len gone.old + length (cells (N.rows nodes.old)) ≤ vec_capacity gone.old }
+    requires room { others ≡ true → HasTrailRoom (walked_from (top_for spread.now off.now) off.now) trail.old }
+    ensures swept { let gone0 = serials gone.old.items in let gone1 = serials gone.new.items in
+        top_for spread.now off.now ≡ None → (t : Taking (cells (N.rows nodes.old)) place.0 off.now others)
+        → Swept (N.rows nodes.old) (N.rows nodes.new) place.0 t.loses off.now.role.0 gone0 gone1 result }
+    ensures spread { let gone0 = serials gone.old.items in let gone1 = serials gone.new.items in
+        (top : Off) → top_for spread.now off.now ≡ Some top
+        → (t : Recounting (cells (N.rows nodes.old)) place.0 top others)
+        → SpreadSwept spread.now (N.rows nodes.old) (N.rows nodes.new) place.0 t.loses off.now.role.0 gone0 gone1 result }
+    ensures count { vec_len gone.new + length (cells (N.rows nodes.new))
+        ≡ vec_len gone.old + length (cells (N.rows nodes.old)) }
+    ensures capacity { vec_capacity gone.old ≤ vec_capacity gone.new }
+    ensures most { N.most_held nodes.new ≡ N.most_held nodes.old }
+    ensures loans { N.loans nodes.new ≡ N.loans nodes.old }
+{
+    if is_alone_own(spread, off) {
+        return take_own(nodes, off, place);
+    }
+    take_all(nodes, gone, spread, off, place, others, trail)
+}
+
+/// Whether the statement reaches its base alone, and its role isn't spread.
+#[inline(always)]
+fn is_alone_own(spread: &Option<Spread>, off: &Off) -> bool
+    ensures own { result ≡ true → is_own (off_tree off.now) ≡ true }
+    ensures top { result ≡ true → top_for spread.now off.now ≡ None }
+{
+    if !off.is_own() {
+        return false;
+    }
+    if is_spread(spread, off.role) {
+        return false;
+    }
+    true
+}
+
+/// The same out of line, whatever the statement reaches.
+#[inline(never)]
+fn take_all<N: NodeStore<Row>>(
     nodes: &mut N,
     gone: &mut Vec<Serial>,
     spread: &Option<Spread>,
