@@ -2,6 +2,7 @@ pub mod Leading
 pub mod Extending
 pub mod Places
 pub mod Stacking
+pub mod Bare
 pub mod Matching
 pub mod Framing
 pub mod Noting

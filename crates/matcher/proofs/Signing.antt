@@ -34,6 +34,31 @@ pub record SignedFrames (before now : List FrameView) (at : ℕ) : Type 0 where
   pub count : length now ≡ length before
   pub each : (i : ℕ) (f : FrameView) → slice_get now i ≡ Some f → (g : FrameView) × (slice_get before i ≡ Some g) × ((f ≡ record g { signed = f.signed }) × ((g.signed ≡ true → f.signed ≡ true) × (i ≡ at → f.signed ≡ true)))
 
+-- a frame may be noted so though no statement is signed at its node
+pub noted_more : (m : MatcherView) (past : Past) (text : Bool) → Stands m past text → (frames : List FrameView) (at : ℕ) → SignedFrames m.frames frames at → Stands (record m { frames = frames }) past text
+noted_more m past text S frames at noted = record {
+  is_past = S.is_past;
+  tree = S.tree;
+  flag = S.flag;
+  here = S.here;
+  innermost = S.innermost;
+  some = subst (λ (z : ℕ). 0 < z) (sym noted.count) S.some;
+  levels = ap (λ (z : ℕ). z + m.idle) noted.count ∙ S.levels;
+  frames = λ a f i e.
+      let p = noted.each (level a) f e in
+      let r = S.frames a p.0 i p.1 in
+      subst (λ (z : FrameView). IsFrame past.plan past.tree m.tree.states.items S.tree.path z a) (sym p.2.0) (record { active = r.active; pending = r.pending; whole = r.whole; climbs = r.climbs; unfound = r.unfound; found = r.found });
+  idle = λ a i l c j. S.idle a i (subst (λ (z : ℕ). z ≤ level a) noted.count l) c j;
+  over = λ f e j.
+      let p = noted.each (length frames - 1) f e in
+      let r = S.over p.0 (subst (λ (z : ℕ). slice_get m.frames (z - 1) ≡ Some p.0) noted.count p.1) j in
+      elim r [ inl y ↦ inl (ap (λ (z : FrameView). z.pending) p.2.0 ∙ y) | inr y ↦ inr y ];
+  signs = S.signs;
+  marked = λ s f i e. let p = noted.each s.level f e in p.2.1.0 (S.marked s p.0 i p.1);
+  turn = S.turn;
+  fresh = S.fresh;
+}
+
 module _ (m : MatcherView) (past : Past) (text : Bool) (S : Stands m past text) (o : OffTree) (of : In o (offs_in past.plan.body)) (k : Node) (is_open : In k (open_nodes past.tree))
     (base : In k (matches past.tree 0 (path_of past.plan o.base))) (x : Sign) (role : o.role ≡ x.role) (at : level k ≡ x.level) (steps : length o.rel ≡ x.steps)
     (frames : List FrameView) (signs : List Sign) (noted : SignedFrames m.frames frames x.level) (gains : Gains m.signs signs (λ s. x ≡ s)) (turn : InTurn signs) where

@@ -1,6 +1,7 @@
 pub mod Parts
 pub mod View
 pub mod Stacks
+pub mod Bare
 pub mod Frames
 pub mod Signs
 pub mod Ahead

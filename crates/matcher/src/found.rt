@@ -5,7 +5,8 @@ ghost use Rattle.matcher.specs.Entering.{FindsAll, FindsAt, FindsRole, FindsRole
 ghost use Rattle.matcher.specs.Frames.{FoundAt, Hit, IsLevelOf, Unfound};
 ghost use Rattle.matcher.specs.View.{frames_of};
 
-use crate::frames::{Found, Frames, has_unmatched};
+use crate::frames::{Found, has_unmatched};
+use crate::open_frames::OpenFrames;
 use crate::roles::Levels;
 use crate::upward::{ancestors, one, origins};
 use gcx_base::Memory;
@@ -17,7 +18,7 @@ use std::alloc::Global;
 pub(crate) type FoundList = SmallVec<Found, 4>;
 
 /// Whether the node of the level is a context of the role without a match.
-fn is_unfound(frames: &Frames, role: u32, level: usize) -> bool
+fn is_unfound(frames: &OpenFrames, role: u32, level: usize) -> bool
     ensures yes { result ≡ true → Unfound frames.now role level }
     ensures no { result ≡ false → Unfound frames.now role level → ⊥ }
 {
@@ -28,7 +29,12 @@ fn is_unfound(frames: &Frames, role: u32, level: usize) -> bool
 }
 
 /// Adds the role with the level, where the level's node is a context without a match.
-fn put_one(found: &mut FoundList, frames: &Frames, role: u32, level: usize) -> Result<(), Memory>
+fn put_one(
+    found: &mut FoundList,
+    frames: &OpenFrames,
+    role: u32,
+    level: usize,
+) -> Result<(), Memory>
     ensures { OnOk result (Gains found.old.items found.new.items (FoundAt frames.now role level)) }
 {
     if is_unfound(frames, role, level) {
@@ -40,7 +46,7 @@ fn put_one(found: &mut FoundList, frames: &Frames, role: u32, level: usize) -> R
 /// Adds the role with each of the levels whose node is a context without a match.
 fn put_found(
     found: &mut FoundList,
-    frames: &Frames,
+    frames: &OpenFrames,
     role: u32,
     levels: &[usize],
 ) -> Result<(), Memory>
@@ -58,7 +64,7 @@ fn find_role(
     alloc: Global,
     found: &mut FoundList,
     states: &PathStates,
-    frames: &Frames,
+    frames: &OpenFrames,
     role: u32,
     level: usize,
 ) -> Result<(), Memory>
@@ -80,7 +86,7 @@ fn find_roles(
     alloc: Global,
     found: &mut FoundList,
     states: &PathStates,
-    frames: &Frames,
+    frames: &OpenFrames,
     roles: &[u32],
     level: usize,
 ) -> Result<(), Memory>
@@ -97,7 +103,7 @@ fn find_state(
     alloc: Global,
     found: &mut FoundList,
     states: &PathStates,
-    frames: &Frames,
+    frames: &OpenFrames,
     number: u32,
     level: usize,
 ) -> Result<(), Memory>
@@ -116,7 +122,7 @@ fn find_state(
 pub(crate) fn found_of(
     alloc: Global,
     states: &PathStates,
-    frames: &Frames,
+    frames: &OpenFrames,
     active: &[u32],
     level: usize,
 ) -> Result<FoundList, Memory>
@@ -154,7 +160,7 @@ pub(crate) fn contexts_found(alloc: Global, found: &[Found], role: u32) -> Resul
 pub(crate) fn levels_hit(
     alloc: Global,
     states: &PathStates,
-    frames: &Frames,
+    frames: &OpenFrames,
     state: u32,
 ) -> Result<Levels, Memory>
     ensures { IfOk result (λ levels. Holds levels.items (Hit (frames_of states.now frames.now) state)) }

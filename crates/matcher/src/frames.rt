@@ -1,4 +1,4 @@
-//! What is kept of the open nodes beside their states: a frame for each, whose ranges lie on two stacks.
+//! What is kept of open nodes beside their states: a frame for each, whose ranges lie on two stacks.
 ghost use Rattle.std.specs.Prelude.{◌≡◌, ◌<◌, ◌-◌, ◌↔◌, ◌++◌, ◌∷◌, ℕ, List, [], false, true, length, map, take, drop, option_map, Some, slice_get, OnErr, OnOk};
 ghost use Rattle.gcx_model.specs.Members.{In};
 ghost use Rattle.matcher.specs.Parts.{IsOpen, IsUnmatched, NodeMarks, new_marks, open_context, slice_of};
@@ -39,7 +39,7 @@ pub(crate) struct Frame {
     pub signed: bool,
 }
 
-/// What is kept of the open nodes, the outermost first, seen as the list of their marks.
+/// What is kept of open nodes, the outermost first, seen as the list of their marks.
 #[derive(Drop, Debug)]
 pub(crate) struct Frames {
     nodes: Vec<Frame>,
@@ -183,14 +183,6 @@ fn note_signed(nodes: &mut [Frame], level: usize)
     }
 }
 
-/// Whether a node with these is no context and no first match.
-#[inline(always)]
-fn is_bare(roles: &[u32], found: &[Found]) -> bool
-    ensures { result ≡ true → (roles.now ≡ []) × (found.now ≡ []) }
-{
-    roles.is_empty() && found.is_empty()
-}
-
 impl Frames {
     pub(crate) fn new(alloc: Global) -> Frames
         ensures { result ≡ [] }
@@ -209,22 +201,8 @@ impl Frames {
         self.nodes.len()
     }
 
-    /// Adds the frame of a node that is a context of these roles, and the first match of these. After `Memory` there are
-    /// the same frames.
-    #[inline(always)]
-    pub(crate) fn add(&mut self, roles: &[u32], found: &[Found]) -> Result<(), Memory>
-        ensures added { OnOk result (self.new ≡ self.old ++ new_marks roles.now found.now ∷ []) }
-        ensures err { OnErr result (self.new ≡ self.old) }
-    {
-        if is_bare(roles, found) {
-            return self.add_bare();
-        }
-        self.add_marked(roles, found)
-    }
-
-    /// Adds that of a node that is no context and no first match.
-    #[inline(always)]
-    fn add_bare(&mut self) -> Result<(), Memory>
+    /// Adds the frame of a node that is no context and no first match. After `Memory` there are the same frames.
+    pub(crate) fn add_bare(&mut self) -> Result<(), Memory>
         ensures added { OnOk result (self.new ≡ self.old ++ new_marks [] [] ∷ []) }
         ensures err { OnErr result (self.new ≡ self.old) }
     {
@@ -245,9 +223,8 @@ impl Frames {
         Ok(())
     }
 
-    /// The same as `add`, whatever they are.
-    #[inline(never)]
-    fn add_marked(&mut self, roles: &[u32], found: &[Found]) -> Result<(), Memory>
+    /// The same of a node that is a context of these roles, and the first match of these.
+    pub(crate) fn add_marked(&mut self, roles: &[u32], found: &[Found]) -> Result<(), Memory>
         ensures added { OnOk result (self.new ≡ self.old ++ new_marks roles.now found.now ∷ []) }
         ensures err { OnErr result (self.new ≡ self.old) }
     {
@@ -309,14 +286,6 @@ impl Frames {
             Some(frame) => part_of(&self.found, frame.found),
             None => &[],
         }
-    }
-
-    /// Whether the innermost node is a first match.
-    #[inline(always)]
-    pub(crate) fn is_first(&self) -> bool
-        ensures { result ≡ false → found_in (last_marks self.now) ≡ [] }
-    {
-        !self.found_here().is_empty()
     }
 
     /// Whether some node is a context of the role without a match.

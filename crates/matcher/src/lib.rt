@@ -5,6 +5,7 @@ mod found;
 mod frames;
 mod matcher;
 mod none;
+mod open_frames;
 mod opening;
 mod roles;
 mod signs;

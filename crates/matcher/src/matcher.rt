@@ -14,8 +14,8 @@ ghost use Rattle.matcher.specs.Calls.{StandsBehindName, StandsNext, TakenHere, T
 ghost use Rattle.matcher.specs.Entering.{GivesInside, IsIdle, IsIdled, IsOver, LeadsNowhere};
 
 use crate::found::{contexts_found, levels_hit};
-use crate::frames::Frames;
 use crate::none::NoRoles;
+use crate::open_frames::OpenFrames;
 use crate::opening::{advance, step};
 use crate::roles::{Levels, given_of, given_with, is_above};
 use crate::signs::{Sign, are_signed, drop_level, put_sign};
@@ -36,7 +36,7 @@ pub struct Matcher {
     /// leads to them.
     states: PathStates,
     /// What is kept of the same nodes beside their states.
-    frames: Frames,
+    frames: OpenFrames,
     /// The number of the others.
     idle: u32,
     /// Whether the innermost node is a text.
@@ -82,7 +82,7 @@ impl Matcher {
         ensures { IfOk result (λ m. StandsAtStart m (plan_tree plan.now)) }
     {
         let states = PathStates::new(alloc, plan, bound)?;
-        let mut frames = Frames::new(alloc);
+        let mut frames = OpenFrames::new(alloc);
         frames.add(states.here().contexts(), &[])?;
         Ok(Matcher {
             states,
@@ -361,8 +361,8 @@ impl Matcher {
             level,
             steps: off.rel.items().len(),
         };
+        self.frames.note_signed(level)?;
         put_sign(&mut self.signs, sign)?;
-        self.frames.note_signed(level);
         Ok(())
     }
 

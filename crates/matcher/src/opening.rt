@@ -4,7 +4,8 @@ ghost use Rattle.matcher.specs.Entering.{AddsFrame, AddsGiven, AddsSome, Advance
 ghost use Rattle.matcher.specs.View.{GoTogether};
 
 use crate::found::{FoundList, found_of};
-use crate::frames::{Found, Frames};
+use crate::frames::Found;
+use crate::open_frames::OpenFrames;
 use crate::roles::given_with;
 use gcx_base::Memory;
 use gcx_model::Given;
@@ -22,7 +23,11 @@ fn is_vain(state: &State, text: bool) -> bool
 
 /// The contexts whose first match the node with the innermost state is, which has no frame yet.
 #[inline(always)]
-fn first_matches(alloc: Global, states: &PathStates, frames: &Frames) -> Result<FoundList, Memory>
+fn first_matches(
+    alloc: Global,
+    states: &PathStates,
+    frames: &OpenFrames,
+) -> Result<FoundList, Memory>
     ensures { IfOk result (λ found. FindsHere states.now frames.now found.items) }
 {
     let state = states.here();
@@ -35,7 +40,7 @@ fn first_matches(alloc: Global, states: &PathStates, frames: &Frames) -> Result<
 /// Adds the frame of the node with the innermost state, whose first matches these are. After `Memory` there are the same
 /// frames.
 #[inline(always)]
-fn put_frame(states: &PathStates, frames: &mut Frames, firsts: &[Found]) -> Result<(), Memory>
+fn put_frame(states: &PathStates, frames: &mut OpenFrames, firsts: &[Found]) -> Result<(), Memory>
     ensures added { OnOk result
         (FindsHere states.now frames.old firsts.now → AddsFrame states.now frames.old frames.new firsts.now) }
     ensures err { OnErr result (frames.new ≡ frames.old) }
@@ -47,7 +52,7 @@ fn put_frame(states: &PathStates, frames: &mut Frames, firsts: &[Found]) -> Resu
 
 /// The same, where first matches are looked for.
 #[inline(never)]
-fn add_found(alloc: Global, states: &PathStates, frames: &mut Frames) -> Result<(), Memory>
+fn add_found(alloc: Global, states: &PathStates, frames: &mut OpenFrames) -> Result<(), Memory>
     ensures added { OnOk result (AddsSome states.now frames.old frames.new) }
     ensures err { OnErr result (frames.new ≡ frames.old) }
 {
@@ -59,7 +64,7 @@ fn add_found(alloc: Global, states: &PathStates, frames: &mut Frames) -> Result<
 
 /// The same: they are looked for where the state may give any.
 #[inline(always)]
-fn add_frame(alloc: Global, states: &PathStates, frames: &mut Frames) -> Result<(), Memory>
+fn add_frame(alloc: Global, states: &PathStates, frames: &mut OpenFrames) -> Result<(), Memory>
     ensures added { OnOk result (AddsSome states.now frames.old frames.new) }
     ensures err { OnErr result (frames.new ≡ frames.old) }
 {
@@ -71,7 +76,7 @@ fn add_frame(alloc: Global, states: &PathStates, frames: &mut Frames) -> Result<
 }
 
 /// The same with the roles of the node.
-fn add_given(alloc: Global, states: &PathStates, frames: &mut Frames) -> Result<Given, Memory>
+fn add_given(alloc: Global, states: &PathStates, frames: &mut OpenFrames) -> Result<Given, Memory>
     ensures added { IfOk result (AddsGiven states.now frames.old frames.new) }
     ensures err { OnErr result (frames.new ≡ frames.old) }
 {
@@ -88,7 +93,7 @@ fn add_given(alloc: Global, states: &PathStates, frames: &mut Frames) -> Result<
 pub(crate) fn advance(
     alloc: Global,
     states: &mut PathStates,
-    frames: &mut Frames,
+    frames: &mut OpenFrames,
     number: usize,
     text: bool,
 ) -> Result<Option<Given>, Memory>
@@ -114,7 +119,7 @@ pub(crate) fn advance(
 pub(crate) fn step(
     alloc: Global,
     states: &mut PathStates,
-    frames: &mut Frames,
+    frames: &mut OpenFrames,
     number: usize,
     text: bool,
 ) -> Result<bool, Memory>

@@ -5,7 +5,7 @@ ghost use Rattle.path_states.specs.Lists.{Gains, Holds};
 ghost use Rattle.matcher.specs.Frames.{Hit, HitAbove, HitAt, HitOver, HitParent, StepsUp, UpFrom};
 ghost use Rattle.matcher.specs.View.{frames_of};
 
-use crate::frames::Frames;
+use crate::open_frames::OpenFrames;
 use crate::roles::Levels;
 use gcx_base::{Axis, Memory};
 use path_states::{PathState, PathStates};
@@ -20,7 +20,7 @@ pub(crate) fn one(alloc: Global, level: usize) -> Levels
 }
 
 /// Whether the path of the path state leads to the node of this level.
-fn is_hit(states: &PathStates, frames: &Frames, state: u32, level: usize) -> bool
+fn is_hit(states: &PathStates, frames: &OpenFrames, state: u32, level: usize) -> bool
     ensures yes { result ≡ true → Hit (frames_of states.now frames.now) state level }
     ensures no { result ≡ false → Hit (frames_of states.now frames.now) state level → ⊥ }
 {
@@ -37,7 +37,7 @@ fn is_hit(states: &PathStates, frames: &Frames, state: u32, level: usize) -> boo
 fn put_parent(
     found: &mut Levels,
     states: &PathStates,
-    frames: &Frames,
+    frames: &OpenFrames,
     state: u32,
     level: usize,
 ) -> Result<(), Memory>
@@ -54,7 +54,7 @@ fn put_parent(
 fn parents(
     alloc: Global,
     states: &PathStates,
-    frames: &Frames,
+    frames: &OpenFrames,
     state: u32,
     levels: &[usize],
 ) -> Result<Levels, Memory>
@@ -89,7 +89,7 @@ fn greatest(levels: &[usize]) -> usize
 pub(crate) fn put_level(
     found: &mut Levels,
     states: &PathStates,
-    frames: &Frames,
+    frames: &OpenFrames,
     state: u32,
     level: usize,
 ) -> Result<(), Memory>
@@ -105,7 +105,7 @@ pub(crate) fn put_level(
 pub(crate) fn ancestors(
     alloc: Global,
     states: &PathStates,
-    frames: &Frames,
+    frames: &OpenFrames,
     state: u32,
     level: usize,
 ) -> Result<Levels, Memory>
@@ -123,7 +123,7 @@ pub(crate) fn ancestors(
 fn step_up(
     alloc: Global,
     states: &PathStates,
-    frames: &Frames,
+    frames: &OpenFrames,
     state: &PathState,
     levels: &[usize],
 ) -> Result<Levels, Memory>
@@ -145,7 +145,7 @@ fn step_up(
 pub(crate) fn origins(
     alloc: Global,
     states: &PathStates,
-    frames: &Frames,
+    frames: &OpenFrames,
     end: u32,
     steps: usize,
     targets: Levels,

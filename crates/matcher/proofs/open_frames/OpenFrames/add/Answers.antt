@@ -2,7 +2,7 @@ use Rattle.std.proofs.Common.{◌≡◌, ℕ, List, [], ◌∷◌, ◌++◌, sym
 use Rattle.std.specs.Prelude.{OnOk}
 use Rattle.matcher.specs.Parts.{new_marks}
 use Rattle.matcher.specs.declared.frames.Found.{Found}
-use Rattle.matcher.proofs.frames.Frames.add.Goals as goal
+use Rattle.matcher.proofs.open_frames.OpenFrames.add.Goals as goal
 
 pub returns-then-is_bare-clause-added : goal.returns-then-is_bare-clause-added
 returns-then-is_bare-clause-added c =
