@@ -1,6 +1,6 @@
 -- How the counts go on.
 use Rattle.std.proofs.Common.{◌≡◌, ℕ, ◌+◌, ◌<◌, ◌≤◌, true, max, List, [], ◌∷◌, ◌++◌, length, drop, refl, sym, ◌∙◌, ap, subst, arith, append_assoc}
-use Rattle.std.proofs.lemmas.List.{length-append, take-append-drop}
+use Rattle.std.proofs.lemmas.List.{append-nil, length-append, take-append-drop}
 use Rattle.gcx_model.specs.Tree.{Tree, Token as Said, opening, grow, grow_all}
 use Rattle.gcx_model.specs.Core.{BodyTree, PlanTree}
 use Rattle.gcx_model.specs.Run.{Action}
@@ -87,6 +87,16 @@ module _ (core : BodyTree) (good : Good core) (plan : PlanTree) (placed : Placed
         among = c.among;
         store_now = omega arith;
       }
+
+  -- behind all actions no more rows are seen than were counted
+  pub rows_counted : (ts : List Said) → may_all ts opening ≡ true → (ahead : ℕ) (v : View) (n : Tallied) → length v.rows ≡ length (held plan (seen_tree ts) (so_far plan (seen_tree ts) (all_of plan (seen_tree ts)))) → CountsOf plan ts ahead v n
+      → length v.rows ≤ n.peak
+  rows_counted ts may ahead v n rows c =
+      let within = (peak_within core good plan placed ts may).1 [] refl in
+      let whole = ap (peak_of plan) (append-nil ts) in
+      let all = ap (λ (A : List Action). length (held plan (seen_tree ts) A)) (all_is plan (seen_tree ts)) in
+      let least = c.peak.least in
+      omega arith
 
   -- the counts before any token
   pub counts_opened : (ahead : ℕ) → 1 ≤ ahead → (v : View) (n : Tallied) → n.given ≡ capped (sum_given plan opening) → n.peak ≡ 1 → 1 ≤ v.most → length v.rows ≡ length (held plan opening []) → CountsOf plan [] ahead v n

@@ -29,7 +29,6 @@ use Rattle.buf_tree.specs.View.{View, capped, num_in, level_in}
 use Rattle.buf_tree.proofs.OwnPlaces.{rows_rise}
 use Rattle.buf_tree.proofs.PassedRows.{one_row_more, places_length, places_of, places_push, settles_none}
 use Rattle.projector.specs.declared.passed.PassedName.{PassedName}
-use Rattle.projector.specs.declared.projector.Tally.{Tally}
 use Rattle.projector.specs.Late.{IsShallow, Made, MakesSome, MayBeFedLate, PassedBy, PassesToken, SettlesAll, StandLoosely, cleared, passed_in, passed_of}
 use Rattle.projector.specs.View.{ProjectorView}
 use Rattle.projector.proofs.Grown.{added_then, behind, opens}
@@ -42,7 +41,7 @@ use Rattle.pull_eval.specs.declared.machine.Runner.{Runner}
 use Rattle.engine.specs.View.{ActorsView}
 use Rattle.engine.specs.declared.actors.Tallied.{Tallied}
 use Rattle.engine.specs.Actors.{ActorsStand, IsBalanced, StandAt, past_at}
-use Rattle.engine.specs.Late.{IsLow, MayFeedLate, SettledAt, SettledOver, StandLate, noted, seen_late, some_places}
+use Rattle.engine.specs.Late.{IsLow, MayFeedLate, SettledAt, SettledOver, StandLate, seen_late, some_places}
 use Rattle.engine.proofs.Coming.{Comes, position_on}
 use Rattle.engine.proofs.Quieting.{none_there}
 use Rattle.engine.proofs.RowsHeld.{held_row, row_node, rows_count, shallow_rows}
@@ -120,6 +119,13 @@ module _ {C : Type 0} (bytes : List ℕ) (stands : C → Tree → Type 0) (plan 
             (subst (λ (xs : List PassedName). Loosely (λ (v : View). Beside a.machine.position v past k) (passed_in bytes xs) a.buffer) none s.beside [] refl);
         stand = s.stand;
       }
+
+  -- whatever was counted
+  pub stand_counted : (a : ActorsView C) (n : Tallied) (P : Tree) (k : ℕ) → StandLate bytes stands plan a P k → StandLate bytes stands plan (record a { counts = n }) P k
+  stand_counted a n P k s = record { fed = s.fed; loosely = s.loosely; keeps = s.keeps; gone = s.gone; beside = s.beside; stand = s.stand }
+
+  pub over_counted : (a d : ActorsView C) (n : Tallied) (P : Tree) (k : ℕ) → SettledOver bytes stands plan (record a { counts = n }) d P k → SettledOver bytes stands plan a d P k
+  over_counted a d n P k s = record { actors = s.actors; rows = s.rows; most = s.most }
 
   module _ (a : ActorsView C) (P : Tree) (k : ℕ) (s : StandLate bytes stands plan a P k) where
     abbrev past : Past
@@ -215,23 +221,6 @@ some_balance bytes stands plan a d P k s m counts given =
     omega arith
 
 -- ---- what a call leaves
-
--- what was counted leaves the rows
-pub noted_rows : {C : Type 0} (a : ActorsView C) (fed : Option Tally) → (noted a fed).buffer.rows ≡ a.buffer.rows
-noted_rows a None = refl
-noted_rows a (Some tally) = refl
-
-pub noted_projector : {C : Type 0} (a : ActorsView C) (fed : Option Tally) → (noted a fed).projector ≡ a.projector
-noted_projector a None = refl
-noted_projector a (Some tally) = refl
-
-pub noted_machine : {C : Type 0} (a : ActorsView C) (fed : Option Tally) → (noted a fed).machine ≡ a.machine
-noted_machine a None = refl
-noted_machine a (Some tally) = refl
-
-pub noted_loans : {C : Type 0} (a : ActorsView C) (fed : Option Tally) → (noted a fed).buffer.loans ≡ a.buffer.loans
-noted_loans a None = refl
-noted_loans a (Some tally) = refl
 
 added_few : (o : Option Node) (t : Said) (P : Tree) → length (added_at o t P) ≤ 1
 added_few None t P = omega arith

@@ -16,7 +16,7 @@ use Rattle.engine.specs.declared.actors.Tallied.{Tallied}
 use Rattle.engine.specs.Actors.{ActsOnFrom, ActsSomeFrom, ComesWithin, Goes, IsBalanced, SomeActors, all_of}
 use Rattle.engine.specs.Engine.{CountsOf}
 use Rattle.engine.specs.Late.{AllCome, AmongLate, BalancesEachLate, BalancesLate, BreaksGroupLate, BrokeLate, EndsGroupLate, FedGroupLate, FedLent, FedSomeLate, FeedsEachLate, GoesBehind, IsLow, IsQuietLate, LateBehind, MayFeedAll, MayFeedLate, SettledAt, SettlesFrom, SomeGroupLate, SomeLate, StandLate, said_lent, seen_late}
-use Rattle.engine.proofs.Counting.{counts_acted, counts_on}
+use Rattle.engine.proofs.Counting.{counts_acted, counts_on, rows_counted}
 use Rattle.engine.proofs.Late.{late_beside, late_rows, seen_length, seen_none, stand_late}
 use Rattle.engine.proofs.Writing.{goes_fed, goes_on}
 
@@ -66,13 +66,16 @@ lent_next bytes lent i d l = ap (said_lent bytes) (drop_more lent i d l)
 
 module _ {C : Type 0} (bytes : List ℕ) (stands : C → Tree → Type 0) (plan : PlanTree) (ahead : ℕ) where
   -- none was fed yet
-  pub fed_none : (a : ActorsView C) (ts : List Said) → LateBehind bytes stands plan ahead a ts → FedSomeLate bytes stands plan ahead a a ts [] true
-  fed_none a ts s =
+  pub fed_none : (a : ActorsView C) (ts : List Said) → may_all ts opening ≡ true → LateBehind bytes stands plan ahead a ts → FedSomeLate bytes stands plan ahead a a ts [] true
+  fed_none a ts m s =
       let e : ts ≡ ts ++ [] = sym (append-nil ts) in
+      let P = seen_tree ts in
+      let is = (late_beside bytes stands plan a P (all_of plan P) s.actors).buffer.is_past in
       record {
         few = omega arith;
         actors = subst (λ (z : List Said). StandLate bytes stands plan a (seen_tree z) (all_of plan (seen_tree ts))) e s.actors;
         counts = subst (λ (z : List Said). CountsOf plan z ahead (seen_late bytes a) a.counts) e s.counts;
+        seen = rows_counted is.core is.good plan is.placed ts m ahead (seen_late bytes a) a.counts (late_rows bytes stands plan a P (all_of plan P) s.actors) s.counts;
         most = λ lent h. h;
         quietly = λ q. ap (λ (z : List Said). actions plan (seen_tree z)) (sym e);
       }
@@ -96,19 +99,21 @@ module _ {C : Type 0} (bytes : List ℕ) (stands : C → Tree → Type 0) (plan 
     fed_on : length us < ahead → FeedsEachLate bytes stands e d t → (still ≡ true → IsQuietLate bytes stands e t) → FedSomeLate bytes stands plan ahead old d ts (us ++ t ∷ []) (still && quiet)
     fed_on few feeds quietly =
         let one = feeds plan Q k f.actors comes.0 in
+        let counted = one.counted f.seen in
         let longer : (ts ++ us) ++ t ∷ [] ≡ ts ++ (us ++ t ∷ []) = append_assoc ts us (t ∷ []) in
         let grown : seen_tree (ts ++ (us ++ t ∷ [])) ≡ grow t Q = ap seen_tree (sym longer) ∙ grow_all-append (ts ++ us) (t ∷ []) opening in
         let is = (late_beside bytes stands plan e Q k f.actors).buffer.is_past in
         let may : may_all ((ts ++ us) ++ t ∷ []) opening ≡ true = ap (λ (z : List Said). may_all z opening) longer ∙ may_behind ts (us ++ t ∷ []) m come in
-        let counts = counts_on is.core is.good plan is.placed ts us t may ahead few (seen_late bytes e) (seen_late bytes d) e.counts d.counts f.counts one.counted in
+        let counts = counts_on is.core is.good plan is.placed ts us t may ahead few (seen_late bytes e) (seen_late bytes d) e.counts d.counts f.counts counted in
         record {
           few = let l = length-append us (t ∷ []) in omega arith;
           actors = subst (λ (T : Tree). StandLate bytes stands plan d T k) (sym grown) one.actors;
           counts = subst (λ (z : List Said). CountsOf plan z ahead (seen_late bytes d) d.counts) longer counts;
+          seen = let rows = counted.rows in let peak = counted.peak in omega arith;
           most = λ lent h.
               let before : e.buffer.most ≡ max lent e.counts.peak = f.most lent h in
-              let most : d.buffer.most ≡ max e.buffer.most (length (held plan (grow t Q) (so_far plan Q k))) = one.counted.most f.counts.store_now in
-              let peak = one.counted.peak in
+              let most : d.buffer.most ≡ max e.buffer.most (length (held plan (grow t Q) (so_far plan Q k))) = counted.most f.counts.store_now in
+              let peak = counted.peak in
               omega arith;
           quietly = λ q.
               let two = and_parts still quiet q in
@@ -226,7 +231,7 @@ module _ {C : Type 0} (bytes : List ℕ) (stands : C → Tree → Type 0) (plan 
         at = a;
         goes = subst (λ (z : List Said). Goes plan P (all_of plan P) (seen_tree z) (all_of plan (seen_tree z)) w w) e (record { more = []; written = sym (append-nil _); grew = sym (append-nil w) });
         most = λ lent h. h;
-        fed = fed_none a (ts ++ []) (subst (λ (z : List Said). LateBehind bytes stands plan ahead a z) e late);
+        fed = fed_none a (ts ++ []) (ap (λ (z : List Said). may_all z opening) (sym e) ∙ m.may) (subst (λ (z : List Said). LateBehind bytes stands plan ahead a z) e late);
       }
 
   module _ (old e : ActorsView C) (ts all rest : List Said) (u v : List ℕ) (left : ℕ) (quiet : Bool) (may : may_all ts opening ≡ true) (come : AllCome (seen_tree ts) all) (a : AmongLate bytes stands plan ahead old e ts all rest u v left quiet) where
@@ -271,7 +276,8 @@ module _ {C : Type 0} (bytes : List ℕ) (stands : C → Tree → Type 0) (plan 
           at = d;
           goes = behind_goes d w f;
           most = λ lent h. f.most lent (a.most lent h);
-          fed = fed_none d (ts ++ (a.done ++ a.group)) (subst (λ (z : List Said). LateBehind bytes stands plan ahead d z) longer f.stand);
+          fed = fed_none d (ts ++ (a.done ++ a.group)) (ap (λ (z : List Said). may_all z opening) (sym longer) ∙ may_behind (ts ++ a.done) a.group done_may group_come)
+              (subst (λ (z : List Said). LateBehind bytes stands plan ahead d z) longer f.stand);
         }
 
     -- or memory ran out in it

@@ -1,25 +1,25 @@
 -- What a lent token makes of the actors where rows are made late, whichever way it was fed.
-use Rattle.std.proofs.Common.{◌≡◌, ℕ, ◌+◌, ◌<◌, ◌≤◌, ◌^◌, true, max, List, [], length, refl, sym, ◌∙◌, ap, subst, arith, Some, None, Option}
+use Rattle.std.proofs.Common.{◌≡◌, ℕ, ◌+◌, ◌<◌, ◌≤◌, ◌^◌, true, max, List, [], ◌∷◌, length, refl, sym, ◌∙◌, ap, subst, arith, length-append}
 use Rattle.gcx_base.specs.declared.kind.Kind.TheVariants.{Element, Text}
 use Rattle.gcx_model.specs.Core.{PlanTree}
 use Rattle.gcx_model.specs.Growth.{Leads, may_come}
-use Rattle.gcx_model.specs.Held.{held, roles_live}
+use Rattle.gcx_model.specs.Held.{held, roles_live, sum_given}
 use Rattle.gcx_model.specs.Past.{Past, IsPast}
 use Rattle.gcx_model.specs.Points.{actions, so_far}
 use Rattle.gcx_model.specs.Run.{Action}
 use Rattle.gcx_model.specs.Tree.{Tree, Token as Said, Start, Chars, End, opening, grow}
 use Rattle.move_laws.proofs.Unmoved.{quiet_token}
 use Rattle.move_laws.specs.Quiet.{by_closing}
-use Rattle.buf_tree.specs.View.{View}
+use Rattle.buf_tree.specs.View.{View, capped}
 use Rattle.projector.specs.declared.projector.Tally.{Tally}
-use Rattle.projector.specs.Late.{FeedsLate, FeedsSettled, PassesToken}
+use Rattle.projector.specs.Late.{FeedsSettled, PassedBy, PassesToken}
 use Rattle.projector.specs.Calls.{tally_of}
 use Rattle.projector.specs.View.{ProjectorView}
 use Rattle.projector.proofs.Pasts.{is_open}
 use Rattle.engine.specs.View.{ActorsView}
 use Rattle.engine.specs.declared.actors.Tallied.{Tallied}
 use Rattle.engine.specs.Actors.{ComesWithin, FeedsOne, StandAt, all_of, counted, is_quiet, past_at}
-use Rattle.engine.specs.Late.{FeedsOneLate, MayFeedLate, NotedLate, SettledOver, StandLate, is_quiet_late, noted, seen_late}
+use Rattle.engine.specs.Late.{CountsPassed, FeedsOneLate, MayFeedLate, SettledOver, StandLate, noted, seen_counts, seen_late}
 use Rattle.engine.proofs.FeedingOne.{feeds_one, feeds_quietly}
 use Rattle.engine.proofs.Taking.{told_all}
 use Rattle.engine.proofs.Writing.{all_is}
@@ -34,60 +34,97 @@ module _ {C : Type 0} (bytes : List ℕ) (stands : C → Tree → Type 0) (on : 
     abbrev acts : List Action
     acts = so_far plan P k
 
-    -- it was passed
-    passed_noted : PassesToken bytes a.projector q a.buffer w t → NotedLate bytes stands plan a (noted (fed_late q w) None) t P k
-    passed_noted f =
-        let d = fed_late q w in
-        let x = passed_stands bytes stands plan a d P k t s c.may f refl (λ T l m. on a.machine.conds P T l m s.stand) in
-        let y = passed_still bytes stands plan a d P k t s c.may f refl (λ T l m. on a.machine.conds P T l m s.stand) in
-        let fed : StandLate bytes stands plan (noted d None) (grow t P) k = record { fed = x.fed; loosely = x.loosely; keeps = x.keeps; gone = x.gone; beside = x.beside; stand = x.stand } in
-        let same_acts : so_far plan (grow t P) k ≡ acts = acts_stay bytes stands plan a P k s t c.may in
-        let rows : length (seen_late bytes d).rows ≡ length (held plan (grow t P) acts) = late_rows bytes stands plan d (grow t P) k x ∙ ap (λ (A : List Action). length (held plan (grow t P) A)) same_acts in
-        let here = seen_length bytes d in
-        let before = seen_length bytes a in
-        let same_rows = ap length y.rows in
-        let same_most = y.most in
-        record {
-          actors = fed;
-          given = λ g. g ∙ passed_given bytes stands plan a d P k t s c.may f refl (λ T l m. on a.machine.conds P T l m s.stand);
-          peak = ap (max a.counts.peak) (sym here ∙ rows);
-          rows = rows;
-          fits = λ l. omega arith;
-          over = λ l. omega arith;
-        }
+    abbrev d : ActorsView C
+    d = fed_late q w
+
+    -- it was passed, and isn't counted yet
+    module _ (f : PassesToken bytes a.projector q a.buffer w t) where
+      pub passed_late : StandLate bytes stands plan d (grow t P) k
+      passed_late = passed_stands bytes stands plan a d P k t s c.may f refl (λ T l m. on a.machine.conds P T l m s.stand)
+
+      same_rows : length w.rows ≡ length a.buffer.rows
+      same_rows = ap length (passed_still bytes stands plan a d P k t s c.may f refl (λ T l m. on a.machine.conds P T l m s.stand)).rows
+
+      same_most : w.most ≡ a.buffer.most
+      same_most = (passed_still bytes stands plan a d P k t s c.may f refl (λ T l m. on a.machine.conds P T l m s.stand)).most
+
+      pub same_given : capped (sum_given plan P) ≡ capped (sum_given plan (grow t P))
+      same_given = passed_given bytes stands plan a d P k t s c.may f refl (λ T l m. on a.machine.conds P T l m s.stand)
+
+      passed_rows : length (seen_late bytes d).rows ≡ length (held plan (grow t P) acts)
+      passed_rows = late_rows bytes stands plan d (grow t P) k passed_late ∙ ap (λ (A : List Action). length (held plan (grow t P) A)) (acts_stay bytes stands plan a P k s t c.may)
+
+      rows_before : length (seen_late bytes a).rows ≡ length a.buffer.rows + length a.projector.passed
+      rows_before = seen_length bytes a
+
+      rows_behind : length (seen_late bytes d).rows ≡ length w.rows + length q.passed
+      rows_behind = seen_length bytes d
+
+      -- no more rows are seen than before: they were counted
+      passed_fewer : length q.passed ≤ length a.projector.passed → FeedsOneLate bytes stands plan a d t P k
+      passed_fewer fewer =
+          let rows = same_rows in
+          let most = same_most in
+          let held_now = passed_rows in
+          let before = rows_before in
+          let behind = rows_behind in
+          record {
+            actors = passed_late;
+            counted = λ l. record { given = λ g. g ∙ same_given; peak = omega arith; most = λ m. omega arith; rows = passed_rows };
+          }
+
+      -- one more may be seen: it is counted, and the store has as many then
+      passed_more : (e : ActorsView C) → SettledOver bytes stands plan d e (grow t P) k → e.counts ≡ seen_counts d → FeedsOneLate bytes stands plan a e t P k
+      passed_more e over counts =
+          let rows = same_rows in
+          let most = same_most in
+          let held_now = passed_rows in
+          let before = rows_before in
+          record {
+            actors = over.actors;
+            counted = λ l. record {
+              given = λ g. ap (λ (n : Tallied). n.given) counts ∙ (g ∙ same_given);
+              peak = ap (λ (n : Tallied). n.peak) counts ∙ ap (max a.counts.peak) (sym rows_behind ∙ passed_rows);
+              most = λ m. let made = over.most (omega arith) in omega arith;
+              rows = over.rows ∙ passed_rows;
+            };
+          }
+
+      fed_by : (u : Said) → PassedBy bytes a.projector.passed q.passed a.buffer w u → (e : ActorsView C) → CountsPassed bytes stands d e u → FeedsOneLate bytes stands plan a e t P k
+      fed_by (Start name) b e n = passed_more e (n.0 plan (grow t P) k passed_late) n.1
+      fed_by (Chars text) b e n = subst (λ (z : ActorsView C). FeedsOneLate bytes stands plan a z t P k) (sym n) (passed_fewer (let same = ap length b.1 in omega arith))
+      fed_by End b e n =
+          let one = ap length b.2 ∙ length-append q.passed (b.1 ∷ []) in
+          subst (λ (z : ActorsView C). FeedsOneLate bytes stands plan a z t P k) (sym n) (passed_fewer (omega arith))
+
+      pub passed_fed : (e : ActorsView C) → CountsPassed bytes stands d e t → FeedsOneLate bytes stands plan a e t P k
+      passed_fed e n = fed_by t f.changes e n
 
     -- the rows were made, and then it was fed as always
-    settled_noted : (tally : Tally) → FeedsSettled bytes a.projector q a.buffer w t tally → NotedLate bytes stands plan a (noted (fed_late q w) (Some tally)) t P k
-    settled_noted tally f =
+    pub settled_fed : (tally : Tally) → FeedsSettled bytes a.projector q a.buffer w t tally → FeedsOneLate bytes stands plan a (noted d tally) t P k
+    settled_fed tally f =
         let between : ActorsView C = record a { projector = f.settled; buffer = f.between } in
-        let d = noted (fed_late q w) (Some tally) in
+        let e = noted d tally in
         let y = f.feeds in
         let o = y.feeds in
         let at : StandAt stands plan between P k = settled_at bytes stands plan a P k s between f.settles refl in
         let made = settles_at bytes stands plan a P k s between f.settles refl in
-        let form : d ≡ record between { projector = q; buffer = told_all w; counts = counted a.counts (tally_of y.fed) (length w.rows) } = ap (λ (z : Tally). record between { projector = q; buffer = told_all w; counts = counted a.counts z (length w.rows) }) y.is in
-        let one : FeedsOne stands plan between d t P k = feeds_one stands on between t q w y.fed o.stands o.place o.fed o.changes d form plan P k at c in
-        let none : d.projector.passed ≡ [] = one.actors.projects.none in
-        let seen_is = ap (λ (v : View). length v.rows) (seen_none bytes d none) in
+        let form : e ≡ record between { projector = q; buffer = told_all w; counts = counted a.counts (tally_of y.fed) (length w.rows) } = ap (λ (z : Tally). record between { projector = q; buffer = told_all w; counts = counted a.counts z (length w.rows) }) y.is in
+        let one : FeedsOne stands plan between e t P k = feeds_one stands on between t q w y.fed o.stands o.place o.fed o.changes e form plan P k at c in
+        let none : e.projector.passed ≡ [] = one.actors.projects.none in
+        let seen_is = ap (λ (v : View). length v.rows) (seen_none bytes e none) in
         let before = seen_length bytes a in
         let made_rows = made.rows in
         let real : length a.buffer.rows ≤ length (seen_late bytes a).rows = omega arith in
-        let rows : length (seen_late bytes d).rows ≡ length (held plan (grow t P) acts) = seen_is ∙ one.counted.rows in
-        let most : length (seen_late bytes a).rows ≤ a.buffer.most → d.buffer.most ≡ max a.buffer.most (length (held plan (grow t P) acts))
-        = λ l. let m = made.most (omega arith) in let n = one.counted.most (omega arith) in omega arith in
-        let here = one.counted.rows in
         record {
-          actors = stand_late bytes stands plan d (grow t P) k one.actors;
-          given = one.counted.given;
-          peak = one.counted.peak;
-          rows = rows;
-          fits = λ l. let m = most l in omega arith;
-          over = λ l. let m = most l in omega arith;
+          actors = stand_late bytes stands plan e (grow t P) k one.actors;
+          counted = λ l. record {
+            given = one.counted.given;
+            peak = one.counted.peak;
+            most = λ m. let all = made.most (omega arith) in let n = one.counted.most (omega arith) in omega arith;
+            rows = seen_is ∙ one.counted.rows;
+          };
         }
-
-    pub noted_by : (fed : Option Tally) → FeedsLate bytes a.projector q a.buffer w t fed → NotedLate bytes stands plan a (noted (fed_late q w) fed) t P k
-    noted_by None f = passed_noted f
-    noted_by (Some tally) f = settled_noted tally f
 
   -- no action is possible behind it that wasn't, where it is quiet
   module _ (P : Tree) (s : StandLate bytes stands plan a P (all_of plan P)) (c : ComesWithin t P) (q : ProjectorView) (w : View) where
@@ -105,7 +142,7 @@ module _ {C : Type 0} (bytes : List ℕ) (stands : C → Tree → Type 0) (on : 
         let dead_all : roles_live plan P (actions plan P) o.0 ≡ [] = subst (λ (A : List Action). roles_live plan P A o.0 ≡ []) (all_is plan P) dead in
         (quiet_token is_past.core is_past.good plan is_past.placed P is_past.grown t c.may (by_closing o.0 e o.1 dead_all)).0
 
-    passed_quiet : PassesToken bytes a.projector q a.buffer w t → actions plan (grow t P) ≡ actions plan P
+    pub passed_quiet : PassesToken bytes a.projector q a.buffer w t → actions plan (grow t P) ≡ actions plan P
     passed_quiet f = by t refl f
       where
         by : (u : Said) → t ≡ u → PassesToken bytes a.projector q a.buffer w u → actions plan (grow t P) ≡ actions plan P
@@ -113,7 +150,7 @@ module _ {C : Type 0} (bytes : List ℕ) (stands : C → Tree → Type 0) (on : 
         by (Chars text) e g = subst (λ (z : Said). actions plan (grow z P) ≡ actions plan P) (sym e) (opened_quiet all is_past (Text text) tt (ap (λ (z : Said). may_come z P) (sym e) ∙ c.may) (g.none all s.loosely (ap (λ (z : Said). may_come z P) (sym e) ∙ c.may)))
         by End e g = end_quiet e g
 
-    settled_quiet : (tally : Tally) → FeedsSettled bytes a.projector q a.buffer w t tally → is_quiet tally w ≡ true → actions plan (grow t P) ≡ actions plan P
+    pub settled_quiet : (tally : Tally) → FeedsSettled bytes a.projector q a.buffer w t tally → is_quiet tally w ≡ true → actions plan (grow t P) ≡ actions plan P
     settled_quiet tally f quiet =
         let between : ActorsView C = record a { projector = f.settled; buffer = f.between } in
         let y = f.feeds in
@@ -121,26 +158,10 @@ module _ {C : Type 0} (bytes : List ℕ) (stands : C → Tree → Type 0) (on : 
         let at : StandAt stands plan between P (all_of plan P) = settled_at bytes stands plan a P (all_of plan P) s between f.settles refl in
         feeds_quietly stands on between t q w y.fed o.stands o.place o.fed o.changes (sym (ap (λ (z : Tally). is_quiet z w) y.is) ∙ quiet) plan P at c
 
-    pub quiet_by : (fed : Option Tally) → FeedsLate bytes a.projector q a.buffer w t fed → is_quiet_late fed w ≡ true → actions plan (grow t P) ≡ actions plan P
-    quiet_by None f quiet = passed_quiet f
-    quiet_by (Some tally) f quiet = settled_quiet tally f quiet
-
--- the rows are few behind it
-pub noted_few : {C : Type 0} (bytes : List ℕ) (stands : C → Tree → Type 0) (a d : ActorsView C) (t : Said) (m : MayFeedLate bytes stands a t) → NotedLate bytes stands m.plan a d t m.tree m.taken → length d.buffer.rows + length d.projector.passed < 2 ^ 64
-noted_few bytes stands a d t m n =
-    let few = late_few bytes stands m.plan d (grow t m.tree) m.taken n.actors in
+-- there are few rows behind it
+pub passed_few : {C : Type 0} (bytes : List ℕ) (stands : C → Tree → Type 0) (a d : ActorsView C) (t : Said) (m : MayFeedLate bytes stands a t) → StandLate bytes stands m.plan d (grow t m.tree) m.taken → length d.buffer.rows + length d.projector.passed < 2 ^ 64
+passed_few bytes stands a d t m s =
+    let few = late_few bytes stands m.plan d (grow t m.tree) m.taken s in
     let more = one_more t m.tree in
     let nodes = m.comes.nodes in
     omega arith
-
--- and then the store has had all that are seen
-pub noted_over : {C : Type 0} (bytes : List ℕ) (stands : C → Tree → Type 0) (plan : PlanTree) (a e d : ActorsView C) (t : Said) (P : Tree) (k : ℕ) → NotedLate bytes stands plan a e t P k → SettledOver bytes stands plan e d (grow t P) k → d.counts ≡ e.counts → FeedsOneLate bytes stands plan a d t P k
-noted_over bytes stands plan a e d t P k n s same = record {
-  actors = s.actors;
-  counted = record {
-    given = λ g. ap (λ (c : Tallied). c.given) same ∙ n.given g;
-    peak = ap (λ (c : Tallied). c.peak) same ∙ n.peak;
-    most = λ m. s.most (n.fits m) ∙ n.over m;
-    rows = s.rows ∙ n.rows;
-  };
-}

@@ -1,10 +1,10 @@
 -- What the two actors stand for where rows are made late, and what lent tokens make of them (this project's).
-use Rattle.std.specs.Prelude.{◌≡◌, ◌≤◌, ◌+◌, ℕ, Bool, true, List, [], ◌∷◌, ◌++◌, length, map, max, Option, Some, None}
-use Rattle.gcx_model.specs.Tree.{Node, Tree, Token as Said, grow, opening}
+use Rattle.std.specs.Prelude.{◌≡◌, ◌≤◌, ◌+◌, ℕ, Bool, true, List, [], ◌∷◌, ◌++◌, length, map, max, Some}
+use Rattle.gcx_model.specs.Tree.{Node, Tree, Token as Said, Start, Chars, End, grow, opening}
 use Rattle.gcx_model.specs.Core.{PlanTree}
-use Rattle.gcx_model.specs.Held.{held, sum_given}
+use Rattle.gcx_model.specs.Held.{sum_given}
 use Rattle.gcx_model.specs.Growth.{level, may_all}
-use Rattle.gcx_model.specs.Points.{actions, so_far}
+use Rattle.gcx_model.specs.Points.{actions}
 use Rattle.gcx_model.specs.Seen.{seen_tree}
 use Rattle.doc_reader.specs.Standing.{Lent, lent_token}
 use Rattle.buf_tree.specs.Loose.{Passed, Loosely, with_passed}
@@ -14,7 +14,8 @@ use Rattle.projector.specs.Projector.{Places}
 use Rattle.projector.specs.declared.projector.Tally.{Tally}
 use Rattle.pull_eval.specs.Acting.{Beside}
 use Rattle.engine.specs.View.{ActorsView}
-use Rattle.engine.specs.Actors.{ComesWithin, Counted, Goes, IsBalanced, StandAt, all_of, counted, is_quiet, past_at}
+use Rattle.engine.specs.declared.actors.Tallied.{Tallied}
+use Rattle.engine.specs.Actors.{ComesWithin, Counted, Goes, IsBalanced, StandAt, all_of, counted, past_at}
 use Rattle.engine.specs.Engine.{CountsOf}
 
 -- ---- what they stand for
@@ -84,33 +85,24 @@ pub record MayFeedLate {C : Type 0} (bytes : List ℕ) (stands : C → Tree → 
   pub comes : ComesWithin t tree
   pub low : IsLow (grow t tree)
 
--- the counts with what a token did: where it was passed, with the passed elements among the rows
-abbrev pub noted : {C : Type 0} → ActorsView C → Option Tally → ActorsView C
-noted a None = record a { counts = record a.counts { peak = max a.counts.peak (length a.buffer.rows + length a.projector.passed) } }
-noted a (Some tally) = record a { buffer = record a.buffer { gone = [] }; counts = counted a.counts tally (length a.buffer.rows) }
+-- the counts with what a token did that was fed as always
+abbrev pub noted : {C : Type 0} → ActorsView C → Tally → ActorsView C
+noted a tally = record a { buffer = record a.buffer { gone = [] }; counts = counted a.counts tally (length a.buffer.rows) }
 
--- behind a passed token no action is possible that wasn't
-abbrev pub is_quiet_late : Option Tally → View → Bool
-is_quiet_late None v = true
-is_quiet_late (Some tally) v = is_quiet tally v
+-- the counts with an element that was passed, among the rows
+abbrev pub seen_counts : {C : Type 0} → ActorsView C → Tallied
+seen_counts a = record a.counts { peak = max a.counts.peak (length a.buffer.rows + length a.projector.passed) }
 
--- A token was fed and counted; the store may have had fewer rows than are seen then.
-pub record NotedLate {C : Type 0} (bytes : List ℕ) (stands : C → Tree → Type 0) (plan : PlanTree) (old new : ActorsView C) (t : Said) (P : Tree) (k : ℕ) : Type 0 where
-  pub actors : StandLate bytes stands plan new (grow t P) k
-  pub given : old.counts.given ≡ capped (sum_given plan P) → new.counts.given ≡ capped (sum_given plan (grow t P))
-  pub peak : new.counts.peak ≡ max old.counts.peak (length (held plan (grow t P) (so_far plan P k)))
-  pub rows : length (seen_late bytes new).rows ≡ length (held plan (grow t P) (so_far plan P k))
-  pub fits : length (seen_late bytes old).rows ≤ old.buffer.most → length new.buffer.rows ≤ new.buffer.most
-  pub over : length (seen_late bytes old).rows ≤ old.buffer.most
-      → max new.buffer.most (length (seen_late bytes new).rows) ≡ max old.buffer.most (length (held plan (grow t P) (so_far plan P k)))
+-- What is counted of a token that was passed, and which rows were made: a text and an end leave no more rows than there were.
+abbrev pub CountsPassed : {C : Type 0} → (bytes : List ℕ) → (C → Tree → Type 0) → (old new : ActorsView C) → Said → Type 0
+CountsPassed bytes stands old new (Start name) = SettlesOver bytes stands old new × (new.counts ≡ seen_counts old)
+CountsPassed bytes stands old new (Chars text) = new ≡ old
+CountsPassed bytes stands old new End = new ≡ old
 
-abbrev pub NotesEachLate : {C : Type 0} → (bytes : List ℕ) → (C → Tree → Type 0) → (old new : ActorsView C) → Said → Type 0
-NotesEachLate bytes stands old new t = (plan : PlanTree) (P : Tree) (k : ℕ) → StandLate bytes stands plan old P k → ComesWithin t P → NotedLate bytes stands plan old new t P k
-
--- a token was fed
+-- A token was fed. Where as many rows were counted as were seen, so they are now.
 pub record FeedsOneLate {C : Type 0} (bytes : List ℕ) (stands : C → Tree → Type 0) (plan : PlanTree) (old new : ActorsView C) (t : Said) (P : Tree) (k : ℕ) : Type 0 where
   pub actors : StandLate bytes stands plan new (grow t P) k
-  pub counted : Counted plan t P k (seen_late bytes old) (seen_late bytes new) old.counts new.counts
+  pub counted : length (seen_late bytes old).rows ≤ old.counts.peak → Counted plan t P k (seen_late bytes old) (seen_late bytes new) old.counts new.counts
 
 -- from each state for which they stood
 abbrev pub FeedsEachLate : {C : Type 0} → (bytes : List ℕ) → (C → Tree → Type 0) → (old new : ActorsView C) → Said → Type 0
@@ -164,6 +156,7 @@ pub record FedSomeLate {C : Type 0} (bytes : List ℕ) (stands : C → Tree → 
   pub few : length more ≤ ahead
   pub actors : StandLate bytes stands plan new (seen_tree (ts ++ more)) (all_of plan (seen_tree ts))
   pub counts : CountsOf plan (ts ++ more) ahead (seen_late bytes new) new.counts
+  pub seen : length (seen_late bytes new).rows ≤ new.counts.peak
   pub most : KeepsMostLate old new
   pub quietly : quiet ≡ true → actions plan (seen_tree (ts ++ more)) ≡ actions plan (seen_tree ts)
 

@@ -1,10 +1,11 @@
 //! The actors over tokens that are lent, where the rows of elements without a role are made late.
 ghost use Rattle.std.specs.Prelude.{◌≡◌, ◌≤◌, ◌<◌, ◌+◌, ◌^◌, nat_lt, true, length, IfOk, OnOk, OnErr};
 ghost use Rattle.doc_reader.specs.Standing.{AllLieWithin, LiesWithin, lent_token};
-ghost use Rattle.engine.specs.Late.{BalancesEachLate, BalancesLate, BreaksAmong, BreaksGroupLate, BreaksLent};
+ghost use Rattle.engine.specs.Actors.{is_quiet};
+ghost use Rattle.engine.specs.Late.{BalancesEachLate, BalancesLate, BreaksAmong, BreaksGroupLate, BreaksLent, CountsPassed};
 ghost use Rattle.engine.specs.Late.{EndsGroupLate, FeedsEachLate, FeedsLent, IsQuietLate, KeepsAmong, MayFeedLate};
-ghost use Rattle.engine.specs.Late.{NotesEachLate, SettlesFrom, SettlesOver, SomeAmong, SomeFed, SomeGroupLate, SomeLate};
-ghost use Rattle.engine.specs.Late.{is_quiet_late, noted, said_lent};
+ghost use Rattle.engine.specs.Late.{SettlesFrom, SettlesOver, SomeAmong, SomeFed, SomeGroupLate, SomeLate};
+ghost use Rattle.engine.specs.Late.{noted, said_lent, seen_counts};
 
 use crate::actors::Actors;
 use crate::tallies::{both, count, count_held, is_quiet};
@@ -111,49 +112,62 @@ impl<'p, N: NodeStore<Row>, C: Conds> Actors<'p, N, C> {
         ensures machine { self.new.machine ≡ self.old.machine }
         ensures loans { self.new.buffer.loans ≡ self.old.buffer.loans }
     {
-        let quiet = self.feed_noted(alloc, token, bytes)?;
-        self.settle_over(alloc, bytes)?;
-        Ok(quiet)
-    }
-
-    /// The same before the store may have had too few rows for those that are seen.
-    #[inline(always)]
-    fn feed_noted(&mut self, alloc: Global, token: Lent, bytes: &[u8]) -> Result<bool, Memory>
-        requires part { LiesWithin 0 (length bytes.now) bytes.now token }
-        requires may { MayFeedLate bytes.now C.stands self.old (lent_token bytes.now token) }
-        ensures notes { OnOk result (NotesEachLate bytes.now C.stands self.old self.new (lent_token bytes.now token)) }
-        ensures quiet { IfOk result (λ q. q ≡ true → IsQuietLate bytes.now C.stands self.old (lent_token bytes.now token)) }
-        ensures balance { OnErr result (BalancesEachLate bytes.now C.stands self.old self.new (lent_token bytes.now token)) }
-        ensures machine { self.new.machine ≡ self.old.machine }
-        ensures loans { self.new.buffer.loans ≡ self.old.buffer.loans }
-    {
         let fed = self
             .projector
             .feed_lean(alloc, &mut self.buffer, token, bytes)?;
-        let quiet = self.note(fed);
-        Ok(quiet)
-    }
-
-    /// Counts what a token did. True where no action is possible behind it that wasn't before.
-    #[inline(always)]
-    fn note(&mut self, fed: Option<Tally>) -> bool
-        requires { length self.old.buffer.rows + length self.old.projector.passed < 2 ^ 64 }
-        ensures noted { self.new ≡ noted self.old fed }
-        ensures quiet { result ≡ is_quiet_late fed self.old.buffer }
-    {
         match fed {
-            Some(tally) => {
-                let quiet = is_quiet(tally, &self.buffer);
-                self.counts = count(self.counts, tally, self.buffer.held());
-                self.buffer.clear_gone();
-                quiet
-            }
+            Some(tally) => Ok(self.note(tally)),
             None => {
-                let held = rows_late(&self.buffer, &self.projector);
-                self.counts = count_held(self.counts, held);
-                true
+                self.note_passed(alloc, token, bytes)?;
+                Ok(true)
             }
         }
+    }
+
+    /// Counts what a token did that was fed as always. True where no action is possible behind it that wasn't before.
+    #[inline(always)]
+    fn note(&mut self, tally: Tally) -> bool
+        ensures noted { self.new ≡ noted self.old tally }
+        ensures quiet { result ≡ is_quiet tally self.old.buffer }
+    {
+        let quiet = is_quiet(tally, &self.buffer);
+        self.counts = count(self.counts, tally, self.buffer.held());
+        self.buffer.clear_gone();
+        quiet
+    }
+
+    /// Counts a token that was passed. A text and an end leave no more rows than were counted.
+    #[inline(always)]
+    fn note_passed(&mut self, alloc: Global, token: Lent, bytes: &[u8]) -> Result<(), Memory>
+        requires some { SomeLate bytes.now C.stands self.old }
+        requires few { length self.old.buffer.rows + length self.old.projector.passed < 2 ^ 64 }
+        ensures counts { OnOk result (CountsPassed bytes.now C.stands self.old self.new (lent_token bytes.now token)) }
+        ensures balance { OnErr result (BalancesLate bytes.now C.stands self.old self.new) }
+        ensures machine { self.new.machine ≡ self.old.machine }
+        ensures loans { self.new.buffer.loans ≡ self.old.buffer.loans }
+    {
+        match token {
+            Lent::Start(_, _) => self.note_element(alloc, bytes),
+            Lent::Text(_, _) => Ok(()),
+            Lent::End => Ok(()),
+        }
+    }
+
+    /// Counts an element that was passed, and makes the rows that are left to be made, where the store never had as many
+    /// as are seen.
+    #[inline(always)]
+    fn note_element(&mut self, alloc: Global, bytes: &[u8]) -> Result<(), Memory>
+        requires some { SomeLate bytes.now C.stands self.old }
+        requires few { length self.old.buffer.rows + length self.old.projector.passed < 2 ^ 64 }
+        ensures settles { OnOk result (SettlesOver bytes.now C.stands self.old self.new) }
+        ensures balance { OnErr result (BalancesLate bytes.now C.stands self.old self.new) }
+        ensures machine { self.new.machine ≡ self.old.machine }
+        ensures counts { self.new.counts ≡ seen_counts self.old }
+        ensures loans { self.new.buffer.loans ≡ self.old.buffer.loans }
+    {
+        let held = rows_late(&self.buffer, &self.projector);
+        self.counts = count_held(self.counts, held);
+        self.settle_over(alloc, bytes)
     }
 
     /// Makes the rows that are left to be made, where the store never had as many as are seen.
