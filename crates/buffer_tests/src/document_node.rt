@@ -63,7 +63,10 @@ fn begun(alloc: Global) -> Result<Buffer<SlabNodes<Row>>, Fail>
 fn element(alloc: Global) -> Result<Kind, Fail>
     ensures { IfOk result (λ kind. IsNode kind) }
 {
-    Ok(Kind::Element(Name::from_bytes(alloc, b"a")?.ok_or("no name")?))
+    match Name::from_bytes(alloc, b"a")? {
+        Some(name) => Ok(Kind::Element(name)),
+        None => Err(Fail::new("no name")),
+    }
 }
 
 /// Opens an element below the document node, with no roles.

@@ -18,8 +18,12 @@ use std::test::Fail;
 /// A small letter is a name; a capital is one of 1,024 bytes that ends with it.
 fn name(alloc: Global, letter: u8) -> Result<Name, Fail> {
     let front = if letter < b'a' { 1_023 } else { 0 };
-    let bytes = joined(alloc, &[&repeated(alloc, b"x", front)?, &[letter]])?;
-    Ok(Name::from_bytes(alloc, &bytes)?.ok_or("not a name")?)
+    let front = repeated(alloc, b"x", front)?;
+    let bytes = joined(alloc, &[&front, &[letter]])?;
+    match Name::from_bytes(alloc, &bytes)? {
+        Some(name) => Ok(name),
+        None => Err(Fail::new("not a name")),
+    }
 }
 
 /// `t` is a text, `n` any node, `e` any element, another letter an element of that name.
@@ -181,7 +185,10 @@ fn go(alloc: Global, out: &mut String, matcher: &mut Matcher, kind: &Kind) -> Re
 fn text(alloc: Global) -> Result<Kind, Fail>
     ensures { IfOk result (λ kind. IsNode kind) }
 {
-    Ok(Kind::Text(Text::from_bytes(alloc, b"x")?.ok_or("not a text")?))
+    match Text::from_bytes(alloc, b"x")? {
+        Some(text) => Ok(Kind::Text(text)),
+        None => Err(Fail::new("not a text")),
+    }
 }
 
 /// `.` is a text, another letter an element.

@@ -52,7 +52,10 @@ const NAMES: u32 = 1_900;
 /// One of many names of one first byte and one length.
 fn name(alloc: Global, i: u32) -> Result<Name, Fail> {
     let text = format!(in alloc; "n{}", i.wrapping_add(1_000))?;
-    Ok(Name::from_bytes(alloc, text.as_bytes())?.ok_or("not a name")?)
+    match Name::from_bytes(alloc, text.as_bytes())? {
+        Some(name) => Ok(name),
+        None => Err(Fail::new("not a name")),
+    }
 }
 
 /// The role of the first child of variable 1 with this name.
@@ -75,9 +78,10 @@ fn plan_of_names(alloc: Global) -> Result<Plan, Fail> {
     for i in 0..NAMES {
         roles.push(named_role(alloc, i)?)?;
     }
+    let vars = var_rows(alloc, "0r")?;
     Ok(Plan {
         body: Body::new(alloc),
-        vars: var_rows(alloc, "0r")?,
+        vars,
         straight: Flags::new(alloc),
         fsa: VarIds::new(alloc),
         roles,

@@ -5,11 +5,17 @@ use std::alloc::Global;
 use std::test::Fail;
 
 fn name(alloc: Global, bytes: &[u8]) -> Result<Name, Fail> {
-    Ok(Name::from_bytes(alloc, bytes)?.ok_or("not a name")?)
+    match Name::from_bytes(alloc, bytes)? {
+        Some(name) => Ok(name),
+        None => Err(Fail::new("not a name")),
+    }
 }
 
 fn text(alloc: Global, bytes: &[u8]) -> Result<Text, Fail> {
-    Ok(Text::from_bytes(alloc, bytes)?.ok_or("not a text")?)
+    match Text::from_bytes(alloc, bytes)? {
+        Some(text) => Ok(text),
+        None => Err(Fail::new("not a text")),
+    }
 }
 
 /// An element of this name round the text.
@@ -29,8 +35,9 @@ fn element(alloc: Global, name: &Name, text: &Text) -> Result<Vec<u8>, Memory> {
 fn an_element_is_written(rt: HostRuntime) -> Result<(), Fail> {
     let name = name(rt.alloc(), b"a")?;
     let text = text(rt.alloc(), b"1 < 2 && \"3\" > '2'")?;
+    let written = element(rt.alloc(), &name, &text)?;
     assert_eq!(rt;
-        element(rt.alloc(), &name, &text)?.as_slice(),
+        written.as_slice(),
         b"<a>1 &lt; 2 &amp;&amp; \"3\" &gt; '2'</a>".as_slice()
     );
     Ok(())

@@ -40,8 +40,8 @@ fn three_roles(alloc: Global) -> Result<Given, Memory> {
 
 /// The line has this text, and the text is read as a line with this text.
 fn goes_both_ways(rt: &impl Abort, alloc: Global, line: &Line, text: &[u8]) -> Result<(), Fail> {
-    assert!(rt; has_text(alloc, line, text)?, "{text:?}");
-    assert!(rt; is_read_back(alloc, text)?, "{text:?}");
+    let goes = (has_text(alloc, line, text)?, is_read_back(alloc, text)?);
+    assert_eq!(rt; goes, (true, true), "{text:?}");
     Ok(())
 }
 
@@ -55,14 +55,22 @@ fn the_document_goes_both_ways(rt: HostRuntime) -> Result<(), Fail> {
     goes_both_ways(&rt, rt.alloc(), &line, b"+ 0 /")
 }
 
+fn element(alloc: Global) -> Result<LineKind, Fail> {
+    match Name::from_bytes(alloc, b"a:\xC3\xA9")? {
+        Some(name) => Ok(LineKind::Element(name)),
+        None => Err(Fail::new("not a name")),
+    }
+}
+
 #[test]
 fn an_element_goes_both_ways(rt: HostRuntime) -> Result<(), Fail> {
     let alloc = rt.alloc();
-    let name = Name::from_bytes(alloc, b"a:\xC3\xA9")?.ok_or("not a name")?;
+    let given = three_roles(alloc)?;
+    let kind = element(alloc)?;
     let line = Line::Opened {
         serial: Serial(18_446_744_073_709_551_615),
-        kind: LineKind::Element(name),
-        given: three_roles(alloc)?,
+        kind,
+        given,
     };
     let text = b"+ 18446744073709551615 a:\xC3\xA9 0 10 4294967295";
     goes_both_ways(&rt, alloc, &line, text)
@@ -135,7 +143,8 @@ fn other_texts_are_no_lines(rt: HostRuntime) -> Result<(), Fail> {
         b"o 7 4294967296",
     ];
     for text in rows {
-        assert!(rt; read_line(rt.alloc(), text)?.is_none(), "{text:?}");
+        let line = read_line(rt.alloc(), text)?;
+        assert!(rt; line.is_none(), "{text:?}");
     }
     Ok(())
 }

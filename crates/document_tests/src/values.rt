@@ -121,47 +121,49 @@ fn compares_values_with_literals(rt: HostRuntime) {
     are_compared(&rt, rows);
 }
 
+/// Values with more digits than a literal may have.
+const WIDE: &[Comparison<'static>] = &[
+    (
+        "18446744073709551616",
+        Rel::Gt,
+        18_446_744_073_709_551_615 * ONE,
+        true,
+    ),
+    (
+        "9223372036854775808",
+        Rel::Le,
+        9_223_372_036_854_775_807 * ONE,
+        false,
+    ),
+    (
+        "170141183460469231731.687303715884105728",
+        Rel::Gt,
+        i128::MAX,
+        true,
+    ),
+    (
+        "-170141183460469231731.6873037158841057281",
+        Rel::Lt,
+        i128::MIN,
+        true,
+    ),
+    (
+        "-170141183460469231731.687303715884105729",
+        Rel::Eq,
+        i128::MIN,
+        false,
+    ),
+    (
+        "340282366920938463463.374607431768211456",
+        Rel::Eq,
+        0,
+        false,
+    ),
+];
+
 #[test]
 fn compares_wide_values_with_literals(rt: HostRuntime) {
-    let rows: &[Comparison<'_>] = &[
-        (
-            "18446744073709551616",
-            Rel::Gt,
-            18_446_744_073_709_551_615 * ONE,
-            true,
-        ),
-        (
-            "9223372036854775808",
-            Rel::Le,
-            9_223_372_036_854_775_807 * ONE,
-            false,
-        ),
-        (
-            "170141183460469231731.687303715884105728",
-            Rel::Gt,
-            i128::MAX,
-            true,
-        ),
-        (
-            "-170141183460469231731.6873037158841057281",
-            Rel::Lt,
-            i128::MIN,
-            true,
-        ),
-        (
-            "-170141183460469231731.687303715884105729",
-            Rel::Eq,
-            i128::MIN,
-            false,
-        ),
-        (
-            "340282366920938463463.374607431768211456",
-            Rel::Eq,
-            0,
-            false,
-        ),
-    ];
-    are_compared(&rt, rows);
+    are_compared(&rt, WIDE);
 }
 
 #[test]

@@ -160,7 +160,8 @@ fn run_index(
     requires ahead { ahead ≤ 1000 }
 {
     let Streams { source, out, err } = streams;
-    let (nodes, conds) = (SlabNodes::new(alloc), indexed(alloc, plan)?);
+    let conds = indexed(alloc, plan)?;
+    let nodes = SlabNodes::new(alloc);
     let tracing = ahead == 0;
     let ahead = ahead.max(1);
     let mut engine = Engine::new(alloc, plan, nodes, conds, Limits::full(), ahead, tracing)?;

@@ -79,7 +79,8 @@ fn refusal(alloc: Global, query: &[u8]) -> Result<Option<QueryFault>, Fail> {
 /// These queries have these cores.
 fn are_shown(rt: &impl Abort, alloc: Global, rows: &[(&[u8], &str)]) -> Result<(), Fail> {
     for &(query, core) in rows {
-        assert_eq!(rt; shown(alloc, query)?.as_str(), core, "{query:?}");
+        let shown = shown(alloc, query)?;
+        assert_eq!(rt; shown.as_str(), core, "{query:?}");
     }
     Ok(())
 }

@@ -78,183 +78,197 @@ fn is_refused(
     ends_with(rt, alloc, files, end)
 }
 
+/// A query, a document and the answer.
+type Answered = (&'static [u8], &'static [u8], &'static [u8]);
+
+const PATHS: &[Answered] = &[
+    (b"/a/b", b"<a><b>1</b><b>2</b></a>", b"<b>1</b><b>2</b>"),
+    (b"/a", b"<a> <b></b> </a>", b"<a><b></b></a>"),
+    (b"/x", b"<a></a>", b""),
+    (b"/a", b"<a>1 > 0</a>", b"<a>1 &gt; 0</a>"),
+    (b"//a", b"<a><a/></a>", b"<a><a></a></a><a></a>"),
+    (
+        b"/a/b/c",
+        b"<a><b><c>1</c></b><c>2</c><b><d><c>3</c></d><c>4</c></b></a>",
+        b"<c>1</c><c>4</c>",
+    ),
+    (
+        b"/a",
+        b"\xEF\xBB\xBF<?xml version=\"1.0\"?><!-- c --><a>x<!--c-->y&lt;&#65;</a>",
+        b"<a>xy&lt;A</a>",
+    ),
+    (b"/a", b"<a> <b/> </a>", b"<a><b></b></a>"),
+    (b"()", b"<a/>", b""),
+    (b"//text()", b"<a>1<b>2</b>3</a>", b"123"),
+    (b"/a/node()", b"<a>1<b>2</b>3</a>", b"1<b>2</b>3"),
+    (
+        b"/a",
+        b"<a><![CDATA[<x>]]>&amp;</a>",
+        b"<a>&lt;x&gt;&amp;</a>",
+    ),
+    (b"/a", b"<a b=\"1\"/>", b"<a><b>1</b></a>"),
+    (
+        b"/a",
+        b"<a b=\" \" c='x&lt;\"'>t</a>",
+        b"<a><b></b><c>x&lt;\"</c>t</a>",
+    ),
+];
+
 #[test]
 fn each_path_has_its_answer(rt: HostRuntime) -> Result<(), Fail> {
-    let rows: &[(&[u8], &[u8], &[u8])] = &[
-        (b"/a/b", b"<a><b>1</b><b>2</b></a>", b"<b>1</b><b>2</b>"),
-        (b"/a", b"<a> <b></b> </a>", b"<a><b></b></a>"),
-        (b"/x", b"<a></a>", b""),
-        (b"/a", b"<a>1 > 0</a>", b"<a>1 &gt; 0</a>"),
-        (b"//a", b"<a><a/></a>", b"<a><a></a></a><a></a>"),
-        (
-            b"/a/b/c",
-            b"<a><b><c>1</c></b><c>2</c><b><d><c>3</c></d><c>4</c></b></a>",
-            b"<c>1</c><c>4</c>",
-        ),
-        (
-            b"/a",
-            b"\xEF\xBB\xBF<?xml version=\"1.0\"?><!-- c --><a>x<!--c-->y&lt;&#65;</a>",
-            b"<a>xy&lt;A</a>",
-        ),
-        (b"/a", b"<a> <b/> </a>", b"<a><b></b></a>"),
-        (b"()", b"<a/>", b""),
-        (b"//text()", b"<a>1<b>2</b>3</a>", b"123"),
-        (b"/a/node()", b"<a>1<b>2</b>3</a>", b"1<b>2</b>3"),
-        (
-            b"/a",
-            b"<a><![CDATA[<x>]]>&amp;</a>",
-            b"<a>&lt;x&gt;&amp;</a>",
-        ),
-        (b"/a", b"<a b=\"1\"/>", b"<a><b>1</b></a>"),
-        (
-            b"/a",
-            b"<a b=\" \" c='x&lt;\"'>t</a>",
-            b"<a><b></b><c>x&lt;\"</c>t</a>",
-        ),
-    ];
-    for &(query, document, answer) in rows {
+    for &(query, document, answer) in PATHS {
         is_answered(&rt, rt.alloc(), query, document, answer)?;
     }
     Ok(())
 }
 
+const QUERIES: &[Answered] = &[
+    (
+        b"<r>{for $x in /a/b return $x}</r>",
+        b"<a><b>1</b><c/><b>2</b></a>",
+        b"<r><b>1</b><b>2</b></r>",
+    ),
+    (
+        b"for $x in //a return for $y in $x//b return <h/>",
+        b"<a><a><b/></a></a>",
+        b"<h></h><h></h>",
+    ),
+    (
+        b"for $x in /r/p return if (exists($x/k)) then <y/> else <n/>",
+        b"<r><p></p><p><k/></p></r>",
+        b"<n></n><y></y>",
+    ),
+    (
+        b"for $x in /r/p return if ($x = 7) then <y/> else <n/>",
+        b"<r><p>007</p><p>7x</p><p> 7 </p></r>",
+        b"<y></y><n></n><y></y>",
+    ),
+    (
+        b"for $x in /r/p return if ($x = \"7\") then <y/> else <n/>",
+        b"<r><p>007</p><p>7x</p><p> 7 </p></r>",
+        b"<n></n><n></n><n></n>",
+    ),
+    (
+        b"for $a in /r/x return for $b in /r/y return if ($a/k = $b/k) then <m/> else ()",
+        b"<r><x><k>1</k></x><y><k>1</k></y><y><k>2</k></y></r>",
+        b"<m></m>",
+    ),
+    (
+        b"if (exists(/a//b/c)) then <y/> else <n/>",
+        b"<a><x><b><c/></b></x></a>",
+        b"<y></y>",
+    ),
+    (
+        b"for $x in /r/p return if ($x > 9) then <y/> else <n/>",
+        b"<r><p>1000000000000000000000000000000000000000000</p><p>-0</p><p/></r>",
+        b"<y></y><n></n><n></n>",
+    ),
+    (
+        b"for $x in /r/p return if ($x >= 2.50) then <y/> else <n/>",
+        b"<r><p>2.5</p><p>2.49999999999999999999</p><p>+3.</p><p>.5</p><p>2,6</p></r>",
+        b"<y></y><n></n><y></y><n></n><n></n>",
+    ),
+    (
+        b"for $x in /r/p return if ($x = 7) then <y/> else <n/>",
+        b"<r><p>7.0</p><p>7.</p><p>.</p></r>",
+        b"<y></y><y></y><n></n>",
+    ),
+    (
+        b"for $b in /bib/book where $b/year = 1994 return $b/title",
+        b"<bib><book year=\"1994\"><title>T</title></book></bib>",
+        b"<title>T</title>",
+    ),
+    (
+        b"<out>{\n  for $b in /bib/book\n  where $b/price < 50 and not(exists($b/editor))\n  return <cheap>{$b/title}</cheap>\n}</out>\n",
+        b"<?xml version=\"1.0\" encoding=\"UTF-8\"?>\n<!DOCTYPE bib SYSTEM \"bib.dtd\">\n<!-- two books -->\n<bib>\n  <book>\n    <title>Data on the Web</title>\n    <price>39</price>\n  </book>\n  <book>\n    <title>TCP/IP &amp; more</title>\n    <price>65</price>\n  </book>\n</bib>\n",
+        b"<out><cheap><title>Data on the Web</title></cheap></out>",
+    ),
+];
+
 #[test]
 fn each_query_has_its_answer(rt: HostRuntime) -> Result<(), Fail> {
-    let rows: &[(&[u8], &[u8], &[u8])] = &[
-        (
-            b"<r>{for $x in /a/b return $x}</r>",
-            b"<a><b>1</b><c/><b>2</b></a>",
-            b"<r><b>1</b><b>2</b></r>",
-        ),
-        (
-            b"for $x in //a return for $y in $x//b return <h/>",
-            b"<a><a><b/></a></a>",
-            b"<h></h><h></h>",
-        ),
-        (
-            b"for $x in /r/p return if (exists($x/k)) then <y/> else <n/>",
-            b"<r><p></p><p><k/></p></r>",
-            b"<n></n><y></y>",
-        ),
-        (
-            b"for $x in /r/p return if ($x = 7) then <y/> else <n/>",
-            b"<r><p>007</p><p>7x</p><p> 7 </p></r>",
-            b"<y></y><n></n><y></y>",
-        ),
-        (
-            b"for $x in /r/p return if ($x = \"7\") then <y/> else <n/>",
-            b"<r><p>007</p><p>7x</p><p> 7 </p></r>",
-            b"<n></n><n></n><n></n>",
-        ),
-        (
-            b"for $a in /r/x return for $b in /r/y return if ($a/k = $b/k) then <m/> else ()",
-            b"<r><x><k>1</k></x><y><k>1</k></y><y><k>2</k></y></r>",
-            b"<m></m>",
-        ),
-        (
-            b"if (exists(/a//b/c)) then <y/> else <n/>",
-            b"<a><x><b><c/></b></x></a>",
-            b"<y></y>",
-        ),
-        (
-            b"for $x in /r/p return if ($x > 9) then <y/> else <n/>",
-            b"<r><p>1000000000000000000000000000000000000000000</p><p>-0</p><p/></r>",
-            b"<y></y><n></n><n></n>",
-        ),
-        (
-            b"for $x in /r/p return if ($x >= 2.50) then <y/> else <n/>",
-            b"<r><p>2.5</p><p>2.49999999999999999999</p><p>+3.</p><p>.5</p><p>2,6</p></r>",
-            b"<y></y><n></n><y></y><n></n><n></n>",
-        ),
-        (
-            b"for $x in /r/p return if ($x = 7) then <y/> else <n/>",
-            b"<r><p>7.0</p><p>7.</p><p>.</p></r>",
-            b"<y></y><y></y><n></n>",
-        ),
-        (
-            b"for $b in /bib/book where $b/year = 1994 return $b/title",
-            b"<bib><book year=\"1994\"><title>T</title></book></bib>",
-            b"<title>T</title>",
-        ),
-        (
-            b"<out>{\n  for $b in /bib/book\n  where $b/price < 50 and not(exists($b/editor))\n  return <cheap>{$b/title}</cheap>\n}</out>\n",
-            b"<?xml version=\"1.0\" encoding=\"UTF-8\"?>\n<!DOCTYPE bib SYSTEM \"bib.dtd\">\n<!-- two books -->\n<bib>\n  <book>\n    <title>Data on the Web</title>\n    <price>39</price>\n  </book>\n  <book>\n    <title>TCP/IP &amp; more</title>\n    <price>65</price>\n  </book>\n</bib>\n",
-            b"<out><cheap><title>Data on the Web</title></cheap></out>",
-        ),
-    ];
-    for &(query, document, answer) in rows {
+    for &(query, document, answer) in QUERIES {
         is_answered(&rt, rt.alloc(), query, document, answer)?;
     }
     Ok(())
 }
 
 /// A document that is refused: the query, the bytes, the fault and its line, and what was written before.
-type Refusal<'a> = (&'a [u8], &'a [u8], DocFault, &'a [u8], &'a [u8]);
+type Refusal = (
+    &'static [u8],
+    &'static [u8],
+    DocFault,
+    &'static [u8],
+    &'static [u8],
+);
+
+const EXISTS: &[u8] = b"for $x in /r/p return if (exists($x/k)) then <y/> else <n/>";
+
+const EITHER: &[u8] =
+    b"for $x in /r/p return if (exists($x/k) or exists($x/j)) then <y/> else <n/>";
+
+const SETTLED: &[Refusal] = &[
+    (
+        EXISTS,
+        b"<r><p><k/>",
+        DocFault::Truncated(10),
+        b"gcx: document Truncated 10\n",
+        b"<y></y>",
+    ),
+    (
+        EITHER,
+        b"<r><p><j/>",
+        DocFault::Truncated(10),
+        b"gcx: document Truncated 10\n",
+        b"",
+    ),
+    (
+        b"<r>{/a/b}</r>",
+        b"<a><b></a>",
+        DocFault::Syntax(8),
+        b"gcx: document Syntax 8\n",
+        b"<r><b>",
+    ),
+    (
+        b"<r>{/a}</r>",
+        b"",
+        DocFault::Truncated(0),
+        b"gcx: document Truncated 0\n",
+        b"<r>",
+    ),
+    (
+        b"/a",
+        b"<a></a>x",
+        DocFault::Syntax(7),
+        b"gcx: document Syntax 7\n",
+        b"<a></a>",
+    ),
+    (
+        b"/a",
+        b"<a>\xFF",
+        DocFault::Utf8(3),
+        b"gcx: document Utf8 3\n",
+        b"<a>",
+    ),
+    (
+        b"/a",
+        b"<a>&#0;</a>",
+        DocFault::Syntax(6),
+        b"gcx: document Syntax 6\n",
+        b"<a>",
+    ),
+    (
+        b"/a",
+        b"<a>&nbsp;</a>",
+        DocFault::Syntax(4),
+        b"gcx: document Syntax 4\n",
+        b"<a>",
+    ),
+];
 
 #[test]
 fn what_is_settled_before_a_fault_is_written(rt: HostRuntime) -> Result<(), Fail> {
-    let exists: &[u8] = b"for $x in /r/p return if (exists($x/k)) then <y/> else <n/>";
-    let either: &[u8] =
-        b"for $x in /r/p return if (exists($x/k) or exists($x/j)) then <y/> else <n/>";
-    let rows: &[Refusal<'_>] = &[
-        (
-            exists,
-            b"<r><p><k/>",
-            DocFault::Truncated(10),
-            b"gcx: document Truncated 10\n",
-            b"<y></y>",
-        ),
-        (
-            either,
-            b"<r><p><j/>",
-            DocFault::Truncated(10),
-            b"gcx: document Truncated 10\n",
-            b"",
-        ),
-        (
-            b"<r>{/a/b}</r>",
-            b"<a><b></a>",
-            DocFault::Syntax(8),
-            b"gcx: document Syntax 8\n",
-            b"<r><b>",
-        ),
-        (
-            b"<r>{/a}</r>",
-            b"",
-            DocFault::Truncated(0),
-            b"gcx: document Truncated 0\n",
-            b"<r>",
-        ),
-        (
-            b"/a",
-            b"<a></a>x",
-            DocFault::Syntax(7),
-            b"gcx: document Syntax 7\n",
-            b"<a></a>",
-        ),
-        (
-            b"/a",
-            b"<a>\xFF",
-            DocFault::Utf8(3),
-            b"gcx: document Utf8 3\n",
-            b"<a>",
-        ),
-        (
-            b"/a",
-            b"<a>&#0;</a>",
-            DocFault::Syntax(6),
-            b"gcx: document Syntax 6\n",
-            b"<a>",
-        ),
-        (
-            b"/a",
-            b"<a>&nbsp;</a>",
-            DocFault::Syntax(4),
-            b"gcx: document Syntax 4\n",
-            b"<a>",
-        ),
-    ];
-    for &(query, document, fault, line, written) in rows {
+    for &(query, document, fault, line, written) in SETTLED {
         let end = End {
             status: Status::DocumentRefused(fault),
             out: written,
@@ -298,56 +312,58 @@ fn before_the_first_tag_is_whole_nothing_is_written(rt: HostRuntime) -> Result<(
     Ok(())
 }
 
+/// A query, the fault that it has, and its line.
+const REFUSED: &[(&[u8], QueryFault, &[u8])] = &[
+    (
+        b"for $x in /a//b/c return $x",
+        QueryFault::DescendantNotLast(12),
+        b"gcx: query DescendantNotLast 12\n",
+    ),
+    (
+        b"for $x in /a return $y",
+        QueryFault::UnknownVar(20),
+        b"gcx: query UnknownVar 20\n",
+    ),
+    (
+        b"<r></s>",
+        QueryFault::TagMismatch(5),
+        b"gcx: query TagMismatch 5\n",
+    ),
+    (b"/a ; /b", QueryFault::Lex(3), b"gcx: query Lex 3\n"),
+    (
+        b"for $x in /a",
+        QueryFault::Syntax(12),
+        b"gcx: query Syntax 12\n",
+    ),
+    (b"", QueryFault::Syntax(0), b"gcx: query Syntax 0\n"),
+    (
+        b"for $x in /a return if ($x = 9223372036854775808) then $x else ()",
+        QueryFault::IntegerWide(29),
+        b"gcx: query IntegerWide 29\n",
+    ),
+    (
+        b"if (/a = 0.1234567890123456789) then () else ()",
+        QueryFault::IntegerWide(9),
+        b"gcx: query IntegerWide 9\n",
+    ),
+    (b"/a)", QueryFault::Syntax(2), b"gcx: query Syntax 2\n"),
+    (
+        b"if (/a) then () else ()",
+        QueryFault::Syntax(6),
+        b"gcx: query Syntax 6\n",
+    ),
+    (b"<a>x</a>", QueryFault::Syntax(3), b"gcx: query Syntax 3\n"),
+    (
+        b"for $x in /a for $y in /b return $y",
+        QueryFault::Syntax(13),
+        b"gcx: query Syntax 13\n",
+    ),
+    (b"/\xFF", QueryFault::Utf8(1), b"gcx: query Utf8 1\n"),
+];
+
 #[test]
 fn a_query_that_is_refused_is_told(rt: HostRuntime) -> Result<(), Fail> {
-    let rows: &[(&[u8], QueryFault, &[u8])] = &[
-        (
-            b"for $x in /a//b/c return $x",
-            QueryFault::DescendantNotLast(12),
-            b"gcx: query DescendantNotLast 12\n",
-        ),
-        (
-            b"for $x in /a return $y",
-            QueryFault::UnknownVar(20),
-            b"gcx: query UnknownVar 20\n",
-        ),
-        (
-            b"<r></s>",
-            QueryFault::TagMismatch(5),
-            b"gcx: query TagMismatch 5\n",
-        ),
-        (b"/a ; /b", QueryFault::Lex(3), b"gcx: query Lex 3\n"),
-        (
-            b"for $x in /a",
-            QueryFault::Syntax(12),
-            b"gcx: query Syntax 12\n",
-        ),
-        (b"", QueryFault::Syntax(0), b"gcx: query Syntax 0\n"),
-        (
-            b"for $x in /a return if ($x = 9223372036854775808) then $x else ()",
-            QueryFault::IntegerWide(29),
-            b"gcx: query IntegerWide 29\n",
-        ),
-        (
-            b"if (/a = 0.1234567890123456789) then () else ()",
-            QueryFault::IntegerWide(9),
-            b"gcx: query IntegerWide 9\n",
-        ),
-        (b"/a)", QueryFault::Syntax(2), b"gcx: query Syntax 2\n"),
-        (
-            b"if (/a) then () else ()",
-            QueryFault::Syntax(6),
-            b"gcx: query Syntax 6\n",
-        ),
-        (b"<a>x</a>", QueryFault::Syntax(3), b"gcx: query Syntax 3\n"),
-        (
-            b"for $x in /a for $y in /b return $y",
-            QueryFault::Syntax(13),
-            b"gcx: query Syntax 13\n",
-        ),
-        (b"/\xFF", QueryFault::Utf8(1), b"gcx: query Utf8 1\n"),
-    ];
-    for &(query, fault, line) in rows {
+    for &(query, fault, line) in REFUSED {
         // no document is read under a query that is refused
         let status = Status::QueryRefused(fault);
         is_refused(&rt, rt.alloc(), (query, b"<a></b>"), status, line)?;

@@ -6,7 +6,10 @@ use std::process::Abort;
 use std::test::Fail;
 
 fn text(alloc: Global, word: &str) -> Result<Text, Fail> {
-    Ok(Text::from_bytes(alloc, word.as_bytes())?.ok_or("not a text")?)
+    match Text::from_bytes(alloc, word.as_bytes())? {
+        Some(text) => Ok(text),
+        None => Err(Fail::new("not a text")),
+    }
 }
 
 /// The words between the bars.
@@ -221,7 +224,8 @@ fn line_meant(alloc: Global, line: &str) -> Result<String, Fail> {
 
 /// The command line has this meaning.
 fn is_read(rt: &impl Abort, alloc: Global, line: &str, meaning: &str) -> Result<(), Fail> {
-    assert_eq!(rt; line_meant(alloc, line)?.as_str(), meaning, "{line}");
+    let meant = line_meant(alloc, line)?;
+    assert_eq!(rt; meant.as_str(), meaning, "{line}");
     Ok(())
 }
 
@@ -250,6 +254,7 @@ fn other_commands_are_read(rt: HostRuntime) -> Result<(), Fail> {
 
 #[test]
 fn no_words_are_no_command(rt: HostRuntime) -> Result<(), Fail> {
-    assert!(rt; command_of(rt.alloc(), &Vec::new(rt.alloc()))?.is_none());
+    let command = command_of(rt.alloc(), &Vec::new(rt.alloc()))?;
+    assert!(rt; command.is_none());
     Ok(())
 }

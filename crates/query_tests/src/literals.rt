@@ -31,13 +31,21 @@ fn numbers_have_no_zeros_at_their_end(rt: HostRuntime) -> Result<(), Fail> {
         ),
     ];
     for &(units, want) in rows {
-        assert_eq!(rt; number(rt.alloc(), units)?.as_str(), want, "{units}");
+        let number = number(rt.alloc(), units)?;
+        assert_eq!(rt; number.as_str(), want, "{units}");
     }
     Ok(())
 }
 
+fn text(alloc: Global, value: &[u8]) -> Result<Text, Fail> {
+    match Text::from_bytes(alloc, value)? {
+        Some(text) => Ok(text),
+        None => Err(Fail::new("not a text")),
+    }
+}
+
 fn quoted(alloc: Global, value: &[u8]) -> Result<String, Fail> {
-    let text = Text::from_bytes(alloc, value)?.ok_or("not a text")?;
+    let text = text(alloc, value)?;
     let mut out = String::new(alloc);
     put_string(&mut out, &text)?;
     Ok(out)

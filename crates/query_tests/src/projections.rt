@@ -114,7 +114,8 @@ fn shown(alloc: Global, core: &Core) -> Result<String, Fail>
 /// The query has these roles and nodes.
 fn has_roles(rt: &impl Abort, alloc: Global, query: &str, wanted: &str) -> Result<(), Fail> {
     let core = core(alloc, query.as_bytes())?;
-    assert_eq!(rt; shown(alloc, &core)?.as_str(), wanted);
+    let shown = shown(alloc, &core)?;
+    assert_eq!(rt; shown.as_str(), wanted);
     Ok(())
 }
 

@@ -27,11 +27,8 @@ fn fault(alloc: Global, query: &[u8]) -> Option<QueryFault> {
 
 /// The query is printed so.
 fn is_printed(rt: &impl Abort, alloc: Global, query: &str, printed: &str) -> Result<(), Fail> {
-    assert_eq!(rt;
-        told(alloc, query.as_bytes())?.as_str(),
-        printed,
-        "{query:?}"
-    );
+    let told = told(alloc, query.as_bytes())?;
+    assert_eq!(rt; told.as_str(), printed, "{query:?}");
     Ok(())
 }
 
@@ -233,49 +230,51 @@ fn comparisons_are_printed(rt: HostRuntime) -> Result<(), Fail> {
     are_printed_as_conditions(&rt, rt.alloc(), rows)
 }
 
+/// Conditions as they are written and as they are printed.
+const CONNECTIVES: &[(&str, &str)] = &[
+    ("(true())", "true()"),
+    ("((/a = 1))", "/a = 1"),
+    ("not(true())", "not(true())"),
+    ("not((not(true())))", "not(not(true()))"),
+    (
+        "true() and true() and true()",
+        "true() and true() and true()",
+    ),
+    ("true() or true() or true()", "true() or true() or true()"),
+    ("true() or true() and true()", "true() or true() and true()"),
+    (
+        "true() or (true() and true())",
+        "true() or true() and true()",
+    ),
+    (
+        "(true() and true()) or true()",
+        "true() and true() or true()",
+    ),
+    (
+        "(true() or true()) and true()",
+        "(true() or true()) and true()",
+    ),
+    (
+        "true() and (true() and true())",
+        "true() and (true() and true())",
+    ),
+    (
+        "true() or (true() or true())",
+        "true() or (true() or true())",
+    ),
+    (
+        "not(true() or true()) and true()",
+        "not(true() or true()) and true()",
+    ),
+    (
+        "(true() and (true() or true()))",
+        "true() and (true() or true())",
+    ),
+];
+
 #[test]
 fn connectives_are_printed(rt: HostRuntime) -> Result<(), Fail> {
-    let rows: &[(&str, &str)] = &[
-        ("(true())", "true()"),
-        ("((/a = 1))", "/a = 1"),
-        ("not(true())", "not(true())"),
-        ("not((not(true())))", "not(not(true()))"),
-        (
-            "true() and true() and true()",
-            "true() and true() and true()",
-        ),
-        ("true() or true() or true()", "true() or true() or true()"),
-        ("true() or true() and true()", "true() or true() and true()"),
-        (
-            "true() or (true() and true())",
-            "true() or true() and true()",
-        ),
-        (
-            "(true() and true()) or true()",
-            "true() and true() or true()",
-        ),
-        (
-            "(true() or true()) and true()",
-            "(true() or true()) and true()",
-        ),
-        (
-            "true() and (true() and true())",
-            "true() and (true() and true())",
-        ),
-        (
-            "true() or (true() or true())",
-            "true() or (true() or true())",
-        ),
-        (
-            "not(true() or true()) and true()",
-            "not(true() or true()) and true()",
-        ),
-        (
-            "(true() and (true() or true()))",
-            "true() and (true() or true())",
-        ),
-    ];
-    are_printed_as_conditions(&rt, rt.alloc(), rows)
+    are_printed_as_conditions(&rt, rt.alloc(), CONNECTIVES)
 }
 
 #[test]

@@ -28,7 +28,8 @@ fn shown(alloc: Global, tree: &VarTree) -> Result<String, AllocError> {
 /// The loops of the query have these variables.
 fn has_variables(rt: &impl Abort, alloc: Global, query: &str, wanted: &str) -> Result<(), Fail> {
     let tree = tree(alloc, query)?;
-    assert_eq!(rt; shown(alloc, &tree)?.as_str(), wanted);
+    let shown = shown(alloc, &tree)?;
+    assert_eq!(rt; shown.as_str(), wanted);
     Ok(())
 }
 

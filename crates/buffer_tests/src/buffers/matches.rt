@@ -58,6 +58,13 @@ const WAYS: [Way; 14] = [
     (5, &[b"/c"], 4, false),
 ];
 
+fn name_of(alloc: Global, letter: u8) -> Result<Name, Fail> {
+    match Name::from_bytes(alloc, &[letter])? {
+        Some(name) => Ok(name),
+        None => Err(Fail::new("no name")),
+    }
+}
+
 fn step_of(alloc: Global, axis: u8, test: u8) -> Result<Step, Fail> {
     let axis = if axis == b'>' {
         Axis::Descendant
@@ -68,7 +75,7 @@ fn step_of(alloc: Global, axis: u8, test: u8) -> Result<Step, Fail> {
         b'*' => Test::AnyElement,
         b'#' => Test::AnyText,
         b'.' => Test::AnyNode,
-        letter => Test::Named(Name::from_bytes(alloc, &[letter])?.ok_or("no name")?),
+        letter => Test::Named(name_of(alloc, letter)?),
     };
     Ok(Step { axis, test })
 }

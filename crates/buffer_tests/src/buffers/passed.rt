@@ -67,14 +67,24 @@ fn has_role(letter: u8) -> bool {
 }
 
 fn name_of(alloc: Global, letter: u8) -> Result<Name, Fail> {
-    Ok(Name::from_bytes(alloc, &[letter])?.ok_or("no name")?)
+    match Name::from_bytes(alloc, &[letter])? {
+        Some(name) => Ok(name),
+        None => Err(Fail::new("no name")),
+    }
+}
+
+fn text_of(alloc: Global, letter: u8) -> Result<Text, Fail> {
+    match Text::from_bytes(alloc, &[letter])? {
+        Some(text) => Ok(text),
+        None => Err(Fail::new("no text")),
+    }
 }
 
 fn kind_of(alloc: Global, letter: u8) -> Result<Kind, Fail>
     ensures { IfOk result (λ kind. IsNode kind) }
 {
     if is_text(letter) {
-        let text = Text::from_bytes(alloc, &[letter])?.ok_or("no text")?;
+        let text = text_of(alloc, letter)?;
         Ok(Kind::Text(text))
     } else {
         let name = name_of(alloc, letter)?;

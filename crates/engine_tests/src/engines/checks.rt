@@ -10,6 +10,7 @@ use doc_reader::Token;
 use gcx_io::MemSource;
 use std::alloc::Global;
 use std::collections::VecDeque;
+use std::process::Abort;
 use std::test::Fail;
 use trace_check::{Checked, check_run};
 
@@ -45,29 +46,30 @@ const TOLD: [(&[u8], u64, u64); 11] = [
     (b"- 0\nw 4\no 0 0\nx 0\n", 30, 33),
 ];
 
+/// So many tokens and this trace are judged so.
+fn is_judged(
+    rt: &impl Abort,
+    alloc: Global,
+    count: usize,
+    trace: &[u8],
+    want: Checked,
+) -> Result<(), Fail> {
+    let found = checked(alloc, count, trace)?;
+    assert_eq!(rt; found, want, "{count}");
+    Ok(())
+}
+
 #[test]
 fn each_token_tells_its_lines(rt: HostRuntime) -> Result<(), Fail> {
     let alloc = rt.alloc();
     let mut trace = b"+ 0 / 0\nw 3\n".to_vec(alloc)?;
-    assert_eq!(rt; checked(alloc, 0, &trace)?, Checked::Yes(2));
+    is_judged(&rt, alloc, 0, &trace, Checked::Yes(2))?;
     for (fewer, &(told, first, last)) in TOLD.iter().enumerate() {
         let count = fewer.saturating_add(1);
-        assert_eq!(rt;
-            checked(alloc, count, &trace)?,
-            Checked::No(first),
-            "{count}"
-        );
+        is_judged(&rt, alloc, count, &trace, Checked::No(first))?;
         trace.extend_from_slice(told)?;
-        assert_eq!(rt;
-            checked(alloc, fewer, &trace)?,
-            Checked::No(first),
-            "{count}"
-        );
-        assert_eq!(rt;
-            checked(alloc, count, &trace)?,
-            Checked::Yes(last),
-            "{count}"
-        );
+        is_judged(&rt, alloc, fewer, &trace, Checked::No(first))?;
+        is_judged(&rt, alloc, count, &trace, Checked::Yes(last))?;
     }
     Ok(())
 }

@@ -220,10 +220,8 @@ fn differ(rt: &impl Abort, alloc: Global, first: &[u8], second: &[u8]) -> Result
 #[test]
 fn many_values_are_compared_at_the_root(rt: HostRuntime) -> Result<(), Fail> {
     let alloc = rt.alloc();
-    let (x, y) = (
-        elements(alloc, "x", 0, 5_000)?,
-        elements(alloc, "y", 5_000, 10_000)?,
-    );
+    let x = elements(alloc, "x", 0, 5_000)?;
+    let y = elements(alloc, "y", 5_000, 10_000)?;
     differ(&rt, alloc, &x, &y)?;
     differ(&rt, alloc, &y, &x)
 }

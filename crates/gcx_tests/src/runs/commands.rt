@@ -213,184 +213,186 @@ fn are_met(rt: &impl Abort, alloc: Global, rows: &[Row]) -> Result<(), Fail> {
     Ok(())
 }
 
+const ANSWER_BS: &[u8] = b"<r><b>1</b><b>2</b></r>";
+
+const USAGE: &[u8] = b"gcx: the words are not a command line\n";
+
+const RUNS: &[Row] = &[
+    (b"run|--trace|q|d", BS, AB, Status::Ok, ANSWER_BS, TRACE_BS),
+    (b"run|q|d|--trace", BS, AB, Status::Ok, ANSWER_BS, TRACE_BS),
+    (b"run|--ahead|3|q|d", BS, AB, Status::Ok, ANSWER_BS, b""),
+    (b"run|--ahead=1000|q|d", BS, AB, Status::Ok, ANSWER_BS, b""),
+    (
+        b"run|--trace|q|d",
+        KS,
+        b"<r><p><k/></p></r>",
+        Status::Ok,
+        b"<y></y>",
+        TRACE_KS,
+    ),
+    (
+        b"run|--trace|q|d",
+        ONES,
+        b"<r><p><k>1</k><k>2</k><k>3</k></p></r>",
+        Status::Ok,
+        b"<y></y>",
+        TRACE_ONES,
+    ),
+    (
+        b"run|q|d",
+        JS,
+        b"<r><p><k/><j>1</j><j>2</j></p></r>",
+        Status::Ok,
+        b"<j>1</j><j>2</j>",
+        b"",
+    ),
+    (b"run|q", BS, AB, Status::Usage, b"", USAGE),
+    (b"check|q|d", BS, AB, Status::Usage, b"", USAGE),
+    (b"run|--ahead|0|q|d", BS, AB, Status::Usage, b"", USAGE),
+    (
+        b"run|--trace|--ahead|3|q|d",
+        BS,
+        AB,
+        Status::Usage,
+        b"",
+        USAGE,
+    ),
+    (b"help", BS, AB, Status::Usage, b"", USAGE),
+    (
+        b"run|--trace|q|e",
+        BS,
+        AB,
+        Status::ReadFault,
+        b"",
+        b"gcx: read fault\n",
+    ),
+    (
+        b"run|--trace|q|d",
+        b"/a ; /b",
+        AB,
+        Status::QueryRefused(QueryFault::Lex(3)),
+        b"",
+        b"gcx: query Lex 3\n",
+    ),
+];
+
 #[test]
 fn runs_with_a_trace_or_ahead(rt: HostRuntime) -> Result<(), Fail> {
-    let alloc = rt.alloc();
-    let answer: &[u8] = b"<r><b>1</b><b>2</b></r>";
-    let usage: &[u8] = b"gcx: the words are not a command line\n";
-    let rows: &[Row] = &[
-        (b"run|--trace|q|d", BS, AB, Status::Ok, answer, TRACE_BS),
-        (b"run|q|d|--trace", BS, AB, Status::Ok, answer, TRACE_BS),
-        (b"run|--ahead|3|q|d", BS, AB, Status::Ok, answer, b""),
-        (b"run|--ahead=1000|q|d", BS, AB, Status::Ok, answer, b""),
-        (
-            b"run|--trace|q|d",
-            KS,
-            b"<r><p><k/></p></r>",
-            Status::Ok,
-            b"<y></y>",
-            TRACE_KS,
-        ),
-        (
-            b"run|--trace|q|d",
-            ONES,
-            b"<r><p><k>1</k><k>2</k><k>3</k></p></r>",
-            Status::Ok,
-            b"<y></y>",
-            TRACE_ONES,
-        ),
-        (
-            b"run|q|d",
-            JS,
-            b"<r><p><k/><j>1</j><j>2</j></p></r>",
-            Status::Ok,
-            b"<j>1</j><j>2</j>",
-            b"",
-        ),
-        (b"run|q", BS, AB, Status::Usage, b"", usage),
-        (b"check|q|d", BS, AB, Status::Usage, b"", usage),
-        (b"run|--ahead|0|q|d", BS, AB, Status::Usage, b"", usage),
-        (
-            b"run|--trace|--ahead|3|q|d",
-            BS,
-            AB,
-            Status::Usage,
-            b"",
-            usage,
-        ),
-        (b"help", BS, AB, Status::Usage, b"", usage),
-        (
-            b"run|--trace|q|e",
-            BS,
-            AB,
-            Status::ReadFault,
-            b"",
-            b"gcx: read fault\n",
-        ),
-        (
-            b"run|--trace|q|d",
-            b"/a ; /b",
-            AB,
-            Status::QueryRefused(QueryFault::Lex(3)),
-            b"",
-            b"gcx: query Lex 3\n",
-        ),
-    ];
-    are_met(&rt, alloc, rows)
+    are_met(&rt, rt.alloc(), RUNS)
 }
+
+const WHOLES: &[Row] = &[
+    (
+        b"whole|q|d",
+        BS,
+        AB,
+        Status::Ok,
+        b"<r><b>1</b><b>2</b></r>",
+        b"",
+    ),
+    (
+        b"whole|q|d",
+        BS,
+        b"<a><b></a>",
+        Status::DocumentRefused(DocFault::Syntax(8)),
+        b"",
+        b"gcx: document Syntax 8\n",
+    ),
+    (b"explain|q", BS, b"", Status::Ok, EXPLAINED_BS, b""),
+    (b"explain|q", PAIRS, b"", Status::Ok, EXPLAINED_PAIRS, b""),
+    (
+        b"explain|q",
+        b"/a ; /b",
+        b"",
+        Status::QueryRefused(QueryFault::Lex(3)),
+        b"",
+        b"gcx: query Lex 3\n",
+    ),
+    (
+        b"explain|e",
+        BS,
+        b"",
+        Status::ReadFault,
+        b"",
+        b"gcx: read fault\n",
+    ),
+];
 
 #[test]
 fn whole_and_explain(rt: HostRuntime) -> Result<(), Fail> {
-    let alloc = rt.alloc();
-    let rows: &[Row] = &[
-        (
-            b"whole|q|d",
-            BS,
-            AB,
-            Status::Ok,
-            b"<r><b>1</b><b>2</b></r>",
-            b"",
-        ),
-        (
-            b"whole|q|d",
-            BS,
-            b"<a><b></a>",
-            Status::DocumentRefused(DocFault::Syntax(8)),
-            b"",
-            b"gcx: document Syntax 8\n",
-        ),
-        (b"explain|q", BS, b"", Status::Ok, EXPLAINED_BS, b""),
-        (b"explain|q", PAIRS, b"", Status::Ok, EXPLAINED_PAIRS, b""),
-        (
-            b"explain|q",
-            b"/a ; /b",
-            b"",
-            Status::QueryRefused(QueryFault::Lex(3)),
-            b"",
-            b"gcx: query Lex 3\n",
-        ),
-        (
-            b"explain|e",
-            BS,
-            b"",
-            Status::ReadFault,
-            b"",
-            b"gcx: read fault\n",
-        ),
-    ];
-    are_met(&rt, alloc, rows)
+    are_met(&rt, rt.alloc(), WHOLES)
 }
+
+const NUMBERS: &[Row] = &[
+    (
+        b"peak|q|d",
+        BS,
+        AB,
+        Status::Ok,
+        b"peak 4 nodes 7 given 8 taken 8\n",
+        b"",
+    ),
+    (
+        b"peak|q|d",
+        PAIRS,
+        XY,
+        Status::Ok,
+        b"peak 11 nodes 11 given 12 taken 12\n",
+        b"",
+    ),
+    (
+        b"peak|q|d",
+        KS,
+        b"<r><p><k/></p></r>",
+        Status::Ok,
+        b"peak 4 nodes 4 given 4 taken 4\n",
+        b"",
+    ),
+    (
+        b"peak|q|d",
+        ONES,
+        b"<r><p><k>1</k><k>2</k><k>3</k></p></r>",
+        Status::Ok,
+        b"peak 5 nodes 9 given 9 taken 9\n",
+        b"",
+    ),
+    (
+        b"peak|q|d",
+        JS,
+        b"<r><p><k/><j>1</j><j>2</j></p></r>",
+        Status::Ok,
+        b"peak 6 nodes 8 given 10 taken 10\n",
+        b"",
+    ),
+    (
+        b"peak|q|d",
+        BS,
+        b"<a><b></a>",
+        Status::DocumentRefused(DocFault::Syntax(8)),
+        b"",
+        b"gcx: document Syntax 8\n",
+    ),
+    (
+        b"gen|5|2",
+        BS,
+        AB,
+        Status::Ok,
+        b"<items><item><price>5</price><note>0000000</note></item><item><price>42</price><note>0000001</note></item></items>",
+        b"",
+    ),
+    (
+        b"selfrun|5|1000",
+        BS,
+        AB,
+        Status::Ok,
+        b"answer 10007 peak 7 nodes 5002 given 6002 taken 6002\n",
+        b"",
+    ),
+];
 
 #[test]
 fn peaks_and_made_documents(rt: HostRuntime) -> Result<(), Fail> {
-    let alloc = rt.alloc();
-    let rows: &[Row] = &[
-        (
-            b"peak|q|d",
-            BS,
-            AB,
-            Status::Ok,
-            b"peak 4 nodes 7 given 8 taken 8\n",
-            b"",
-        ),
-        (
-            b"peak|q|d",
-            PAIRS,
-            XY,
-            Status::Ok,
-            b"peak 11 nodes 11 given 12 taken 12\n",
-            b"",
-        ),
-        (
-            b"peak|q|d",
-            KS,
-            b"<r><p><k/></p></r>",
-            Status::Ok,
-            b"peak 4 nodes 4 given 4 taken 4\n",
-            b"",
-        ),
-        (
-            b"peak|q|d",
-            ONES,
-            b"<r><p><k>1</k><k>2</k><k>3</k></p></r>",
-            Status::Ok,
-            b"peak 5 nodes 9 given 9 taken 9\n",
-            b"",
-        ),
-        (
-            b"peak|q|d",
-            JS,
-            b"<r><p><k/><j>1</j><j>2</j></p></r>",
-            Status::Ok,
-            b"peak 6 nodes 8 given 10 taken 10\n",
-            b"",
-        ),
-        (
-            b"peak|q|d",
-            BS,
-            b"<a><b></a>",
-            Status::DocumentRefused(DocFault::Syntax(8)),
-            b"",
-            b"gcx: document Syntax 8\n",
-        ),
-        (
-            b"gen|5|2",
-            BS,
-            AB,
-            Status::Ok,
-            b"<items><item><price>5</price><note>0000000</note></item><item><price>42</price><note>0000001</note></item></items>",
-            b"",
-        ),
-        (
-            b"selfrun|5|1000",
-            BS,
-            AB,
-            Status::Ok,
-            b"answer 10007 peak 7 nodes 5002 given 6002 taken 6002\n",
-            b"",
-        ),
-    ];
-    are_met(&rt, alloc, rows)
+    are_met(&rt, rt.alloc(), NUMBERS)
 }
 
 const LINE: &[u8] = b"gcx: write fault\n";
@@ -558,6 +560,7 @@ fn each_line_of_a_trace_is_read(rt: HostRuntime) -> Result<(), Fail> {
 
 #[test]
 fn half_a_line_of_a_trace_is_none(rt: HostRuntime) -> Result<(), Fail> {
-    assert!(rt; read_line(rt.alloc(), b"+ 2")?.is_none());
+    let line = read_line(rt.alloc(), b"+ 2")?;
+    assert!(rt; line.is_none());
     Ok(())
 }
