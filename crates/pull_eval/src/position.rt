@@ -159,8 +159,9 @@ impl<'p> Position<'p> {
     }
 }
 
-/// Carries out the statement, in advance where nodes may come that it reaches.
-#[inline(always)]
+/// Carries out the statement, in advance where nodes may come that it reaches. Out of line, so that the machine's moves are
+/// small enough to stand in line where actions are taken.
+#[inline(never)]
 fn carry_out<N: NodeStore<Row>>(
     alloc: Global,
     buffer: &mut Buffer<N>,
