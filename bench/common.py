@@ -162,15 +162,19 @@ def folder_of(words):
         yield folder
 
 
+def with_below(lines, names):
+    """These crates and all below them, each behind those that it names, as `crates.txt` has their lines."""
+    found = []
+    for name in names:
+        if name in lines:
+            found += [it for it in [*with_below(lines, lines[name].split()), name] if it not in found]
+    return found
+
+
 def copy_of(work, *names):
-    """A copy of these crates, and of all below them, in work/copy, with its crates.txt; gives its path."""
+    """A copy of these crates, and of all below them, in work/copy, with its crates.txt, the lowest first; gives its path."""
     lines = dict(re.findall(r"^(\w+):(.*)$", text_of("crates.txt"), re.M))
-    wanted, waits = [], list(names)
-    while waits:
-        name = waits.pop()
-        if name in lines and name not in wanted:
-            wanted.append(name)
-            waits += lines[name].split()
+    wanted = with_below(lines, names)
     copy = f"{work}/copy"
     shutil.rmtree(copy, ignore_errors=True)
     for name in wanted:
@@ -181,9 +185,20 @@ def copy_of(work, *names):
     return copy
 
 
-def proved(folder, *words):
-    """Proves the program of a crate and runs it once; gives its path."""
-    done = subprocess.run(["rt", "run", "--", *words], cwd=folder, stdout=subprocess.PIPE, stderr=subprocess.STDOUT, text=True, check=False)
+def made(folder, *words):
+    """Runs rt with these words in the folder of a crate; it must end with 0."""
+    done = subprocess.run(["rt", *words], cwd=folder, stdout=subprocess.PIPE, stderr=subprocess.STDOUT, text=True, check=False)
     if done.returncode:
-        raise SystemExit(f"the program of {folder} can't be made:\n" + "\n".join(done.stdout.splitlines()[-20:]))
-    return f"{folder}/out/{os.path.basename(folder)}"
+        raise SystemExit(f"rt {words[0]} of {folder} failed:\n" + "\n".join(done.stdout.splitlines()[-20:]))
+
+
+def proved(folder, *words):
+    """Proves the program of a crate of a copy, the libraries of the copy before it, and runs it once; gives its path."""
+    crates, name = os.path.split(folder)
+    with open(f"{os.path.dirname(crates)}/crates.txt", encoding="utf-8") as it:
+        libraries = [line.partition(":")[0] for line in it]
+    for library in libraries:
+        if library != name:
+            made(f"{crates}/{library}", "lib")
+    made(folder, "run", "--", *words)
+    return f"{folder}/out/{name}"
