@@ -39,15 +39,24 @@ impl<'p, N: NodeStore<Row>, C: Conds> Actors<'p, N, C> {
     {
         let mut left = ahead;
         let mut quiet = true;
+        let mut untold = Vec::new(alloc);
         for token in tokens {
             let still = self.feed_late(alloc, *token, bytes)?;
             let now = both(still, quiet);
             let fewer = left - 1;
-            let (others, so_far) = self.close_group(alloc, fewer, now, ahead, bytes, out)?;
+            let (others, so_far) = self.close_group(
+                alloc,
+                fewer,
+                now,
+                ahead,
+                bytes,
+                out,
+                &mut untold,
+            )?;
             left = others;
             quiet = so_far;
         }
-        self.end_group(alloc, quiet, bytes, out)?;
+        self.end_group(alloc, quiet, bytes, out, &mut untold)?;
         self.settle(alloc, bytes)
     }
 
@@ -62,6 +71,7 @@ impl<'p, N: NodeStore<Row>, C: Conds> Actors<'p, N, C> {
         ahead: u32,
         bytes: &[u8],
         out: &mut Vec<u8>,
+        untold: &mut Vec<u8>,
     ) -> Result<(u32, bool), Memory>
         requires ahead { 1 ≤ ahead }
         requires some { SomeAmong bytes.now C.stands ahead self.old out.old.items left quiet }
@@ -73,13 +83,14 @@ impl<'p, N: NodeStore<Row>, C: Conds> Actors<'p, N, C> {
         ensures loans { self.new.buffer.loans ≡ self.old.buffer.loans }
     {
         if left == 0 {
-            self.end_group(alloc, quiet, bytes, out)?;
+            self.end_group(alloc, quiet, bytes, out, untold)?;
             return Ok((ahead, true));
         }
         Ok((left, quiet))
     }
 
-    /// Takes every possible action, where there may be one behind the tokens of a group.
+    /// Takes every possible action, where there may be one behind the tokens of a group. No lines are wanted, so none
+    /// come to `untold`.
     #[inline(always)]
     fn end_group(
         &mut self,
@@ -87,6 +98,7 @@ impl<'p, N: NodeStore<Row>, C: Conds> Actors<'p, N, C> {
         quiet: bool,
         bytes: &[u8],
         out: &mut Vec<u8>,
+        untold: &mut Vec<u8>,
     ) -> Result<(), Memory>
         requires { SomeGroupLate bytes.now C.stands self.old quiet }
         ensures ends { OnOk result (EndsGroupLate bytes.now C.stands self.old self.new quiet out.old.items out.new.items) }
@@ -98,7 +110,7 @@ impl<'p, N: NodeStore<Row>, C: Conds> Actors<'p, N, C> {
             return Ok(());
         }
         self.settle(alloc, bytes)?;
-        self.act_all(alloc, out)
+        self.act_all_told(alloc, out, untold, false)
     }
 
     /// Feeds one token. True where no action is possible behind it that wasn't before.

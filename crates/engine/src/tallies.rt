@@ -1,6 +1,6 @@
 //! What tokens did, in numbers.
 ghost use Rattle.std.specs.Prelude.{◌≡◌, ◌&&◌, max};
-ghost use Rattle.engine.specs.Actors.{counted, is_quiet, roles_in};
+ghost use Rattle.engine.specs.Actors.{counted, is_quiet};
 
 use crate::actors::Tallied;
 use buf_tree::{Buffer, Row};
@@ -12,9 +12,16 @@ use projector::Tally;
 pub(crate) fn count(counts: Tallied, tally: Tally, held: u64) -> Tallied
     ensures { result ≡ counted counts tally held }
 {
-    Tallied {
-        peak: counts.peak.max(held),
-        given: counts.given.saturating_add(roles_of(tally)),
+    let peak = counts.peak.max(held);
+    match tally {
+        Tally::Opened(count) => Tallied {
+            peak,
+            given: counts.given.saturating_add(count as u128),
+        },
+        Tally::Closed => Tallied {
+            peak,
+            given: counts.given,
+        },
     }
 }
 
@@ -26,17 +33,6 @@ pub(crate) fn count_held(counts: Tallied, held: u64) -> Tallied
     Tallied {
         peak: counts.peak.max(held),
         given: counts.given,
-    }
-}
-
-/// How many roles the token gave.
-#[inline(always)]
-fn roles_of(tally: Tally) -> u128
-    ensures { result ≡ roles_in tally }
-{
-    match tally {
-        Tally::Opened(count) => count as u128,
-        Tally::Closed => 0,
     }
 }
 
