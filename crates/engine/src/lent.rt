@@ -80,6 +80,7 @@ impl<'p, N: NodeStore<Row>, C: Conds> Actors<'p, N, C> {
         ensures some { IfOk result (λ r. 1 ≤ r.0) }
         ensures breaks { OnErr result (BreaksAmong bytes.now C.stands ahead self.old self.new left quiet
             out.old.items out.new.items) }
+        ensures untold { untold.new.items ≡ untold.old.items }
         ensures loans { self.new.buffer.loans ≡ self.old.buffer.loans }
     {
         if left == 0 {
@@ -104,6 +105,7 @@ impl<'p, N: NodeStore<Row>, C: Conds> Actors<'p, N, C> {
         ensures ends { OnOk result (EndsGroupLate bytes.now C.stands self.old self.new quiet out.old.items out.new.items) }
         ensures breaks { OnErr result (BreaksGroupLate bytes.now C.stands self.old self.new quiet
             out.old.items out.new.items) }
+        ensures untold { untold.new.items ≡ untold.old.items }
         ensures loans { self.new.buffer.loans ≡ self.old.buffer.loans }
     {
         if quiet {

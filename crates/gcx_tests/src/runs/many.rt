@@ -2,7 +2,7 @@
 ghost use Rattle.std.specs.Prelude.{◌<◌, []};
 
 use super::objects::{fails, mem_sink, mem_status, put_file, text, texts};
-use gcx_base::{Memory, Text};
+use gcx_base::Text;
 use gcx_cmd::Status;
 use gcx_io::MemShelf;
 use gcx_model::{DocFault, QueryFault};
@@ -10,13 +10,15 @@ use std::alloc::Global;
 use std::process::Abort;
 use std::test::Fail;
 
+/// The names of files and what they hold.
+type Files<'a> = &'a [(&'a [u8], &'a [u8])];
+
 /// A query and its OUT, and how much of what it writes is settled before the tags of so many bytes of the document are
 /// read: up to each of these counts so many. Behind the last one and before the end `whole` lacks what the end settles.
 #[derive(Clone, Copy)]
 struct Asked<'a> {
-    name: &'a [u8],
-    out: &'a [u8],
     query: &'a [u8],
+    out: &'a [u8],
     settled: &'a [(usize, usize)],
     whole: &'a [u8],
 }
@@ -33,9 +35,11 @@ impl Asked<'_> {
     }
 }
 
-/// Queries over a document, and how their run ends.
+/// Words over files, what they ask of the document `d`, and how the run ends. At most three queries.
 #[derive(Clone, Copy)]
 struct Case<'a> {
+    words: &'a [&'a [u8]],
+    files: Files<'a>,
     document: &'a [u8],
     asked: &'a [Asked<'a>],
     status: Status,
@@ -43,34 +47,39 @@ struct Case<'a> {
     refused_by: usize,
 }
 
+const LOOP_QUERY: &[u8] = b"<r>{for $x in /a/b return $x}</r>";
+
+const PATH_QUERY: &[u8] = b"/a/c";
+
 const DOCUMENT: &[u8] = b"<a><b>1</b><c/><b>2</b></a>";
 
 const LOOP: Asked<'static> = Asked {
-    name: b"q1",
+    query: LOOP_QUERY,
     out: b"o1",
-    query: b"<r>{for $x in /a/b return $x}</r>",
     settled: &[(5, 3), (10, 6), (17, 11), (22, 14), (27, 19)],
     whole: b"<r><b>1</b><b>2</b></r>",
 };
 
 const PATH: Asked<'static> = Asked {
-    name: b"q2",
+    query: PATH_QUERY,
     out: b"o2",
-    query: b"/a/c",
     settled: &[(14, 0), (27, 7)],
     whole: b"<c></c>",
 };
 
 const NOTHING: Asked<'static> = Asked {
-    name: b"q3",
-    out: b"o3",
     query: b"//none",
+    out: b"o3",
     settled: &[],
     whole: b"",
 };
 
+const TWO_WORDS: &[&[u8]] = &[b"many", b"d", b"q1", b"o1", b"q2", b"o2"];
+
 /// The loop over `b` and a path.
 const BOTH: Case<'static> = Case {
+    words: TWO_WORDS,
+    files: &[(b"d", DOCUMENT), (b"q1", LOOP_QUERY), (b"q2", PATH_QUERY)],
     document: DOCUMENT,
     asked: &[LOOP, PATH],
     status: Status::Ok,
@@ -79,27 +88,36 @@ const BOTH: Case<'static> = Case {
 
 /// One more that nothing matches.
 const THREE: Case<'static> = Case {
+    words: &[b"many", b"d", b"q2", b"o2", b"q3", b"o3", b"q1", b"o1"],
+    files: &[
+        (b"d", DOCUMENT),
+        (b"q1", LOOP_QUERY),
+        (b"q2", PATH_QUERY),
+        (b"q3", b"//none"),
+    ],
     document: DOCUMENT,
     asked: &[PATH, NOTHING, LOOP],
     status: Status::Ok,
     refused_by: 28,
 };
 
+const UNCLOSED: &[u8] = b"<a><b></a>";
+
 /// The end tag doesn't fit: each has what the two tags before it settle.
 const REFUSED: Case<'static> = Case {
-    document: b"<a><b></a>",
+    words: TWO_WORDS,
+    files: &[(b"d", UNCLOSED), (b"q1", b"<r>{/a/b}</r>"), (b"q2", b"/a")],
+    document: UNCLOSED,
     asked: &[
         Asked {
-            name: b"q1",
-            out: b"o1",
             query: b"<r>{/a/b}</r>",
+            out: b"o1",
             settled: &[(5, 3)],
             whole: b"<r><b>",
         },
         Asked {
-            name: b"q2",
-            out: b"o2",
             query: b"/a",
+            out: b"o2",
             settled: &[(2, 0), (5, 3)],
             whole: b"<a><b>",
         },
@@ -108,21 +126,27 @@ const REFUSED: Case<'static> = Case {
     refused_by: 9,
 };
 
+const CUT_DOCUMENT: &[u8] = b"<a><b>1</b><c/>";
+
 /// The document ends too early: each has what its tags settle.
 const CUT: Case<'static> = Case {
-    document: b"<a><b>1</b><c/>",
+    words: TWO_WORDS,
+    files: &[
+        (b"d", CUT_DOCUMENT),
+        (b"q1", LOOP_QUERY),
+        (b"q2", PATH_QUERY),
+    ],
+    document: CUT_DOCUMENT,
     asked: &[
         Asked {
-            name: b"q1",
+            query: LOOP_QUERY,
             out: b"o1",
-            query: b"<r>{for $x in /a/b return $x}</r>",
             settled: &[(5, 3), (10, 6)],
             whole: b"<r><b>1</b>",
         },
         Asked {
-            name: b"q2",
+            query: PATH_QUERY,
             out: b"o2",
-            query: b"/a/c",
             settled: &[(14, 0)],
             whole: b"<c></c>",
         },
@@ -131,11 +155,14 @@ const CUT: Case<'static> = Case {
     refused_by: 16,
 };
 
-/// How a run ends, and how many bytes each OUT holds: None where it isn't there.
-#[derive(Drop, Debug, PartialEq)]
+/// How many bytes the OUT of each query holds: None where it isn't there.
+type Held = [Option<usize>; 3];
+
+/// How a run ends.
+#[derive(Clone, Copy, Debug, PartialEq)]
 struct End {
     status: Status,
-    held: Vec<Option<usize>>,
+    held: Held,
 }
 
 /// The calls of the shelf, of which one fails.
@@ -169,28 +196,25 @@ fn pieces(bytes: usize, most: usize) -> usize {
 
 /// The queries are attached and read to their ends, the OUTs are made and DOC is attached: the status to end with, where a
 /// call fails.
-fn begins(
-    calls: &mut Calls,
-    case: &Case<'_>,
-    most: usize,
-    held: &mut Vec<Option<usize>>,
-) -> Result<Option<Status>, Memory> {
+fn begins(calls: &mut Calls, case: &Case<'_>, most: usize, held: &mut Held) -> Option<Status> {
     for asked in case.asked {
         let count = pieces(asked.query.len(), most).saturating_add(2);
         if calls.fail_in(count) {
-            return Ok(Some(Status::ReadFault));
+            return Some(Status::ReadFault);
         }
     }
-    for _asked in case.asked {
+    for index in 0..case.asked.len() {
         if calls.fails() {
-            return Ok(Some(Status::WriteFault));
+            return Some(Status::WriteFault);
         }
-        held.push(Some(0))?;
+        if let Some(slot) = held.get_mut(index) {
+            *slot = Some(0);
+        }
     }
     if calls.fails() {
-        return Ok(Some(Status::ReadFault));
+        return Some(Status::ReadFault);
     }
-    Ok(None)
+    None
 }
 
 /// An OUT that holds so many bytes takes up to this many. None where a write fails, and else what it holds then.
@@ -212,7 +236,7 @@ fn taken(calls: &mut Calls, before: usize, upto: usize, most: usize) -> (usize, 
 fn write_fails(
     calls: &mut Calls,
     case: &Case<'_>,
-    held: &mut [Option<usize>],
+    held: &mut Held,
     read: Option<usize>,
     most: usize,
 ) -> bool {
@@ -233,7 +257,7 @@ fn write_fails(
 }
 
 /// The run once DOC is attached: before each read each OUT takes what is settled.
-fn ran(calls: &mut Calls, case: &Case<'_>, most: usize, held: &mut [Option<usize>]) -> Status {
+fn ran(calls: &mut Calls, case: &Case<'_>, most: usize, held: &mut Held) -> Status {
     let mut read = 0;
     for _turn in 0..100 {
         if write_fails(calls, case, held, Some(read), most) {
@@ -255,100 +279,122 @@ fn ran(calls: &mut Calls, case: &Case<'_>, most: usize, held: &mut [Option<usize
 }
 
 /// How the run ends whose call of this number fails, told apart from the program.
-fn expected(alloc: Global, case: &Case<'_>, most: usize, failing: usize) -> Result<End, Memory> {
+fn expected(case: &Case<'_>, most: usize, failing: usize) -> End {
     let mut calls = Calls { made: 0, failing };
-    let mut held = Vec::new(alloc);
-    let status = match begins(&mut calls, case, most, &mut held)? {
+    let mut held = [None; 3];
+    let status = match begins(&mut calls, case, most, &mut held) {
         Some(status) => status,
         None => ran(&mut calls, case, most, &mut held),
     };
-    for _asked in held.len()..case.asked.len() {
-        held.push(None)?;
-    }
-    Ok(End { status, held })
+    End { status, held }
 }
 
-/// The number of bytes that the name holds, which are a front of these.
-fn held_of(
-    rt: &impl Abort,
+/// Files of these names, each call of which moves at most `most` bytes.
+fn files_of(
     alloc: Global,
-    files: &MemShelf,
-    name: &[u8],
-    whole: &[u8],
-) -> Result<Option<usize>, Fail> {
-    let name = text(alloc, name)?;
-    assert!(rt; files.is_whole());
-    Ok(match files.bytes(&name) {
-        Some(bytes) => {
-            assert!(rt; whole.starts_with(bytes));
-            Some(bytes.len())
-        }
-        None => None,
-    })
-}
-
-/// The files of a case, each call of which moves at most `most` bytes.
-fn shelf(
-    alloc: Global,
-    case: &Case<'_>,
+    files: Files<'_>,
     most: usize,
     failing: Option<u64>,
 ) -> Result<MemShelf, Fail>
     requires { 0 < most }
 {
-    let mut files = MemShelf::new(alloc, 100, most, fails(alloc, failing)?);
-    put_file(alloc, &mut files, b"d", case.document)?;
-    for asked in case.asked {
-        put_file(alloc, &mut files, asked.name, asked.query)?;
+    let mut shelf = MemShelf::new(alloc, 100, most, fails(alloc, failing)?);
+    for &(name, bytes) in files {
+        put_file(alloc, &mut shelf, name, bytes)?;
     }
-    Ok(files)
+    Ok(shelf)
 }
 
-/// The words of a case.
-fn words_of(alloc: Global, case: &Case<'_>) -> Result<Vec<Text>, Fail> {
-    let mut words = texts(alloc, &[b"many", b"d"])?;
-    for asked in case.asked {
-        words.push(text(alloc, asked.name)?)?;
-        words.push(text(alloc, asked.out)?)?;
+/// What the name holds.
+fn bytes_of<'f>(
+    rt: &impl Abort,
+    alloc: Global,
+    files: &'f MemShelf,
+    name: &[u8],
+) -> Result<Option<&'f [u8]>, Fail> {
+    let name = text(alloc, name)?;
+    assert!(rt; files.is_whole());
+    Ok(files.bytes(&name))
+}
+
+/// How a run of these words over the files ends. It writes no output.
+fn status_of(
+    rt: &impl Abort,
+    alloc: Global,
+    words: &[Text],
+    files: &mut MemShelf,
+    most: usize,
+) -> Result<Status, Fail>
+    requires { 0 < most }
+{
+    let mut out = mem_sink(alloc, 10, most, None)?;
+    let mut err = mem_sink(alloc, 100, most, None)?;
+    let status = mem_status(alloc, words, files, &mut out, &mut err);
+    assert!(rt; out.is_whole());
+    assert!(rt; out.bytes().is_empty());
+    Ok(status)
+}
+
+/// The number of bytes that each OUT holds, which are a front of what its query writes.
+fn held_by(
+    rt: &impl Abort,
+    alloc: Global,
+    files: &MemShelf,
+    case: &Case<'_>,
+) -> Result<Held, Fail> {
+    let mut held = [None; 3];
+    for (index, asked) in case.asked.iter().enumerate() {
+        if let Some(bytes) = bytes_of(rt, alloc, files, asked.out)? {
+            assert!(rt; asked.whole.starts_with(bytes));
+            if let Some(slot) = held.get_mut(index) {
+                *slot = Some(bytes.len());
+            }
+        }
     }
-    Ok(words)
+    Ok(held)
 }
 
 /// A run in which the call of this number of the shelf fails.
 fn run_many(
     rt: &impl Abort,
     alloc: Global,
+    words: &[Text],
     case: &Case<'_>,
     most: usize,
-    failing: Option<u64>,
-) -> Result<End, Fail> {
-    assert!(rt; most > 0);
-    let words = words_of(alloc, case)?;
-    let mut files = shelf(alloc, case, most, failing)?;
-    let mut out = mem_sink(alloc, 10, most, None)?;
-    let mut err = mem_sink(alloc, 100, most, None)?;
-    let status = mem_status(alloc, &words, &mut files, &mut out, &mut err);
-    assert!(rt; out.is_whole());
-    assert!(rt; out.bytes().is_empty());
-    let mut held = Vec::new(alloc);
-    for asked in case.asked {
-        held.push(held_of(rt, alloc, &files, asked.out, asked.whole)?)?;
-    }
+    failing: u64,
+) -> Result<End, Fail>
+    requires { 0 < most }
+{
+    let mut files = files_of(alloc, case.files, most, Some(failing))?;
+    let status = status_of(rt, alloc, words, &mut files, most)?;
+    let held = held_by(rt, alloc, &files, case)?;
     Ok(End { status, held })
 }
 
-/// Each call fails once, and then none does.
-fn each_call_fails(rt: &impl Abort, alloc: Global, case: Case<'_>) -> Result<(), Fail> {
-    for most in [1, 7, 65_536] {
-        let mut over = false;
-        for failing in 1..300 {
-            if !over {
-                let wanted = expected(alloc, &case, most, failing)?;
-                let ended = run_many(rt, alloc, &case, most, Some(failing as u64))?;
-                assert_eq!(rt; ended, wanted, "{most} {failing}");
-                over = wanted.status == case.status;
-            }
+/// Each call fails once, and then none does. True where the last run had no fault.
+fn each_call_of(
+    rt: &impl Abort,
+    alloc: Global,
+    words: &[Text],
+    case: &Case<'_>,
+    most: usize,
+) -> Result<bool, Fail> {
+    assert!(rt; most > 0);
+    for failing in 1..300usize {
+        let wanted = expected(case, most, failing);
+        let ended = run_many(rt, alloc, words, case, most, failing as u64)?;
+        assert_eq!(rt; ended, wanted, "{most} {failing}");
+        if wanted.status == case.status {
+            return Ok(true);
         }
+    }
+    Ok(false)
+}
+
+fn each_call_fails(rt: &impl Abort, alloc: Global, case: Case<'_>) -> Result<(), Fail> {
+    let words = texts(alloc, case.words)?;
+    for most in [1, 7, 65_536] {
+        let over = each_call_of(rt, alloc, &words, &case, most)?;
         assert!(rt; over);
     }
     Ok(())
@@ -362,140 +408,114 @@ fn each_call_of_a_shelf_fails_in_many(rt: HostRuntime) -> Result<(), Fail> {
     each_call_fails(&rt, rt.alloc(), CUT)
 }
 
-/// Files of these names.
-fn files_of(alloc: Global, files: &[(&[u8], &[u8])], most: usize) -> Result<MemShelf, Fail>
-    requires { 0 < most }
-{
-    let mut shelf = MemShelf::new(alloc, 100, most, Vec::new(alloc));
-    for &(name, bytes) in files {
-        put_file(alloc, &mut shelf, name, bytes)?;
-    }
-    Ok(shelf)
-}
-
-/// What the name holds.
-fn bytes_of(
-    rt: &impl Abort,
-    alloc: Global,
-    files: &MemShelf,
-    name: &[u8],
-) -> Result<Option<Vec<u8>>, Fail> {
-    let name = text(alloc, name)?;
-    assert!(rt; files.is_whole());
-    Ok(match files.bytes(&name) {
-        Some(bytes) => Some(bytes.to_vec(alloc)?),
-        None => None,
-    })
-}
+/// What names hold: None where they aren't there.
+type Kept<'a> = &'a [(&'a [u8], Option<&'a [u8]>)];
 
 /// The words over these files end so, and then these names hold so much.
 fn ends_with_files(
     rt: &impl Abort,
     alloc: Global,
     words: &[&[u8]],
-    files: &[(&[u8], &[u8])],
+    files: Files<'_>,
     status: Status,
-    held: &[(&[u8], Option<&[u8]>)],
+    kept: Kept<'_>,
 ) -> Result<(), Fail> {
     let words = texts(alloc, words)?;
     for most in [1, 7, 65_536] {
         assert!(rt; most > 0);
-        let mut shelf = files_of(alloc, files, most)?;
-        let mut out = mem_sink(alloc, 10, most, None)?;
-        let mut err = mem_sink(alloc, 100, most, None)?;
-        let ended = mem_status(alloc, &words, &mut shelf, &mut out, &mut err);
+        let mut shelf = files_of(alloc, files, most, None)?;
+        let ended = status_of(rt, alloc, &words, &mut shelf, most)?;
         assert_eq!(rt; ended, status, "{most}");
-        for &(name, bytes) in held {
-            let found = bytes_of(rt, alloc, &shelf, name)?;
-            assert_eq!(rt; found.as_deref(), bytes, "{name:?}");
-        }
+        holds(rt, alloc, &shelf, kept)?;
+    }
+    Ok(())
+}
+
+fn holds(rt: &impl Abort, alloc: Global, files: &MemShelf, kept: Kept<'_>) -> Result<(), Fail> {
+    for &(name, bytes) in kept {
+        let found = bytes_of(rt, alloc, files, name)?;
+        assert_eq!(rt; found, bytes, "{name:?}");
     }
     Ok(())
 }
 
 const AB: &[u8] = b"<a><b>1</b><c/></a>";
 
+/// One query twice.
+const WORDS: &[&[u8]] = &[b"many", b"d", b"p", b"o1", b"q", b"o2", b"p", b"o3"];
+
+/// Two queries, and an OUT that is there already.
+const FILES: Files<'static> = &[
+    (b"d", AB),
+    (b"p", b"/a/b"),
+    (b"q", b"/a/c"),
+    (b"o1", b"before"),
+];
+
+/// No OUT is made.
+const UNTOUCHED: Kept<'static> = &[(b"o1", Some(b"before")), (b"o2", None), (b"o3", None)];
+
 #[test]
 fn outs_are_made_behind_all_queries(rt: HostRuntime) -> Result<(), Fail> {
     let alloc = rt.alloc();
-    let words: &[&[u8]] = &[b"many", b"d", b"p", b"o1", b"q", b"o2", b"p", b"o3"];
-    let files: &[(&[u8], &[u8])] = &[
-        (b"d", AB),
-        (b"p", b"/a/b"),
-        (b"q", b"/a/c"),
-        (b"o1", b"before"),
-    ];
-    // one query twice, and an OUT that is there already
-    let all: &[(&[u8], Option<&[u8]>)] = &[
+    let all: Kept<'_> = &[
         (b"o1", Some(b"<b>1</b>")),
         (b"o2", Some(b"<c></c>")),
         (b"o3", Some(b"<b>1</b>")),
         (b"d", Some(AB)),
     ];
-    ends_with_files(&rt, alloc, words, files, Status::Ok, all)?;
-    let none: &[(&[u8], Option<&[u8]>)] = &[(b"o1", Some(b"before")), (b"o2", None), (b"o3", None)];
-    // the one in the middle isn't there, or is refused
-    let missing: &[(&[u8], &[u8])] = &[(b"d", AB), (b"p", b"/a/b"), (b"o1", b"before")];
-    ends_with_files(&rt, alloc, words, missing, Status::ReadFault, none)?;
-    let refused: &[(&[u8], &[u8])] = &[
+    ends_with_files(&rt, alloc, WORDS, FILES, Status::Ok, all)?;
+    // the query in the middle isn't there, or is refused
+    let missing: Files<'_> = &[(b"d", AB), (b"p", b"/a/b"), (b"o1", b"before")];
+    ends_with_files(&rt, alloc, WORDS, missing, Status::ReadFault, UNTOUCHED)?;
+    let refused: Files<'_> = &[
         (b"d", AB),
         (b"p", b"/a/b"),
         (b"q", b"/a)"),
         (b"o1", b"before"),
     ];
     let fault = Status::QueryRefused(QueryFault::Syntax(2));
-    ends_with_files(&rt, alloc, words, refused, fault, none)?;
+    ends_with_files(&rt, alloc, WORDS, refused, fault, UNTOUCHED)?;
     // DOC isn't there
-    let undocumented: &[(&[u8], &[u8])] = &[(b"p", b"/a/b"), (b"q", b"/a/c"), (b"o1", b"before")];
-    let empty: &[(&[u8], Option<&[u8]>)] = &[
-        (b"o1", Some(b"")),
-        (b"o2", Some(b"")),
-        (b"o3", Some(b"")),
-    ];
-    ends_with_files(&rt, alloc, words, undocumented, Status::ReadFault, empty)?;
-    // words that are no command line
-    let odd: &[&[u8]] = &[b"many", b"d", b"p"];
-    ends_with_files(&rt, alloc, odd, files, Status::Usage, none)?;
-    let twice: &[&[u8]] = &[b"many", b"d", b"p", b"o2", b"q", b"o2"];
-    ends_with_files(&rt, alloc, twice, files, Status::Usage, none)
+    let undocumented: Files<'_> = &[(b"p", b"/a/b"), (b"q", b"/a/c"), (b"o1", b"before")];
+    let empty: Kept<'_> = &[(b"o1", Some(b"")), (b"o2", Some(b"")), (b"o3", Some(b""))];
+    ends_with_files(&rt, alloc, WORDS, undocumented, Status::ReadFault, empty)
 }
 
-const NAMES: [(&[u8], &[u8]); 16] = [
-    (b"p", b"o00"),
-    (b"q", b"o01"),
-    (b"p", b"o02"),
-    (b"q", b"o03"),
-    (b"p", b"o04"),
-    (b"q", b"o05"),
-    (b"p", b"o06"),
-    (b"q", b"o07"),
-    (b"p", b"o08"),
-    (b"q", b"o09"),
-    (b"p", b"o10"),
-    (b"q", b"o11"),
-    (b"p", b"o12"),
-    (b"q", b"o13"),
-    (b"p", b"o14"),
-    (b"q", b"o15"),
+#[test]
+fn words_that_are_no_pairs_make_no_out(rt: HostRuntime) -> Result<(), Fail> {
+    let odd: &[&[u8]] = &[b"many", b"d", b"p"];
+    ends_with_files(&rt, rt.alloc(), odd, FILES, Status::Usage, UNTOUCHED)?;
+    let twice: &[&[u8]] = &[b"many", b"d", b"p", b"o2", b"q", b"o2"];
+    ends_with_files(&rt, rt.alloc(), twice, FILES, Status::Usage, UNTOUCHED)
+}
+
+const SIXTEEN: &[&[u8]] = &[
+    b"many", b"d", b"p", b"o00", b"q", b"o01", b"p", b"o02", b"q", b"o03", b"p", b"o04", b"q",
+    b"o05", b"p", b"o06", b"q", b"o07", b"p", b"o08", b"q", b"o09", b"p", b"o10", b"q", b"o11",
+    b"p", b"o12", b"q", b"o13", b"p", b"o14", b"q", b"o15",
+];
+
+const ANSWERS: Kept<'static> = &[
+    (b"o00", Some(b"<b>1</b>")),
+    (b"o01", Some(b"<c></c>")),
+    (b"o02", Some(b"<b>1</b>")),
+    (b"o03", Some(b"<c></c>")),
+    (b"o04", Some(b"<b>1</b>")),
+    (b"o05", Some(b"<c></c>")),
+    (b"o06", Some(b"<b>1</b>")),
+    (b"o07", Some(b"<c></c>")),
+    (b"o08", Some(b"<b>1</b>")),
+    (b"o09", Some(b"<c></c>")),
+    (b"o10", Some(b"<b>1</b>")),
+    (b"o11", Some(b"<c></c>")),
+    (b"o12", Some(b"<b>1</b>")),
+    (b"o13", Some(b"<c></c>")),
+    (b"o14", Some(b"<b>1</b>")),
+    (b"o15", Some(b"<c></c>")),
 ];
 
 #[test]
 fn sixteen_queries_are_answered(rt: HostRuntime) -> Result<(), Fail> {
-    let alloc = rt.alloc();
-    let mut words: Vec<&[u8]> = Vec::new(alloc);
-    words.push(b"many")?;
-    words.push(b"d")?;
-    let mut held: Vec<(&[u8], Option<&[u8]>)> = Vec::new(alloc);
-    for (query, out) in NAMES {
-        words.push(query)?;
-        words.push(out)?;
-        let answer: &[u8] = if query == b"p".as_slice() {
-            b"<b>1</b>"
-        } else {
-            b"<c></c>"
-        };
-        held.push((out, Some(answer)))?;
-    }
-    let files: &[(&[u8], &[u8])] = &[(b"d", AB), (b"p", b"/a/b"), (b"q", b"/a/c")];
-    ends_with_files(&rt, alloc, &words, files, Status::Ok, &held)
+    ends_with_files(&rt, rt.alloc(), SIXTEEN, FILES, Status::Ok, ANSWERS)
 }

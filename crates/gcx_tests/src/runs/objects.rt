@@ -53,7 +53,10 @@ impl Ran {
 }
 
 pub(super) fn text(alloc: Global, word: &[u8]) -> Result<Text, Fail> {
-    Ok(Text::from_bytes(alloc, word)?.ok_or("not a text")?)
+    match Text::from_bytes(alloc, word)? {
+        Some(text) => Ok(text),
+        None => Err(Fail::new("not a text")),
+    }
 }
 
 pub(super) fn texts(alloc: Global, words: &[&[u8]]) -> Result<Vec<Text>, Fail> {

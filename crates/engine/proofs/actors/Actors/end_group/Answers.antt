@@ -1,4 +1,4 @@
-use Rattle.std.proofs.Common.{◌∙◌, ◌++◌}
+use Rattle.std.proofs.Common.{◌∙◌, ◌++◌, refl}
 use Rattle.gcx_model.specs.Seen.{seen_tree}
 use Rattle.engine.specs.Actors.{ActsOnFrom, ActsSomeFrom, all_of}
 use Rattle.engine.specs.Late.{BreaksGroupLate, EndsGroupLate}
@@ -48,6 +48,9 @@ returns-clause-breaks g c =
     let from : ActsSomeFrom g.C.Conds.stands s d u w → BreaksGroupLate c.args.bytes.now g.C.Conds.stands c.args.self.now d c.args.quiet u w = λ acts plan ahead at ts us may come f.
     group_broke c.args.bytes.now g.C.Conds.stands plan ahead at c.args.self.now ts us c.args.quiet may come f s c.in_ok-settle.ensures.settles c.settle.ensures.counts d u w c.act_all_told.ensures.counts acts in
     err_map c.act_all_told.result from c.act_all_told.ensures.some
+
+pub returns-clause-untold : goal.returns-clause-untold
+returns-clause-untold g c = c.act_all_told.ensures.untold refl
 
 pub returns-clause-loans : goal.returns-clause-loans
 returns-clause-loans g c = c.act_all_told.ensures.loans ∙ c.settle.ensures.loans
