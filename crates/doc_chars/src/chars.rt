@@ -5,13 +5,16 @@ ghost use Rattle.std.specs.Char.{encode_utf8};
 use crate::cut::{LONGEST, cut_piece};
 use crate::scan::Cause;
 use std::marker::Model;
+use thiserror::Error;
 
 /// The first place where a stream isn't characters of XML. The number is the offset of the first byte there.
-#[derive(Clone, Copy, Debug, PartialEq, Eq)]
+#[derive(Clone, Copy, Debug, PartialEq, Eq, Error)]
 pub enum CharFault {
     /// A sequence of bytes that isn't UTF-8.
+    #[error("not UTF-8 at byte {0}")]
     Utf8(u64),
     /// A character that isn't a Char (XML 1.0, section 2.2).
+    #[error("not a character of XML at byte {0}")]
     Char(u64),
 }
 

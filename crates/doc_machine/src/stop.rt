@@ -5,20 +5,27 @@ ghost use Rattle.doc_machine.specs.Refusals.{stop_fault};
 
 use gcx_base::Memory;
 use gcx_model::DocFault;
+use thiserror::Error;
 
 /// A fault that a character makes, and its place in bytes.
-#[derive(Clone, Copy, Debug)]
+#[derive(Clone, Copy, Debug, Error)]
 pub enum Refusal {
+    #[error("not a document at byte {0}")]
     Syntax(u64),
+    #[error("too deep at byte {0}")]
     Depth(u64),
+    #[error("a name too long at byte {0}")]
     NameLong(u64),
+    #[error("a text too long at byte {0}")]
     TextLong(u64),
 }
 
 /// Why reading stopped.
-#[derive(Clone, Copy, Debug)]
+#[derive(Clone, Copy, Debug, Error)]
 pub enum Stop {
+    #[error("{0}")]
     Refused(Refusal),
+    #[error("out of memory")]
     Memory,
 }
 

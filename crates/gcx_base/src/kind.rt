@@ -22,7 +22,7 @@ impl Kind {
         matches!(self, Kind::Text(_))
     }
 
-    /// The same kind once more.
+    /// A copy of the kind. `Memory`: there was no room for it.
     pub fn copy(&self, alloc: Global) -> Result<Kind, Memory>
         ensures { IfOk result (λ kind. kind ≡ self.now) }
     {

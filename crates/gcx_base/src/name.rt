@@ -110,7 +110,7 @@ impl Name {
         unsafe { from_utf8_unchecked(self.bytes.as_slice()) }
     }
 
-    /// The same name once more.
+    /// A copy of the name. `Memory`: there was no room for it.
     pub fn copy(&self, alloc: Global) -> Result<Name, Memory>
         ensures { IfOk result (λ name. name ≡ self.now) }
     {

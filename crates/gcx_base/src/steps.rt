@@ -36,7 +36,7 @@ impl Test {
         }
     }
 
-    /// The same test once more.
+    /// A copy of the test. `Memory`: there was no room for it.
     pub fn copy(&self, alloc: Global) -> Result<Test, Memory>
         ensures { IfOk result (λ test. test ≡ self.now) }
     {
@@ -57,7 +57,7 @@ pub struct Step {
 }
 
 impl Step {
-    /// The same step once more.
+    /// A copy of the step. `Memory`: there was no room for it.
     pub fn copy(&self, alloc: Global) -> Result<Step, Memory>
         ensures { IfOk result (λ step. step ≡ self.now) }
     {
@@ -109,7 +109,7 @@ impl Steps {
         &self.steps
     }
 
-    /// The same list once more.
+    /// A copy of the list. `Memory`: there was no room for it.
     pub fn copy(&self, alloc: Global) -> Result<Steps, Memory>
         ensures { IfOk result (λ steps. steps ≡ self.now) }
     {

@@ -52,7 +52,7 @@ impl Text {
         Ok(Text { bytes })
     }
 
-    /// The same text in another type. A long one is moved.
+    /// The bytes of a string as a `Text`. A long string is moved, not copied.
     pub fn from_string(text: String) -> Text
         ensures { result ≡ string_bytes text }
     {
@@ -91,7 +91,7 @@ impl Text {
         unsafe { from_utf8_unchecked(self.bytes.as_slice()) }
     }
 
-    /// The same text once more.
+    /// A copy of the text. `Memory`: there was no room for it.
     pub fn copy(&self, alloc: Global) -> Result<Text, Memory>
         ensures { IfOk result (λ text. text ≡ self.now) }
     {

@@ -16,7 +16,7 @@ pub enum Operand {
 }
 
 impl Operand {
-    /// The same operand once more.
+    /// A copy of the operand. `Memory`: there was no room for it.
     pub fn copy(&self, alloc: Global) -> Result<Operand, Memory>
         ensures { IfOk result (λ operand. operand ≡ self.now) }
     {
@@ -55,7 +55,7 @@ pub enum Cond {
 }
 
 impl Cond {
-    /// The same condition once more.
+    /// A copy of the condition. `Memory`: there was no room for it.
     #[cycle(copy_core_conditions)]
     pub fn copy(&self, alloc: Global) -> Result<Cond, Memory>
         ensures { IfOk result (λ cond. core_cond_tree cond ≡ core_cond_tree self.now) }
@@ -116,7 +116,7 @@ impl CondList {
         &self.members
     }
 
-    /// The same list once more.
+    /// A copy of the list. `Memory`: there was no room for it.
     #[cycle(copy_core_conditions)]
     pub fn copy(&self, alloc: Global) -> Result<CondList, Memory>
         ensures { IfOk result (λ conds. core_cond_trees conds ≡ core_cond_trees self.now) }

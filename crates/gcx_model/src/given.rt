@@ -56,7 +56,7 @@ impl Given {
         self.roles.as_slice()
     }
 
-    /// The same list once more.
+    /// A copy of the list. `Memory`: there was no room for it.
     pub fn copy(&self, alloc: Global) -> Result<Given, Memory>
         ensures { IfOk result (λ given. given ≡ self.now) }
     {

@@ -45,7 +45,7 @@ impl Off {
         }
     }
 
-    /// The same statement once more.
+    /// A copy of the statement. `Memory`: there was no room for it.
     pub fn copy(&self, alloc: Global) -> Result<Off, Memory>
         ensures { IfOk result (λ off. off ≡ self.now) }
     {
@@ -87,7 +87,7 @@ pub enum Item {
 }
 
 impl Item {
-    /// The same item once more.
+    /// A copy of the item. `Memory`: there was no room for it.
     #[cycle(copy_items)]
     pub fn copy(&self, alloc: Global) -> Result<Item, Memory>
         ensures { IfOk result (λ item. item_tree item ≡ item_tree self.now) }
@@ -155,7 +155,7 @@ impl Body {
         &self.members
     }
 
-    /// The same list once more.
+    /// A copy of the list. `Memory`: there was no room for it.
     #[cycle(copy_items)]
     pub fn copy(&self, alloc: Global) -> Result<Body, Memory>
         ensures { IfOk result (λ body. item_trees body ≡ item_trees self.now) }

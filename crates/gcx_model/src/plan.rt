@@ -15,7 +15,7 @@ pub struct VarRow {
 }
 
 impl VarRow {
-    /// The same row once more.
+    /// A copy of the row. `Memory`: there was no room for it.
     pub fn copy(&self, alloc: Global) -> Result<VarRow, Memory>
         ensures { IfOk result (λ row. row ≡ self.now) }
     {
@@ -36,7 +36,7 @@ pub struct RoleRow {
 }
 
 impl RoleRow {
-    /// The same row once more.
+    /// A copy of the row. `Memory`: there was no room for it.
     pub fn copy(&self, alloc: Global) -> Result<RoleRow, Memory>
         ensures { IfOk result (λ row. row ≡ self.now) }
     {
@@ -57,7 +57,7 @@ pub struct Core {
 }
 
 impl Core {
-    /// The same core once more.
+    /// A copy of the core. `Memory`: there was no room for it.
     pub fn copy(&self, alloc: Global) -> Result<Core, Memory>
         ensures { IfOk result (λ core. core_tree core ≡ core_tree self.now) }
     {
@@ -82,7 +82,7 @@ pub struct Plan {
 }
 
 impl Plan {
-    /// The same plan once more.
+    /// A copy of the plan. `Memory`: there was no room for it.
     pub fn copy(&self, alloc: Global) -> Result<Plan, Memory>
         ensures { IfOk result (λ plan. plan_tree plan ≡ plan_tree self.now) }
     {
@@ -142,7 +142,7 @@ impl VarRows {
         &self.rows
     }
 
-    /// The same list once more.
+    /// A copy of the list. `Memory`: there was no room for it.
     pub fn copy(&self, alloc: Global) -> Result<VarRows, Memory>
         ensures { IfOk result (λ rows. rows ≡ self.now) }
     {
@@ -195,7 +195,7 @@ impl RoleRows {
         &self.rows
     }
 
-    /// The same list once more.
+    /// A copy of the list. `Memory`: there was no room for it.
     pub fn copy(&self, alloc: Global) -> Result<RoleRows, Memory>
         ensures { IfOk result (λ rows. rows ≡ self.now) }
     {
@@ -248,7 +248,7 @@ impl VarIds {
         &self.vars
     }
 
-    /// The same list once more.
+    /// A copy of the list. `Memory`: there was no room for it.
     pub fn copy(&self, alloc: Global) -> Result<VarIds, Memory>
         ensures { IfOk result (λ vars. vars ≡ self.now) }
     {
@@ -297,7 +297,7 @@ impl Flags {
         &self.flags
     }
 
-    /// The same list once more.
+    /// A copy of the list. `Memory`: there was no room for it.
     pub fn copy(&self, alloc: Global) -> Result<Flags, Memory>
         ensures { IfOk result (λ flags. flags ≡ self.now) }
     {

@@ -17,7 +17,7 @@ pub struct PathExpr {
 }
 
 impl PathExpr {
-    /// The same path once more.
+    /// A copy of the path. `Memory`: there was no room for it.
     pub fn copy(&self, alloc: Global) -> Result<PathExpr, Memory>
         ensures { IfOk result (λ path. path ≡ self.now) }
     {
@@ -44,7 +44,7 @@ pub struct Clause {
 }
 
 impl Clause {
-    /// The same clause once more.
+    /// A copy of the clause. `Memory`: there was no room for it.
     pub fn copy(&self, alloc: Global) -> Result<Clause, Memory>
         ensures { IfOk result (λ clause. clause ≡ self.now) }
     {
@@ -95,7 +95,7 @@ impl Clauses {
         &self.clauses
     }
 
-    /// The same list once more.
+    /// A copy of the list. `Memory`: there was no room for it.
     pub fn copy(&self, alloc: Global) -> Result<Clauses, Memory>
         ensures { IfOk result (λ clauses. clauses ≡ self.now) }
     {
@@ -117,7 +117,7 @@ pub enum QOperand {
 }
 
 impl QOperand {
-    /// The same operand once more.
+    /// A copy of the operand. `Memory`: there was no room for it.
     pub fn copy(&self, alloc: Global) -> Result<QOperand, Memory>
         ensures { IfOk result (λ operand. operand ≡ self.now) }
     {
@@ -149,7 +149,7 @@ pub enum QCond {
 }
 
 impl QCond {
-    /// The same condition once more.
+    /// A copy of the condition. `Memory`: there was no room for it.
     #[cycle(copy_conditions)]
     pub fn copy(&self, alloc: Global) -> Result<QCond, Memory>
         ensures { IfOk result (λ cond. cond_tree cond ≡ cond_tree self.now) }
@@ -207,7 +207,7 @@ impl QConds {
         &self.members
     }
 
-    /// The same list once more.
+    /// A copy of the list. `Memory`: there was no room for it.
     #[cycle(copy_conditions)]
     pub fn copy(&self, alloc: Global) -> Result<QConds, Memory>
         ensures { IfOk result (λ conds. cond_trees conds ≡ cond_trees self.now) }
@@ -247,7 +247,7 @@ pub enum Expr {
 }
 
 impl Expr {
-    /// The same expression once more.
+    /// A copy of the expression. `Memory`: there was no room for it.
     #[cycle(copy_expressions)]
     pub fn copy(&self, alloc: Global) -> Result<Expr, Memory>
         ensures { IfOk result (λ expr. expr_tree expr ≡ expr_tree self.now) }
@@ -362,7 +362,7 @@ impl Exprs {
         &self.members
     }
 
-    /// The same list once more.
+    /// A copy of the list. `Memory`: there was no room for it.
     #[cycle(copy_expressions)]
     pub fn copy(&self, alloc: Global) -> Result<Exprs, Memory>
         ensures { IfOk result (λ exprs. expr_trees exprs ≡ expr_trees self.now) }
@@ -382,7 +382,7 @@ pub struct Query {
 }
 
 impl Query {
-    /// The same query once more.
+    /// A copy of the query. `Memory`: there was no room for it.
     pub fn copy(&self, alloc: Global) -> Result<Query, Memory>
         ensures { IfOk result (λ query. query_trees query ≡ query_trees self.now) }
     {
