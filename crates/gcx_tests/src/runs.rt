@@ -3,6 +3,8 @@ mod calls;
 mod checks;
 mod commands;
 mod failing;
+mod joins;
+mod lent;
 mod limits;
 mod many;
 mod objects;

@@ -76,7 +76,7 @@ o 0 0
 x 0
 ";
 
-/// The first lines of `TRACE_BS`, and in place of its line 12 a role that is taken twice.
+/// The trace `TRACE_BS` with another line 12: a role that is taken twice.
 const TAKEN_TWICE: &[u8] = b"+ 0 / 0
 w 3
 + 1 a 1
@@ -89,6 +89,27 @@ w 4
 o 2 3
 x 3
 o 2 3
+x 2
++ 4 c
+- 4
+x 4
++ 5 b 2 3
+w 3
++ 6 # 3
+w 1
+- 5
+w 4
+o 5 3
+x 6
+o 5 2
+x 5
+- 1
+o 1 1
+x 1
+- 0
+w 4
+o 0 0
+x 0
 ";
 
 /// The trace is judged so, by calls that move a byte, some or all.

@@ -214,3 +214,13 @@ fn each_write_of_the_line_fails_once(rt: HostRuntime) -> Result<(), Fail> {
     }
     Ok(())
 }
+
+#[test]
+fn a_second_write_that_fails_leaves_the_first(rt: HostRuntime) -> Result<(), Fail> {
+    let ran = at_write(&rt, rt.alloc(), &LOOP, 65_536, 2)?;
+    assert_eq!(&rt;
+        (ran.status, ran.out.as_slice()),
+        (Status::WriteFault, b"<r>".as_slice())
+    );
+    Ok(())
+}

@@ -1,5 +1,6 @@
 //! Queries at the limits of a plan.
-use super::{is_answered, is_refused};
+use super::objects::End;
+use super::{ends_in_pieces, is_answered, is_refused};
 use crate::large::{LOOKING, copied, joined, listed, looking_far, repeated};
 use gcx_cmd::Status;
 use gcx_model::{QueryFault, What};
@@ -135,4 +136,19 @@ fn too_many_roles_are_told_before_descendants(rt: HostRuntime) -> Result<(), Fai
     let query = joined(alloc, &[SEVEN, b", ", &roles])?;
     let line = b"gcx: query TooLarge Roles 2000\n";
     is_past(&rt, alloc, &query, What::Roles, 2_000, line)
+}
+
+/// Six descendant steps lead to an innermost element by some 10^15 chains.
+#[test]
+fn many_chains_to_a_node_are_walked_once(rt: HostRuntime) -> Result<(), Fail> {
+    let alloc = rt.alloc();
+    let query = b"if (//x//x//x//x//x//x = \"1\") then <y/> else <n/>";
+    let starts = repeated(alloc, b"<x>", 1_000)?;
+    let document = joined(alloc, &[&starts, &repeated(alloc, b"</x>", 1_000)?])?;
+    let end = End {
+        status: Status::Ok,
+        out: b"<n></n>",
+        err: b"",
+    };
+    ends_in_pieces(&rt, alloc, &[b"run", b"q", b"d"], (query, &document), end)
 }

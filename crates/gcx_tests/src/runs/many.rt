@@ -11,7 +11,7 @@ use std::process::Abort;
 use std::test::Fail;
 
 /// The names of files and what they hold.
-type Files<'a> = &'a [(&'a [u8], &'a [u8])];
+pub(super) type Files<'a> = &'a [(&'a [u8], &'a [u8])];
 
 /// A query and its OUT, and how much of what it writes is settled before the tags of so many bytes of the document are
 /// read: up to each of these counts so many. Behind the last one and before the end `whole` lacks what the end settles.
@@ -409,9 +409,27 @@ fn each_call_of_a_shelf_fails_in_many(rt: HostRuntime) -> Result<(), Fail> {
 }
 
 /// What names hold: None where they aren't there.
-type Kept<'a> = &'a [(&'a [u8], Option<&'a [u8]>)];
+pub(super) type Kept<'a> = &'a [(&'a [u8], Option<&'a [u8]>)];
 
-/// The words over these files end so, and then these names hold so much.
+/// The words over these files, at most so many bytes a call, end so, and then these names hold so much.
+pub(super) fn ends_with_files_by(
+    rt: &impl Abort,
+    alloc: Global,
+    words: &[&[u8]],
+    files: Files<'_>,
+    most: usize,
+    status: Status,
+    kept: Kept<'_>,
+) -> Result<(), Fail> {
+    assert!(rt; most > 0);
+    let words = texts(alloc, words)?;
+    let mut shelf = files_of(alloc, files, most, None)?;
+    let ended = status_of(rt, alloc, &words, &mut shelf, most)?;
+    assert_eq!(rt; ended, status, "{most}");
+    holds(rt, alloc, &shelf, kept)
+}
+
+/// The same by one byte a call, by some and by all.
 fn ends_with_files(
     rt: &impl Abort,
     alloc: Global,
@@ -420,13 +438,8 @@ fn ends_with_files(
     status: Status,
     kept: Kept<'_>,
 ) -> Result<(), Fail> {
-    let words = texts(alloc, words)?;
     for most in [1, 7, 65_536] {
-        assert!(rt; most > 0);
-        let mut shelf = files_of(alloc, files, most, None)?;
-        let ended = status_of(rt, alloc, &words, &mut shelf, most)?;
-        assert_eq!(rt; ended, status, "{most}");
-        holds(rt, alloc, &shelf, kept)?;
+        ends_with_files_by(rt, alloc, words, files, most, status, kept)?;
     }
     Ok(())
 }

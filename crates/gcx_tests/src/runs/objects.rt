@@ -91,7 +91,7 @@ pub(super) fn put_file(
 }
 
 /// The files `q` and `d`, each call of which moves at most `most` bytes.
-fn mem_files(
+pub(super) fn mem_files(
     alloc: Global,
     files: (&[u8], &[u8]),
     most: usize,
