@@ -94,9 +94,22 @@ class Queries:
         where = f" where {self.condition(inner, 1)}" if self.it.random() < 0.3 else ""
         return f"for {', '.join(clauses)}{where} return {self.expression(inner, depth - 1)}"
 
+    def join(self):
+        """Two loops over nodes of the document, and a comparison of a path from each."""
+        self.compares = True
+        outer, inner = (self.it.choice(["/r/*", "/*/*", "/r/a", "/r/*/*", "/r//a", "//b"]) for _ in range(2))
+        left, right = (f"${var}" + self.it.choice(["/*", "/a", "/b", "/*/*", "//a", "//*", "/text()", "//text()"]) for var in "xy")
+        if self.it.random() < 0.5:
+            left, right = right, left
+        condition = f"{left} {self.it.choice(['=', '=', '=', *RELATIONS])} {right}"
+        if self.it.random() < 0.3:
+            condition += self.it.choice([" and ", " or "]) + self.condition(["$x", "$y"], 0)
+        then, other = self.expression(["$x", "$y"], 1), self.it.choice(["()", "()", "<d/>"])
+        return f"for $x in {outer} return for $y in {inner} return if ({condition}) then ({then}, <c/>) else {other}"
+
     def query(self):
         self.compares = False
-        return self.expression([], 4)
+        return self.join() if self.it.random() < 0.3 else self.expression([], 4)
 
 
 class Documents:

@@ -21,33 +21,10 @@ use std::alloc::Global;
 
 impl<N: NodeStore<Row>> Buffer<N> {
     /// A new element or text as last child of the innermost open node, with these roles, of which none is taken in
-    /// advance. A text is closed at once, and one without a role is gone at once. Answers the node's place, or None
-    /// where it is gone.
+    /// advance. Of them `kept` are those that are kept at the node if roles are spread, so no row is asked for it. A text
+    /// is closed at once, and one without a role is gone at once. Answers the node's place, or None where it is gone.
     ///
     /// There is room for one more departure afterwards. After `Memory` the buffer is unchanged.
-    pub fn open_with(
-        &mut self,
-        alloc: Global,
-        parent: Place,
-        kind: Kind,
-        given: &RoleSet,
-    ) -> Result<Option<Place>, Memory>
-        requires parent { Innermost self.old.rows parent.0 }
-        requires kind { IsNode kind }
-        requires nodes { self.old.nodes ≤ 2 ^ 40 + 1 }
-        requires depth { level_in (at_place parent.0 self.old.rows) ≤ 1000 }
-        requires spread { MayOpenWith self.old (token_for kind) given.now }
-        ensures opened { IfOk result (λ p. OpenedWith self.old self.new parent.0 (option_map (λ q. q.0) p) kind given.now 0) }
-        ensures stands { OnOk result (StandsWith self.old self.new kind given.now) }
-        ensures err { OnErr result (self.new ≡ self.old) }
-        ensures loans { self.new.loans ≡ self.old.loans }
-    {
-        let roles = NodeRoles::of(alloc, given)?;
-        let place = self.open_row(parent, kind, roles, 0)?;
-        Ok(place)
-    }
-
-    /// The same, where it is known which of the roles are kept at the node if roles are spread: no row is asked for it.
     pub fn open_kept(
         &mut self,
         alloc: Global,
@@ -72,7 +49,7 @@ impl<N: NodeStore<Row>> Buffer<N> {
         Ok(place)
     }
 
-    /// As `open_with`, where the roles are the row's own, and so many others that the node is given are taken in advance.
+    /// The same, where the rows are asked which roles are kept, and so many others that the node is given are taken in advance.
     #[inline(always)]
     pub(crate) fn open_row(
         &mut self,

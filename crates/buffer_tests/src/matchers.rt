@@ -201,24 +201,18 @@ fn node(alloc: Global, letter: u8) -> Result<Kind, Fail>
     }
 }
 
-/// The number of the name, or of texts.
-fn number_of(alloc: Global, matcher: &Matcher, letter: u8) -> Result<usize, Fail> {
-    match letter {
-        b'.' => Ok(matcher.text_number()),
-        _ => Ok(matcher.number_of(name(alloc, letter)?.as_bytes())),
-    }
-}
-
-/// Enters a node by the number of its name, and puts its roles.
-fn enter_number(
+/// Goes to an element by its name, or to a text, and puts its roles.
+fn go_by_name(
     alloc: Global,
     out: &mut String,
     matcher: &mut Matcher,
     letter: u8,
 ) -> Result<(), Fail> {
-    let number = number_of(alloc, matcher, letter)?;
-    let given = matcher.enter_number(alloc, number)?;
-    put(out, &given)
+    match letter {
+        b'.' => matcher.go_text(alloc)?,
+        _ => matcher.go_name(alloc, name(alloc, letter)?.as_bytes())?,
+    }
+    put_here(alloc, out, matcher)
 }
 
 /// Puts the roles that are taken back.
@@ -253,7 +247,7 @@ fn follow<'a>(
             Ok(rest)
         }
         [b'#', letter, rest @ ..] => {
-            enter_number(alloc, out, matcher, *letter)?;
+            go_by_name(alloc, out, matcher, *letter)?;
             Ok(rest)
         }
         [b'>', letter, rest @ ..] => {
@@ -269,8 +263,8 @@ fn follow<'a>(
 }
 
 /// What the matcher answers: `.` is a text, `)` the end of the innermost node, `!rl` signs role r's statement at
-/// level l, `?` asks what is taken back, another letter is the start of an element, `#` before it, or before `.`, enters
-/// it by the number of its name, and `>` goes to it without a list of roles.
+/// level l, `?` asks what is taken back, another letter is the start of an element, `#` before it, or before `.`, goes
+/// to it by its name alone, and `>` by its kind, both without a list of roles.
 fn answers(
     alloc: Global,
     plan: &Plan,
@@ -408,7 +402,7 @@ const CASES: &[Case] = &[
         "a!21!31b?)c?))ab?",
         "0 1 2 ?2 3 ?3 1 2 ? ",
     ),
-    // by the numbers of names, one of which is none of the plan's
+    // by names alone, one of which is none of the plan's
     (
         "0r 1a",
         "o0 o1 o2 w2",

@@ -90,8 +90,8 @@ fn plan_of_names(alloc: Global) -> Result<Plan, Fail> {
 
 /// Enters and leaves a node with one of the names, and answers the first of its roles.
 fn role_of_item(alloc: Global, matcher: &mut Matcher, i: u32) -> Result<Option<u32>, Fail> {
-    let number = matcher.number_of(name(alloc, i)?.as_bytes());
-    let given = matcher.enter_number(alloc, number)?;
+    matcher.go_name(alloc, name(alloc, i)?.as_bytes())?;
+    let given = matcher.given(alloc)?;
     let role = given.items().first().map(|role| role.0);
     matcher.leave();
     Ok(role)
@@ -103,8 +103,7 @@ fn many_names_of_one_length(rt: HostRuntime) -> Result<(), Fail> {
     let alloc = rt.alloc();
     let plan = plan_of_names(alloc)?;
     let mut matcher = Matcher::new(alloc, &plan)?;
-    let root = matcher.number_of(b"r");
-    matcher.enter_number(alloc, root)?;
+    matcher.go_name(alloc, b"r")?;
     for i in 0..NAMES {
         assert_eq!(rt; role_of_item(alloc, &mut matcher, i)?, Some(i));
     }

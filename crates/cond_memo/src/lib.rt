@@ -1,4 +1,4 @@
-//! The truth of conditions, with what is kept of the answers: at each question only what is new is looked at.
+//! The truth of an `exists` or a comparison, with what is kept of the answers: at each question only what is new is looked at.
 #![tactic(auto)]
 
 mod mark;

@@ -1,4 +1,4 @@
-//! Conditions with a mark for each `exists` and each comparison with a literal.
+//! A mark for each `exists` and each comparison with a literal.
 ghost use Rattle.std.specs.Prelude.{◌≡◌, ◌<◌, true, IfOk, option_map, vec_len, slice_index_or};
 ghost use Rattle.gcx_model.specs.Core.{CondTree};
 ghost use Rattle.gcx_model.specs.CondView.{core_cond_tree};
@@ -15,14 +15,14 @@ ghost use Rattle.cond_memo.specs.declared.mark.Mark.{Mark as KeptMark};
 
 use crate::mark::{Ask, Mark, Room};
 use buf_tree::{Buffer, Row};
-use cond_eval::{Conds, Env, Leaves, compare_truth, flipped, truth_of};
+use cond_eval::{Env, Leaves, compare_truth, flipped};
 use gcx_base::{Memory, Rel, Step, Steps, VarId};
 use gcx_model::{Cond, Operand, Truth};
 use node_store::NodeStore;
 use std::alloc::Global;
 
-/// Finds the truth of a condition by looking at the rows alone that are new since it was asked for the same node. Of a
-/// comparison of two paths it keeps nothing.
+/// Finds the truth of an `exists` or a comparison by looking at the rows alone that are new since it was asked for the
+/// same node. Of a comparison of two paths it keeps nothing.
 #[derive(Drop, Debug)]
 pub struct Marked {
     marks: Vec<Mark>,
@@ -243,62 +243,6 @@ impl Marked {
     {
         self.last = None;
         compare_truth(alloc, env, buffer, left, rel, right)
-    }
-
-    /// The truth of a condition with parts.
-    fn joined<N: NodeStore<Row>>(
-        &mut self,
-        alloc: Global,
-        cond: &Cond,
-        env: &Env,
-        buffer: &Buffer<N>,
-    ) -> Result<Truth, Memory>
-        requires { MayAskOver buffer.now (AreMarks self.old) env.now (core_cond_tree cond.now) }
-        ensures answers { IfOk result (λ t. AnswersOver buffer.now (AreMarks self.old) (AreMarks self.new)
-            env.now (core_cond_tree cond.now) t) }
-        ensures last { IfOk result (λ _. AskedLast self.new (core_cond_tree cond.now)) }
-    {
-        let truth = truth_of(self, alloc, cond, env, buffer)?;
-        self.forget_last();
-        Ok(truth)
-    }
-}
-
-impl Conds for Marked {
-    ghost use Rattle.cond_memo.specs.Again.{AskedLast};
-    ghost use Rattle.cond_memo.specs.Marks.{AreMarks};
-    ghost use Rattle.cond_memo.specs.MarkStays.{mark_stays};
-
-    ghost stands = { AreMarks };
-
-    ghost asked_last = { AskedLast };
-
-    ghost stands_on = { λ s P Q a b k m i. mark_stays P Q a b m (k m i) };
-
-    fn truth<N: NodeStore<Row>>(
-        &mut self,
-        alloc: Global,
-        cond: &Cond,
-        env: &Env,
-        buffer: &Buffer<N>,
-    ) -> Result<Truth, Memory> {
-        match cond {
-            Cond::Exists { .. } | Cond::Compare { .. } => self.leaf(alloc, cond, env, buffer),
-            _ => self.joined(alloc, cond, env, buffer),
-        }
-    }
-
-    fn truth_again<N: NodeStore<Row>>(
-        &mut self,
-        alloc: Global,
-        cond: &Cond,
-        env: &Env,
-        buffer: &Buffer<N>,
-    ) -> Result<Truth, Memory> {
-        match self.again(cond, env, buffer)? {
-            Some(truth) => Ok(truth),
-            None => self.truth(alloc, cond, env, buffer),
-        }
     }
 }
 

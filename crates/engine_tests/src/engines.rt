@@ -17,12 +17,10 @@ ghost use Rattle.gcx_model.specs.Cores.{Good};
 ghost use Rattle.gcx_model.specs.Placed.{Placed};
 ghost use Rattle.gcx_model.specs.PlanView.{plan_tree};
 ghost use Rattle.gcx_model.specs.Tree.{opening};
-ghost use Rattle.cond_memo.specs.Marks.{AreMarks};
 ghost use Rattle.join_index.specs.Index.{IsIndex};
 
 use buf_tree::Row;
 use cond_eval::{Conds, Plain};
-use cond_memo::Marked;
 use engine::{Engine, Report, run_query};
 use gcx_base::Limits;
 use gcx_io::{MemSink, MemSource};
@@ -84,15 +82,8 @@ pub(crate) fn plan_of(alloc: Global, query: &[u8]) -> Result<Plan, Fail>
     Ok(compile(alloc, &query)?)
 }
 
-/// Conditions with marks, of which none was made.
-pub(crate) fn marked(alloc: Global) -> Marked
-    ensures { AreMarks result opening }
-{
-    Marked::new(alloc)
-}
-
 /// Conditions with an index, of which no list was made.
-fn indexed(alloc: Global, plan: &Plan) -> Result<Indexed, Fail>
+pub(crate) fn indexed(alloc: Global, plan: &Plan) -> Result<Indexed, Fail>
     ensures { IfOk result (λ k. IsIndex k opening) }
 {
     let conds = Indexed::new(alloc, plan)?;
@@ -221,8 +212,8 @@ fn run_over<N: NodeStore<Row> + Drop, C: Conds + Drop>(
     run_with(rt, alloc, plan, nodes, conds, how.ahead, &mut streams)
 }
 
-/// A run over nodes by raw pointers, with marks, and the store behind it.
-fn run_raw(
+/// A run over nodes by raw pointers, with an index, and the store behind it.
+fn run_raw_by(
     rt: &impl Abort,
     alloc: Global,
     plan: &Plan,
@@ -232,26 +223,11 @@ fn run_raw(
     requires placed { (core : BodyTree) × Good core × Placed core (plan_tree plan.now) }
     requires ahead { how.ahead ≤ 1000 }
 {
-    let nodes = RawNodes::new(alloc);
-    run_over(rt, alloc, plan, nodes, marked(alloc), document, how)
+    let (nodes, conds) = (RawNodes::new(alloc), indexed(alloc, plan)?);
+    run_over(rt, alloc, plan, nodes, conds, document, how)
 }
 
-/// The same without the store.
-fn run_marked_by(
-    rt: &impl Abort,
-    alloc: Global,
-    plan: &Plan,
-    document: &[u8],
-    how: How<'_>,
-) -> Result<Ran, Fail>
-    requires placed { (core : BodyTree) × Good core × Placed core (plan_tree plan.now) }
-    requires ahead { how.ahead ≤ 1000 }
-{
-    let (ran, _) = run_raw(rt, alloc, plan, document, how)?;
-    Ok(ran)
-}
-
-/// A run over nodes in a slab, without marks.
+/// A run over nodes in a slab, whose conditions are walked anew.
 fn run_plain_by(
     rt: &impl Abort,
     alloc: Global,
@@ -296,7 +272,7 @@ fn run_by(
     requires placed { (core : BodyTree) × Good core × Placed core (plan_tree plan.now) }
     requires ahead { how.ahead ≤ 1000 }
 {
-    let ran = run_marked_by(rt, alloc, plan, document, how)?;
+    let (ran, _) = run_raw_by(rt, alloc, plan, document, how)?;
     let other = run_plain_by(rt, alloc, plan, document, how)?;
     assert_eq!(rt; ran, other, "{query:?}");
     let (third, _) = run_indexed(rt, alloc, plan, document, how)?;
@@ -318,8 +294,8 @@ pub(crate) fn run(
     run_by(rt, alloc, query, &plan, document, how)
 }
 
-/// The run of the query over nodes by raw pointers, with marks, and the store behind it.
-pub(crate) fn run_marked(
+/// The run of the query over nodes by raw pointers, with an index, and the store behind it.
+pub(crate) fn run_raw(
     rt: &impl Abort,
     alloc: Global,
     query: &[u8],
@@ -329,5 +305,5 @@ pub(crate) fn run_marked(
     requires ahead { how.ahead ≤ 1000 }
 {
     let plan = plan_of(alloc, query)?;
-    run_raw(rt, alloc, &plan, document, how)
+    run_raw_by(rt, alloc, &plan, document, how)
 }

@@ -1,24 +1,20 @@
 -- What the calls of a matcher do, from what became of its parts.
-use Rattle.std.proofs.Common.{◌≡◌, ℕ, ◌-◌, ◌<◌, ◌≤◌, Bool, true, false, List, [], ◌∷◌, ◌++◌, length, map, refl, sym, ◌∙◌, ap, subst, inl, inr, arith, eqb, Some, Option}
-use Rattle.std.proofs.lemmas.Bool.{eqb-true, eq-eqb, false_from_ne_true}
-use Rattle.std.proofs.lemmas.Option.{slice_get_within}
+use Rattle.std.proofs.Common.{◌≡◌, ℕ, ◌-◌, ◌<◌, ◌≤◌, Bool, true, false, List, [], ◌∷◌, ◌++◌, length, map, refl, sym, ◌∙◌, ap, subst, Some}
 use Rattle.gcx_base.specs.Kinds.{is_text}
 use Rattle.gcx_base.specs.declared.ids.Role.{Role}
 use Rattle.gcx_base.specs.declared.kind.Kind.{Kind}
-use Rattle.gcx_base.specs.declared.kind.Kind.TheVariants.{Document, Element, Text}
-use Rattle.gcx_model.specs.Tree.{Node, Root, Under, Tree, Token, Start, Chars, End, grow, grow_at}
+use Rattle.gcx_model.specs.Tree.{Node, grow}
 use Rattle.gcx_model.specs.Growth.{level, may_come}
 use Rattle.gcx_model.specs.Held.{roles_given}
 use Rattle.gcx_model.specs.Past.{Past, IsNode, Opens, past_grown, token_for}
-use Rattle.tree_laws.proofs.Lists.{In}
 use Rattle.path_states.specs.Lists.{From, Gains}
 use Rattle.path_states.specs.Names.{IsNameNumber}
 use Rattle.path_states.specs.State.{StateView, IsMade}
 use Rattle.path_states.specs.States.{StatesView, Enters, last_state, outer_states}
 use Rattle.path_states.proofs.Gaining.{gains_none}
 use Rattle.path_states.proofs.Looking.{one_at}
-use Rattle.matcher.specs.Calls.{GivesName, GivesNext, GivesNode, PassesNode, KeepsStanding, StandsBehind, StandsBehindName, StandsIn, StandsNext}
-use Rattle.matcher.specs.Entering.{AddsFrame, AddsGiven, FindsAll, FindsHere, Firsts, GivesInside, Goes, Halts, IsIdle, IsIdled, IsVain, LeadsNowhere}
+use Rattle.matcher.specs.Calls.{GivesNext, GivesNode, KeepsStanding, StandsBehind, StandsIn, StandsNext}
+use Rattle.matcher.specs.Entering.{AddsFrame, AddsGiven, FindsAll, FindsHere, Firsts, GivesInside, Goes, Halts, IsIdle, IsIdled, IsVain}
 use Rattle.matcher.specs.Frames.{AreBoth, AreRoles}
 use Rattle.matcher.specs.Matcher.{Stands}
 use Rattle.matcher.specs.Parts.{NodeMarks, new_marks}
@@ -26,7 +22,7 @@ use Rattle.matcher.specs.Stacks.{AreMatched}
 use Rattle.matcher.specs.View.{FrameView, GoTogether, MatcherView, frames_of, innermost_frame, matcher_view}
 use Rattle.matcher.specs.declared.frames.Found.{Found}
 use Rattle.matcher.specs.declared.signs.Sign.{Sign}
-use Rattle.matcher.proofs.Entering.{Unled, halts_goes, idle_goes, idle_stands, last, none_given, one, unled_given}
+use Rattle.matcher.proofs.Entering.{Unled, halts_goes, idle_goes, idle_stands, last, one, unled_given}
 use Rattle.matcher.proofs.EnteringFrame.{advanced_given, advanced_stands}
 use Rattle.matcher.proofs.Framing.{last_frame}
 use Rattle.matcher.proofs.GivenRoles.{roles_of_both}
@@ -126,39 +122,6 @@ module _ (m : MatcherView) (kind : Kind) (node : IsNode kind) (text : Bool) (fla
       let G : Goes m past kind = record { stands = S; node = node; may = may } in
       g past kind n (record { goes = G; by = by; flag = sym flag; here = here }) op
 
--- ---- by the number of its name
-
-number_node : (names : List (List ℕ)) (kind : Kind) (k : ℕ) → IsNameNumber names kind k → IsNode kind
-number_node names Document k e = absurd e
-number_node names (Element name) k e = tt
-number_node names (Text b) k e = tt
-
--- it is a text where the number is that of texts
-number_text : (names : List (List ℕ)) (kind : Kind) (k t : ℕ) → IsNameNumber names kind k → ((bytes : List ℕ) → IsNameNumber names (Text bytes) t) → eqb k t ≡ is_text kind
-number_text names Document k t e f = absurd e
-number_text names (Element name) k t (inl e) f =
-    let l = slice_get_within names k name e in
-    let g = f [] in
-    false_from_ne_true (eqb k t) (λ h. let d = eqb-true k t h in omega arith)
-number_text names (Element name) k t (inr e) f =
-    let l = e.0 in
-    let g = f [] in
-    false_from_ne_true (eqb k t) (λ h. let d = eqb-true k t h in omega arith)
-number_text names (Text b) k t e f = eq-eqb k t (e ∙ sym (f b))
-
-module _ (m : MatcherView) (number t : ℕ) (texts : (bytes : List ℕ) → IsNameNumber m.names (Text bytes) t) where
-  pub idle_entered_name : (now : MatcherView) → IsIdle m (eqb number t) → IsIdled m now (eqb number t) → StandsBehindName m now number
-  idle_entered_name now idle d kind by = idle_entered m kind (number_node m.names kind number by) (eqb number t) (number_text m.names kind number t by texts) now idle d
-
-  pub idle_given_name : (given : List Role) → IsIdle m (eqb number t) → GivesInside m given → GivesName m number given
-  idle_given_name given idle g kind by = idle_given m kind (number_node m.names kind number by) (eqb number t) (number_text m.names kind number t by texts) given idle g
-
-  pub next_entered_name : (now : MatcherView) → m.idle ≡ 0 → StandsNext m now number (eqb number t) → StandsBehindName m now number
-  next_entered_name now here d kind by = next_entered m kind (number_node m.names kind number by) (eqb number t) (number_text m.names kind number t by texts) now number here by d
-
-  pub next_given_name : (given : List Role) → m.idle ≡ 0 → GivesNext m number (eqb number t) given → GivesName m number given
-  next_given_name given here g kind by = next_given m kind (number_node m.names kind number by) (eqb number t) (number_text m.names kind number t by texts) given number here by g
-
 -- ---- below a node that has a frame
 
 abbrev view_with : StatesView → List FrameView → ℕ → Bool → List Sign → MatcherView
@@ -188,23 +151,3 @@ module _ (v : StatesView) (ms : List NodeMarks) (idle : ℕ) (was : Bool) (signs
     pub added_given : (given : List Role) → AreRoles v2.tree.states.items A.state.whole A.state.active found (map (λ (r : Role). r.0) given) → GivesNext old number text given
     added_given given roles past kind n B op =
         advanced_given old past kind B.goes B.here v v2 ms later number found refl refl go B.by E A given roles ∙ ap (roles_given past.plan (grow (token_for kind) past.tree)) (one old past kind B.goes n op)
-
--- ---- a node that is plainly given no role
-
-end_adds_none : (P : Tree) (a : Node) → P.at ≡ Some a → (grow End P).nodes ≡ P.nodes
-end_adds_none P Root e = ap (λ (o : Option Node). (grow_at o End P).nodes) e
-end_adds_none P (Under p s k) e = ap (λ (o : Option Node). (grow_at o End P).nodes) e
-
-pub passes_none : (m : MatcherView) → LeadsNowhere m → ((frame : FrameView) → innermost_frame m.frames ≡ Some frame → frame.whole ≡ []) → PassesNode m
-passes_none m why none past n t S may op = by_token t may op
-  where
-    by_kind : (kind : Kind) → IsNode kind → (G : Goes m past kind) → Opens past.tree (token_for kind) n → roles_given past.plan (grow (token_for kind) past.tree) n ≡ []
-    by_kind kind node G o =
-        let l = last m past kind G in
-        let q = idle_goes m past kind G (elim why [ inl k ↦ inl k | inr over ↦ inr (inr over) ]) in
-        subst (λ (z : Node). roles_given past.plan (grow (token_for kind) past.tree) z ≡ []) (one m past kind G n o) (none_given m past kind G q.0 (none l.frame l.at))
-
-    by_token : (t : Token) → may_come t past.tree ≡ true → Opens past.tree t n → roles_given past.plan (grow t past.tree) n ≡ []
-    by_token (Start name) may o = by_kind (Element name) tt (record { stands = S; node = tt; may = may }) o
-    by_token (Chars b) may o = by_kind (Text b) tt (record { stands = S; node = tt; may = may }) o
-    by_token End may o = absurd (o.1 (subst (λ (z : List Node). In n z) (end_adds_none past.tree S.here S.innermost) o.0))

@@ -331,10 +331,6 @@ module _ (m : MatcherView) (past : Past) (kind : Kind) (G : Goes m past kind) wh
         fresh = λ f off. (new_unsigned past S.is_past t n o).0 off;
       })
 
-  -- such a node is given no role where the innermost frame's node lies in no whole subtree
-  pub none_given : Unled → last.frame.whole ≡ [] → roles_given past.plan (grow (token_for kind) past.tree) (Under G.stands.here (length past.tree.nodes) kind) ≡ []
-  none_given h e = sym (unled_given h) ∙ e
-
   -- the state to which a name leads from the innermost one, where no path leads to the node
   pub halts_goes : (v : StatesView) (ms : List NodeMarks) (number : ℕ) (text : Bool) → m.frames ≡ frames_of v ms → m.tree ≡ v.tree → GoTogether v ms → IsNameNumber v.names kind number → is_text kind ≡ text → m.idle ≡ 0 → Halts v number text → Unled × Quiet
   halts_goes v ms number text ef et go by flag idle halts =

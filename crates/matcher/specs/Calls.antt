@@ -5,7 +5,7 @@ use Rattle.std.specs.Ordering.{nat_cmp}
 use Rattle.gcx_base.specs.Kinds.{is_text}
 use Rattle.gcx_base.specs.declared.ids.Role.{Role}
 use Rattle.gcx_base.specs.declared.kind.Kind.{Kind}
-use Rattle.gcx_model.specs.Tree.{Node, Root, Under, Token, End, above, grow, serial_of}
+use Rattle.gcx_model.specs.Tree.{Node, Root, Under, End, above, grow, serial_of}
 use Rattle.gcx_model.specs.Paths.{matches}
 use Rattle.gcx_model.specs.Growth.{may_come, level}
 use Rattle.gcx_model.specs.Core.{BodyTree, OffTree, PlanTree}
@@ -17,7 +17,6 @@ use Rattle.gcx_model.specs.Held.{path_of, roles_given, signed, taken, roles_take
 use Rattle.gcx_model.specs.Past.{Past, IsLast, Opens, open_nodes, opening_past, past_acted, past_grown, token_for}
 use Rattle.spread_laws.specs.Tops.{roles_newly_given}
 use Rattle.run_words.specs.Steps.{Follows, StandsAsBefore}
-use Rattle.path_states.specs.Names.{IsNameNumber}
 use Rattle.matcher.specs.Ahead.{AreTaken, HasSign}
 use Rattle.matcher.specs.Entering.{GoesBy}
 use Rattle.matcher.specs.Matcher.{Stands}
@@ -52,13 +51,6 @@ StandsBehind old new kind = Follows StandsIn (MayEnter kind) (λ s. (past_grown 
 abbrev pub GivesNode : MatcherView → Kind → List Role → Type 0
 GivesNode m kind given =
     (past : Past) (n : Node) → Stands m past false → may_come (token_for kind) past.tree ≡ true → Opens past.tree (token_for kind) n → map (λ (r : Role). r.0) given ≡ roles_given past.plan (grow (token_for kind) past.tree) n
-
--- the same of each kind whose name has the number
-abbrev pub StandsBehindName : (old new : MatcherView) → ℕ → Type 0
-StandsBehindName old new number = (kind : Kind) → IsNameNumber old.names kind number → StandsBehind old new kind
-
-abbrev pub GivesName : MatcherView → ℕ → List Role → Type 0
-GivesName m number given = (kind : Kind) → IsNameNumber m.names kind number → GivesNode m kind given
 
 -- the same where the innermost node has a frame
 abbrev pub StandsNext : (old new : MatcherView) → (number : ℕ) → (text : Bool) → Type 0
@@ -103,11 +95,6 @@ pub record GivesPlainly (m : MatcherView) (roles kept : set.FinSet nat_cmp) (cou
   pub newly : GivesNewly m kept
   pub ahead : GivesAhead m []
   pub unsigned : HasNoneSigned m
-
--- a node that may come is given no role
-abbrev pub PassesNode : MatcherView → Type 0
-PassesNode m =
-    (past : Past) (n : Node) (t : Token) → Stands m past false → may_come t past.tree ≡ true → Opens past.tree t n → roles_given past.plan (grow t past.tree) n ≡ []
 
 -- a text is left
 abbrev pub LeavesText : (old new : MatcherView) → Type 0

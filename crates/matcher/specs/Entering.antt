@@ -85,10 +85,6 @@ pub record IsOver (m : MatcherView) : Type 0 where
 abbrev pub IsIdle : MatcherView → (text : Bool) → Type 0
 IsIdle m text = (0 < m.idle) ⊎ (((text ≡ true) × (m.tree.texts ≡ false)) ⊎ IsOver m)
 
--- no path leads to a new node, of whatever kind
-abbrev pub LeadsNowhere : MatcherView → Type 0
-LeadsNowhere m = (0 < m.idle) ⊎ IsOver m
-
 -- a node of this kind may come
 pub record Goes (m : MatcherView) (past : Past) (kind : Kind) : Type 0 where
   pub stands : Stands m past false

@@ -3,15 +3,14 @@ ghost use Rattle.std.specs.Prelude.{◌≡◌, ℕ, List, Some, false, true, IfO
 ghost use Rattle.gcx_model.specs.Past.{IsNode};
 ghost use Rattle.gcx_model.specs.ItemView.{off_tree, role_kind};
 ghost use Rattle.gcx_model.specs.PlanView.{plan_tree};
-ghost use Rattle.path_states.specs.Lists.{Climbs, Holds};
-ghost use Rattle.path_states.specs.Names.{IsNameNumber};
+ghost use Rattle.path_states.specs.Lists.{Holds};
 ghost use Rattle.gcx_base.specs.declared.kind.Kind.TheVariants.{Element, Text};
 ghost use Rattle.matcher.specs.Ahead.{AreBases, AreVars, FirstTarget, HasWhole, OwnTarget, Target, WholeTarget};
-ghost use Rattle.matcher.specs.Calls.{GivesAhead, GivesHere, GivesName, GivesNext, GivesNode, GivesPlainly, GivesRoot, GivesSets};
-ghost use Rattle.matcher.specs.Calls.{KeepsStanding, PassesNode};
+ghost use Rattle.matcher.specs.Calls.{GivesAhead, GivesHere, GivesNext, GivesNode, GivesPlainly, GivesRoot, GivesSets};
+ghost use Rattle.matcher.specs.Calls.{KeepsStanding};
 ghost use Rattle.matcher.specs.Calls.{LeavesElement, LeavesText, SaysTaken, SignsAt, StandsAtStart, StandsBehind};
-ghost use Rattle.matcher.specs.Calls.{StandsBehindName, StandsNext, TakenHere, TellsSign};
-ghost use Rattle.matcher.specs.Entering.{GivesInside, IsIdle, IsIdled, IsOver, LeadsNowhere};
+ghost use Rattle.matcher.specs.Calls.{StandsNext, TakenHere, TellsSign};
+ghost use Rattle.matcher.specs.Entering.{GivesInside, IsIdle, IsIdled, IsOver};
 
 use crate::found::{contexts_found, levels_hit};
 use crate::none::NoRoles;
@@ -107,22 +106,6 @@ impl Matcher {
         }
     }
 
-    /// The number of the name, for `enter_number`. Takes no memory.
-    #[inline(always)]
-    pub fn number_of(&self, name: &[u8]) -> usize
-        ensures { IsNameNumber self.now.names (Element name.now) result }
-    {
-        self.states.number(name)
-    }
-
-    /// The number of texts.
-    #[inline(always)]
-    pub fn text_number(&self) -> usize
-        ensures { (bytes : List ℕ) → IsNameNumber self.now.names (Text bytes) result }
-    {
-        self.states.text()
-    }
-
     /// Goes to a new node, which is an element or a text, and answers its roles by rising number. After `Memory` the
     /// matcher stands for what it stood for.
     pub fn enter(&mut self, alloc: Global, kind: &Kind) -> Result<Given, Memory>
@@ -137,35 +120,6 @@ impl Matcher {
         }
         let number = self.states.number_of(kind);
         self.enter_next(alloc, number, text)
-    }
-
-    /// The same by the number of the node's name.
-    pub fn enter_number(&mut self, alloc: Global, number: usize) -> Result<Given, Memory>
-        ensures stands { OnOk result (StandsBehindName self.old self.new number) }
-        ensures given { IfOk result (GivesName self.old number) }
-        ensures err { OnErr result (KeepsStanding self.old self.new) }
-    {
-        let text = number == self.states.text();
-        if self.is_idle(text) {
-            return self.enter_idle(alloc, text);
-        }
-        self.enter_next(alloc, number, text)
-    }
-
-    /// Whether it is plain that a node that comes is given no role.
-    #[inline(always)]
-    pub fn pass(&self) -> bool
-        ensures { result ≡ true → PassesNode self.now }
-    {
-        self.leads_nowhere() && self.states.here().whole().is_empty()
-    }
-
-    /// Whether it is plain that no path leads to a new node, of whatever kind.
-    #[inline(always)]
-    fn leads_nowhere(&self) -> bool
-        ensures { result ≡ true → LeadsNowhere self.now }
-    {
-        self.idle > 0 || self.is_over()
     }
 
     /// Whether it is plain that no path leads to a new node, nor to any below it.

@@ -137,14 +137,10 @@ fn opened<N: NodeStore<Row>>(
     requires plain { buffer.old.spread ≡ None }
     ensures { IfOk result (λ p. OpenedWith buffer.old buffer.new parent.0 (option_map (λ q. q.0) p) kind roles.now 0) }
 {
-    if said {
-        let none = RoleSet::new(alloc);
-        let place = buffer.open_kept(alloc, parent, kind, roles, &none)?;
-        Ok(place)
-    } else {
-        let place = buffer.open_with(alloc, parent, kind, roles)?;
-        Ok(place)
-    }
+    let none = RoleSet::new(alloc);
+    let kept = if said { &none } else { roles };
+    let place = buffer.open_kept(alloc, parent, kind, roles, kept)?;
+    Ok(place)
 }
 
 /// Opens the node of the letter with its roles.

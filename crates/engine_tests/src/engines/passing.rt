@@ -1,7 +1,7 @@
 //! Joins: loops that pass the matches at which their bodies do nothing.
 ghost use Rattle.std.specs.Prelude.{◌≤◌};
 
-use super::{How, plainly, run, run_marked};
+use super::{How, plainly, run, run_raw};
 use crate::large::joined;
 use engine::Ended;
 use gcx_model::DocFault;
@@ -245,7 +245,7 @@ fn twenty_thousand_are_joined_with_as_many(rt: HostRuntime) -> Result<(), Fail> 
     let outer = keyed(alloc, "x", 0, 20_000)?;
     let inner = keyed(alloc, "y", 19_997, 39_997)?;
     let document = joined(alloc, &[b"<r>", &outer, &inner, b"</r>"])?;
-    let (ran, _) = run_marked(&rt, alloc, PAIRS, &document, plainly(65_536))?;
+    let (ran, _) = run_raw(&rt, alloc, PAIRS, &document, plainly(65_536))?;
     assert_eq!(&rt; ran.report.ended, Ended::Ok);
     assert_eq!(&rt; ran.out.as_slice(), b"<m></m><m></m><m></m>".as_slice());
     Ok(())

@@ -1,7 +1,7 @@
 //! The worked rows that are runs.
 ghost use Rattle.std.specs.Prelude.{◌≡◌, ◌≤◌};
 
-use super::{How, Ran, plainly, run, run_marked};
+use super::{How, Ran, plainly, run, run_raw};
 use crate::large::{joined, repeated};
 use buf_tree::Row;
 use engine::{Ended, Report};
@@ -236,7 +236,7 @@ fn many_chains_to_a_node_are_walked_once(rt: HostRuntime) -> Result<(), Fail> {
     let alloc = rt.alloc();
     let document = nested(alloc, b"<x>", b"</x>")?;
     let query = b"if (//x//x//x//x//x//x = \"1\") then <y/> else <n/>";
-    let (ran, _) = run_marked(&rt, alloc, query, &document, plainly(65_536))?;
+    let (ran, _) = run_raw(&rt, alloc, query, &document, plainly(65_536))?;
     is_left(&rt, &ran, query, Ended::Ok, b"<n></n>");
     Ok(())
 }
@@ -293,7 +293,7 @@ fn a_read_that_fails_ends_the_run(rt: HostRuntime) -> Result<(), Fail> {
 #[test]
 fn a_read_that_fails_leaves_what_is_held(rt: HostRuntime) -> Result<(), Fail> {
     let alloc = rt.alloc();
-    let (ran, nodes) = run_marked(&rt, alloc, COPIES, b"<a><b>1</b><c/>", front())?;
+    let (ran, nodes) = run_raw(&rt, alloc, COPIES, b"<a><b>1</b><c/>", front())?;
     is_left(&rt, &ran, COPIES, Ended::ReadFault, b"<r><b>1</b>");
     let most = NodeStore::<Row>::most(&nodes);
     assert_eq!(rt; (ran.report.held, most), (2, 4));

@@ -12,7 +12,7 @@ ghost use Rattle.doc_reader.specs.Standing.{Stands, said_of};
 ghost use Rattle.pull_eval.specs.Acting.{Beside};
 ghost use Rattle.gcx_model.specs.Seen.{AreWithin};
 
-use super::{marked, plan_of};
+use super::{indexed, plan_of};
 use buf_tree::{Buffer, Row};
 use cond_eval::Plain;
 use doc_reader::{Reader, Token};
@@ -151,7 +151,7 @@ fn reach_by(alloc: Global, plan: &Plan, turns: &[Turn], out: &mut Vec<u8>) -> Re
     requires placed { (core : BodyTree) × Good core × Placed core (plan_tree plan.now) }
 {
     let tokens = tokens_of(alloc, TWO)?;
-    let (nodes, conds) = (RawNodes::new(alloc), marked(alloc));
+    let (nodes, conds) = (RawNodes::new(alloc), indexed(alloc, plan)?);
     Ok(interleave(alloc, plan, nodes, conds, tokens, turns, out)?)
 }
 

@@ -3,6 +3,3 @@ use Rattle.buffer_tests.proofs.buffers.passed.opened.Goals as goal
 
 pub open_kept-requires-clause-spread : goal.open_kept-requires-clause-spread
 open_kept-requires-clause-spread g c = inl c.requires.plain
-
-pub open_with-requires-clause-spread : goal.open_with-requires-clause-spread
-open_with-requires-clause-spread g c = inl c.requires.plain
