@@ -162,32 +162,32 @@ fn reach(alloc: Global, turns: &str, out: &mut Vec<u8>) -> Result<Reached, Fail>
     reach_by(alloc, &plan, &turns, out)
 }
 
-/// Turns, what is written, and how many tokens were fed, actions taken, nodes held and nodes opened.
-type Case = (&'static str, &'static str, u64, u64, u64, u64);
+/// Turns, what is written, how many tokens were fed and actions taken, nodes are held and were opened, and roles were given
+/// and taken back.
+type Case = (&'static str, &'static str, [u64; 4], [u128; 2]);
 
-const CASES: [Case; 6] = [
-    ("", "", 0, 0, 1, 1),
-    ("aaa", "<r>", 0, 1, 1, 1),
-    ("fffffffffffffff", "", 11, 0, 6, 7),
-    ("ffffa", "<r>", 4, 1, 4, 4),
-    ("ffffaaaaa", "<r><b>1</b>", 4, 5, 3, 4),
-    (
-        "fffffffffffaaaaaaaaaaaaaaaa",
-        "<r><b>1</b><b>2</b></r>",
-        11,
-        14,
-        0,
-        7,
-    ),
+const WHOLE: &str = "<r><b>1</b><b>2</b></r>";
+
+const CASES: [Case; 9] = [
+    ("", "", [0, 0, 1, 1], [1, 0]),
+    ("aaa", "<r>", [0, 1, 1, 1], [1, 0]),
+    ("fffffffffff", "", [11, 0, 6, 7], [8, 0]),
+    ("fffffffffffffff", "", [11, 0, 6, 7], [8, 0]),
+    ("ffffa", "<r>", [4, 1, 4, 4], [5, 0]),
+    ("ffffaaaaa", "<r><b>1</b>", [4, 5, 3, 4], [5, 2]),
+    ("fafafafafa", "<r><b>1</b>", [5, 5, 4, 5], [5, 2]),
+    ("fffffffffffaaaaaaaaaaaaaafa", WHOLE, [11, 14, 0, 7], [8, 8]),
+    ("fffffffffffaaaaaaaaaaaaaaaa", WHOLE, [11, 14, 0, 7], [8, 8]),
 ];
 
 fn is_reached(rt: &impl Abort, alloc: Global, case: Case) -> Result<(), Fail> {
-    let (turns, out, fed, acted, held, nodes) = case;
+    let (turns, out, counts, roles) = case;
     let mut bytes = Vec::new(alloc);
     let reached = reach(alloc, turns, &mut bytes)?;
     assert_eq!(rt; bytes.as_slice(), out.as_bytes(), "{turns}");
-    assert_eq!(rt; (reached.fed, reached.acted), (fed, acted), "{turns}");
-    assert_eq!(rt; (reached.held, reached.nodes), (held, nodes), "{turns}");
+    let found = [reached.fed, reached.acted, reached.held, reached.nodes];
+    assert_eq!(rt; found, counts, "{turns}");
+    assert_eq!(rt; [reached.given, reached.taken], roles, "{turns}");
     Ok(())
 }
 
