@@ -34,7 +34,7 @@ fn assert_name(rt: &impl Abort, alloc: Global, bytes: &[u8], named: bool) -> Res
 
 #[test]
 fn names_are_of_xml(rt: HostRuntime) -> Result<(), Fail> {
-    let table: [(&[u8], bool); 14] = [
+    let table: &[(&[u8], bool)] = &[
         (b"a", true),
         (b"sixteen_letters_", true),
         (b"seventeen_letters", true),
@@ -50,7 +50,7 @@ fn names_are_of_xml(rt: HostRuntime) -> Result<(), Fail> {
         (b"\xC3\x97", false),
         (b"a\xC3", false),
     ];
-    for (bytes, named) in table {
+    for &(bytes, named) in table {
         assert_name(&rt, rt.alloc(), bytes, named)?;
     }
     Ok(())
@@ -94,7 +94,7 @@ fn assert_text(rt: &impl Abort, alloc: Global, bytes: &[u8], utf8: bool) -> Resu
 
 #[test]
 fn texts_are_utf8(rt: HostRuntime) -> Result<(), Fail> {
-    let table: [(&[u8], bool); 10] = [
+    let table: &[(&[u8], bool)] = &[
         (b"", true),
         (b"1 > 0", true),
         (b"16 bytes of text", true),
@@ -106,7 +106,7 @@ fn texts_are_utf8(rt: HostRuntime) -> Result<(), Fail> {
         (b"\xC0\x80", false),
         (b"\xED\xA0\x80", false),
     ];
-    for (bytes, utf8) in table {
+    for &(bytes, utf8) in table {
         assert_text(&rt, rt.alloc(), bytes, utf8)?;
     }
     Ok(())
@@ -132,15 +132,28 @@ fn four_steps(alloc: Global) -> Result<Steps, Fail> {
     Ok(steps)
 }
 
+fn printed(alloc: Global, steps: &Steps) -> Result<String, Fail> {
+    Ok(format!(in alloc; "{:?}", steps.items())?)
+}
+
+fn assert_printed_alike(
+    rt: &impl Abort,
+    alloc: Global,
+    steps: &Steps,
+    others: &Steps,
+) -> Result<(), Fail> {
+    let printed_steps = printed(alloc, steps)?;
+    let printed_others = printed(alloc, others)?;
+    assert_eq!(rt; printed_steps, printed_others);
+    Ok(())
+}
+
 #[test]
 fn steps_keep_their_order(rt: HostRuntime) -> Result<(), Fail> {
-    let alloc = rt.alloc();
-    let steps = four_steps(alloc)?;
-    let copied = steps.copy(alloc)?;
-    let printed = format!(in alloc; "{:?}", copied.items())?;
-    assert_eq!(rt; printed, format!(in alloc; "{:?}", steps.items())?);
+    let steps = four_steps(rt.alloc())?;
+    let copied = steps.copy(rt.alloc())?;
     assert_eq!(rt; copied.items().len(), 4);
-    Ok(())
+    assert_printed_alike(&rt, rt.alloc(), &copied, &steps)
 }
 
 #[test]
@@ -156,7 +169,7 @@ fn kinds_are_copied(rt: HostRuntime) -> Result<(), Fail> {
 
 #[test]
 fn bytes_are_the_same_where_each_is(rt: HostRuntime) {
-    let table: [(&[u8], &[u8], bool); 8] = [
+    let table: &[(&[u8], &[u8], bool)] = &[
         (b"", b"", true),
         (b"abc", b"abc", true),
         (b"abc", b"abd", false),
@@ -166,7 +179,7 @@ fn bytes_are_the_same_where_each_is(rt: HostRuntime) {
         (b"abcdefghi", b"abcdefghi", true),
         (b"abcdefghi", b"abcdefghj", false),
     ];
-    for (one, other, same) in table {
+    for &(one, other, same) in table {
         assert_eq!(rt; same_bytes(one, other), same, "{one:?} {other:?}");
     }
 }
@@ -212,16 +225,11 @@ fn texts_are_compared(rt: HostRuntime) -> Result<(), Fail> {
 }
 
 /// Compares which of a step of each test a node of this kind passes.
-fn assert_passes(
-    rt: &impl Abort,
-    alloc: Global,
-    kind: &Kind,
-    passed: [bool; 4],
-) -> Result<(), Fail> {
+fn assert_passes(rt: &impl Abort, alloc: Global, kind: &Kind, passed: &[bool]) -> Result<(), Fail> {
     let steps = four_steps(alloc)?;
     for (step, passes) in steps.items().iter().zip(passed) {
         assert!(rt;
-            step.test.passes(kind) == passes,
+            step.test.passes(kind) == *passes,
             "{:?} {:?}",
             step.test,
             kind
@@ -230,39 +238,49 @@ fn assert_passes(
     Ok(())
 }
 
+/// A kind that is to be made.
+#[derive(Clone, Copy)]
+enum Made {
+    Document,
+    Element(&'static [u8]),
+    Text(&'static [u8]),
+}
+
+fn kind_made(alloc: Global, made: Made) -> Result<Kind, Fail> {
+    match made {
+        Made::Document => Ok(Kind::Document),
+        Made::Element(bytes) => Ok(Kind::Element(name(alloc, bytes)?)),
+        Made::Text(bytes) => Ok(Kind::Text(Text::of_text(alloc, bytes)?)),
+    }
+}
+
 /// Compares which of a step of each test a node of this kind passes, and whether it is a text.
 fn assert_kind(
     rt: &impl Abort,
     alloc: Global,
-    kind: Kind,
-    passed: [bool; 4],
+    made: Made,
+    passed: &[bool],
     is_text: bool,
 ) -> Result<(), Fail> {
+    let kind = kind_made(alloc, made)?;
     assert_eq!(rt; kind.is_text(), is_text);
     assert_passes(rt, alloc, &kind, passed)
 }
 
-#[test]
-fn the_document_passes_no_test(rt: HostRuntime) -> Result<(), Fail> {
-    assert_kind(&rt, rt.alloc(), Kind::Document, [false; 4], false)
-}
+/// Kinds, which of `child::a`, `child::*`, `child::text()` and `child::node()` they pass, and whether they are texts.
+const KINDS: &[(Made, &[bool], bool)] = &[
+    (Made::Document, &[false, false, false, false], false),
+    (Made::Element(b"a"), &[true, true, false, true], false),
+    (Made::Element(b"b"), &[false, true, false, true], false),
+    (Made::Text(b"a"), &[false, false, true, true], true),
+];
 
 #[test]
-fn an_element_passes_the_test_of_its_name(rt: HostRuntime) -> Result<(), Fail> {
-    let element = Kind::Element(name(rt.alloc(), b"a")?);
-    assert_kind(&rt, rt.alloc(), element, [true, true, false, true], false)
-}
-
-#[test]
-fn an_element_passes_no_test_of_another_name(rt: HostRuntime) -> Result<(), Fail> {
-    let other = Kind::Element(name(rt.alloc(), b"b")?);
-    assert_kind(&rt, rt.alloc(), other, [false, true, false, true], false)
-}
-
-#[test]
-fn a_text_passes_the_tests_of_texts(rt: HostRuntime) -> Result<(), Fail> {
-    let text = Kind::Text(Text::of_text(rt.alloc(), b"a")?);
-    assert_kind(&rt, rt.alloc(), text, [false, false, true, true], true)
+fn kinds_pass_their_tests(rt: HostRuntime) -> Result<(), Fail> {
+    for &(made, passed, is_text) in KINDS {
+        assert_kind(&rt, rt.alloc(), made, passed, is_text)?;
+    }
+    Ok(())
 }
 
 #[test]
@@ -270,10 +288,14 @@ fn documents_may_be_a_thousand_deep(rt: HostRuntime) {
     assert_eq!(rt; Limits::full().depth, 1000);
 }
 
+fn assert_class(rt: &impl Abort, c: char, found: bool, want: bool) {
+    assert_eq!(rt; found, want, "{c:?}");
+}
+
 #[test]
 fn characters_have_their_classes(rt: HostRuntime) {
     // Char, NameStartChar, NameChar, S
-    let table = [
+    let table: &[(char, bool, bool, bool, bool)] = &[
         ('\0', false, false, false, false),
         ('\t', true, false, false, true),
         ('\u{B}', false, false, false, false),
@@ -294,16 +316,10 @@ fn characters_have_their_classes(rt: HostRuntime) {
         ('\u{10000}', true, true, true, false),
         ('\u{F0000}', true, false, false, false),
     ];
-    for (c, char, start, part, space) in table {
-        let classes = (
-            is_xml_char(c),
-            is_name_start(c),
-            is_name_char(c),
-            is_space(c),
-        );
-        assert!(rt;
-            classes.0 == char && classes.1 == start && classes.2 == part && classes.3 == space,
-            "{c:?}"
-        );
+    for &(c, char, start, part, space) in table {
+        assert_class(&rt, c, is_xml_char(c), char);
+        assert_class(&rt, c, is_name_start(c), start);
+        assert_class(&rt, c, is_name_char(c), part);
+        assert_class(&rt, c, is_space(c), space);
     }
 }

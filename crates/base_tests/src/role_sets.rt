@@ -13,70 +13,114 @@ fn give_all(roles: &mut RoleSet, numbers: &[u32]) -> Result<(), Memory> {
     Ok(())
 }
 
-fn assert_empty(rt: &impl Abort, roles: &RoleSet, empty: bool) {
-    assert_eq!(rt; roles.is_empty(), empty);
-}
-
 /// Whether the set has the role.
 fn assert_role(rt: &impl Abort, roles: &RoleSet, number: u32, has: bool) {
     assert_eq!(rt; roles.has(Role(number)), has, "at {number}");
 }
 
-/// Which of the roles below 400 the set has, in order.
+/// The set has each of these roles, so it isn't empty.
+fn assert_each(rt: &impl Abort, roles: &RoleSet, numbers: &[u32]) {
+    for number in numbers {
+        assert_role(rt, roles, *number, true);
+    }
+    assert!(rt; !roles.is_empty());
+}
+
+/// Which of the roles below 400 the set has, in order. It is empty where it has none of them.
 fn assert_has(rt: &impl Abort, roles: &RoleSet, numbers: &[u32]) {
     for number in 0..400u32 {
         assert_role(rt, roles, number, numbers.contains(&number));
     }
+    assert_eq!(rt; roles.is_empty(), numbers.is_empty());
 }
 
 /// Takes the roles in turn: each is there before, and not after.
 fn take_all(rt: &impl Abort, roles: &mut RoleSet, numbers: &[u32]) {
     for number in numbers {
-        assert!(rt; roles.has(Role(*number)), "before {number} goes");
+        assert_role(rt, roles, *number, true);
         roles.take(Role(*number));
-        assert!(rt; !roles.has(Role(*number)), "after {number} went");
+        assert_role(rt, roles, *number, false);
     }
 }
 
-#[test]
-fn holds_roles_at_the_bounds_of_a_word(rt: HostRuntime) -> Result<(), Fail> {
-    let mut roles = RoleSet::new(rt.alloc());
-    assert_empty(&rt, &roles, true);
-    give_all(&mut roles, &[63, 300, 0, 64, 63, 300])?;
-    assert_has(&rt, &roles, &[0, 63, 64, 300]);
-    take_all(&rt, &mut roles, &[300, 0]);
-    assert_has(&rt, &roles, &[63, 64]);
-    take_all(&rt, &mut roles, &[64, 63]);
-    assert_empty(&rt, &roles, true);
+/// What is done with a set and some roles.
+#[derive(Clone, Copy)]
+enum Act {
+    Give,
+    Take,
+    /// The set has these of the roles below 400.
+    Has,
+    /// The set has each of these.
+    HasEach,
+}
+
+fn do_act(rt: &impl Abort, roles: &mut RoleSet, act: Act, numbers: &[u32]) -> Result<(), Memory> {
+    match act {
+        Act::Give => return give_all(roles, numbers),
+        Act::Take => take_all(rt, roles, numbers),
+        Act::Has => assert_has(rt, roles, numbers),
+        Act::HasEach => assert_each(rt, roles, numbers),
+    }
+    Ok(())
+}
+
+/// Acts in turn.
+type Acts = &'static [(Act, &'static [u32])];
+
+/// Roles at the bounds of a word.
+const BOUNDS: Acts = &[
+    (Act::Has, &[]),
+    (Act::Give, &[63, 300, 0, 64, 63, 300]),
+    (Act::Has, &[0, 63, 64, 300]),
+    (Act::Take, &[300, 0]),
+    (Act::Has, &[63, 64]),
+    (Act::Take, &[64, 63]),
+    (Act::Has, &[]),
+];
+
+/// The greatest role.
+const GREATEST: Acts = &[
+    (Act::Give, &[4_294_967_295]),
+    (Act::HasEach, &[4_294_967_295]),
+    (Act::Give, &[1_999]),
+    (Act::Take, &[4_294_967_295]),
+    (Act::HasEach, &[1_999]),
+];
+
+fn do_acts(rt: &impl Abort, alloc: Global, acts: Acts) -> Result<(), Memory> {
+    let mut roles = RoleSet::new(alloc);
+    for &(next, numbers) in acts {
+        do_act(rt, &mut roles, next, numbers)?;
+    }
     Ok(())
 }
 
 #[test]
-fn holds_the_greatest_role(rt: HostRuntime) -> Result<(), Fail> {
-    let mut roles = RoleSet::new(rt.alloc());
-    give_all(&mut roles, &[4_294_967_295])?;
-    assert_role(&rt, &roles, 4_294_967_295, true);
-    assert_empty(&rt, &roles, false);
-    give_all(&mut roles, &[1_999])?;
-    take_all(&rt, &mut roles, &[4_294_967_295]);
-    assert_role(&rt, &roles, 1_999, true);
+fn holds_what_it_was_given(rt: HostRuntime) -> Result<(), Fail> {
+    for &each in &[BOUNDS, GREATEST] {
+        do_acts(&rt, rt.alloc(), each)?;
+    }
+    Ok(())
+}
+
+/// The roles below 300 are given, and taken from the last one on.
+fn hold_hundreds(rt: &impl Abort, roles: &mut RoleSet) -> Result<(), Memory> {
+    for number in 0..300u32 {
+        roles.give(Role(number))?;
+    }
+    for number in 0..400u32 {
+        assert_role(rt, roles, number, number < 300);
+    }
+    for number in 0..300u32 {
+        take_all(rt, roles, &[299 - number]);
+    }
+    assert!(rt; roles.is_empty());
     Ok(())
 }
 
 #[test]
 fn holds_three_hundred_roles(rt: HostRuntime) -> Result<(), Fail> {
-    let mut roles = RoleSet::new(rt.alloc());
-    for number in 0..300u32 {
-        roles.give(Role(number))?;
-    }
-    for number in 0..400u32 {
-        assert_role(&rt, &roles, number, number < 300);
-    }
-    for number in 0..300u32 {
-        take_all(&rt, &mut roles, &[299 - number]);
-    }
-    assert_empty(&rt, &roles, true);
-    Ok(())
+    Ok(hold_hundreds(&rt, &mut RoleSet::new(rt.alloc()))?)
 }
 
 /// Whether the node holds the role, and whether it is signed.
@@ -94,20 +138,45 @@ fn assert_roles(rt: &impl Abort, roles: &NodeRoles, held: &[u32], signed: &[u32]
     assert_eq!(rt; roles.is_empty(), held.is_empty());
 }
 
-/// Signs the roles in turn.
-fn sign_all(roles: &mut NodeRoles, numbers: &[u32]) -> Result<(), Memory> {
+/// Takes the role, which is there before.
+fn take_held(rt: &impl Abort, roles: &mut NodeRoles, role: Role) {
+    assert!(rt; roles.has(role), "before {role:?} goes");
+    roles.take(role);
+}
+
+/// What is done with each of some roles of a node.
+#[derive(Clone, Copy)]
+enum Deed {
+    Give,
+    Sign,
+    Take,
+}
+
+fn do_with(
+    rt: &impl Abort,
+    roles: &mut NodeRoles,
+    deed: Deed,
+    numbers: &[u32],
+) -> Result<(), Memory> {
     for number in numbers {
-        roles.sign(Role(*number))?;
+        match deed {
+            Deed::Give => roles.give(Role(*number))?,
+            Deed::Sign => roles.sign(Role(*number))?,
+            Deed::Take => take_held(rt, roles, Role(*number)),
+        }
     }
     Ok(())
 }
 
-/// Takes the roles in turn, each of which is there before.
-fn take_held(rt: &impl Abort, roles: &mut NodeRoles, numbers: &[u32]) {
-    for number in numbers {
-        assert!(rt; roles.has(Role(*number)), "before {number} goes");
-        roles.take(Role(*number));
+/// Deeds in turn, each with the roles that the node then holds and those that are signed.
+type Deeds = &'static [(Deed, &'static [u32], &'static [u32], &'static [u32])];
+
+fn do_deeds(rt: &impl Abort, roles: &mut NodeRoles, deeds: Deeds) -> Result<(), Memory> {
+    for &(deed, numbers, held, signed) in deeds {
+        do_with(rt, roles, deed, numbers)?;
+        assert_roles(rt, roles, held, signed);
     }
+    Ok(())
 }
 
 /// The roles of a node that is given these.
@@ -119,46 +188,39 @@ fn node_with(alloc: Global, numbers: &[u32]) -> Result<NodeRoles, Memory> {
 
 #[test]
 fn a_node_holds_and_signs_roles_at_the_bounds_of_a_word(rt: HostRuntime) -> Result<(), Fail> {
+    let bounds: Deeds = &[
+        (Deed::Give, &[], &[0, 63, 64, 300], &[]),
+        (
+            Deed::Sign,
+            &[0, 300, 5, 65],
+            &[0, 63, 64, 300],
+            &[0, 5, 65, 300],
+        ),
+        (Deed::Take, &[63, 64, 0, 300], &[], &[0, 5, 65, 300]),
+        (Deed::Give, &[65], &[65], &[0, 5, 65, 300]),
+    ];
     let mut roles = node_with(rt.alloc(), &[63, 300, 0, 64])?;
-    assert_roles(&rt, &roles, &[0, 63, 64, 300], &[]);
-    sign_all(&mut roles, &[0, 300, 5, 65])?;
-    assert_roles(&rt, &roles, &[0, 63, 64, 300], &[0, 5, 65, 300]);
-    take_held(&rt, &mut roles, &[63, 64, 0, 300]);
-    assert_roles(&rt, &roles, &[], &[0, 5, 65, 300]);
-    roles.give(Role(65))?;
-    assert_roles(&rt, &roles, &[65], &[0, 5, 65, 300]);
-    Ok(())
+    Ok(do_deeds(&rt, &mut roles, bounds)?)
 }
 
-fn given_before_signed(rt: &impl Abort, alloc: Global) -> Result<(), Fail> {
-    let mut roles = NodeRoles::new(alloc);
-    assert_roles(rt, &roles, &[], &[]);
-    roles.give(Role(100))?;
-    assert_roles(rt, &roles, &[100], &[]);
-    roles.sign(Role(200))?;
-    assert_roles(rt, &roles, &[100], &[200]);
-    Ok(())
-}
-
-fn signed_before_given(rt: &impl Abort, alloc: Global) -> Result<(), Fail> {
-    let mut roles = NodeRoles::new(alloc);
-    roles.sign(Role(200))?;
-    roles.give(Role(100))?;
-    assert_roles(rt, &roles, &[100], &[200]);
-    Ok(())
-}
-
-fn two_given(rt: &impl Abort, alloc: Global) -> Result<(), Fail> {
-    let mut roles = NodeRoles::new(alloc);
-    roles.give(Role(100))?;
-    roles.give(Role(101))?;
-    assert_roles(rt, &roles, &[100, 101], &[]);
-    Ok(())
-}
+/// The first roles from 64 on: given before signed, signed before given, and two given.
+const FIRST: &[Deeds] = &[
+    &[
+        (Deed::Give, &[], &[], &[]),
+        (Deed::Give, &[100], &[100], &[]),
+        (Deed::Sign, &[200], &[100], &[200]),
+    ],
+    &[
+        (Deed::Sign, &[200], &[], &[200]),
+        (Deed::Give, &[100], &[100], &[200]),
+    ],
+    &[(Deed::Give, &[100, 101], &[100, 101], &[])],
+];
 
 #[test]
 fn a_node_s_first_roles_from_64_on_come_in_any_order(rt: HostRuntime) -> Result<(), Fail> {
-    given_before_signed(&rt, rt.alloc())?;
-    signed_before_given(&rt, rt.alloc())?;
-    two_given(&rt, rt.alloc())
+    for &each in FIRST {
+        do_deeds(&rt, &mut NodeRoles::new(rt.alloc()), each)?;
+    }
+    Ok(())
 }

@@ -73,49 +73,62 @@ fn find<N: NodeStore<u32>>(
 fn locate<N: NodeStore<u32>>(store: &N, payload: u32) -> Result<Place, Fail>
     ensures { IfOk result (λ p. IsSome (map.get (N.rows store.now) p.0)) }
 {
-    let root = store.root();
-    Ok(find(store, root, payload, 999).ok_or("no row")?)
+    match find(store, store.root(), payload, 999) {
+        Some(place) => Ok(place),
+        None => Err(Fail::new("no row")),
+    }
 }
 
 fn drop_at<T: Drop, N: NodeStore<T>>(store: &mut N, place: Place) -> Result<(), Fail>
     requires { IsSome (map.get (N.rows store.old) place.0) }
 {
     if store.first(place).is_some() {
-        return Err("no leaf")?;
+        return Err(Fail::new("no leaf"));
     }
     store.drop_leaf(place);
     Ok(())
 }
 
+fn plant<N: NodeStore<u32>>(store: &mut N, payload: u32) -> Result<(), Fail> {
+    if store.root().is_some() {
+        return Err(Fail::new("not empty"));
+    }
+    store.plant(payload)?;
+    Ok(())
+}
+
+fn append<N: NodeStore<u32>>(store: &mut N, parent: u32, payload: u32) -> Result<(), Fail> {
+    let parent = locate(&*store, parent)?;
+    store.append(parent, payload)?;
+    Ok(())
+}
+
+fn unlink<N: NodeStore<u32>>(store: &mut N, payload: u32) -> Result<(), Fail> {
+    let place = locate(&*store, payload)?;
+    if store.first(place).is_some() {
+        return Err(Fail::new("no leaf"));
+    }
+    store.unlink_leaf(place);
+    Ok(())
+}
+
+fn write_over<N: NodeStore<u32>>(store: &mut N, old: u32, new: u32) -> Result<(), Fail> {
+    let place = locate(&*store, old)?;
+    *store.payload_mut(place) = new;
+    Ok(())
+}
+
 fn make_call<N: NodeStore<u32>>(store: &mut N, call: &Call) -> Result<(), Fail> {
     match *call {
-        Call::Plant(payload) => {
-            if store.root().is_some() {
-                return Err("not empty")?;
-            }
-            store.plant(payload)?;
-        }
-        Call::Append(parent, payload) => {
-            let parent = locate(&*store, parent)?;
-            store.append(parent, payload)?;
-        }
-        Call::Unlink(payload) => {
-            let place = locate(&*store, payload)?;
-            if store.first(place).is_some() {
-                return Err("no leaf")?;
-            }
-            store.unlink_leaf(place);
-        }
+        Call::Plant(payload) => plant(store, payload),
+        Call::Append(parent, payload) => append(store, parent, payload),
+        Call::Unlink(payload) => unlink(store, payload),
         Call::Drop(payload) => {
             let place = locate(&*store, payload)?;
-            drop_at(store, place)?;
+            drop_at(store, place)
         }
-        Call::Write(old, new) => {
-            let place = locate(&*store, old)?;
-            *store.payload_mut(place) = new;
-        }
+        Call::Write(old, new) => write_over(store, old, new),
     }
-    Ok(())
 }
 
 fn head<'a, N: NodeStore<u32>>(at: At<'a, N, u32>, order: Order) -> Option<At<'a, N, u32>> {
@@ -132,6 +145,14 @@ fn follower<'a, N: NodeStore<u32>>(at: At<'a, N, u32>, order: Order) -> Option<A
     }
 }
 
+// The payload of the parent.
+fn above<N: NodeStore<u32>>(at: At<'_, N, u32>) -> Option<u32> {
+    match at.parent() {
+        Some(parent) => Some(*parent.payload()),
+        None => None,
+    }
+}
+
 // The rows from `at` on in this order, each with its children in parentheses.
 fn draw<N: NodeStore<u32>>(
     rt: &impl Abort,
@@ -143,7 +164,7 @@ fn draw<N: NodeStore<u32>>(
 ) -> Result<(), Fail> {
     let payload = *at.payload();
     write!(out, "{payload}")?;
-    assert_eq!(rt; at.parent().map(|above| *above.payload()), parent);
+    assert_eq!(rt; above(at), parent);
     if steps == 0 {
         return Ok(());
     }
@@ -184,12 +205,23 @@ fn assert_drawn<N: NodeStore<u32>>(
     Ok(())
 }
 
+fn assert_rows<N: NodeStore<u32>>(
+    rt: &impl Abort,
+    alloc: Global,
+    store: &N,
+    forward: &str,
+    backward: &str,
+    most: usize,
+) -> Result<(), Fail> {
+    assert_eq!(rt; store.most(), most, "at {forward}");
+    assert_drawn(rt, alloc, store, Order::Forward, forward)?;
+    assert_drawn(rt, alloc, store, Order::Backward, backward)
+}
+
 fn run<N: NodeStore<u32>>(rt: &impl Abort, alloc: Global, store: &mut N) -> Result<(), Fail> {
     for (step, forward, backward, most) in &CALLS {
         make_call(store, step)?;
-        assert_drawn(rt, alloc, &*store, Order::Forward, forward)?;
-        assert_drawn(rt, alloc, &*store, Order::Backward, backward)?;
-        assert_eq!(rt; store.most(), *most, "at {forward}");
+        assert_rows(rt, alloc, &*store, forward, backward, *most)?;
     }
     Ok(())
 }
@@ -205,7 +237,10 @@ fn calls_answer_the_table(rt: HostRuntime) -> Result<(), Fail> {
 fn root_of<T, N: NodeStore<T>>(store: &N) -> Result<Place, Fail>
     ensures { IfOk result (λ p. IsSome (map.get (N.rows store.now) p.0)) }
 {
-    Ok(store.root().ok_or("no root")?)
+    match store.root() {
+        Some(root) => Ok(root),
+        None => Err(Fail::new("no root")),
+    }
 }
 
 fn append_text<N: NodeStore<String>>(alloc: Global, store: &mut N) -> Result<(), Fail> {
@@ -218,8 +253,10 @@ fn append_text<N: NodeStore<String>>(alloc: Global, store: &mut N) -> Result<(),
 // Drops the last child of the root.
 fn drop_last<N: NodeStore<String>>(store: &mut N) -> Result<(), Fail> {
     let root = root_of(&*store)?;
-    let child = store.last(root).ok_or("no child")?;
-    drop_at(store, child)
+    match store.last(root) {
+        Some(child) => drop_at(store, child),
+        None => Err(Fail::new("no child")),
+    }
 }
 
 fn drop_root<N: NodeStore<String>>(rt: &impl Abort, store: &mut N) -> Result<(), Fail> {
@@ -259,57 +296,78 @@ fn make_calls<N: NodeStore<u32>>(store: &mut N, calls: &[Call]) -> Result<(), Fa
     Ok(())
 }
 
+fn assert_place(rt: &impl Abort, found: Option<Place>, want: Option<Place>) {
+    assert_eq!(rt; found, want);
+}
+
 // Row 1 has rows 2 and 4 as its children, and no other.
 fn assert_two_children<N: NodeStore<u32>>(rt: &impl Abort, store: &N) -> Result<(), Fail> {
     let a = locate(store, 1)?;
     let b = locate(store, 2)?;
     let d = locate(store, 4)?;
-    assert_eq!(rt;
-        [store.first(a), store.next(b), store.next(d)],
-        [Some(b), Some(d), None]
-    );
-    assert_eq!(rt;
-        [store.last(a), store.prev(d), store.prev(b)],
-        [Some(d), Some(b), None]
-    );
+    assert_place(rt, store.first(a), Some(b));
+    assert_place(rt, store.next(b), Some(d));
+    assert_place(rt, store.next(d), None);
+    assert_place(rt, store.last(a), Some(d));
+    assert_place(rt, store.prev(d), Some(b));
+    assert_place(rt, store.prev(b), None);
+    Ok(())
+}
+
+fn assert_cells(rt: &impl Abort, store: &RawNodes<u32>, cells: usize) {
+    assert_eq!(rt; store.cells(), cells);
+}
+
+// A row between two others leaves.
+const MIDDLE: [Call; 5] = [
+    Call::Plant(1),
+    Call::Append(1, 2),
+    Call::Append(1, 3),
+    Call::Append(1, 4),
+    Call::Unlink(3),
+];
+
+fn leave_the_middle(rt: &impl Abort, store: &mut RawNodes<u32>) -> Result<(), Fail> {
+    make_calls(store, &MIDDLE)?;
+    assert_two_children(rt, &*store)?;
+    assert_cells(rt, &*store, 256);
     Ok(())
 }
 
 #[test]
 fn a_leaf_in_the_middle_leaves(rt: HostRuntime) -> Result<(), Fail> {
-    let mut store = RawNodes::new(rt.alloc());
-    make_calls(
-        &mut store,
-        &[
-            Call::Plant(1),
-            Call::Append(1, 2),
-            Call::Append(1, 3),
-            Call::Append(1, 4),
-            Call::Unlink(3),
-        ],
-    )?;
-    assert_two_children(&rt, &store)?;
-    assert_eq!(&rt; store.cells(), 256);
+    leave_the_middle(&rt, &mut RawNodes::new(rt.alloc()))
+}
+
+// Calls on a store whose block is full, and its cells after each.
+const FULL: [(Call, usize); 3] = [
+    (Call::Unlink(100), 256),
+    (Call::Append(0, 256), 256),
+    (Call::Append(0, 257), 512),
+];
+
+// Fills a block with a root and its children.
+fn fill_block(store: &mut RawNodes<u32>) -> Result<(), Fail> {
+    plant(store, 0)?;
+    for child in 1..256 {
+        append(store, 0, child)?;
+    }
+    Ok(())
+}
+
+fn use_dead_cells(rt: &impl Abort, store: &mut RawNodes<u32>) -> Result<(), Fail> {
+    fill_block(store)?;
+    assert_cells(rt, &*store, 256);
+    for (call, cells) in &FULL {
+        make_call(store, call)?;
+        assert_cells(rt, &*store, *cells);
+    }
     Ok(())
 }
 
 #[test]
 fn a_dead_cell_is_used_before_a_block(rt: HostRuntime) -> Result<(), Fail> {
-    let mut store = RawNodes::new(rt.alloc());
-    make_call(&mut store, &Call::Plant(0))?;
-    for child in 1..256 {
-        make_call(&mut store, &Call::Append(0, child))?;
-    }
-    assert_eq!(&rt; store.cells(), 256);
-    for (call, cells) in &[
-        (Call::Unlink(100), 256),
-        (Call::Append(0, 256), 256),
-        (Call::Append(0, 257), 512),
-    ] {
-        make_call(&mut store, call)?;
-        assert_eq!(&rt; store.cells(), *cells);
-    }
-    Ok(())
+    use_dead_cells(&rt, &mut RawNodes::new(rt.alloc()))
 }
 
 /// So wide a payload that blocks show in the memory of the process.
@@ -319,22 +377,38 @@ const WIDE: Wide = [7; 128];
 
 const STORES: u32 = 3_000;
 
+// The second number of the text.
+fn second_number(text: &str) -> Option<u64> {
+    let mut numbers = text.split_whitespace();
+    numbers.next();
+    numbers.next()?.parse::<u64>().ok()
+}
+
 // How many pages of memory the process has, as Linux tells it.
 fn pages(rt: &HostRuntime) -> Result<u64, Fail> {
     let text = fs::read_to_string(rt, "/proc/self/statm")?;
-    let mut numbers = text.split_whitespace();
-    numbers.next();
-    Ok(numbers.next().ok_or("no second number")?.parse::<u64>()?)
+    match second_number(text.as_str()) {
+        Some(pages) => Ok(pages),
+        None => Err(Fail::new("no second number")),
+    }
+}
+
+// Gives a store two blocks.
+fn fill<N: NodeStore<Wide>>(store: &mut N) -> Result<(), Fail>
+    requires { N.rows store.old ≡ map.empty }
+{
+    store.plant(WIDE)?;
+    for _ in 1..257 {
+        let root = root_of(&*store)?;
+        store.append(root, WIDE)?;
+    }
+    Ok(())
 }
 
 // Makes a store, gives it two blocks, and lets it go.
 fn fill_two_blocks(rt: &impl Abort, alloc: Global) -> Result<(), Fail> {
     let mut store = RawNodes::new(alloc);
-    store.plant(WIDE)?;
-    for _ in 1..257 {
-        let root = store.root().ok_or("no root")?;
-        store.append(root, WIDE)?;
-    }
+    fill(&mut store)?;
     assert_eq!(rt; store.cells(), 512);
     Ok(())
 }

@@ -1,5 +1,5 @@
 //! Queries and their cores.
-use crate::large::{copied, looking_far, repeated};
+use crate::large::{Part, joined_by_commas};
 use gcx_base::{Axis, Memory, Step, Test, VarId};
 use gcx_model::{Body, Cond, Item, QueryFault, What};
 use std::alloc::Global;
@@ -85,74 +85,69 @@ fn are_shown(rt: &impl Abort, alloc: Global, rows: &[(&[u8], &str)]) -> Result<(
     Ok(())
 }
 
-#[test]
-fn paths_become_loops(rt: HostRuntime) -> Result<(), Fail> {
-    let rows: &[(&[u8], &str)] = &[
-        (
-            b"for $x in /a/b where exists($x) return $x",
-            "for 1 in 0/child::a { for 2 in 1/child::b { if true() { copy 2 } else { } } } ",
-        ),
-        (
-            b"for $x in /a return for $x in $x/b return $x",
-            "for 1 in 0/child::a { for 2 in 1/child::b { copy 2 } } ",
-        ),
-    ];
-    are_shown(&rt, rt.alloc(), rows)
-}
+/// Queries and their cores: paths become loops, and branches go into loops.
+const CORES: &[(&[u8], &str)] = &[
+    (
+        b"for $x in /a/b where exists($x) return $x",
+        "for 1 in 0/child::a { for 2 in 1/child::b { if true() { copy 2 } else { } } } ",
+    ),
+    (
+        b"for $x in /a return for $x in $x/b return $x",
+        "for 1 in 0/child::a { for 2 in 1/child::b { copy 2 } } ",
+    ),
+    (
+        b"for $x in /r/p return if (exists($x/k)) then for $y in $x/j return $y else ()",
+        "for 1 in 0/child::r { for 2 in 1/child::p { for 3 in 2/child::j { if exists(2/child::k) { copy 3 } else { } } } } ",
+    ),
+    (
+        b"for $x in /r/p return if (exists($x/k)) then (<a/>, $x/j, <b/>) else $x/k",
+        "for 1 in 0/child::r { for 2 in 1/child::p { if exists(2/child::k) { <a> </a> } else { } for 3 in 2/child::j { if exists(2/child::k) { copy 3 } else { } } if exists(2/child::k) { <b> </b> } else { } for 4 in 2/child::k { if exists(2/child::k) { } else { copy 4 } } } } ",
+    ),
+];
 
 #[test]
-fn branches_go_into_loops(rt: HostRuntime) -> Result<(), Fail> {
-    let rows: &[(&[u8], &str)] = &[
-        (
-            b"for $x in /r/p return if (exists($x/k)) then for $y in $x/j return $y else ()",
-            "for 1 in 0/child::r { for 2 in 1/child::p { for 3 in 2/child::j { if exists(2/child::k) { copy 3 } else { } } } } ",
-        ),
-        (
-            b"for $x in /r/p return if (exists($x/k)) then (<a/>, $x/j, <b/>) else $x/k",
-            "for 1 in 0/child::r { for 2 in 1/child::p { if exists(2/child::k) { <a> </a> } else { } for 3 in 2/child::j { if exists(2/child::k) { copy 3 } else { } } if exists(2/child::k) { <b> </b> } else { } for 4 in 2/child::k { if exists(2/child::k) { } else { copy 4 } } } } ",
-        ),
-    ];
-    are_shown(&rt, rt.alloc(), rows)
+fn queries_have_these_cores(rt: HostRuntime) -> Result<(), Fail> {
+    are_shown(&rt, rt.alloc(), CORES)
 }
 
-/// The query has a core.
-fn is_within(rt: &impl Abort, alloc: Global, query: &[u8]) -> Result<(), Fail> {
-    assert_eq!(rt; refusal(alloc, query)?, None);
-    Ok(())
-}
-
-/// This limit is refused, as the first that the query passes.
-fn is_past(
+/// The query of these parts is refused so, or has a core.
+fn is_refused(
     rt: &impl Abort,
     alloc: Global,
-    query: &[u8],
-    what: What,
-    limit: u64,
+    parts: &[Part],
+    wanted: Option<QueryFault>,
 ) -> Result<(), Fail> {
-    let fault = QueryFault::TooLarge(what, limit);
-    assert_eq!(rt; refusal(alloc, query)?, Some(fault));
+    let query = joined_by_commas(alloc, parts)?;
+    let found = refusal(alloc, &query)?;
+    assert_eq!(rt; found, wanted);
     Ok(())
 }
 
-#[test]
-fn more_than_500_loops_are_refused(rt: HostRuntime) -> Result<(), Fail> {
-    let alloc = rt.alloc();
-    is_within(&rt, alloc, &repeated(alloc, b"/a", 500)?)?;
-    is_past(&rt, alloc, &repeated(alloc, b"/a", 501)?, What::Loops, 500)
-}
+/// The parts of queries, and the first limit that each passes, or None.
+const LIMITS: &[(&[Part], Option<QueryFault>)] = &[
+    (&[Part::Paths(500)], None),
+    (
+        &[Part::Paths(501)],
+        Some(QueryFault::TooLarge(What::Loops, 500)),
+    ),
+    (&[Part::LookingFar(8_000)], None),
+    (
+        &[Part::LookingFar(8_001)],
+        Some(QueryFault::TooLarge(What::Steps, 8_000)),
+    ),
+    (&[Part::Copied(8)], None),
+    (
+        &[Part::Copied(9)],
+        Some(QueryFault::TooLarge(What::Conditions, 8_388_608)),
+    ),
+];
 
 #[test]
-fn more_than_8000_steps_are_refused(rt: HostRuntime) -> Result<(), Fail> {
-    let alloc = rt.alloc();
-    is_within(&rt, alloc, &looking_far(alloc, 8_000)?)?;
-    is_past(&rt, alloc, &looking_far(alloc, 8_001)?, What::Steps, 8_000)
-}
-
-#[test]
-fn conditions_of_more_than_8388608_bytes_are_refused(rt: HostRuntime) -> Result<(), Fail> {
-    let alloc = rt.alloc();
-    is_within(&rt, alloc, &copied(alloc, 8)?)?;
-    is_past(&rt, alloc, &copied(alloc, 9)?, What::Conditions, 8_388_608)
+fn what_passes_a_limit_is_refused(rt: HostRuntime) -> Result<(), Fail> {
+    for &(parts, wanted) in LIMITS {
+        is_refused(&rt, rt.alloc(), parts, wanted)?;
+    }
+    Ok(())
 }
 
 #[test]

@@ -26,7 +26,7 @@ fn ends_in_pieces(
     files: (&[u8], &[u8]),
     end: End<'_>,
 ) -> Result<(), Fail> {
-    for most in [1, 7, 65_536] {
+    for &most in &[1, 7, 65_536] {
         let ran = run(rt, alloc, words, files, most, NOTHING)?;
         assert_eq!(rt; ran.end(), end, "{words:?} {files:?} {most}");
     }
@@ -116,14 +116,6 @@ const PATHS: &[Answered] = &[
     ),
 ];
 
-#[test]
-fn each_path_has_its_answer(rt: HostRuntime) -> Result<(), Fail> {
-    for &(query, document, answer) in PATHS {
-        is_answered(&rt, rt.alloc(), query, document, answer)?;
-    }
-    Ok(())
-}
-
 const QUERIES: &[Answered] = &[
     (
         b"<r>{for $x in /a/b return $x}</r>",
@@ -187,12 +179,18 @@ const QUERIES: &[Answered] = &[
     ),
 ];
 
-#[test]
-fn each_query_has_its_answer(rt: HostRuntime) -> Result<(), Fail> {
-    for &(query, document, answer) in QUERIES {
-        is_answered(&rt, rt.alloc(), query, document, answer)?;
+/// Each query has its answer.
+fn are_answered(rt: &impl Abort, alloc: Global, rows: &[Answered]) -> Result<(), Fail> {
+    for &(query, document, answer) in rows {
+        is_answered(rt, alloc, query, document, answer)?;
     }
     Ok(())
+}
+
+#[test]
+fn each_query_has_its_answer(rt: HostRuntime) -> Result<(), Fail> {
+    are_answered(&rt, rt.alloc(), PATHS)?;
+    are_answered(&rt, rt.alloc(), QUERIES)
 }
 
 /// A document that is refused: the query, the bytes, the fault and its line, and what was written before.
@@ -435,52 +433,59 @@ fn a_query_that_is_too_long_is_told(rt: HostRuntime) -> Result<(), Fail> {
     Ok(())
 }
 
+/// The words of a call, a query and a document, and how the call ends.
+type Called = (
+    &'static [&'static [u8]],
+    (&'static [u8], &'static [u8]),
+    End<'static>,
+);
+
+const MISUSED: End<'static> = End {
+    status: Status::Usage,
+    out: b"",
+    err: b"gcx: the words are not a command line\n",
+};
+
+const UNREAD: End<'static> = End {
+    status: Status::ReadFault,
+    out: b"",
+    err: b"gcx: read fault\n",
+};
+
+/// Words that are no command line, and a file that is missing.
+const CALLED: &[Called] = &[
+    (&[], (b"/a", b"<a/>"), MISUSED),
+    (&[b"run"], (b"/a", b"<a/>"), MISUSED),
+    (&[b"run", b"q"], (b"/a", b"<a/>"), MISUSED),
+    (&[b"run", b"q", b"d", b"d"], (b"/a", b"<a/>"), MISUSED),
+    (&[b"walk", b"q", b"d"], (b"/a", b"<a/>"), MISUSED),
+    (&[b"RUN", b"q", b"d"], (b"/a", b"<a/>"), MISUSED),
+    (&[b"run", b"q", b"e"], (b"<r>{/a}</r>", b""), UNREAD),
+    (&[b"run", b"e", b"d"], (b"<r>{/a}</r>", b""), UNREAD),
+];
+
 #[test]
-fn words_that_are_no_command_line_are_told(rt: HostRuntime) -> Result<(), Fail> {
-    let lists: &[&[&[u8]]] = &[
-        &[],
-        &[b"run"],
-        &[b"run", b"q"],
-        &[b"run", b"q", b"d", b"d"],
-        &[b"walk", b"q", b"d"],
-        &[b"RUN", b"q", b"d"],
-    ];
-    let end = End {
-        status: Status::Usage,
-        out: b"",
-        err: b"gcx: the words are not a command line\n",
-    };
-    for words in lists {
-        ends_in_pieces(&rt, rt.alloc(), words, (b"/a", b"<a/>"), end)?;
+fn wrong_words_and_missing_files_are_told(rt: HostRuntime) -> Result<(), Fail> {
+    for &(words, files, end) in CALLED {
+        ends_in_pieces(&rt, rt.alloc(), words, files, end)?;
     }
     Ok(())
 }
 
-#[test]
-fn a_file_that_is_missing_is_told(rt: HostRuntime) -> Result<(), Fail> {
-    let lists: &[&[&[u8]]] = &[&[b"run", b"q", b"e"], &[b"run", b"e", b"d"]];
-    let end = End {
-        status: Status::ReadFault,
-        out: b"",
-        err: b"gcx: read fault\n",
-    };
-    for words in lists {
-        ends_in_pieces(&rt, rt.alloc(), words, (b"<r>{/a}</r>", b""), end)?;
-    }
-    Ok(())
-}
+const CODES: &[(Status, u8)] = &[
+    (Status::Ok, 0),
+    (Status::Usage, 2),
+    (Status::QueryRefused(QueryFault::Syntax(0)), 3),
+    (Status::DocumentRefused(DocFault::Syntax(0)), 4),
+    (Status::ReadFault, 5),
+    (Status::WriteFault, 6),
+    (Status::Memory, 7),
+    (Status::TraceRefused(7), 8),
+];
 
 #[test]
 fn each_status_has_its_code(rt: HostRuntime) {
-    let codes = [
-        Status::Ok.code(),
-        Status::Usage.code(),
-        Status::QueryRefused(QueryFault::Syntax(0)).code(),
-        Status::DocumentRefused(DocFault::Syntax(0)).code(),
-        Status::ReadFault.code(),
-        Status::WriteFault.code(),
-        Status::Memory.code(),
-        Status::TraceRefused(7).code(),
-    ];
-    assert_eq!(rt; codes, [0, 2, 3, 4, 5, 6, 7, 8]);
+    for &(status, code) in CODES {
+        assert_eq!(rt; status.code(), code);
+    }
 }

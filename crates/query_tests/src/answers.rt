@@ -67,106 +67,140 @@ fn are_answers(
     Ok(())
 }
 
-#[test]
-fn paths_are_copied_in_document_order(rt: HostRuntime) -> Result<(), Fail> {
-    let alloc = rt.alloc();
-    let mixed: &[(&str, &str)] = &[
-        ("//text()", "123"),
-        ("/a/node()", "1<b>2</b>3"),
-        ("/a/*", "<b>2</b>"),
-    ];
-    are_answers(&rt, alloc, "<a>1<b>2</b>3</a>", mixed)?;
-    let nested: &[(&str, &str)] = &[
-        ("/a", "<a><a><b></b></a></a>"),
-        ("//a", "<a><a><b></b></a></a><a><b></b></a>"),
-        ("/a//a", "<a><b></b></a>"),
-        ("/a//b", "<b></b>"),
-        ("/b", ""),
-    ];
-    are_answers(&rt, alloc, "<a><a><b/></a></a>", nested)?;
-    let escaped: &[(&str, &str)] = &[("/a", "<a>x &amp; &lt;y&gt;</a>")];
-    are_answers(&rt, alloc, "<a>x &amp; &lt;y></a>", escaped)
+/// A document, and queries with their answers over it.
+type Answered = (&'static str, &'static [(&'static str, &'static str)]);
+
+/// Paths are copied in document order.
+const PATHS: &[Answered] = &[
+    (
+        "<a>1<b>2</b>3</a>",
+        &[
+            ("//text()", "123"),
+            ("/a/node()", "1<b>2</b>3"),
+            ("/a/*", "<b>2</b>"),
+        ],
+    ),
+    (
+        "<a><a><b/></a></a>",
+        &[
+            ("/a", "<a><a><b></b></a></a>"),
+            ("//a", "<a><a><b></b></a></a><a><b></b></a>"),
+            ("/a//a", "<a><b></b></a>"),
+            ("/a//b", "<b></b>"),
+            ("/b", ""),
+        ],
+    ),
+    (
+        "<a>x &amp; &lt;y></a>",
+        &[("/a", "<a>x &amp; &lt;y&gt;</a>")],
+    ),
+];
+
+/// Loops nest.
+const LOOPS: &[Answered] = &[
+    (
+        "<a><b>1</b><c/><b>2</b></a>",
+        &[(
+            "<r>{for $x in /a/b return $x}</r>",
+            "<r><b>1</b><b>2</b></r>",
+        )],
+    ),
+    (
+        "<a><a><b/></a></a>",
+        &[(
+            "for $x in //a return for $y in $x//b return <h/>",
+            "<h></h><h></h>",
+        )],
+    ),
+    (
+        "<r><p/><p><k/></p></r>",
+        &[(
+            "for $x in /r/p, $x in $x/k return ($x, <h/>)",
+            "<k></k><h></h>",
+        )],
+    ),
+    (
+        "<r><x><k>1</k></x><y><k>1</k></y><y><k>2</k></y></r>",
+        &[(
+            "for $a in /r/x return for $b in /r/y where $a/k = $b/k return <m/>",
+            "<m></m>",
+        )],
+    ),
+];
+
+/// Conditions hold.
+const CONDITIONS: &[Answered] = &[
+    (
+        "<a><x><b><c/></b></x></a>",
+        &[
+            ("if (exists(/a//b/c)) then <y/> else <n/>", "<y></y>"),
+            ("if (exists(/a/b/c)) then <y/> else <n/>", "<n></n>"),
+            ("if (exists(//c//b)) then <y/> else <n/>", "<n></n>"),
+        ],
+    ),
+    (
+        "<r><p/><p><k/></p></r>",
+        &[
+            (
+                "for $x in /r/p return if (exists($x/k)) then <y/> else <n/>",
+                "<n></n><y></y>",
+            ),
+            (
+                "for $x in /r/p return if (not(exists($x/k))) then <y/> else <n/>",
+                "<y></y><n></n>",
+            ),
+            (
+                "for $x in /r/p return if (true() and exists($x/k)) then <y/> else <n/>",
+                "<n></n><y></y>",
+            ),
+            (
+                "for $x in /r/p return if (exists($x/j) or exists($x/k)) then <y/> else <n/>",
+                "<n></n><y></y>",
+            ),
+        ],
+    ),
+];
+
+/// Values compare.
+const VALUES: &[Answered] = &[
+    (
+        "<r><p>007</p><p>7x</p><p> 7 </p></r>",
+        &[
+            (
+                "for $x in /r/p return if ($x = 7) then <y/> else <n/>",
+                "<y></y><n></n><y></y>",
+            ),
+            (
+                "for $x in /r/p return if ($x = \"7\") then <y/> else <n/>",
+                "<n></n><n></n><n></n>",
+            ),
+            (
+                "for $x in /r/p return if (8 > $x) then <y/> else <n/>",
+                "<y></y><n></n><y></y>",
+            ),
+        ],
+    ),
+    (
+        "<r><p>1000000000000000000000000000000000000000000</p><p>-0</p><p/></r>",
+        &[(
+            "for $x in /r/p return if ($x > 9) then <y/> else <n/>",
+            "<y></y><n></n><n></n>",
+        )],
+    ),
+];
+
+/// These documents have these answers.
+fn all_answer(rt: &impl Abort, alloc: Global, table: &[Answered]) -> Result<(), Fail> {
+    for &(document, rows) in table {
+        are_answers(rt, alloc, document, rows)?;
+    }
+    Ok(())
 }
 
 #[test]
-fn loops_nest(rt: HostRuntime) -> Result<(), Fail> {
-    let alloc = rt.alloc();
-    let children: &[(&str, &str)] = &[(
-        "<r>{for $x in /a/b return $x}</r>",
-        "<r><b>1</b><b>2</b></r>",
-    )];
-    are_answers(&rt, alloc, "<a><b>1</b><c/><b>2</b></a>", children)?;
-    let nested: &[(&str, &str)] = &[(
-        "for $x in //a return for $y in $x//b return <h/>",
-        "<h></h><h></h>",
-    )];
-    are_answers(&rt, alloc, "<a><a><b/></a></a>", nested)?;
-    let hidden: &[(&str, &str)] = &[(
-        "for $x in /r/p, $x in $x/k return ($x, <h/>)",
-        "<k></k><h></h>",
-    )];
-    are_answers(&rt, alloc, "<r><p/><p><k/></p></r>", hidden)?;
-    let joined: &[(&str, &str)] = &[(
-        "for $a in /r/x return for $b in /r/y where $a/k = $b/k return <m/>",
-        "<m></m>",
-    )];
-    let document = "<r><x><k>1</k></x><y><k>1</k></y><y><k>2</k></y></r>";
-    are_answers(&rt, alloc, document, joined)
-}
-
-#[test]
-fn conditions_hold(rt: HostRuntime) -> Result<(), Fail> {
-    let alloc = rt.alloc();
-    let anywhere: &[(&str, &str)] = &[
-        ("if (exists(/a//b/c)) then <y/> else <n/>", "<y></y>"),
-        ("if (exists(/a/b/c)) then <y/> else <n/>", "<n></n>"),
-        ("if (exists(//c//b)) then <y/> else <n/>", "<n></n>"),
-    ];
-    are_answers(&rt, alloc, "<a><x><b><c/></b></x></a>", anywhere)?;
-    let keyed: &[(&str, &str)] = &[
-        (
-            "for $x in /r/p return if (exists($x/k)) then <y/> else <n/>",
-            "<n></n><y></y>",
-        ),
-        (
-            "for $x in /r/p return if (not(exists($x/k))) then <y/> else <n/>",
-            "<y></y><n></n>",
-        ),
-        (
-            "for $x in /r/p return if (true() and exists($x/k)) then <y/> else <n/>",
-            "<n></n><y></y>",
-        ),
-        (
-            "for $x in /r/p return if (exists($x/j) or exists($x/k)) then <y/> else <n/>",
-            "<n></n><y></y>",
-        ),
-    ];
-    are_answers(&rt, alloc, "<r><p/><p><k/></p></r>", keyed)
-}
-
-#[test]
-fn values_compare(rt: HostRuntime) -> Result<(), Fail> {
-    let alloc = rt.alloc();
-    let numbers: &[(&str, &str)] = &[
-        (
-            "for $x in /r/p return if ($x = 7) then <y/> else <n/>",
-            "<y></y><n></n><y></y>",
-        ),
-        (
-            "for $x in /r/p return if ($x = \"7\") then <y/> else <n/>",
-            "<n></n><n></n><n></n>",
-        ),
-        (
-            "for $x in /r/p return if (8 > $x) then <y/> else <n/>",
-            "<y></y><n></n><y></y>",
-        ),
-    ];
-    let document = "<r><p>007</p><p>7x</p><p> 7 </p></r>";
-    are_answers(&rt, alloc, document, numbers)?;
-    let wide: &[(&str, &str)] = &[(
-        "for $x in /r/p return if ($x > 9) then <y/> else <n/>",
-        "<y></y><n></n><n></n>",
-    )];
-    let document = "<r><p>1000000000000000000000000000000000000000000</p><p>-0</p><p/></r>";
-    are_answers(&rt, alloc, document, wide)
+fn queries_have_these_answers(rt: HostRuntime) -> Result<(), Fail> {
+    for table in &[PATHS, LOOPS, CONDITIONS, VALUES] {
+        all_answer(&rt, rt.alloc(), table)?;
+    }
+    Ok(())
 }

@@ -238,18 +238,11 @@ fn are_read(rt: &impl Abort, alloc: Global, rows: &[(&str, &str)]) -> Result<(),
 }
 
 #[test]
-fn pairs_are_read(rt: HostRuntime) -> Result<(), Fail> {
-    are_read(&rt, rt.alloc(), MANY)
-}
-
-#[test]
-fn runs_are_read(rt: HostRuntime) -> Result<(), Fail> {
-    are_read(&rt, rt.alloc(), RUNS)
-}
-
-#[test]
-fn other_commands_are_read(rt: HostRuntime) -> Result<(), Fail> {
-    are_read(&rt, rt.alloc(), OTHERS)
+fn command_lines_are_read(rt: HostRuntime) -> Result<(), Fail> {
+    for rows in &[RUNS, MANY, OTHERS] {
+        are_read(&rt, rt.alloc(), rows)?;
+    }
+    Ok(())
 }
 
 #[test]

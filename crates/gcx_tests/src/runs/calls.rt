@@ -78,58 +78,59 @@ fn is_last_call(
     Ok(())
 }
 
-fn ok(out: &[u8]) -> End<'_> {
-    End {
-        status: Status::Ok,
-        out,
-        err: b"",
-    }
-}
+const LEX_REFUSED: End<'static> = End {
+    status: Status::QueryRefused(QueryFault::Lex(3)),
+    out: b"",
+    err: LEX_LINE,
+};
 
-fn refused(status: Status, err: &[u8]) -> End<'_> {
-    End {
-        status,
-        out: b"",
-        err,
-    }
-}
+const CUT_REFUSED: End<'static> = End {
+    status: Status::DocumentRefused(DocFault::Syntax(8)),
+    out: b"",
+    err: CUT_LINE,
+};
+
+const UNREAD: End<'static> = End {
+    status: Status::ReadFault,
+    out: b"",
+    err: READ_LINE,
+};
+
+const ANSWERED: End<'static> = End {
+    status: Status::Ok,
+    out: ANSWER,
+    err: b"",
+};
+
+const PEAK_TOLD: End<'static> = End {
+    out: b"peak 4 nodes 7 given 8 taken 8\n",
+    ..ANSWERED
+};
+
+const BEGUN: End<'static> = End {
+    out: b"<r><b>",
+    ..CUT_REFUSED
+};
+
+/// An attach, a read of all the bytes and one that answers the end, of each file that is there.
+const CALLED: &[Row] = &[
+    (RUN, (BS, AB), 6, ANSWERED),
+    (WHOLE, (BS, AB), 6, ANSWERED),
+    (PEAK, (BS, AB), 6, PEAK_TOLD),
+    (RUN, (BS, CUT), 5, BEGUN),
+    (WHOLE, (BS, CUT), 5, CUT_REFUSED),
+    (PEAK, (BS, CUT), 5, CUT_REFUSED),
+    (RUN, (LEX, AB), 3, LEX_REFUSED),
+    (WHOLE, (LEX, AB), 3, LEX_REFUSED),
+    (PEAK, (LEX, AB), 3, LEX_REFUSED),
+    (EXPLAIN, (LEX, AB), 3, LEX_REFUSED),
+    (&[b"run", b"q", b"e"], (BS, AB), 4, UNREAD),
+    (&[b"whole", b"e", b"d"], (BS, AB), 1, UNREAD),
+];
 
 #[test]
 fn no_call_comes_behind_the_end_a_fault_or_a_miss(rt: HostRuntime) -> Result<(), Fail> {
-    let query = Status::QueryRefused(QueryFault::Lex(3));
-    let document = Status::DocumentRefused(DocFault::Syntax(8));
-    let peak: &[u8] = b"peak 4 nodes 7 given 8 taken 8\n";
-    let begun = End {
-        status: document,
-        out: b"<r><b>",
-        err: CUT_LINE,
-    };
-    // an attach, a read of all the bytes and one that answers the end, of each file that is there
-    let rows: &[Row] = &[
-        (RUN, (BS, AB), 6, ok(ANSWER)),
-        (WHOLE, (BS, AB), 6, ok(ANSWER)),
-        (PEAK, (BS, AB), 6, ok(peak)),
-        (RUN, (BS, CUT), 5, begun),
-        (WHOLE, (BS, CUT), 5, refused(document, CUT_LINE)),
-        (PEAK, (BS, CUT), 5, refused(document, CUT_LINE)),
-        (RUN, (LEX, AB), 3, refused(query, LEX_LINE)),
-        (WHOLE, (LEX, AB), 3, refused(query, LEX_LINE)),
-        (PEAK, (LEX, AB), 3, refused(query, LEX_LINE)),
-        (EXPLAIN, (LEX, AB), 3, refused(query, LEX_LINE)),
-        (
-            &[b"run", b"q", b"e"],
-            (BS, AB),
-            4,
-            refused(Status::ReadFault, READ_LINE),
-        ),
-        (
-            &[b"whole", b"e", b"d"],
-            (BS, AB),
-            1,
-            refused(Status::ReadFault, READ_LINE),
-        ),
-    ];
-    for &(words, files, number, end) in rows {
+    for &(words, files, number, end) in CALLED {
         is_last_call(&rt, rt.alloc(), words, files, number, end)?;
     }
     Ok(())
@@ -139,11 +140,13 @@ fn no_call_comes_behind_the_end_a_fault_or_a_miss(rt: HostRuntime) -> Result<(),
 fn no_read_comes_behind_the_limit_of_a_query(rt: HostRuntime) -> Result<(), Fail> {
     let alloc = rt.alloc();
     let query = vec![in alloc; b' '; 1_100_000]?;
-    let limit = QueryFault::TooLarge(What::Text, 1_048_576);
-    let line = b"gcx: query TooLarge Text 1048576\n";
-    let end = refused(Status::QueryRefused(limit), line);
+    let end = End {
+        status: Status::QueryRefused(QueryFault::TooLarge(What::Text, 1_048_576)),
+        out: b"",
+        err: b"gcx: query TooLarge Text 1048576\n",
+    };
     // an attach, 256 reads of 4,096 bytes, and one more
-    for words in [RUN, WHOLE, PEAK, EXPLAIN] {
+    for words in &[RUN, WHOLE, PEAK, EXPLAIN] {
         is_last_call(&rt, alloc, words, (&query, AB), 258, end)?;
     }
     Ok(())
@@ -158,18 +161,17 @@ fn stops_at_each_call(
 ) -> Result<(), Fail> {
     for number in 1..=calls {
         let ran = run(rt, alloc, words, (BS, AB), 65_536, files_fail_at(number))?;
-        let end = refused(Status::ReadFault, READ_LINE);
-        assert_eq!(rt; ran.end(), end, "{words:?} {number}");
+        assert_eq!(rt; ran.end(), UNREAD, "{words:?} {number}");
     }
     Ok(())
 }
 
 #[test]
 fn a_read_fault_ends_the_command_and_nothing_is_written(rt: HostRuntime) -> Result<(), Fail> {
-    let alloc = rt.alloc();
-    stops_at_each_call(&rt, alloc, WHOLE, 6)?;
-    stops_at_each_call(&rt, alloc, PEAK, 6)?;
-    stops_at_each_call(&rt, alloc, EXPLAIN, 3)
+    for &(words, calls) in &[(WHOLE, 6), (PEAK, 6), (EXPLAIN, 3)] {
+        stops_at_each_call(&rt, rt.alloc(), words, calls)?;
+    }
+    Ok(())
 }
 
 /// The second write of `err` fails, and the line is whole: it is one write.
@@ -191,19 +193,40 @@ fn line_is_one_write(
     Ok(())
 }
 
+const UNWRITTEN: End<'static> = End {
+    status: Status::WriteFault,
+    out: b"",
+    err: b"gcx: write fault\n",
+};
+
+const MISUSED: End<'static> = End {
+    status: Status::Usage,
+    out: b"",
+    err: b"gcx: the words are not a command line\n",
+};
+
+/// The words of a command, a query and a document, the write of `out` that fails, and how the command ends.
+type Told = (
+    &'static [&'static [u8]],
+    (&'static [u8], &'static [u8]),
+    Option<u64>,
+    End<'static>,
+);
+
+const LINES: &[Told] = &[
+    (RUN, (LEX, AB), None, LEX_REFUSED),
+    (WHOLE, (BS, CUT), None, CUT_REFUSED),
+    (&[b"run", b"q", b"e"], (BS, AB), None, UNREAD),
+    (RUN, (BS, AB), Some(1), UNWRITTEN),
+    (&[b"run"], (BS, AB), None, MISUSED),
+];
+
 #[test]
 fn a_line_is_one_write(rt: HostRuntime) -> Result<(), Fail> {
-    let alloc = rt.alloc();
-    let query = refused(Status::QueryRefused(QueryFault::Lex(3)), LEX_LINE);
-    let document = refused(Status::DocumentRefused(DocFault::Syntax(8)), CUT_LINE);
-    let read = refused(Status::ReadFault, READ_LINE);
-    let write = refused(Status::WriteFault, b"gcx: write fault\n");
-    let usage = refused(Status::Usage, b"gcx: the words are not a command line\n");
-    line_is_one_write(&rt, alloc, RUN, (LEX, AB), None, query)?;
-    line_is_one_write(&rt, alloc, WHOLE, (BS, CUT), None, document)?;
-    line_is_one_write(&rt, alloc, &[b"run", b"q", b"e"], (BS, AB), None, read)?;
-    line_is_one_write(&rt, alloc, RUN, (BS, AB), Some(1), write)?;
-    line_is_one_write(&rt, alloc, &[b"run"], (BS, AB), None, usage)
+    for &(words, files, out, end) in LINES {
+        line_is_one_write(&rt, rt.alloc(), words, files, out, end)?;
+    }
+    Ok(())
 }
 
 #[test]

@@ -120,7 +120,7 @@ fn is_judged(
     trace: &[u8],
     end: End<'_>,
 ) -> Result<(), Fail> {
-    for most in [1, 7, 65_536] {
+    for &most in &[1, 7, 65_536] {
         let ran = run_check(rt, alloc, files, trace, most, NOTHING)?;
         assert_eq!(rt; ran.end(), end, "{files:?} {most}");
     }
@@ -248,7 +248,7 @@ fn each_call_of_the_files_of_a_check_fails_once(rt: HostRuntime) -> Result<(), F
 
 #[test]
 fn each_write_of_the_line_of_a_check_fails_once(rt: HostRuntime) -> Result<(), Fail> {
-    for (number, most) in [(1, 0), (2, 7), (3, 14)] {
+    for &(number, most) in &[(1, 0), (2, 7), (3, 14)] {
         let failing = FailingCalls {
             out: Some(number),
             ..NOTHING

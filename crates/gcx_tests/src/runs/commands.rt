@@ -276,11 +276,6 @@ const RUNS: &[Row] = &[
     ),
 ];
 
-#[test]
-fn runs_with_a_trace_or_ahead(rt: HostRuntime) -> Result<(), Fail> {
-    are_met(&rt, rt.alloc(), RUNS)
-}
-
 const WHOLES: &[Row] = &[
     (
         b"whole|q|d",
@@ -317,11 +312,6 @@ const WHOLES: &[Row] = &[
         b"gcx: read fault\n",
     ),
 ];
-
-#[test]
-fn whole_and_explain(rt: HostRuntime) -> Result<(), Fail> {
-    are_met(&rt, rt.alloc(), WHOLES)
-}
 
 const NUMBERS: &[Row] = &[
     (
@@ -391,8 +381,11 @@ const NUMBERS: &[Row] = &[
 ];
 
 #[test]
-fn peaks_and_made_documents(rt: HostRuntime) -> Result<(), Fail> {
-    are_met(&rt, rt.alloc(), NUMBERS)
+fn each_command_is_obeyed(rt: HostRuntime) -> Result<(), Fail> {
+    for rows in &[RUNS, WHOLES, NUMBERS] {
+        are_met(&rt, rt.alloc(), rows)?;
+    }
+    Ok(())
 }
 
 const LINE: &[u8] = b"gcx: write fault\n";
@@ -448,11 +441,9 @@ fn ends_at_each_write(
 
 #[test]
 fn a_trace_that_cannot_be_written_ends_the_run(rt: HostRuntime) -> Result<(), Fail> {
-    let alloc = rt.alloc();
-    for most in [7, 65_536] {
-        ends_at_each_write(&rt, alloc, (BS, AB), most)?;
-        ends_at_each_write(&rt, alloc, (PAIRS, XY), most)?;
-        ends_at_each_write(&rt, alloc, (CHEAP, BIB), most)?;
+    for &files in &[(BS, AB), (PAIRS, XY), (CHEAP, BIB)] {
+        ends_at_each_write(&rt, rt.alloc(), files, 7)?;
+        ends_at_each_write(&rt, rt.alloc(), files, 65_536)?;
     }
     Ok(())
 }

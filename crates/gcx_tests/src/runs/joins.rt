@@ -1,7 +1,8 @@
-//! Joins of many values, by the words of a command.
+//! Joins of many values and chains of many elements, by the words of a command.
+use super::ends_in_pieces;
 use super::many::ends_with_files_by;
 use super::objects::{End, NOTHING, run};
-use crate::large::joined;
+use crate::large::{joined, repeated};
 use gcx_base::Memory;
 use gcx_cmd::Status;
 use std::alloc::Global;
@@ -65,4 +66,19 @@ fn several_queries_look_up_each_value(rt: HostRuntime) -> Result<(), Fail> {
         Status::Ok,
         &[(b"o", Some(b""))],
     )
+}
+
+/// Six descendant steps lead to an innermost element by some 10^15 chains.
+#[test]
+fn many_chains_to_a_node_are_walked_once(rt: HostRuntime) -> Result<(), Fail> {
+    let alloc = rt.alloc();
+    let query = b"if (//x//x//x//x//x//x = \"1\") then <y/> else <n/>";
+    let starts = repeated(alloc, b"<x>", 1_000)?;
+    let document = joined(alloc, &[&starts, &repeated(alloc, b"</x>", 1_000)?])?;
+    let end = End {
+        status: Status::Ok,
+        out: b"<n></n>",
+        err: b"",
+    };
+    ends_in_pieces(&rt, alloc, &[b"run", b"q", b"d"], (query, &document), end)
 }

@@ -393,7 +393,7 @@ fn each_call_of(
 
 fn each_call_fails(rt: &impl Abort, alloc: Global, case: Case<'_>) -> Result<(), Fail> {
     let words = texts(alloc, case.words)?;
-    for most in [1, 7, 65_536] {
+    for &most in &[1, 7, 65_536] {
         let over = each_call_of(rt, alloc, &words, &case, most)?;
         assert!(rt; over);
     }
@@ -402,10 +402,10 @@ fn each_call_fails(rt: &impl Abort, alloc: Global, case: Case<'_>) -> Result<(),
 
 #[test]
 fn each_call_of_a_shelf_fails_in_many(rt: HostRuntime) -> Result<(), Fail> {
-    each_call_fails(&rt, rt.alloc(), BOTH)?;
-    each_call_fails(&rt, rt.alloc(), THREE)?;
-    each_call_fails(&rt, rt.alloc(), REFUSED)?;
-    each_call_fails(&rt, rt.alloc(), CUT)
+    for &case in &[BOTH, THREE, REFUSED, CUT] {
+        each_call_fails(&rt, rt.alloc(), case)?;
+    }
+    Ok(())
 }
 
 /// What names hold: None where they aren't there.
@@ -438,7 +438,7 @@ fn ends_with_files(
     status: Status,
     kept: Kept<'_>,
 ) -> Result<(), Fail> {
-    for most in [1, 7, 65_536] {
+    for &most in &[1, 7, 65_536] {
         ends_with_files_by(rt, alloc, words, files, most, status, kept)?;
     }
     Ok(())
@@ -468,41 +468,6 @@ const FILES: Files<'static> = &[
 /// No OUT is made.
 const UNTOUCHED: Kept<'static> = &[(b"o1", Some(b"before")), (b"o2", None), (b"o3", None)];
 
-#[test]
-fn outs_are_made_behind_all_queries(rt: HostRuntime) -> Result<(), Fail> {
-    let alloc = rt.alloc();
-    let all: Kept<'_> = &[
-        (b"o1", Some(b"<b>1</b>")),
-        (b"o2", Some(b"<c></c>")),
-        (b"o3", Some(b"<b>1</b>")),
-        (b"d", Some(AB)),
-    ];
-    ends_with_files(&rt, alloc, WORDS, FILES, Status::Ok, all)?;
-    // the query in the middle isn't there, or is refused
-    let missing: Files<'_> = &[(b"d", AB), (b"p", b"/a/b"), (b"o1", b"before")];
-    ends_with_files(&rt, alloc, WORDS, missing, Status::ReadFault, UNTOUCHED)?;
-    let refused: Files<'_> = &[
-        (b"d", AB),
-        (b"p", b"/a/b"),
-        (b"q", b"/a)"),
-        (b"o1", b"before"),
-    ];
-    let fault = Status::QueryRefused(QueryFault::Syntax(2));
-    ends_with_files(&rt, alloc, WORDS, refused, fault, UNTOUCHED)?;
-    // DOC isn't there
-    let undocumented: Files<'_> = &[(b"p", b"/a/b"), (b"q", b"/a/c"), (b"o1", b"before")];
-    let empty: Kept<'_> = &[(b"o1", Some(b"")), (b"o2", Some(b"")), (b"o3", Some(b""))];
-    ends_with_files(&rt, alloc, WORDS, undocumented, Status::ReadFault, empty)
-}
-
-#[test]
-fn words_that_are_no_pairs_make_no_out(rt: HostRuntime) -> Result<(), Fail> {
-    let odd: &[&[u8]] = &[b"many", b"d", b"p"];
-    ends_with_files(&rt, rt.alloc(), odd, FILES, Status::Usage, UNTOUCHED)?;
-    let twice: &[&[u8]] = &[b"many", b"d", b"p", b"o2", b"q", b"o2"];
-    ends_with_files(&rt, rt.alloc(), twice, FILES, Status::Usage, UNTOUCHED)
-}
-
 const SIXTEEN: &[&[u8]] = &[
     b"many", b"d", b"p", b"o00", b"q", b"o01", b"p", b"o02", b"q", b"o03", b"p", b"o04", b"q",
     b"o05", b"p", b"o06", b"q", b"o07", b"p", b"o08", b"q", b"o09", b"p", b"o10", b"q", b"o11",
@@ -528,7 +493,66 @@ const ANSWERS: Kept<'static> = &[
     (b"o15", Some(b"<c></c>")),
 ];
 
+/// Words over files, how they end, and what names hold then.
+type Made = (
+    &'static [&'static [u8]],
+    Files<'static>,
+    Status,
+    Kept<'static>,
+);
+
+const MADE: &[Made] = &[
+    (
+        WORDS,
+        FILES,
+        Status::Ok,
+        &[
+            (b"o1", Some(b"<b>1</b>")),
+            (b"o2", Some(b"<c></c>")),
+            (b"o3", Some(b"<b>1</b>")),
+            (b"d", Some(AB)),
+        ],
+    ),
+    // the query in the middle isn't there, or is refused
+    (
+        WORDS,
+        &[(b"d", AB), (b"p", b"/a/b"), (b"o1", b"before")],
+        Status::ReadFault,
+        UNTOUCHED,
+    ),
+    (
+        WORDS,
+        &[
+            (b"d", AB),
+            (b"p", b"/a/b"),
+            (b"q", b"/a)"),
+            (b"o1", b"before"),
+        ],
+        Status::QueryRefused(QueryFault::Syntax(2)),
+        UNTOUCHED,
+    ),
+    // DOC isn't there
+    (
+        WORDS,
+        &[(b"p", b"/a/b"), (b"q", b"/a/c"), (b"o1", b"before")],
+        Status::ReadFault,
+        &[(b"o1", Some(b"")), (b"o2", Some(b"")), (b"o3", Some(b""))],
+    ),
+    // the words are no pairs, or have an OUT twice
+    (&[b"many", b"d", b"p"], FILES, Status::Usage, UNTOUCHED),
+    (
+        &[b"many", b"d", b"p", b"o2", b"q", b"o2"],
+        FILES,
+        Status::Usage,
+        UNTOUCHED,
+    ),
+    (SIXTEEN, FILES, Status::Ok, ANSWERS),
+];
+
 #[test]
-fn sixteen_queries_are_answered(rt: HostRuntime) -> Result<(), Fail> {
-    ends_with_files(&rt, rt.alloc(), SIXTEEN, FILES, Status::Ok, ANSWERS)
+fn outs_are_made_behind_all_queries(rt: HostRuntime) -> Result<(), Fail> {
+    for &(words, files, status, kept) in MADE {
+        ends_with_files(&rt, rt.alloc(), words, files, status, kept)?;
+    }
+    Ok(())
 }

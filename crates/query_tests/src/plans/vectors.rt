@@ -1,8 +1,8 @@
 //! Plans that the documents show whole.
-use super::{Row, are_explained};
-use std::test::Fail;
+use super::Row;
 
-const SHOWN: &[Row] = &[
+/// Plans are explained line by line.
+pub(super) const SHOWN: &[Row] = &[
     (
         "()",
         r#"var 0 root
@@ -92,8 +92,3 @@ off 0 0 . . own
 "#,
     ),
 ];
-
-#[test]
-fn plans_are_explained_line_by_line(rt: HostRuntime) -> Result<(), Fail> {
-    are_explained(&rt, rt.alloc(), SHOWN)
-}

@@ -2,7 +2,7 @@ use Rattle.std.proofs.Common.{◌≡◌, false, Option, Some, None, is_some, ref
 use Rattle.std.specs.Prelude.{option_map}
 use Rattle.node_store.specs.declared.store.Place.{Place}
 use Rattle.node_store.proofs.Trees.{no_rows}
-use Rattle.base_tests.proofs.stores.make_call.Goals as goal
+use Rattle.base_tests.proofs.stores.plant.Goals as goal
 
 no_place : (o : Option Place) → is_some o ≡ false → option_map (λ p. p.0) o ≡ None
 no_place None e = refl
