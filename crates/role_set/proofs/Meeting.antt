@@ -1,5 +1,5 @@
 -- Whether two words, or two lists, have a number in common.
-use Rattle.std.proofs.Common.{◌≡◌, ◌<◌, ◌≤◌, ◌+◌, ◌⊎◌, ◌^◌, ◌==◌, ◌&&◌, ℕ, zero, suc, Bool, true, false, not, min, take, List, [], ◌∷◌, length, get_or, sym, ap, subst, refl, ◌∙◌, inl, inr, arith, bit_and, nat_lt, eqb, add-one}
+use Rattle.std.proofs.Common.{◌≡◌, ◌<◌, ◌≤◌, ◌+◌, ◌⊎◌, ◌^◌, ◌==◌, ◌&&◌, ℕ, zero, suc, Bool, true, false, not, min, take, List, [], ◌∷◌, length, get_or, sym, ap, refl, ◌∙◌, inl, inr, arith, bit_and, nat_lt, eqb, add-one}
 use Rattle.std.specs.Prelude.{◌↔◌}
 use Rattle.std.specs.List.{list_any}
 use Rattle.std.specs.Int.{bit_at}
@@ -61,18 +61,6 @@ words_meet a b fits = (to, from)
         false≢true (sym clear ∙ set)))
 
 -- ---- lists
-
-one_and : (only : ℕ) (ys : List ℕ) (b : Bool) → b ≡ list_any (λ j. j == only) ys → (b ≡ true) ↔ NumbersMeet (only ∷ []) ys
-one_and only ys b e = (
-  (λ h. (only, or_left _ _ (eq-eqb only only refl), sym e ∙ h)),
-  (λ m. elim (or_cases (only == m.0) false m.1) [
-    | inl f ↦ e ∙ ap (λ k. list_any (λ j. j == k) ys) (eqb-true only m.0 f) ∙ m.2
-    | inr z ↦ absurd (false≢true z)
-  ]),
-)
-
-pub one_meets : (xs : List ℕ) (only : ℕ) (ys : List ℕ) (b : Bool) → xs ≡ only ∷ [] → b ≡ list_any (λ j. j == only) ys → (b ≡ true) ↔ NumbersMeet xs ys
-one_meets xs only ys b is e = subst (λ (zs : List ℕ). (b ≡ true) ↔ NumbersMeet zs ys) (sym is) (one_and only ys b e)
 
 pub none_meets : (xs ys : List ℕ) → xs ≡ [] → NumbersMeet xs ys → ⊥
 none_meets xs ys is m = false≢true (sym (ap (λ zs. list_any (λ j. j == m.0) zs) is) ∙ m.1)

@@ -1,7 +1,7 @@
 -- Which numbers a word of bits and a list make together.
-use Rattle.std.proofs.Common.{◌≡◌, ◌<◌, ◌≤◌, ◌⊎◌, ◌^◌, ◌++◌, append_assoc, ℕ, zero, suc, Bool, true, false, not, ◌&&◌, ◌||◌, List, [], ◌∷◌, ◌==◌, nat_lt, sym, ap, refl, ◌∙◌, rules, cond, inl, inr, arith}
+use Rattle.std.proofs.Common.{◌≡◌, ◌<◌, ◌≤◌, ◌^◌, ◌++◌, append_assoc, ℕ, zero, suc, Bool, true, false, not, ◌&&◌, ◌||◌, List, [], ◌∷◌, ◌==◌, nat_lt, sym, ap, refl, ◌∙◌, rules, cond, arith}
 use Rattle.std.specs.Prelude.{filter}
-use Rattle.std.specs.List.{list_all, list_any}
+use Rattle.std.specs.List.{list_any}
 use Rattle.std.specs.Int.{bit_at}
 use Rattle.std.specs.Ordering.{nat_cmp}
 use Rattle.std.specs.Cmp.{nat_cmp_total, unsigned_tied}
@@ -161,41 +161,6 @@ no_high low (n ∷ ns) all none =
     let has : contains (roles_of low (n ∷ ns)) n ≡ true = high_member low (n ∷ ns) n all.0 ∙ ap (λ b. b || is_in n ns) own in
     let below : n < 64 = none n has in
     absurd (omega (arith, all.0, below))
-
--- the same numbers make the same set
-pub same_high : (low : ℕ) (xs ys : List ℕ) → ((k : ℕ) → is_in k xs ≡ is_in k ys) → roles_of low xs ≡ roles_of low ys
-same_high low xs ys same = same_roles _ _
-    (λ q h. low_member low xs q h ∙ ap (λ b. has_bit low q || b) (same q) ∙ sym (low_member low ys q h))
-    (λ q h. high_member low xs q h ∙ same q ∙ sym (high_member low ys q h))
-
-above : (high : List ℕ) (k : ℕ) → HighOnce high → is_in k high ≡ true → 64 ≤ k
-above [] k all h = absurd (let no : true ≡ false = sym h in cc)
-above (n ∷ ns) k all h = by (n == k) refl (λ i. above ns k all.2 i) h
-  where
-    by : (b : Bool) → (n == k) ≡ b → (is_in k ns ≡ true → 64 ≤ k) → (b || is_in k ns) ≡ true → 64 ≤ k
-    by true is later h = grind (arith, nat_tests, all.0)
-    by false is later h = later h
-
-all_are : (xs : List ℕ) (q : ℕ) → ((k : ℕ) → is_in k xs ≡ true → k ≡ q) → list_all (λ k. k == q) xs ≡ true
-all_are [] q h = refl
-all_are (n ∷ ns) q h =
-    let own : (n == n) ≡ true = search rules in
-    let is : n ≡ q = h n (ap (λ b. b || is_in n ns) own) in
-    let top : (n == q) ≡ true = grind (arith, nat_tests) in
-    let rest : list_all (λ k. k == q) ns ≡ true = all_are ns q (λ k i. h k (behind (n == k) (is_in k ns) i)) in
-    (λ i. top i && rest i)
-  where
-    behind : (b c : Bool) → c ≡ true → (b || c) ≡ true
-    behind true c e = refl
-    behind false c e = e
-
--- where no number but q is 64 or more the list has no other
-pub all_one : (low : ℕ) (high : List ℕ) (q : ℕ) → HighOnce high → ((k : ℕ) → contains (roles_of low high) k ≡ true → (k < 64) ⊎ (k ≡ q)) → list_all (λ k. k == q) high ≡ true
-all_one low high q all few = all_are high q (λ k i. by k (above high k all i) (few k (high_member low high k (above high k all i) ∙ i)))
-  where
-    by : (k : ℕ) → 64 ≤ k → (k < 64) ⊎ (k ≡ q) → k ≡ q
-    by k h (inl l) = absurd (omega (arith, h, l))
-    by k h (inr e) = e
 
 -- ---- the empty set
 

@@ -1,12 +1,10 @@
 -- A set of roles as a word of bits and a list. This follows the code: only private functions and the set's model speak
 -- of it. All definitions here are this project's.
-use Rattle.std.specs.Prelude.{◌≡◌, ◌<◌, ◌≤◌, ◌==◌, ℕ, zero, suc, Bool, true, false, not, ◌&&◌, ◌||◌, cond, List, [], ◌∷◌, ◌++◌, length}
+use Rattle.std.specs.Prelude.{◌≡◌, ◌<◌, ◌≤◌, ◌==◌, ℕ, zero, suc, Bool, true, false, not, ◌&&◌, ◌||◌, cond, List, [], ◌∷◌, ◌++◌}
 use Rattle.std.specs.Int.{bit_at}
 use Rattle.std.specs.List.{list_any}
 use Rattle.std.specs.Ordering.{nat_cmp}
 use Rattle.std.specs.FinSet as set
-use Rattle.role_set.specs.declared.high.HighRoles.{HighRoles}
-use Rattle.role_set.specs.declared.high.HighRoles.TheVariants.{Empty, One, Many}
 
 -- the word has the number
 abbrev pub has_bit : ℕ → ℕ → Bool
@@ -30,17 +28,6 @@ NumbersMeet xs ys = (k : ℕ) × (list_any (λ j. j == k) xs ≡ true) × (list_
 unfoldable pub bits_below : ℕ → ℕ → List ℕ
 bits_below word zero = []
 bits_below word (suc k) = cond (has_bit word k) (k ∷ bits_below word k) (bits_below word k)
-
-abbrev pub high_numbers : HighRoles → List ℕ
-high_numbers Empty = []
-high_numbers (One n) = n ∷ []
-high_numbers (Many ns) = ns.value.items
-
--- a list is kept for some number
-abbrev pub IsHigh : HighRoles → Type 0
-IsHigh Empty = Unit {0}
-IsHigh (One n) = Unit {0}
-IsHigh (Many ns) = 0 < length ns.value.items
 
 -- each number is 64 or more, and stands once
 abbrev pub HighOnce : List ℕ → Type 0

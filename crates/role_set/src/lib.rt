@@ -5,12 +5,12 @@ ghost use Rattle.std.specs.Prelude.{◌≡◌, ◌<◌, ◌↔◌, OnOk, OnErr, 
 ghost use Rattle.std.specs.Ordering.{nat_cmp};
 ghost use Rattle.std.specs.FinSet as set;
 
-mod high;
-mod high_pair;
+mod high_roles;
 mod node_roles;
+mod numbers;
 mod word;
 
-use crate::high::HighRoles;
+use crate::numbers::{Numbers, add_number, has_none, has_number, remove_number};
 use crate::word::{WORD_BITS, has_bit, with_bit, without_bit};
 use gcx_base::{Memory, Role};
 pub use node_roles::NodeRoles;
@@ -20,30 +20,28 @@ use std::marker::Model;
 /// A set of roles, seen as the finite set of their numbers.
 ///
 /// The roles below 64 are bits of one word: to ask for one, to give or to take it costs a few instructions, and never
-/// memory. A plan rarely has more. Of greater roles one lies in place too, since a node seldom has a second; more of
-/// them take memory for each, and not for all roles below, as words of bits would.
+/// memory. A plan rarely has more. Of greater roles up to four lie in place too; more of them take memory for each, and not
+/// for all roles below, as words of bits would.
 #[derive(Drop)]
 pub struct RoleSet {
     low: u64,
-    high: HighRoles,
-    alloc: Global,
+    high: Numbers,
 }
 
 impl Model for RoleSet {
     ghost use Rattle.std.specs.Ordering.{nat_cmp};
     ghost use Rattle.std.specs.FinSet as set;
     ghost use Rattle.std.specs.Coded.{coded_ℕ};
-    ghost use Rattle.std.specs.Prelude.{◌≡◌, ◌≤◌, true};
-    ghost use Rattle.std.specs.List.{list_all};
-    ghost use Rattle.role_set.specs.Words.{roles_of, high_numbers, IsHigh, HighOnce};
+    ghost use Rattle.std.specs.Prelude.{◌≤◌};
+    ghost use Rattle.role_set.specs.Words.{roles_of, HighOnce};
 
     ghost Value = { set.FinSet nat_cmp };
 
     ghost coded = { set.code coded_ℕ };
 
-    ghost view = { λ s. roles_of s.low (high_numbers s.high) };
+    ghost view = { λ s. roles_of s.low s.high.items };
 
-    ghost invariant = { λ s. IsHigh s.high × HighOnce (high_numbers s.high) };
+    ghost invariant = { λ s. (4 ≤ s.high.capacity) × HighOnce s.high.items };
 }
 
 impl RoleSet {
@@ -54,8 +52,7 @@ impl RoleSet {
     {
         RoleSet {
             low: 0,
-            high: HighRoles::Empty,
-            alloc,
+            high: Numbers::new(alloc),
         }
     }
 
@@ -67,7 +64,7 @@ impl RoleSet {
         if role.0 < WORD_BITS {
             has_bit(self.low, role.0)
         } else {
-            self.high.has(role.0)
+            has_number(&self.high, role.0)
         }
     }
 
@@ -76,7 +73,7 @@ impl RoleSet {
     pub fn is_empty(&self) -> bool
         ensures { IsTrue result ↔ self.now ≡ set.empty }
     {
-        self.low == 0 && self.high.is_empty()
+        self.low == 0 && has_none(&self.high)
     }
 
     /// Adds the role. A role that the set has isn't refused, nor is any below 64, nor the first from 64 on: none of
@@ -93,10 +90,10 @@ impl RoleSet {
             self.low = with_bit(self.low, role.0);
             return Ok(());
         }
-        if self.high.has(role.0) {
+        if has_number(&self.high, role.0) {
             return Ok(());
         }
-        self.high.add(self.alloc, role.0)
+        add_number(&mut self.high, role.0)
     }
 
     /// Takes the role, which the set has, out of it. Takes no memory.
@@ -108,7 +105,7 @@ impl RoleSet {
         if role.0 < WORD_BITS {
             self.low = without_bit(self.low, role.0);
         } else {
-            self.high.remove(role.0);
+            remove_number(&mut self.high, role.0);
         }
     }
 }

@@ -9,4 +9,4 @@ returns-then-role-lt-WORD_BITS c =
 
 pub returns-else-role-lt-WORD_BITS : goal.returns-else-role-lt-WORD_BITS
 returns-else-role-lt-WORD_BITS c =
-    c.has.ensures ∙ sym (high_member c.self.inside.low _ c.args.role.0 c.if-role-lt-WORD_BITS.false) ∙ ap (λ s. contains s c.args.role.0) c.self.view_is
+    c.has_number.ensures ∙ sym (high_member c.self.inside.low _ c.args.role.0 c.if-role-lt-WORD_BITS.false) ∙ ap (λ s. contains s c.args.role.0) c.self.view_is

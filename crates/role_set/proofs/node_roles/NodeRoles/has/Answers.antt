@@ -13,6 +13,6 @@ returns-then-role-lt-WORD_BITS c =
 
 pub returns-else-role-lt-WORD_BITS : goal.returns-else-role-lt-WORD_BITS
 returns-else-role-lt-WORD_BITS c =
-    c.has.ensures
+    c.has_high.ensures
     ∙ sym (high_member c.self.inside.held (held_numbers c.self.inside.high) c.args.role.0 c.if-role-lt-WORD_BITS.false)
     ∙ ap (λ (v : NodeSets). contains v.held c.args.role.0) c.self.view_is

@@ -7,10 +7,10 @@ use Rattle.role_set.proofs.node_roles.NodeRoles.is_empty.Goals as goal
 
 pub returns-then-self-eq0 : goal.returns-then-self-eq0
 returns-then-self-eq0 c = (
-  λ is. let none : held_numbers c.self.inside.high ≡ [] = c.is_empty.ensures.0 is in
+  λ is. let none : held_numbers c.self.inside.high ≡ [] = c.holds_none.ensures.0 is in
       ap (λ (v : NodeSets). v.held) (sym c.self.view_is) ∙ (λ i. roles_of (c.if-self-eq0.true i) (none i)) ∙ empty_roles,
   λ is. let parts = parts_of_empty c.self.inside.held (held_numbers c.self.inside.high) (omega arith) c.self.invariant.held (ap (λ (v : NodeSets). v.held) c.self.view_is ∙ is) in
-      c.is_empty.ensures.1 parts.1,
+      c.holds_none.ensures.1 parts.1,
 )
 
 pub returns-else-self-eq0 : goal.returns-else-self-eq0

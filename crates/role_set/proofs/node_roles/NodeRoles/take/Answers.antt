@@ -15,15 +15,14 @@ returns-then-role-lt-WORD_BITS c = same_sets _ _
 
 pub returns-else-role-lt-WORD_BITS : goal.returns-else-role-lt-WORD_BITS
 returns-else-role-lt-WORD_BITS c = same_sets _ _
-    (ap (roles_of c.self.inside.held) c.take.ensures.held
+    (ap (roles_of c.self.inside.held) c.take_high.ensures.held
     ∙ remove_high c.self.inside.held c.args.role.0 (held_numbers c.self.inside.high) c.if-role-lt-WORD_BITS.false
     ∙ ap (λ (v : NodeSets). remove v.held c.args.role.0) c.self.view_is)
-    (ap (roles_of c.self.inside.signed) c.take.ensures.signed ∙ ap (λ (v : NodeSets). v.signed) c.self.view_is)
+    (ap (roles_of c.self.inside.signed) c.take_high.ensures.signed ∙ ap (λ (v : NodeSets). v.signed) c.self.view_is)
 
 pub invariant_of-self-else-role-lt-WORD_BITS : goal.invariant_of-self-else-role-lt-WORD_BITS
 invariant_of-self-else-role-lt-WORD_BITS c =
     record {
-      lists = c.take.ensures.lists;
-      held = subst HighOnce (sym c.take.ensures.held) (high_once-filter _ (held_numbers c.self.inside.high) c.self.invariant.held);
-      signed = subst HighOnce (sym c.take.ensures.signed) c.self.invariant.signed;
+      held = subst HighOnce (sym c.take_high.ensures.held) (high_once-filter _ (held_numbers c.self.inside.high) c.self.invariant.held);
+      signed = subst HighOnce (sym c.take_high.ensures.signed) c.self.invariant.signed;
     }
