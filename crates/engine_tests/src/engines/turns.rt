@@ -186,8 +186,8 @@ fn is_reached(rt: &impl Abort, alloc: Global, case: Case) -> Result<(), Fail> {
     let mut bytes = Vec::new(alloc);
     let reached = reach(alloc, turns, &mut bytes)?;
     assert_eq!(rt; bytes.as_slice(), out.as_bytes(), "{turns}");
-    assert_eq!(rt; (reached.fed, reached.acted), (fed, acted), "{turns}");
-    assert_eq!(rt; (reached.held, reached.nodes), (held, nodes), "{turns}");
+    let numbers = (reached.fed, reached.acted, reached.held, reached.nodes);
+    assert_eq!(rt; numbers, (fed, acted, held, nodes), "{turns}");
     Ok(())
 }
 
