@@ -4,6 +4,8 @@
 #[cfg(test)]
 mod base;
 #[cfg(test)]
+mod openings;
+#[cfg(test)]
 mod outside;
 #[cfg(test)]
 mod role_sets;

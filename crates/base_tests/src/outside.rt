@@ -10,7 +10,7 @@ use std::process::Abort;
 use std::test::Fail;
 use std::{env, fs};
 
-fn text(rt: &impl AllocGlobal, bytes: &[u8]) -> Result<Text, Fail> {
+pub(super) fn text(rt: &impl AllocGlobal, bytes: &[u8]) -> Result<Text, Fail> {
     match Text::from_bytes(rt.alloc(), bytes)? {
         Some(text) => Ok(text),
         None => Err(Fail::new("not UTF-8")),
@@ -278,7 +278,7 @@ fn assert_not_made<F: Shelf>(
 #[test]
 fn files_that_are_made_hold_what_is_written(rt: HostRuntime) -> Result<(), Fail> {
     let path = "gcx_io_made";
-    let mut shelf = FileShelf::new(rt);
+    let mut shelf = FileShelf::new(rt, rt);
     make(&rt, &mut shelf, path.as_bytes())?;
     assert_eq!(rt; take_away(&rt, path)?.as_slice(), b"abc".as_slice());
     assert_not_made(&rt, &mut shelf, b"-")
@@ -287,7 +287,7 @@ fn files_that_are_made_hold_what_is_written(rt: HostRuntime) -> Result<(), Fail>
 /// Makes the file and writes a text into it. Its handle can't be read.
 fn fill(
     rt: &(impl Abort + AllocGlobal),
-    shelf: &mut FileShelf,
+    shelf: &mut FileShelf<HostRuntime>,
     name: &[u8],
     bytes: &[u8],
 ) -> Result<(), Fail> {
@@ -302,7 +302,7 @@ fn fill(
 #[test]
 fn a_text_is_written_into_a_file(rt: HostRuntime) -> Result<(), Fail> {
     let path = "gcx_io_filled";
-    let mut shelf = FileShelf::new(rt);
+    let mut shelf = FileShelf::new(rt, rt);
     fill(&rt, &mut shelf, path.as_bytes(), b"abcde")?;
     assert_eq!(rt; take_away(&rt, path)?.as_slice(), b"abcde".as_slice());
     Ok(())
@@ -341,7 +341,7 @@ fn objects_in_memory_move_their_bytes(rt: HostRuntime) -> Result<(), Fail> {
 
 fn read_by_name(
     rt: &(impl Abort + AllocGlobal),
-    shelf: &mut FileShelf,
+    shelf: &mut FileShelf<HostRuntime>,
     folder: &str,
     path: &str,
 ) -> Result<(), Fail> {
@@ -358,7 +358,7 @@ fn read_by_name(
 fn files_are_read_by_their_names(rt: HostRuntime) -> Result<(), Fail> {
     let path = "gcx_io_read_by_name";
     fs::write(&rt, path, b"abcde".as_slice())?;
-    let mut shelf = FileShelf::new(rt);
+    let mut shelf = FileShelf::new(rt, rt);
     read_by_name(&rt, &mut shelf, ".", path)?;
     fs::remove_file(&rt, path)?;
     assert_refused(&rt, &mut shelf, path.as_bytes())

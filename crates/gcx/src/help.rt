@@ -2,7 +2,7 @@
 use gcx_base::Text;
 
 /// What `--version` writes.
-const VERSION: &str = "gcx 0.1.0\n";
+const VERSION: &str = "gcx 0.2.0\n";
 
 /// What `--help` writes.
 const HELP: &str = "\

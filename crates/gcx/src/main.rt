@@ -31,7 +31,7 @@ fn words(rt: HostRuntime) -> Result<Vec<Text>, Status> {
 
 /// Runs the command line that the words are.
 fn run(rt: HostRuntime, words: &[Text]) -> Status {
-    let mut files = FileShelf::new(rt);
+    let mut files = FileShelf::new(rt, rt);
     let mut out = StdOut::new(rt);
     let mut err = StdErr::new(rt);
     let mut nodes = RawNodes::new(rt.alloc());

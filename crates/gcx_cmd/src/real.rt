@@ -20,7 +20,7 @@ use std::alloc::Global;
 pub fn gcx_files(
     alloc: Global,
     words: &[Text],
-    files: &mut FileShelf,
+    files: &mut FileShelf<HostRuntime>,
     out: &mut StdOut,
     err: &mut StdErr,
     nodes: &mut RawNodes<Row>,

@@ -5,7 +5,7 @@ use Rattle.std.proofs.lemmas.Option.{slice_get-map, slice_get-get_or}
 use Rattle.std.specs.Prelude.{option_map}
 use Rattle.std.specs.Io.KnownBytes.{Keeps}
 use Rattle.gcx_io.specs.Causes.{HasCause}
-use Rattle.gcx_io.specs.Held.{Opening, held_or_none, rest_at, read_opening, read_at, noted_opening, noted_at}
+use Rattle.gcx_io.specs.Held.{OpenHandle, held_or_none, rest_at, read_opening, read_at, noted_opening, noted_at}
 use Rattle.gcx_io.specs.Files.{OpenFiles, while_whole, all_names, rests, rests_of, told_rest, owners, names_of, handle_count, opened, view_of, views, views_count, files_seen}
 use Rattle.gcx_io.specs.Shelf.{Names, content_of, LeavesOthers, OthersStay}
 use Rattle.gcx_io.specs.Views.{Call, Gave, Failed, HandleCalls, calls_of}
@@ -38,30 +38,30 @@ sure_content s name = told s.whole
 
 -- ---- one handle
 
-nothing : Opening
+nothing : OpenHandle
 nothing = record { name = []; rest = []; calls = [] }
 
 -- the handle of a number that was given
-abbrev opening_of : List Opening → ℕ → Opening
+abbrev opening_of : List OpenHandle → ℕ → OpenHandle
 opening_of os h = get_or os h nothing
 
-there : (os : List Opening) (h : ℕ) → h < length os → slice_get os h ≡ Some (opening_of os h)
+there : (os : List OpenHandle) (h : ℕ) → h < length os → slice_get os h ≡ Some (opening_of os h)
 there os h given = slice_get-get_or os h nothing given
 
-seen_there : (whole : Bool) (os : List Opening) (h : ℕ) → h < length os → slice_get (views whole os) h ≡ Some (view_of whole (opening_of os h))
+seen_there : (whole : Bool) (os : List OpenHandle) (h : ℕ) → h < length os → slice_get (views whole os) h ≡ Some (view_of whole (opening_of os h))
 seen_there whole os h given = slice_get-map (view_of whole) os h ∙ ap (option_map (view_of whole)) (there os h given)
 
-read_is : (os : List Opening) (h n : ℕ) → h < length os → read_at os h n ≡ slice_set os h (read_opening n (opening_of os h))
+read_is : (os : List OpenHandle) (h n : ℕ) → h < length os → read_at os h n ≡ slice_set os h (read_opening n (opening_of os h))
 read_is [] h n given = absurd (omega (arith, given))
 read_is (o ∷ os) zero n given = refl
 read_is (o ∷ os) (suc h) n given = ap (λ l. o ∷ l) (read_is os h n (omega (arith, given)))
 
-noted_is : (os : List Opening) (h : ℕ) (call : Call) → h < length os → noted_at os h call ≡ slice_set os h (noted_opening call (opening_of os h))
+noted_is : (os : List OpenHandle) (h : ℕ) (call : Call) → h < length os → noted_at os h call ≡ slice_set os h (noted_opening call (opening_of os h))
 noted_is [] h call given = absurd (omega (arith, given))
 noted_is (o ∷ os) zero call given = refl
 noted_is (o ∷ os) (suc h) call given = ap (λ l. o ∷ l) (noted_is os h call (omega (arith, given)))
 
-rest_of : (os : List Opening) (h : ℕ) → h < length os → rest_at os h ≡ (opening_of os h).rest
+rest_of : (os : List OpenHandle) (h : ℕ) → h < length os → rest_at os h ≡ (opening_of os h).rest
 rest_of [] h given = absurd (omega (arith, given))
 rest_of (o ∷ os) zero given = refl
 rest_of (o ∷ os) (suc h) given = rest_of os h (omega (arith, given))
@@ -86,7 +86,7 @@ pub shelf_reads : {E : Type 0} (na nb : Names) (f f' w w' : ℕ) (old new : Open
     → n ≡ min (min (length (rest_at old.openings h)) (length buf)) most → now ≡ take n (rest_at old.openings h) ++ drop n buf
     → ReadsOnce {E = E} h (files_seen na f w old) (files_seen nb f' w' new) (Ok n) now
 shelf_reads na nb f f' w w' old new h n most buf now names ff ww is given some room count moved =
-    let o : Opening = opening_of old.openings h in
+    let o : OpenHandle = opening_of old.openings h in
     let rest : rest_at old.openings h ≡ o.rest = rest_of old.openings h given in
     let count' : n ≡ min (min (length o.rest) (length buf)) most = count ∙ ap (λ (l : List ℕ). min (min (length l) (length buf)) most) rest in
     let moved' : now ≡ take n o.rest ++ drop n buf = moved ∙ ap (λ (l : List ℕ). take n l ++ drop n buf) rest in
@@ -112,7 +112,7 @@ keeps_told true rest = refl
 pub shelf_fails : {E : Type 0} (e : E) (na nb : Names) (f f' w w' : ℕ) (old new : OpenFiles) (h : ℕ) (buf : List ℕ) → nb ≡ na → HasCause {T = ℕ} {E = E} f f' (Err e) → w' ≡ w
     → new ≡ record old { openings = noted_at old.openings h Failed } → h < length old.openings → ReadsOnce {E = E} h (files_seen na f w old) (files_seen nb f' w' new) (Err e) buf
 shelf_fails e na nb f f' w w' old new h buf names cause ww is given =
-    let o : Opening = opening_of old.openings h in
+    let o : OpenHandle = opening_of old.openings h in
     record {
       old = view_of old.whole o;
       new = view_of old.whole (noted_opening Failed o);
@@ -137,17 +137,17 @@ pub noted_others : (old new : OpenFiles) (h : ℕ) (call : Call) → new ≡ rec
 noted_others old new h call is k other = ap (λ (g : ℕ → Option (List ℕ)). g k) (noted_left old new h call is)
 
 pub noted_names : (old new : OpenFiles) (h : ℕ) (call : Call) → new.openings ≡ noted_at old.openings h call → owners new ≡ owners old
-noted_names old new h call os = ap (λ (l : List Opening). slice_get (names_of l)) os ∙ ap (λ (l : List (List ℕ)). slice_get l) (names_noted old.openings h call)
+noted_names old new h call os = ap (λ (l : List OpenHandle). slice_get (names_of l)) os ∙ ap (λ (l : List (List ℕ)). slice_get l) (names_noted old.openings h call)
 
 pub noted_count : (old new : OpenFiles) (h : ℕ) (call : Call) → new.openings ≡ noted_at old.openings h call → handle_count new ≡ handle_count old
-noted_count old new h call os = ap (λ (l : List Opening). length l) os ∙ count_noted old.openings h call
+noted_count old new h call os = ap (λ (l : List OpenHandle). length l) os ∙ count_noted old.openings h call
 
 -- ---- write
 
-abbrev opening_calls : Opening → HandleCalls
+abbrev opening_calls : OpenHandle → HandleCalls
 opening_calls o = record { name = o.name; calls = o.calls }
 
-calls_seen : (whole : Bool) (os : List Opening) → map calls_of (views whole os) ≡ map opening_calls os
+calls_seen : (whole : Bool) (os : List OpenHandle) → map calls_of (views whole os) ≡ map opening_calls os
 calls_seen whole [] = refl
 calls_seen whole (o ∷ os) = ap (λ l. opening_calls o ∷ l) (calls_seen whole os)
 
@@ -155,7 +155,7 @@ pub shelf_writes : {E : Type 0} (na nb : Names) (f f' w w' : ℕ) (old new : Ope
     → new.openings ≡ noted_at old.openings h (write_call r piece) → new.refused ≡ old.refused → h < length old.openings
     → WritesHandle h (files_seen na f w old) (files_seen nb f' w' new) r piece
 shelf_writes na nb f f' w w' old new h r piece ff cause calm os refused given =
-    let o : Opening = opening_of old.openings h in
+    let o : OpenHandle = opening_of old.openings h in
     record {
       old = view_of old.whole o;
       was = seen_there old.whole old.openings h given;

@@ -2,7 +2,7 @@
 use Rattle.std.proofs.Common.{◌≡◌, ℕ, ◌<◌, Bool, true, false, List, [], length, slice_get, Some, None, sym, ◌∙◌, ap, subst, refl}
 use Rattle.std.specs.Prelude.{unwrap_or}
 use Rattle.std.specs.declared.option.Option.{Option}
-use Rattle.gcx_io.specs.Held.{Opening, held, held_or_none, name_at, read_at}
+use Rattle.gcx_io.specs.Held.{OpenHandle, held, held_or_none, name_at, read_at}
 use Rattle.gcx_io.specs.Files.{OpenFiles, while_whole, rests, owners, handle_count, names_of, opened, Sets, Keeps}
 use Rattle.gcx_io.specs.Shelf.{Names, content_of, Adds, AddsName, Appends, LeavesOthers, Maps}
 use Rattle.gcx_io.proofs.Handles.{name_there, count_read, names_read, others_stay, opened_adds, opened_names}
@@ -12,7 +12,7 @@ use Rattle.gcx_io.proofs.Mapped.{Told, sets_maps, keeps_append}
 
 pub opens_adds : (old new : OpenFiles) (name rest : List ℕ) (handle : ℕ) → new.openings ≡ opened name rest old.openings → handle ≡ length old.openings → Adds (handle_count old) (handle_count new) handle
 opens_adds old new name rest handle openings number =
-    subst (λ (os : List Opening). Adds (length old.openings) (length os) handle) (sym openings) (opened_adds old.openings name rest handle number)
+    subst (λ (os : List OpenHandle). Adds (length old.openings) (length os) handle) (sym openings) (opened_adds old.openings name rest handle number)
 
 pub attach_names : (names : Names) (old new : OpenFiles) (name rest : List ℕ) (handle : ℕ) → new ≡ record old { openings = opened name rest old.openings } → handle ≡ length old.openings
     → AddsName names (owners old) (owners new) name handle
@@ -43,7 +43,7 @@ set_content all old new name least sets whole =
 
 pub create_names : (names : Names) (old new : OpenFiles) (name : List ℕ) (handle : ℕ) → new.openings ≡ opened name [] old.openings → handle ≡ length old.openings → AddsName names (owners old) (owners new) name handle
 create_names names old new name handle openings number =
-    subst (λ (os : List Opening). AddsName names (slice_get (names_of old.openings)) (slice_get (names_of os)) name handle) (sym openings) (opened_names names old.openings name [] handle number)
+    subst (λ (os : List OpenHandle). AddsName names (slice_get (names_of old.openings)) (slice_get (names_of os)) name handle) (sym openings) (opened_names names old.openings name [] handle number)
 
 pub create_maps : (all : Bool) (old new : OpenFiles) (name : List ℕ) (least : ℕ) → Sets old.files new.files name [] least → new.whole ≡ old.whole
     → Maps (while_whole old.whole (Some (Told all old.files))) (while_whole new.whole (Some (Told all new.files))) name []
@@ -52,7 +52,7 @@ create_maps all old new name least sets whole =
 
 -- ---- write
 
-pub write_appends : (all : Bool) (old new : OpenFiles) (os : List Opening) (handle : ℕ) (piece : List ℕ) → handle < length old.openings
+pub write_appends : (all : Bool) (old new : OpenFiles) (os : List OpenHandle) (handle : ℕ) (piece : List ℕ) → handle < length old.openings
     → (old.whole ≡ true → Keeps new.whole old.files new.files (name_at old.openings handle) piece) → (old.whole ≡ false → new ≡ record old { openings = os })
     → Appends (while_whole old.whole (Some (Told all old.files))) (while_whole new.whole (Some (Told all new.files))) (owners old handle) piece
 write_appends all old new os handle piece given keeps lost =

@@ -1,17 +1,19 @@
 -- How the shelf of the file system is seen: it tells no contents (this project's).
-use Rattle.std.specs.Prelude.{◌≡◌, ℕ, zero, suc, List, [], ◌∷◌, ◌++◌, Some, None, length, map, slice_get, refl}
+use Rattle.std.specs.Prelude.{◌≡◌, Option, ℕ, zero, suc, List, [], ◌∷◌, ◌++◌, Some, None, length, map, slice_get, refl}
 use Rattle.std.proofs.Common.{ap}
 use Rattle.gcx_io.specs.Views.{Call, HandleCalls, Miss, missed, HandleView, ShelfView}
+use Rattle.gcx_io.specs.System.{Opening}
 use Rattle.gcx_io.specs.declared.stream.Stream.{Stream}
 use Rattle.gcx_io.specs.declared.stream.Stream.TheVariants.{Reading, Writing}
 
--- each handle's name and calls, the names at which `attach` or `create` failed, how often `attach` or `read` failed,
--- and how often `create` or `write` did
+-- each handle's name and calls, the names at which `attach` or `create` failed, how often `attach` or `read` failed, how
+-- often `create` or `write` did, and what the system was asked to open
 pub record FileShelfState : Type 0 where
   pub given : List HandleCalls
   pub refused : List Miss
   pub faults : ℕ
   pub write_faults : ℕ
+  pub asked : Option (List Opening)
 
 -- a handle more of this name, with no calls
 abbrev pub with_handle : List ℕ → FileShelfState → FileShelfState
@@ -22,7 +24,7 @@ abbrev pub with_miss : List ℕ → FileShelfState → FileShelfState
 with_miss name s = record s { refused = s.refused ++ missed name (length s.given) ∷ [] }
 
 -- what a stream answered
-abbrev pub stream_calls : Stream → List Call
+abbrev pub stream_calls : {T : Type 0} → Stream T → List Call
 stream_calls (Reading s) = s.history.calls
 stream_calls (Writing s) = s.history.calls
 

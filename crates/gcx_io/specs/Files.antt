@@ -3,7 +3,7 @@ use Rattle.std.specs.Prelude.{◌≡◌, ◌<◌, ◌≤◌, ℕ, zero, suc, ◌
 use Rattle.std.proofs.Common.{arith, refl, ap}
 use Rattle.std.specs.declared.option.Option.{Option}
 use Rattle.std.specs.declared.option.Option.TheVariants.{Some, None}
-use Rattle.gcx_io.specs.Held.{File, held, held_or_none, room_of, with_file, mapped, Opening, name_at, read_at, noted_at}
+use Rattle.gcx_io.specs.Held.{File, held, held_or_none, room_of, with_file, mapped, OpenHandle, name_at, read_at, noted_at}
 use Rattle.gcx_io.specs.Shelf.{Names, IsTelling}
 use Rattle.gcx_io.specs.Views.{Call, Took, Miss, missed, HandleView, ShelfView}
 
@@ -11,7 +11,7 @@ use Rattle.gcx_io.specs.Views.{Call, Took, Miss, missed, HandleView, ShelfView}
 -- failed
 pub record OpenFiles : Type 0 where
   pub files : List File
-  pub openings : List Opening
+  pub openings : List OpenHandle
   pub whole : Bool
   pub refused : List Miss
 
@@ -33,18 +33,18 @@ abbrev pub all_names : OpenFiles → Names
 all_names s = while_whole s.whole (Some (λ name. Some (held_or_none s.files name)))
 
 -- what the handles have left
-abbrev pub rests_of : List Opening → List (List ℕ)
+abbrev pub rests_of : List OpenHandle → List (List ℕ)
 rests_of openings = map (λ o. o.rest) openings
 
 -- what each handle has left, where it is told
-abbrev pub told_rest : Bool → List Opening → ℕ → Option (List ℕ)
+abbrev pub told_rest : Bool → List OpenHandle → ℕ → Option (List ℕ)
 told_rest whole openings k = while_whole whole (slice_get (rests_of openings) k)
 
 abbrev pub rests : OpenFiles → ℕ → Option (List ℕ)
 rests s = told_rest s.whole s.openings
 
 -- the names of the handles
-abbrev pub names_of : List Opening → List (List ℕ)
+abbrev pub names_of : List OpenHandle → List (List ℕ)
 names_of openings = map (λ o. o.name) openings
 
 -- the name of each handle
@@ -56,7 +56,7 @@ abbrev pub handle_count : OpenFiles → ℕ
 handle_count s = length s.openings
 
 -- a handle more, of this name, which has these bytes left
-abbrev pub opened : List ℕ → List ℕ → List Opening → List Opening
+abbrev pub opened : List ℕ → List ℕ → List OpenHandle → List OpenHandle
 opened name rest openings = openings ++ record { name = name; rest = rest; calls = [] } ∷ []
 
 -- the name holds these bytes, with room for so many more, and nothing else is changed in the files
@@ -94,13 +94,13 @@ pub record IsNewTo (name : List ℕ) (files : List File) : Type 0 where
   pub set : (f : File) → f.name ≡ name → with_file f files ≡ files ++ f ∷ []
 
 -- a handle that was given has a name
-pub owner_told : (openings : List Opening) (k : ℕ) → k < length openings → IsSome (slice_get (names_of openings) k)
+pub owner_told : (openings : List OpenHandle) (k : ℕ) → k < length openings → IsSome (slice_get (names_of openings) k)
 owner_told [] k given = absurd (omega arith)
 owner_told (o ∷ os) zero given = refl
 owner_told (o ∷ os) (suc k) given = owner_told os k (omega arith)
 
 -- a handle that was given has something left where that is told, if only no bytes
-rest_told : (openings : List Opening) (k : ℕ) → k < length openings → IsSome (slice_get (rests_of openings) k)
+rest_told : (openings : List OpenHandle) (k : ℕ) → k < length openings → IsSome (slice_get (rests_of openings) k)
 rest_told [] k given = absurd (omega arith)
 rest_told (o ∷ os) zero given = refl
 rest_told (o ∷ os) (suc k) given = rest_told os k (omega arith)
@@ -137,10 +137,10 @@ TakesPiece handle piece before after = KeepsPiece before after handle piece
     × (after.openings ≡ noted_at before.openings handle (Took piece))
 
 -- how handles are seen
-abbrev pub view_of : Bool → Opening → HandleView
+abbrev pub view_of : Bool → OpenHandle → HandleView
 view_of whole o = record { name = o.name; calls = o.calls; left = while_whole whole (Some o.rest) }
 
-abbrev pub views : Bool → List Opening → List HandleView
+abbrev pub views : Bool → List OpenHandle → List HandleView
 views whole openings = map (view_of whole) openings
 
 -- how a shelf of these files is seen
@@ -156,18 +156,18 @@ files_seen names faults write_faults s =
 
 -- ---- what is seen of handles is what the members tell
 
-pub views_count : (whole : Bool) (openings : List Opening) → length (views whole openings) ≡ length openings
+pub views_count : (whole : Bool) (openings : List OpenHandle) → length (views whole openings) ≡ length openings
 views_count whole [] = refl
 views_count whole (o ∷ os) = ap suc (views_count whole os)
 
-pub views_left : (whole : Bool) (openings : List Opening) (k : ℕ) (v : HandleView)
+pub views_left : (whole : Bool) (openings : List OpenHandle) (k : ℕ) (v : HandleView)
     → slice_get (views whole openings) k ≡ Some v
     → told_rest whole openings k ≡ v.left
 views_left whole [] k v there = cc
 views_left whole (o ∷ os) zero v there = cc
 views_left whole (o ∷ os) (suc k) v there = views_left whole os k v there
 
-pub views_name : (whole : Bool) (openings : List Opening) (k : ℕ) (v : HandleView)
+pub views_name : (whole : Bool) (openings : List OpenHandle) (k : ℕ) (v : HandleView)
     → slice_get (views whole openings) k ≡ Some v
     → slice_get (names_of openings) k ≡ Some v.name
 views_name whole [] k v there = cc
@@ -175,7 +175,7 @@ views_name whole (o ∷ os) zero v there = cc
 views_name whole (o ∷ os) (suc k) v there = views_name whole os k v there
 
 -- a shelf that tells its names tells what each handle has left
-pub rests_told : (whole : Bool) (holds : List ℕ → Option (List ℕ)) (openings : List Opening) (k : ℕ)
+pub rests_told : (whole : Bool) (holds : List ℕ → Option (List ℕ)) (openings : List OpenHandle) (k : ℕ)
     → k < length openings
     → IsTelling (while_whole whole (Some holds)) → IsSome (told_rest whole openings k)
 rests_told true holds openings k given telling = rest_told openings k given

@@ -45,39 +45,39 @@ with_file file [] = file ∷ []
 with_file file (f ∷ fs) = if bytes_eq f.name file.name then file ∷ fs else f ∷ with_file file fs
 
 -- a handle: its name, what it has left, and its calls
-pub record Opening : Type 0 where
+pub record OpenHandle : Type 0 where
   pub name : List ℕ
   pub rest : List ℕ
   pub calls : List Call
 
 -- what the handle of this number has left, [] where there is no such handle
-abbrev pub rest_at : List Opening → ℕ → List ℕ
+abbrev pub rest_at : List OpenHandle → ℕ → List ℕ
 rest_at [] handle = []
 rest_at (o ∷ os) zero = o.rest
 rest_at (o ∷ os) (suc handle) = rest_at os handle
 
 -- the name of the handle of this number, [] where there is no such handle
-abbrev pub name_at : List Opening → ℕ → List ℕ
+abbrev pub name_at : List OpenHandle → ℕ → List ℕ
 name_at [] handle = []
 name_at (o ∷ os) zero = o.name
 name_at (o ∷ os) (suc handle) = name_at os handle
 
 -- n bytes more were read of the handle
-abbrev pub read_opening : ℕ → Opening → Opening
+abbrev pub read_opening : ℕ → OpenHandle → OpenHandle
 read_opening n o = record { name = o.name; rest = drop n o.rest; calls = o.calls ++ Gave (take n o.rest) ∷ [] }
 
 -- one call more of the handle, which read nothing
-abbrev pub noted_opening : Call → Opening → Opening
+abbrev pub noted_opening : Call → OpenHandle → OpenHandle
 noted_opening call o = record { name = o.name; rest = o.rest; calls = o.calls ++ call ∷ [] }
 
 -- n bytes more were read of the handle of this number
-abbrev pub read_at : List Opening → ℕ → (n : ℕ) → List Opening
+abbrev pub read_at : List OpenHandle → ℕ → (n : ℕ) → List OpenHandle
 read_at [] handle n = []
 read_at (o ∷ os) zero n = read_opening n o ∷ os
 read_at (o ∷ os) (suc handle) n = o ∷ read_at os handle n
 
 -- one call more of the handle of this number, which read nothing
-abbrev pub noted_at : List Opening → ℕ → Call → List Opening
+abbrev pub noted_at : List OpenHandle → ℕ → Call → List OpenHandle
 noted_at [] handle call = []
 noted_at (o ∷ os) zero call = noted_opening call o ∷ os
 noted_at (o ∷ os) (suc handle) call = o ∷ noted_at os handle call

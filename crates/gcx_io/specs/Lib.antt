@@ -16,4 +16,5 @@ pub mod SureSink
 pub mod MemShelf
 pub mod SureShelf
 pub mod StdSink
+pub mod System
 pub mod FileShelf

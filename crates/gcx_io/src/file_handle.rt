@@ -8,16 +8,17 @@ use crate::Failed;
 use crate::stream::Stream;
 use call_history::Name;
 use gcx_base::Text;
+use std::io::{Read, Write};
 use std::marker::Model;
 
 /// A handle of the file system: a stream, and the name that it was opened by.
 #[derive(Drop)]
-pub(crate) struct FileHandle {
+pub(crate) struct FileHandle<T> {
     name: Name,
-    stream: Stream,
+    stream: Stream<T>,
 }
 
-impl Model for FileHandle {
+impl<T> Model for FileHandle<T> {
     ghost use Rattle.gcx_io.specs.Views.{HandleCalls};
     ghost use Rattle.gcx_io.specs.FileShelf.{stream_calls};
 
@@ -26,9 +27,9 @@ impl Model for FileHandle {
     ghost view = { λ h. record { name = h.name.bytes; calls = stream_calls h.stream } };
 }
 
-impl FileHandle {
+impl<T: Read + Write> FileHandle<T> {
     /// The stream was opened by this name.
-    pub fn new(name: &Text, stream: Stream) -> FileHandle
+    pub fn new(name: &Text, stream: Stream<T>) -> FileHandle<T>
         ensures { result ≡ record { name = name.now; calls = stream_calls stream } }
     {
         FileHandle {

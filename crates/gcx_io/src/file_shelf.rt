@@ -1,41 +1,50 @@
 ghost use Rattle.std.specs.Prelude.{◌≡◌, ◌∷◌, ◌++◌, [], length, IfOk, IsErrOf, OnOk, OnErr};
 ghost use Rattle.gcx_io.specs.FileShelf.{stream_calls, with_handle, with_miss};
+ghost use Rattle.gcx_io.specs.System.{ToRead, AsksOnce};
 
 use crate::file_handle::FileHandle;
 use crate::stream::Stream;
-use crate::{AttachFault, Failed, Handle, Shelf};
+use crate::{AttachFault, Failed, Handle, Shelf, System};
 use call_history::Misses;
 use gcx_base::Text;
-use std::fs::File;
 use std::io;
 use std::marker::Model;
 
-/// Files by their names. `-` is standard input, which can't be made. It tells no contents.
+/// Files by their names, which a system opens and makes. `-` is standard input, which can't be made. It tells no
+/// contents.
 #[derive(Drop)]
-pub struct FileShelf {
+pub struct FileShelf<S: System> {
     rt: HostRuntime,
-    handles: Vec<FileHandle>,
+    system: S,
+    handles: Vec<FileHandle<S::File>>,
     misses: Misses,
     faults: u64,
     write_faults: u64,
 }
 
-impl Model for FileShelf {
+impl<S: System> Model for FileShelf<S> {
     ghost use Rattle.gcx_io.specs.FileShelf.{FileShelfState};
 
     ghost Value = { FileShelfState };
 
-    ghost view = { λ s. record
-        { given = s.handles.items; refused = s.misses.list; faults = s.faults; write_faults = s.write_faults } };
+    ghost view = { λ s. record {
+      given = s.handles.items;
+      refused = s.misses.list;
+      faults = s.faults;
+      write_faults = s.write_faults;
+      asked = S.asked s.system;
+    } };
 }
 
-impl FileShelf {
-    /// No handle was given yet.
-    pub fn new(rt: HostRuntime) -> FileShelf
-        ensures { result ≡ record { given = []; refused = []; faults = 0; write_faults = 0 } }
+impl<S: System> FileShelf<S> {
+    /// No handle was given yet. Standard input is that of `rt`.
+    pub fn new(rt: HostRuntime, system: S) -> FileShelf<S>
+        ensures { result
+            ≡ record { given = []; refused = []; faults = 0; write_faults = 0; asked = S.asked system } }
     {
         FileShelf {
             rt,
+            system,
             handles: Vec::new(rt.alloc()),
             misses: Misses::new(),
             faults: 0,
@@ -44,17 +53,19 @@ impl FileShelf {
     }
 
     /// The stream that the name opens for reading.
-    fn open(&self, name: &Text) -> io::Result<Stream>
-        ensures { IfOk result (λ stream. stream_calls stream ≡ []) }
+    fn open(&mut self, name: &Text) -> io::Result<Stream<S::File>>
+        ensures stream { IfOk result (λ stream. stream_calls stream ≡ []) }
+        ensures asks { AsksOnce ToRead name.now self.old.asked self.new.asked }
+        ensures rest { self.new ≡ record self.old { asked = self.new.asked } }
     {
         if name.as_bytes() == b"-".as_slice() {
             return Ok(Stream::standard(self.rt.stdin()));
         }
-        Ok(Stream::file(File::open(&self.rt, name.as_str())?))
+        Ok(Stream::file(self.system.open(name.as_str())?))
     }
 
     /// Keeps a stream that the name opened, and answers its handle.
-    fn keep(&mut self, name: &Text, stream: Stream) -> Result<Handle, AttachFault>
+    fn keep(&mut self, name: &Text, stream: Stream<S::File>) -> Result<Handle, AttachFault>
         requires { stream_calls stream ≡ [] }
         ensures number { IfOk result (λ handle. handle.0 ≡ length self.old.given) }
         ensures ok { OnOk result (self.new ≡ with_handle name.now self.old) }
@@ -76,7 +87,7 @@ impl FileShelf {
     }
 }
 
-impl Shelf for FileShelf {
+impl<S: System> Shelf for FileShelf<S> {
     ghost use Rattle.std.specs.Prelude.{◌≡◌, ◌≤◌, ◌<◌, ◌+◌, ◌⊎◌, None, refl, length, map, IfOk, OnOk, OnErr, IsErrOf, MatchResult};
     ghost use Rattle.std.specs.Io.{ReadsAtMost};
     ghost use Rattle.gcx_io.specs.Tallies.{one_more, CountsFault};
@@ -84,6 +95,7 @@ impl Shelf for FileShelf {
     ghost use Rattle.gcx_io.specs.Calls.{Attaches, Creates, ReadsOnce, WritesHandle};
     ghost use Rattle.gcx_io.specs.FileShelf.{untold, file_shelf_seen, untold_count, untold_left};
     ghost use Rattle.gcx_io.specs.Shelf.{Adds};
+    ghost use Rattle.gcx_io.specs.System.{CreateAsks};
 
     ghost names = { λ _. None };
 
@@ -121,6 +133,7 @@ impl Shelf for FileShelf {
         ensures later { self.old.faults ≤ self.new.faults }
         ensures writes { self.new.write_faults ≡ self.old.write_faults }
         ensures fault { IsErrOf result AttachFault.Failed → self.new.faults ≡ one_more self.old.faults }
+        ensures asks { AsksOnce ToRead name.now self.old.asked self.new.asked }
         ensures attaches { Attaches name.now (file_shelf_seen self.old) (file_shelf_seen self.new) result }
     {
         match self.open(name) {
@@ -139,6 +152,7 @@ impl Shelf for FileShelf {
         ensures bound { ReadsAtMost result buf.new }
         ensures handles { length self.new.given ≡ length self.old.given }
         ensures faults { CountsFault self.old.faults self.new.faults result }
+        ensures unasked { self.new.asked ≡ self.old.asked }
         ensures reads { ReadsOnce handle.0 (file_shelf_seen self.old) (file_shelf_seen self.new) result buf.new }
     {
         match self.handles[handle.0].read(buf) {
@@ -156,11 +170,19 @@ impl Shelf for FileShelf {
         ensures later { self.old.write_faults ≤ self.new.write_faults }
         ensures reads { self.new.faults ≡ self.old.faults }
         ensures fault { IsErrOf result AttachFault.Failed → self.new.write_faults ≡ one_more self.old.write_faults }
+        ensures asks { CreateAsks name.now self.old.asked self.new.asked result }
         ensures creates { Creates name.now (file_shelf_seen self.old) (file_shelf_seen self.new) result }
     {
         if name.as_bytes() != b"-".as_slice() {
-            if let Ok(file) = File::create(&self.rt, name.as_str()) {
-                return self.keep(name, Stream::made(file));
+            // Room for the handle comes first: once the file is emptied, no memory may be wanting.
+            if self.handles.reserve(1).is_err() {
+                return Err(AttachFault::Memory);
+            }
+            if let Ok(file) = self.system.make(name.as_str()) {
+                let handle = Handle(self.handles.len());
+                let made = FileHandle::new(name, Stream::made(file));
+                self.handles.push_reserved(made);
+                return Ok(handle);
             }
         }
         self.miss(name);
@@ -174,6 +196,7 @@ impl Shelf for FileShelf {
         ensures bound { Moves result piece.now }
         ensures handles { length self.new.given ≡ length self.old.given }
         ensures faults { CountsFault self.old.write_faults self.new.write_faults result }
+        ensures unasked { self.new.asked ≡ self.old.asked }
         ensures takes { WritesHandle handle.0 (file_shelf_seen self.old) (file_shelf_seen self.new) result piece.now }
     {
         match self.handles[handle.0].write(piece) {

@@ -23,6 +23,7 @@ mod stream;
 mod sure_shelf;
 mod sure_sink;
 mod sure_source;
+mod system;
 mod taken;
 
 pub use fault::{AttachFault, Failed};
@@ -40,3 +41,4 @@ pub use std_out::StdOut;
 pub use sure_shelf::SureShelf;
 pub use sure_sink::SureSink;
 pub use sure_source::SureSource;
+pub use system::System;

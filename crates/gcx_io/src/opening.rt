@@ -19,9 +19,9 @@ pub(crate) struct Opening {
 
 impl Model for Opening {
     ghost use Rattle.std.specs.Prelude.{◌≤◌, drop, length};
-    ghost use Rattle.gcx_io.specs.Held.{Opening};
+    ghost use Rattle.gcx_io.specs.Held.{OpenHandle};
 
-    ghost Value = { Opening };
+    ghost Value = { OpenHandle };
 
     ghost view = { λ o. record { name = o.name; rest = drop o.at o.bytes.items; calls = o.history.calls } };
 

@@ -7,30 +7,29 @@ ghost use Rattle.gcx_io.specs.FileShelf.{stream_calls};
 use crate::Failed;
 use crate::noting::Noting;
 use either::Either;
-use std::fs::File;
-use std::io::Stdin;
+use std::io::{Read, Stdin, Write};
 
 /// What a handle of the file system reads from or writes to. A call of the other kind fails.
 #[derive(Drop)]
-pub(crate) enum Stream {
-    Reading(Noting<Either<File, Stdin>>),
-    Writing(Noting<File>),
+pub(crate) enum Stream<T> {
+    Reading(Noting<Either<T, Stdin>>),
+    Writing(Noting<T>),
 }
 
-impl Stream {
-    pub fn file(file: File) -> Stream
+impl<T: Read + Write> Stream<T> {
+    pub fn file(file: T) -> Stream<T>
         ensures { stream_calls result ≡ [] }
     {
         Stream::Reading(Noting::new(Either::Left(file)))
     }
 
-    pub fn standard(input: Stdin) -> Stream
+    pub fn standard(input: Stdin) -> Stream<T>
         ensures { stream_calls result ≡ [] }
     {
         Stream::Reading(Noting::new(Either::Right(input)))
     }
 
-    pub fn made(file: File) -> Stream
+    pub fn made(file: T) -> Stream<T>
         ensures { stream_calls result ≡ [] }
     {
         Stream::Writing(Noting::new(file))
