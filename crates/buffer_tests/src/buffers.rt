@@ -52,7 +52,7 @@ const MANY: u64 = 1_000_000;
 /// statement was carried out; behind these, `~N` says that N roles were taken back, and `xS` that node S left. For `?`
 /// the held nodes are told, an open one with `+`, and the numbers of these, of all nodes, of the roles taken back and of
 /// the statements that wait. At the end the greatest number of rows so far is told.
-type Case = (&'static str, &'static str, &'static str, &'static str);
+type Case<'a> = (&'a str, &'a str, &'a str, &'a str);
 
 /// The plan of the query.
 fn plan_of(alloc: Global, query: &[u8]) -> Result<Plan, Fail>
@@ -476,36 +476,40 @@ fn told<N: NodeStore<Row> + Drop>(
     told_by(alloc, nodes, &plan, document, script, spread)
 }
 
+/// This was told, and that is wanted; the other three say of what.
+fn is_same(rt: &impl Abort, got: &str, want: &str, how: &str, query: &str, text: &str) {
+    assert_eq!(rt; got, want, "{how}: {query} | {text}");
+}
+
 /// The script tells that over this store.
 fn is_told_over<N: NodeStore<Row> + Drop>(
     rt: &impl Abort,
     alloc: Global,
     nodes: N,
     store: &str,
-    case: Case,
+    case: Case<'_>,
     spread: bool,
 ) -> Result<(), Fail>
     requires { N.rows nodes ≡ map.empty }
 {
     let (query, document, script, want) = case;
-    let got = told(
-        alloc,
-        nodes,
-        query.as_bytes(),
-        document.as_bytes(),
-        script,
-        spread,
-    )?;
-    assert_eq!(rt; got.as_str(), want, "{store}: {query} | {document}");
+    let (bytes, tokens) = (query.as_bytes(), document.as_bytes());
+    let got = told(alloc, nodes, bytes, tokens, script, spread)?;
+    is_same(rt, got.as_str(), want, store, query, document);
     Ok(())
 }
 
+/// It does over both stores, and where roles are spread.
+fn is_told(rt: &impl Abort, alloc: Global, case: Case<'_>) -> Result<(), Fail> {
+    is_told_over(rt, alloc, SlabNodes::new(alloc), "slab", case, false)?;
+    is_told_over(rt, alloc, RawNodes::new(alloc), "raw", case, false)?;
+    is_told_over(rt, alloc, RawNodes::new(alloc), "spread", case, true)
+}
+
 /// These scripts tell that.
-fn are_told(rt: &impl Abort, alloc: Global, cases: &[Case]) -> Result<(), Fail> {
+fn are_told(rt: &impl Abort, alloc: Global, cases: &[Case<'_>]) -> Result<(), Fail> {
     for case in cases {
-        is_told_over(rt, alloc, SlabNodes::new(alloc), "slab", *case, false)?;
-        is_told_over(rt, alloc, RawNodes::new(alloc), "raw", *case, false)?;
-        is_told_over(rt, alloc, RawNodes::new(alloc), "spread", *case, true)?;
+        is_told(rt, alloc, *case)?;
     }
     Ok(())
 }

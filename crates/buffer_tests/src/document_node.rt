@@ -2,34 +2,15 @@
 ghost use Rattle.std.specs.Prelude.{◌≡◌, List, None, IfOk};
 ghost use Rattle.gcx_base.specs.declared.ids.Role.{Role};
 ghost use Rattle.buf_tree.specs.Calls.{Started};
-ghost use Rattle.gcx_model.specs.Past.{IsNode};
 
+use crate::matchers::{node, plan};
 use buf_tree::{Buffer, Row};
-use gcx_base::{Kind, Name, Role, Steps, VarId};
-use gcx_model::{Body, Flags, Given, Plan, RoleKind, RoleRow, RoleRows, VarIds, VarRows};
+use gcx_base::Role;
+use gcx_model::{Given, Plan};
 use node_store::{Place, SlabNodes};
 use projector::Projector;
 use std::alloc::Global;
 use std::test::Fail;
-
-/// A plan of these roles of the empty path.
-fn plan_of(alloc: Global, kinds: &[RoleKind]) -> Result<Plan, Fail> {
-    let mut roles = RoleRows::new(alloc);
-    for kind in kinds {
-        roles.push(RoleRow {
-            var: VarId(0),
-            tail: Steps::new(alloc),
-            kind: *kind,
-        })?;
-    }
-    Ok(Plan {
-        body: Body::new(alloc),
-        vars: VarRows::new(alloc),
-        straight: Flags::new(alloc),
-        fsa: VarIds::new(alloc),
-        roles,
-    })
-}
 
 /// How many roles the document node is given.
 fn count_given(alloc: Global, plan: &Plan) -> Result<usize, Fail> {
@@ -38,15 +19,10 @@ fn count_given(alloc: Global, plan: &Plan) -> Result<usize, Fail> {
     Ok(given.items().len())
 }
 
-/// How many of these roles of the empty path the document node is given.
-fn count_of(alloc: Global, kinds: &[RoleKind]) -> Result<usize, Fail> {
-    let plan = plan_of(alloc, kinds)?;
-    count_given(alloc, &plan)
-}
-
 #[test]
 fn the_document_node_has_the_roles_of_the_empty_path(rt: HostRuntime) -> Result<(), Fail> {
-    let count = count_of(rt.alloc(), &[RoleKind::Own, RoleKind::Whole])?;
+    let plan = plan(rt.alloc(), "", "o0 w0")?;
+    let count = count_given(rt.alloc(), &plan)?;
     assert_eq!(rt; count, 2);
     Ok(())
 }
@@ -60,15 +36,6 @@ fn begun(alloc: Global) -> Result<Buffer<SlabNodes<Row>>, Fail>
     Ok(Buffer::new(alloc, SlabNodes::new(alloc), given)?)
 }
 
-fn element(alloc: Global) -> Result<Kind, Fail>
-    ensures { IfOk result (λ kind. IsNode kind) }
-{
-    match Name::from_bytes(alloc, b"a")? {
-        Some(name) => Ok(Kind::Element(name)),
-        None => Err(Fail::new("no name")),
-    }
-}
-
 /// Opens an element below the document node, with no roles.
 fn open_below(alloc: Global, buffer: &mut Buffer<SlabNodes<Row>>) -> Result<Option<Place>, Fail>
     requires { (given : List Role) × Started buffer.old given × (buffer.old.spread ≡ None) }
@@ -76,7 +43,7 @@ fn open_below(alloc: Global, buffer: &mut Buffer<SlabNodes<Row>>) -> Result<Opti
     let Some(root) = buffer.root() else {
         return Err("no root")?;
     };
-    let kind = element(alloc)?;
+    let kind = node(alloc, b'a')?;
     let none = Given::new(alloc);
     Ok(buffer.open_node(alloc, root, kind, Given::new(alloc), none)?)
 }

@@ -2,7 +2,7 @@
 ghost use Rattle.std.specs.Prelude.{IfOk};
 ghost use Rattle.gcx_model.specs.Past.{IsNode};
 
-use crate::large::{joined, repeated};
+use crate::large::{Part, spelled};
 use gcx_base::{Axis, Kind, Name, Role, Step, Steps, Test, Text, VarId};
 use gcx_model::{
     Body, Flags, Given, Off, Plan, RoleKind, RoleRow, RoleRows, VarIds, VarRow, VarRows,
@@ -18,9 +18,9 @@ use std::test::Fail;
 /// A small letter is a name; a capital is one of 1,024 bytes that ends with it.
 fn name(alloc: Global, letter: u8) -> Result<Name, Fail> {
     let front = if letter < b'a' { 1_023 } else { 0 };
-    let front = repeated(alloc, b"x", front)?;
-    let bytes = joined(alloc, &[&front, &[letter]])?;
-    match Name::from_bytes(alloc, &bytes)? {
+    let mut text = spelled(alloc, &[("x", 0, front)])?;
+    text.push(char::from(letter))?;
+    match Name::from_bytes(alloc, text.as_str().as_bytes())? {
         Some(name) => Ok(name),
         None => Err(Fail::new("not a name")),
     }
@@ -37,7 +37,7 @@ fn test(alloc: Global, letter: u8) -> Result<Test, Fail> {
 }
 
 /// A letter is a child step, one behind `/` a descendant step.
-fn steps(alloc: Global, path: &[u8]) -> Result<Steps, Fail> {
+pub(crate) fn steps(alloc: Global, path: &[u8]) -> Result<Steps, Fail> {
     let mut steps = Steps::new(alloc);
     let mut axis = Axis::Child;
     for letter in path {
@@ -65,7 +65,7 @@ fn kind_of(letter: u8) -> RoleKind {
 }
 
 /// The first of these steps.
-fn first_step(alloc: Global, path: &[u8]) -> Result<Step, Fail> {
+pub(crate) fn first_step(alloc: Global, path: &[u8]) -> Result<Step, Fail> {
     let steps = steps(alloc, path)?;
     Ok(steps.items().first().ok_or("no step")?.copy(alloc)?)
 }
@@ -192,7 +192,7 @@ fn text(alloc: Global) -> Result<Kind, Fail>
 }
 
 /// `.` is a text, another letter an element.
-fn node(alloc: Global, letter: u8) -> Result<Kind, Fail>
+pub(crate) fn node(alloc: Global, letter: u8) -> Result<Kind, Fail>
     ensures { IfOk result (λ kind. IsNode kind) }
 {
     match letter {
@@ -304,15 +304,9 @@ fn bounds() -> [Bound; 2] {
 }
 
 /// Variables, roles, the steps of a statement that is signed, a document, and the roles given.
-type Case = (
-    &'static str,
-    &'static str,
-    &'static str,
-    &'static str,
-    &'static str,
-);
+type Case<'a> = (&'a str, &'a str, &'a str, &'a str, &'a str);
 
-const CASES: &[Case] = &[
+const CASES: &[Case<'static>] = &[
     // child steps
     ("0r 1a", "o0 o1 o2", "", "raa))b)a.)", "0 1 2   2  "),
     // long names that differ in their last byte
@@ -428,19 +422,23 @@ const CASES: &[Case] = &[
     ),
 ];
 
-fn is_answered(rt: &impl Abort, alloc: Global, case: Case) -> Result<(), Fail> {
+fn is_answered_in(
+    rt: &impl Abort,
+    alloc: Global,
+    case: Case<'_>,
+    bound: Bound,
+) -> Result<(), Fail> {
     let (vars, roles, rel, document, want) = case;
-    for bound in &bounds() {
-        let got = answers_by(
-            alloc,
-            (vars, roles),
-            *bound,
-            rel.as_bytes(),
-            document.as_bytes(),
-        )?;
-        assert_eq!(rt; got.as_str(), want, "{vars} | {roles} | {document}");
-    }
+    let (rel, tokens) = (rel.as_bytes(), document.as_bytes());
+    let got = answers_by(alloc, (vars, roles), bound, rel, tokens)?;
+    assert_eq!(rt; got.as_str(), want, "{vars} | {roles} | {document}");
     Ok(())
+}
+
+fn is_answered(rt: &impl Abort, alloc: Global, case: Case<'_>) -> Result<(), Fail> {
+    let [usual, narrow] = bounds();
+    is_answered_in(rt, alloc, case, usual)?;
+    is_answered_in(rt, alloc, case, narrow)
 }
 
 #[test]
@@ -451,58 +449,55 @@ fn roles_are_those_of_the_definitions(rt: HostRuntime) -> Result<(), Fail> {
     Ok(())
 }
 
-/// Many elements inside one another, a `b`, and one more behind the ends of all but one of them. A statement is signed
-/// at one of them, and then at the only one left.
-fn many_levels(alloc: Global) -> Result<Vec<u8>, Fail> {
-    let begun = repeated(alloc, b"a", 999)?;
-    let ended = repeated(alloc, b")", 999)?;
-    joined(alloc, &[&begun, b"!37b?.))b", &ended, b"!31b?"])
+/// Variables, and the parts of roles, of a document and of the roles given.
+type Large = (
+    &'static str,
+    &'static [Part],
+    &'static [Part],
+    &'static [Part],
+);
+
+const LARGE: [Large; 2] = [
+    // The first match of `//b` at each of many elements inside one another, and one more behind the ends of all but one of
+    // them. A statement is signed at one of them, and then at the only one left.
+    (
+        "0/a",
+        &[("o0 o1 f1/b w1/b", 0, 1)],
+        &[
+            ("a", 0, 999),
+            ("!37b?.))b", 0, 1),
+            (")", 0, 999),
+            ("!31b?", 0, 1),
+        ],
+        &[("0 ", 0, 1), ("1 ", 0, 999), ("23 ? 3 3 3 ?3 ", 0, 1)],
+    ),
+    // Each of two thousand roles is given at each match.
+    (
+        "0/a",
+        &[("o1 ", 0, 2_000)],
+        &[("aab", 0, 1)],
+        &[
+            (" ", 0, 1),
+            ("#", 0, 2_000),
+            (" ", 0, 1),
+            ("#", 0, 2_000),
+            ("  ", 0, 1),
+        ],
+    ),
+];
+
+fn is_answered_large(rt: &impl Abort, alloc: Global, case: Large) -> Result<(), Fail> {
+    let roles = spelled(alloc, case.1)?;
+    let document = spelled(alloc, case.2)?;
+    let want = spelled(alloc, case.3)?;
+    let texts = (roles.as_str(), document.as_str(), want.as_str());
+    is_answered(rt, alloc, (case.0, texts.0, "", texts.1, texts.2))
 }
 
-/// The first match of `//b` at each of many elements inside one another, and a statement signed at one of them, and
-/// then at the only one left.
 #[test]
-fn a_thousand_levels(rt: HostRuntime) -> Result<(), Fail> {
-    let alloc = rt.alloc();
-    let document = many_levels(alloc)?;
-    let ones = repeated(alloc, b"1 ", 999)?;
-    let want = joined(alloc, &[b"0 ", &ones, b"23 ? 3 3 3 ?3 "])?;
-    for bound in &bounds() {
-        let got = answers_by(alloc, ("0/a", "o0 o1 f1/b w1/b"), *bound, b"", &document)?;
-        assert_eq!(rt; got.as_str().as_bytes(), want.as_slice());
-    }
-    Ok(())
-}
-
-/// The numbers below this one, without spaces between them.
-fn numbers_below(alloc: Global, end: u32) -> Result<String, Fail> {
-    let mut out = String::new(alloc);
-    for number in 0..end {
-        write!(out, "{number}")?;
-    }
-    Ok(out)
-}
-
-/// So many copies of a word.
-fn words(alloc: Global, word: &str, count: usize) -> Result<String, Fail> {
-    let mut out = String::new(alloc);
-    for _ in 0..count {
-        write!(out, "{word}")?;
-    }
-    Ok(out)
-}
-
-/// Each of two thousand roles is given at each match.
-#[test]
-fn two_thousand_roles(rt: HostRuntime) -> Result<(), Fail> {
-    let alloc = rt.alloc();
-    let roles = words(alloc, "o1 ", 2_000)?;
-    let all = numbers_below(alloc, 2_000)?;
-    let all = all.as_str().as_bytes();
-    let want = joined(alloc, &[b" ", all, b" ", all, b"  "])?;
-    for bound in &bounds() {
-        let got = answers_by(alloc, ("0/a", roles.as_str()), *bound, b"", b"aab")?;
-        assert_eq!(rt; got.as_str().as_bytes(), want.as_slice());
+fn a_thousand_levels_and_two_thousand_roles(rt: HostRuntime) -> Result<(), Fail> {
+    for case in LARGE {
+        is_answered_large(&rt, rt.alloc(), case)?;
     }
     Ok(())
 }

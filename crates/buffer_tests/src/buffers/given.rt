@@ -2,7 +2,7 @@
 use super::{Case, are_told};
 use std::test::Fail;
 
-const CASES: &[Case] = &[
+const CASES: &[Case<'static>] = &[
     // the copies of /a/b
     (
         "<r>{for $x in /a/b return $x}</r>",

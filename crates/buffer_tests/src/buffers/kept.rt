@@ -1,6 +1,6 @@
 //! How many pairs of a row and a role are kept: of a role that is given to whole subtrees those at its tops alone.
-use super::{followed, plan_of};
-use crate::large::{joined, repeated};
+use super::{followed, is_same, plan_of};
+use crate::large::spelled;
 use raw_nodes::RawNodes;
 use std::alloc::Global;
 use std::fmt::Write;
@@ -10,53 +10,22 @@ use std::test::Fail;
 /// The numbers of pairs and of rows behind the script, where roles are spread or aren't.
 fn entries(
     alloc: Global,
-    query: &[u8],
-    document: &[u8],
+    query: &str,
+    document: &str,
     script: &str,
     spread: bool,
 ) -> Result<(u64, u64), Fail> {
-    let plan = plan_of(alloc, query)?;
+    let plan = plan_of(alloc, query.as_bytes())?;
     let mut told = String::new(alloc);
     let nodes = RawNodes::new(alloc);
+    let document = document.as_bytes();
     let buffer = followed(alloc, &mut told, nodes, &plan, document, script, spread)?;
     Ok((buffer.entries(), buffer.held()))
 }
 
-/// Behind the script so many pairs are kept where roles are spread, so many where they aren't, and so many rows.
-fn are_kept(
-    rt: &impl Abort,
-    alloc: Global,
-    query: &str,
-    document: &[u8],
-    script: &str,
-    want: (u64, u64, u64),
-) -> Result<(), Fail> {
-    let (spread, each, held) = want;
-    let got = entries(alloc, query.as_bytes(), document, script, true)?;
-    assert_eq!(rt; got, (spread, held), "spread: {query} {script}");
-    let got = entries(alloc, query.as_bytes(), document, script, false)?;
-    assert_eq!(rt; got, (each, held), "each: {query} {script}");
-    Ok(())
-}
-
-#[test]
-fn a_text_has_the_role_of_the_copy_from_above(rt: HostRuntime) -> Result<(), Fail> {
-    let query = "<r>{for $x in /a/b return $x}</r>";
-    let document = b"<a><b>1</b><c/><b>2</b></a>";
-    are_kept(&rt, rt.alloc(), query, document, "3", (4, 5, 4))
-}
-
-#[test]
-fn a_copied_element_keeps_the_role_for_all_below_it(rt: HostRuntime) -> Result<(), Fail> {
-    let alloc = rt.alloc();
-    let below = repeated(alloc, b"<b/>", 100)?;
-    let document = joined(alloc, &[b"<a>", &below, b"</a>"])?;
-    are_kept(&rt, alloc, "/a", &document, "201", (3, 103, 102))
-}
-
 /// A query, a document, a script, and what is kept behind each of its words: how many pairs of a row and a role where
 /// roles are spread, how many where they aren't, and how many rows.
-type Order = (&'static str, &'static str, &'static str, &'static str);
+type Order<'a> = (&'a str, &'a str, &'a str, &'a str);
 
 /// Bases inside one another, which reach the same nodes.
 const BELOW: &str = "for $x in //a return for $y in $x//b return $y";
@@ -78,7 +47,14 @@ const COPIES: &str = "for $x in /r/p return ($x, $x, $x)";
 
 const COPIES_IN: &str = "<r><p>1<q/></p><p/></r>";
 
-const ORDERS: [Order; 16] = [
+const ORDERS: [Order<'static>; 17] = [
+    // a text has the role of the copy from above
+    (
+        "<r>{for $x in /a/b return $x}</r>",
+        "<a><b>1</b><c/><b>2</b></a>",
+        "3",
+        " 4/5/4",
+    ),
     (
         BELOW,
         BELOW_IN,
@@ -165,7 +141,6 @@ fn put_kept(
     document: &str,
     script: &str,
 ) -> Result<(), Fail> {
-    let (query, document) = (query.as_bytes(), document.as_bytes());
     let (spread, held) = entries(alloc, query, document, script, true)?;
     let (each, rows) = entries(alloc, query, document, script, false)?;
     if rows != held {
@@ -186,11 +161,24 @@ fn kept_along(alloc: Global, query: &str, document: &str, script: &str) -> Resul
     Ok(told)
 }
 
+fn is_kept(rt: &impl Abort, alloc: Global, order: Order<'_>) -> Result<(), Fail> {
+    let (query, document, script, want) = order;
+    let got = kept_along(alloc, query, document, script)?;
+    is_same(rt, got.as_str(), want, "kept", query, script);
+    Ok(())
+}
+
 #[test]
 fn tops_go_with_the_last_base_in_any_order(rt: HostRuntime) -> Result<(), Fail> {
-    for (query, document, script, want) in ORDERS {
-        let got = kept_along(rt.alloc(), query, document, script)?;
-        assert_eq!(rt; got.as_str(), want, "{query} {script}");
+    for order in ORDERS {
+        is_kept(&rt, rt.alloc(), order)?;
     }
     Ok(())
+}
+
+#[test]
+fn a_copied_element_keeps_the_role_for_all_below_it(rt: HostRuntime) -> Result<(), Fail> {
+    let alloc = rt.alloc();
+    let document = spelled(alloc, &[("<a>", 0, 1), ("<b/>", 0, 100), ("</a>", 0, 1)])?;
+    is_kept(&rt, alloc, ("/a", document.as_str(), "201", " 3/103/102"))
 }

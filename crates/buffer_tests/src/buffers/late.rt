@@ -12,7 +12,7 @@ ghost use Rattle.projector.specs.Late.{FeedsLate, IsShallow, MayBeFedLate, passe
 ghost use Rattle.buffer_tests.specs.Late.{IsFedLate, IsTokenPart, LiesAt};
 
 use super::passed::told_rows;
-use super::{MANY, begin, feed, plan_of, read};
+use super::{MANY, begin, feed, is_same, plan_of, read};
 use buf_tree::{Buffer, Row};
 use doc_reader::{Reader, Token};
 use gcx_base::Memory;
@@ -215,39 +215,60 @@ fn told_late<N: NodeStore<Row> + Drop>(
     Ok((told_rows(alloc, &buffer)?, buffer.most()))
 }
 
-/// Both tell the same behind each token, and late no more rows were there at once.
+/// Both tell the same behind the first tokens, and late no more rows were there at once.
+fn is_told_alike(
+    rt: &impl Abort,
+    alloc: Global,
+    plan: &Plan,
+    document: &str,
+    bytes: &[u8],
+    places: &[(usize, usize)],
+) -> Result<(), Fail>
+    requires placed { (core : BodyTree) × Good core × Placed core (plan_tree plan.now) }
+{
+    let (text, count) = (document.as_bytes(), places.len());
+    let (want, most) = told_at_once(alloc, SlabNodes::new(alloc), plan, text, count)?;
+    let (got, late) = told_late(alloc, RawNodes::new(alloc), plan, text, bytes, places)?;
+    is_same(rt, got.as_str(), want.as_str(), "late", document, "");
+    assert!(rt; late <= most, "{document}, {count}: {late} rows");
+    Ok(())
+}
+
+/// So they do behind each token.
 fn are_told_alike(rt: &impl Abort, alloc: Global, plan: &Plan, document: &str) -> Result<(), Fail>
     requires placed { (core : BodyTree) × Good core × Placed core (plan_tree plan.now) }
 {
     let parts = parts_of(alloc, document.as_bytes())?;
+    let bytes = parts.bytes.as_slice();
     let places = parts.places.as_slice();
     for count in 0..places.len() + 1 {
-        let text = document.as_bytes();
-        let (want, most) = told_at_once(alloc, SlabNodes::new(alloc), plan, text, count)?;
-        let bytes = parts.bytes.as_slice();
-        let (got, late) = told_late(
-            alloc,
-            RawNodes::new(alloc),
-            plan,
-            text,
-            bytes,
-            &places[..count],
-        )?;
-        assert_eq!(rt; got.as_str(), want.as_str(), "{document}, {count}");
-        assert!(rt; late <= most, "{document}, {count}: {late} rows");
+        is_told_alike(rt, alloc, plan, document, bytes, &places[..count])?;
     }
     Ok(())
 }
 
-/// The same of each document that holds these two parts in an element.
+/// The same of the document that holds these two parts in an element.
+fn is_alike_in(
+    rt: &impl Abort,
+    alloc: Global,
+    plan: &Plan,
+    outer: &str,
+    first: &str,
+    second: &str,
+) -> Result<(), Fail>
+    requires placed { (core : BodyTree) × Good core × Placed core (plan_tree plan.now) }
+{
+    let mut document = String::new(alloc);
+    write!(document, "<{outer}>{first}<a>{second}</a>{first}</{outer}>")?;
+    are_told_alike(rt, alloc, plan, document.as_str())
+}
+
+/// The same of each document that holds these parts, one before and behind the other.
 fn are_alike_around(rt: &impl Abort, alloc: Global, query: &str, first: &str) -> Result<(), Fail> {
     let plan = plan_of(alloc, query.as_bytes())?;
     for second in INNER {
-        for outer in ["a", "b"] {
-            let mut document = String::new(alloc);
-            write!(document, "<{outer}>{first}<a>{second}</a>{first}</{outer}>")?;
-            are_told_alike(rt, alloc, &plan, document.as_str())?;
-        }
+        is_alike_in(rt, alloc, &plan, "a", first, second)?;
+        is_alike_in(rt, alloc, &plan, "b", first, second)?;
     }
     Ok(())
 }

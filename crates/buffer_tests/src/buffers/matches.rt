@@ -5,80 +5,58 @@ ghost use Rattle.buf_tree.specs.View.{InUse};
 ghost use Rattle.buf_tree.specs.Match.{GoesFrom};
 
 use super::{followed, place_of, plan_of};
+use crate::matchers::{first_step, steps};
 use buf_tree::{Buffer, Row};
-use gcx_base::{Axis, Name, Serial, Step, Steps, Test};
+use gcx_base::{Axis, Serial, Step, Steps, Test};
 use node_store::{NodeStore, Place, SlabNodes};
 use raw_nodes::RawNodes;
 use std::alloc::Global;
 use std::process::Abort;
 use std::test::Fail;
 
-/// A node, a step, the serial behind which to look, and the match. In a step `/` is the axis child and `>` descendant,
-/// and `*`, `#` and `.` are any element, any text and any node.
-type Match = (u64, &'static [u8; 2], u64, Option<u64>);
+/// A node, a step as a matcher's tests spell it, the serial behind which to look, and the match.
+type Match = (u64, &'static str, u64, Option<u64>);
 
 // Over <a><b>x</b><c><b/>x</c><b/></a>, where a has 1, b 2, c 4, b 5, and b 7.
 const MATCHES: [Match; 16] = [
-    (0, b"/a", 0, Some(1)),
-    (0, b"/b", 0, None),
-    (0, b">b", 0, Some(2)),
-    (0, b">b", 2, Some(5)),
-    (0, b">b", 5, Some(7)),
-    (0, b">b", 7, None),
-    (1, b"/b", 1, Some(2)),
-    (1, b"/b", 2, Some(7)),
-    (1, b"/*", 2, Some(4)),
-    (1, b">#", 1, Some(3)),
-    (1, b">#", 3, Some(6)),
-    (4, b">b", 4, Some(5)),
-    (4, b">b", 5, None),
-    (4, b"/.", 5, Some(6)),
-    (2, b">.", 3, None),
-    (1, b"/#", 1, None),
+    (0, "a", 0, Some(1)),
+    (0, "b", 0, None),
+    (0, "/b", 0, Some(2)),
+    (0, "/b", 2, Some(5)),
+    (0, "/b", 5, Some(7)),
+    (0, "/b", 7, None),
+    (1, "b", 1, Some(2)),
+    (1, "b", 2, Some(7)),
+    (1, "e", 2, Some(4)),
+    (1, "/t", 1, Some(3)),
+    (1, "/t", 3, Some(6)),
+    (4, "/b", 4, Some(5)),
+    (4, "/b", 5, None),
+    (4, "n", 5, Some(6)),
+    (2, "/n", 3, None),
+    (1, "t", 1, None),
 ];
 
 /// A node, steps as those of a match, another node, and whether they lead there.
-type Way = (u64, &'static [&'static [u8; 2]], u64, bool);
+type Way = (u64, &'static str, u64, bool);
 
 // Over the same.
 const WAYS: [Way; 14] = [
-    (1, &[], 1, true),
-    (1, &[], 2, false),
-    (0, &[b"/a"], 1, true),
-    (0, &[b"/a", b"/b"], 2, true),
-    (0, &[b"/a", b"/b"], 5, false),
-    (0, &[b"/a", b">b"], 5, true),
-    (0, &[b">c", b"/b"], 5, true),
-    (0, &[b">c", b"/b"], 7, false),
-    (0, &[b">*", b">*", b">b"], 5, true),
-    (0, &[b">*", b">*", b">b"], 7, false),
-    (0, &[b"/a", b"/c"], 5, false),
-    (1, &[b">#"], 6, true),
-    (2, &[b">b"], 5, false),
-    (5, &[b"/c"], 4, false),
+    (1, "", 1, true),
+    (1, "", 2, false),
+    (0, "a", 1, true),
+    (0, "ab", 2, true),
+    (0, "ab", 5, false),
+    (0, "a/b", 5, true),
+    (0, "/cb", 5, true),
+    (0, "/cb", 7, false),
+    (0, "/e/e/b", 5, true),
+    (0, "/e/e/b", 7, false),
+    (0, "ac", 5, false),
+    (1, "/t", 6, true),
+    (2, "/b", 5, false),
+    (5, "c", 4, false),
 ];
-
-fn name_of(alloc: Global, letter: u8) -> Result<Name, Fail> {
-    match Name::from_bytes(alloc, &[letter])? {
-        Some(name) => Ok(name),
-        None => Err(Fail::new("no name")),
-    }
-}
-
-fn step_of(alloc: Global, axis: u8, test: u8) -> Result<Step, Fail> {
-    let axis = if axis == b'>' {
-        Axis::Descendant
-    } else {
-        Axis::Child
-    };
-    let test = match test {
-        b'*' => Test::AnyElement,
-        b'#' => Test::AnyText,
-        b'.' => Test::AnyNode,
-        letter => Test::Named(name_of(alloc, letter)?),
-    };
-    Ok(Step { axis, test })
-}
 
 /// The serial of what was found.
 fn serial_of<N: NodeStore<Row>>(buffer: &Buffer<N>, found: Option<Place>) -> Option<u64>
@@ -162,10 +140,10 @@ fn is_found<N: NodeStore<Row>>(
     rt: &impl Abort,
     alloc: Global,
     buffer: &Buffer<N>,
-    (serial, [axis, test], after, want): Match,
+    (serial, step, after, want): Match,
 ) -> Result<(), Fail> {
     let place = place_of(buffer, serial)?;
-    let step = step_of(alloc, *axis, *test)?;
+    let step = first_step(alloc, step.as_bytes())?;
     let behind = found_behind(buffer, place, &step, after);
     let on = found_on(buffer, place, &step, serial, after);
     assert_eq!(rt;
@@ -174,15 +152,6 @@ fn is_found<N: NodeStore<Row>>(
         "{serial}, behind and from {after}"
     );
     Ok(())
-}
-
-fn steps_of(alloc: Global, letters: &[&[u8; 2]]) -> Result<Steps, Fail> {
-    let mut steps = Steps::new(alloc);
-    for step in letters {
-        let [axis, test] = **step;
-        steps.push(step_of(alloc, axis, test)?)?;
-    }
-    Ok(steps)
 }
 
 /// Whether the steps lead from one node to another.
@@ -205,7 +174,7 @@ fn is_way<N: NodeStore<Row>>(
     flags: &mut Vec<bool>,
     (from, letters, to, want): Way,
 ) -> Result<(), Fail> {
-    let steps = steps_of(alloc, letters)?;
+    let steps = steps(alloc, letters.as_bytes())?;
     let got = leads(buffer, flags, from, &steps, to)?;
     assert_eq!(rt; got, want, "{from} to {to}");
     Ok(())

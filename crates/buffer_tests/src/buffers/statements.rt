@@ -2,7 +2,7 @@
 use super::{Case, are_told};
 use std::test::Fail;
 
-const BASES: &[Case] = &[
+const BASES: &[Case<'static>] = &[
     // the copies of /a/b, each let go once it is written
     (
         "<r>{for $x in /a/b return $x}</r>",
@@ -87,7 +87,7 @@ fn roles_are_taken_back_at_one_base_and_at_two(rt: HostRuntime) -> Result<(), Fa
     are_told(&rt, rt.alloc(), BASES)
 }
 
-const SUBTREES: &[Case] = &[
+const SUBTREES: &[Case<'static>] = &[
     // a whole subtree from two bases
     (
         r#"for $x in //a return for $y in $x//b return if ($y/c = "1") then <y/> else ()"#,
@@ -137,7 +137,7 @@ fn roles_of_whole_subtrees_are_taken_back(rt: HostRuntime) -> Result<(), Fail> {
     are_told(&rt, rt.alloc(), SUBTREES)
 }
 
-const TIMES: &[Case] = &[
+const TIMES: &[Case<'static>] = &[
     // a statement before its base closes, another behind that
     (
         "for $x in /r/a return (if (exists($x/b)) then <y/> else (), $x/c)",

@@ -7,7 +7,9 @@ ghost use Rattle.gcx_model.specs.Placed.{Placed};
 ghost use Rattle.gcx_model.specs.PlanView.{plan_tree};
 ghost use Rattle.buffer_tests.specs.Buffers.{OwnPlain};
 
-use super::{followed, off_of, place_of, plan_of, put_all, put_changes, role_and_node, told_by};
+use super::{
+    followed, is_same, off_of, place_of, plan_of, put_all, put_changes, role_and_node, told_by,
+};
 use buf_tree::{Buffer, Row};
 use gcx_model::{Off, Plan};
 use node_store::{NodeStore, SlabNodes};
@@ -17,46 +19,42 @@ use std::fmt::Write;
 use std::process::Abort;
 use std::test::Fail;
 
-/// The orders of at most four words, as numbers of so many digits.
-const ORDERS: usize = 256;
+/// The orders of four words, each by its number.
+const ORDERS: &str = "0123 0132 0213 0231 0312 0321 1023 1032 1203 1230 1302 1320 \
+    2013 2031 2103 2130 2301 2310 3012 3021 3102 3120 3201 3210";
 
 /// A query, a document, how many of its tokens are fed, and words `R@S`, for role R of node S: each is that of a base, whose
 /// statement takes it back from the base alone.
-type Case = (
-    &'static str,
-    &'static str,
-    &'static str,
-    &'static [&'static str],
-);
+type Case = (&'static str, &'static str, &'static str, [&'static str; 4]);
 
-const CASES: &[Case] = &[
+const CASES: [Case; 4] = [
     // nodes in one another, with one between them that has no role
     (
         "for $x in //a return <h/>",
         "<a><b><a/></b><a/></a>",
         "9",
-        &["1@1", "1@3", "1@4", "0@0"],
+        ["1@1", "1@3", "1@4", "0@0"],
     ),
     // two roles of each node
     (
         "(for $x in //a return <h/>, for $y in //a return <h/>)",
         "<a><a/></a>",
         "5",
-        &["1@1", "2@1", "1@2", "2@2"],
+        ["1@1", "2@1", "1@2", "2@2"],
     ),
     // open nodes, which stay
     (
         "for $x in //* return <h/>",
         "<r><a/><b><c/></b></r>",
         "5",
-        &["1@1", "1@2", "1@3", "1@4"],
+        ["1@1", "1@2", "1@3", "1@4"],
     ),
     // nodes that stay since they are copied
     (
         "for $x in /r/a return $x",
         "<r><a>1</a><a><b/></a></r>",
         "10",
-        &["1@1", "2@2", "2@4", "0@0"],
+        ["1@1", "2@2", "2@4", "0@0"],
     ),
 ];
 
@@ -94,28 +92,14 @@ fn take<N: NodeStore<Row>>(
     put_changes(out, buffer, taken)
 }
 
-/// The numbers below `count` in an order, if this number's digits are one.
-fn order_of(alloc: Global, number: usize, count: usize) -> Result<Option<Vec<usize>>, Fail> {
-    let mut order = Vec::new(alloc);
-    if count == 0 {
-        return Ok(None);
-    }
-    let mut rest = number;
-    for _ in 0..count {
-        let next = rest % count;
-        if order.as_slice().contains(&next) {
-            return Ok(None);
-        }
-        order.push(next)?;
-        rest /= count;
-    }
-    Ok(Some(order))
-}
-
-fn word_at(words: &[&'static str], at: usize) -> Result<&'static str, Fail> {
-    match words.get(at) {
-        Some(word) => Ok(*word),
-        None => Err("no word")?,
+/// The word of this number.
+fn word_at(words: [&'static str; 4], number: u8) -> Result<&'static str, Fail> {
+    match number {
+        b'0' => Ok(words[0]),
+        b'1' => Ok(words[1]),
+        b'2' => Ok(words[2]),
+        b'3' => Ok(words[3]),
+        _ => Err("no word")?,
     }
 }
 
@@ -125,7 +109,7 @@ fn told_taken<N: NodeStore<Row> + Drop>(
     nodes: N,
     plan: &Plan,
     case: Case,
-    order: &[usize],
+    order: &str,
     spread: bool,
 ) -> Result<String, Fail>
     requires empty { N.rows nodes ≡ map.empty }
@@ -142,8 +126,8 @@ fn told_taken<N: NodeStore<Row> + Drop>(
         tokens,
         spread,
     )?;
-    for at in order {
-        let word = word_at(words, *at)?;
+    for number in order.as_bytes() {
+        let word = word_at(words, *number)?;
         take(&mut out, &mut buffer, plan, word)?;
         put_all(&mut out, &buffer)?;
     }
@@ -157,7 +141,7 @@ fn told_signed<N: NodeStore<Row> + Drop>(
     nodes: N,
     plan: &Plan,
     case: Case,
-    order: &[usize],
+    order: &str,
     spread: bool,
 ) -> Result<String, Fail>
     requires empty { N.rows nodes ≡ map.empty }
@@ -166,8 +150,8 @@ fn told_signed<N: NodeStore<Row> + Drop>(
     let (_, document, tokens, words) = case;
     let mut script = String::new(alloc);
     script.push_str(tokens)?;
-    for at in order {
-        let word = word_at(words, *at)?;
+    for number in order.as_bytes() {
+        let word = word_at(words, *number)?;
         write!(script, " o{word} ?")?;
     }
     told_by(
@@ -187,7 +171,7 @@ fn is_taken_over<N: NodeStore<Row> + Drop>(
     stores: (N, N),
     plan: &Plan,
     case: Case,
-    order: &[usize],
+    order: &str,
     spread: bool,
 ) -> Result<(), Fail>
     requires one { N.rows stores.0 ≡ map.empty }
@@ -197,7 +181,7 @@ fn is_taken_over<N: NodeStore<Row> + Drop>(
     let (one, other) = stores;
     let want = told_signed(alloc, one, plan, case, order, spread)?;
     let got = told_taken(alloc, other, plan, case, order, spread)?;
-    assert_eq!(rt; got.as_str(), want.as_str(), "{}: {}", case.0, case.1);
+    is_same(rt, got.as_str(), want.as_str(), order, case.0, case.1);
     Ok(())
 }
 
@@ -207,7 +191,7 @@ fn is_taken(
     alloc: Global,
     plan: &Plan,
     case: Case,
-    order: &[usize],
+    order: &str,
 ) -> Result<(), Fail>
     requires { (core : BodyTree) × Good core × Placed core (plan_tree plan.now) }
 {
@@ -222,11 +206,8 @@ fn is_taken(
 /// So they do in all orders.
 fn are_taken(rt: &impl Abort, alloc: Global, case: Case) -> Result<(), Fail> {
     let plan = plan_of(alloc, case.0.as_bytes())?;
-    for number in 0..ORDERS {
-        let order = order_of(alloc, number, case.3.len())?;
-        if let Some(order) = order {
-            is_taken(rt, alloc, &plan, case, &order)?;
-        }
+    for order in ORDERS.split_ascii_whitespace() {
+        is_taken(rt, alloc, &plan, case, order)?;
     }
     Ok(())
 }
@@ -235,7 +216,7 @@ fn are_taken(rt: &impl Abort, alloc: Global, case: Case) -> Result<(), Fail> {
 fn single_roles_are_taken_back_in_any_order(rt: HostRuntime) -> Result<(), Fail> {
     let alloc = rt.alloc();
     for case in CASES {
-        are_taken(&rt, alloc, *case)?;
+        are_taken(&rt, alloc, case)?;
     }
     Ok(())
 }
