@@ -21,7 +21,7 @@ ghost use Rattle.join_index.specs.Index.{IsIndex};
 
 use buf_tree::Row;
 use cond_eval::{Conds, Plain};
-use engine::{Engine, Report, run_query};
+use engine::{Ended, Engine, Report, run_query};
 use gcx_base::Limits;
 use gcx_io::{MemSink, MemSource};
 use gcx_model::Plan;
@@ -44,7 +44,7 @@ pub(crate) struct Ran {
 }
 
 /// How a run is made: the most bytes of a read and of a write, the numbers of the calls of source and sink that fail, and
-/// how far the projector may go ahead. 0 traces.
+/// how far the projector may go ahead, at most 1,000. 0 traces.
 #[derive(Clone, Copy)]
 pub(crate) struct How<'a> {
     most: usize,
@@ -53,10 +53,11 @@ pub(crate) struct How<'a> {
     ahead: u32,
 }
 
+/// The most bytes of a read.
+pub(crate) const PIECES: [usize; 3] = [1, 7, 65_536];
+
 /// In reads of this many bytes, of which none fails.
-pub(crate) fn plainly(most: usize) -> How<'static>
-    ensures { result.ahead ≡ 1 }
-{
+pub(crate) fn plainly(most: usize) -> How<'static> {
     How {
         most,
         reads: &[],
@@ -64,6 +65,20 @@ pub(crate) fn plainly(most: usize) -> How<'static>
         ahead: 1,
     }
 }
+
+/// The same far ahead.
+pub(crate) fn far(most: usize) -> How<'static> {
+    How {
+        ahead: 1_000,
+        ..plainly(most)
+    }
+}
+
+/// A query, a document and the answer.
+pub(crate) struct Answered(&'static [u8], &'static [u8], &'static [u8]);
+
+/// The same with the number of lists that are made, where conditions have an index.
+pub(crate) struct Built<'a>(&'a [u8], &'a [u8], &'a [u8], u64);
 
 /// The document, and what takes output and trace.
 #[derive(Drop)]
@@ -118,6 +133,13 @@ fn streams_of(
     Ok(Streams { source, out, err })
 }
 
+/// Whether it is traced, and how far the projector may go ahead, for that of `How`.
+fn ahead_of(ahead: u32) -> (bool, u32)
+    ensures { (1 ≤ result.1) × (result.1 ≤ 1000) }
+{
+    (ahead == 0, ahead.max(1).min(1_000))
+}
+
 /// Runs the plan, and answers the report and the store behind the run. `ahead` is that of `How`.
 fn run_through<N: NodeStore<Row> + Drop, C: Conds + Drop>(
     alloc: Global,
@@ -130,11 +152,9 @@ fn run_through<N: NodeStore<Row> + Drop, C: Conds + Drop>(
     requires placed { (core : BodyTree) × Good core × Placed core (plan_tree plan.now) }
     requires empty { N.rows nodes ≡ map.empty }
     requires conds { C.stands conds opening }
-    requires ahead { ahead ≤ 1000 }
 {
     let Streams { source, out, err } = streams;
-    let tracing = ahead == 0;
-    let ahead = ahead.max(1);
+    let (tracing, ahead) = ahead_of(ahead);
     let mut engine = Engine::new(alloc, plan, nodes, conds, Limits::full(), ahead, tracing)?;
     let report = run_query(&mut engine, alloc, source, out, err);
     Ok((report, engine.finish_nodes()))
@@ -148,13 +168,11 @@ fn run_index(
     streams: &mut Streams,
 ) -> Result<(Report, u64), Fail>
     requires placed { (core : BodyTree) × Good core × Placed core (plan_tree plan.now) }
-    requires ahead { ahead ≤ 1000 }
 {
     let Streams { source, out, err } = streams;
     let conds = indexed(alloc, plan)?;
     let nodes = SlabNodes::new(alloc);
-    let tracing = ahead == 0;
-    let ahead = ahead.max(1);
+    let (tracing, ahead) = ahead_of(ahead);
     let mut engine = Engine::new(alloc, plan, nodes, conds, Limits::full(), ahead, tracing)?;
     let report = run_query(&mut engine, alloc, source, out, err);
     let built = engine.conds().built();
@@ -186,7 +204,6 @@ fn run_with<N: NodeStore<Row> + Drop, C: Conds + Drop>(
     requires placed { (core : BodyTree) × Good core × Placed core (plan_tree plan.now) }
     requires empty { N.rows nodes ≡ map.empty }
     requires conds { C.stands conds opening }
-    requires ahead { ahead ≤ 1000 }
 {
     let (report, nodes) = run_through(alloc, plan, nodes, conds, ahead, streams)?;
     let ran = left_by(rt, alloc, report, streams)?;
@@ -206,7 +223,6 @@ fn run_over<N: NodeStore<Row> + Drop, C: Conds + Drop>(
     requires placed { (core : BodyTree) × Good core × Placed core (plan_tree plan.now) }
     requires empty { N.rows nodes ≡ map.empty }
     requires conds { C.stands conds opening }
-    requires ahead { how.ahead ≤ 1000 }
 {
     let mut streams = streams_of(rt, alloc, document, how)?;
     run_with(rt, alloc, plan, nodes, conds, how.ahead, &mut streams)
@@ -221,7 +237,6 @@ fn run_raw_by(
     how: How<'_>,
 ) -> Result<(Ran, RawNodes<Row>), Fail>
     requires placed { (core : BodyTree) × Good core × Placed core (plan_tree plan.now) }
-    requires ahead { how.ahead ≤ 1000 }
 {
     let (nodes, conds) = (RawNodes::new(alloc), indexed(alloc, plan)?);
     run_over(rt, alloc, plan, nodes, conds, document, how)
@@ -236,7 +251,6 @@ fn run_plain_by(
     how: How<'_>,
 ) -> Result<Ran, Fail>
     requires placed { (core : BodyTree) × Good core × Placed core (plan_tree plan.now) }
-    requires ahead { how.ahead ≤ 1000 }
 {
     let nodes = SlabNodes::new(alloc);
     let (ran, _) = run_over(rt, alloc, plan, nodes, Plain, document, how)?;
@@ -252,7 +266,6 @@ pub(crate) fn run_indexed(
     how: How<'_>,
 ) -> Result<(Ran, u64), Fail>
     requires placed { (core : BodyTree) × Good core × Placed core (plan_tree plan.now) }
-    requires ahead { how.ahead ≤ 1000 }
 {
     let mut streams = streams_of(rt, alloc, document, how)?;
     let (report, built) = run_index(alloc, plan, how.ahead, &mut streams)?;
@@ -270,7 +283,6 @@ fn run_by(
     how: How<'_>,
 ) -> Result<Ran, Fail>
     requires placed { (core : BodyTree) × Good core × Placed core (plan_tree plan.now) }
-    requires ahead { how.ahead ≤ 1000 }
 {
     let (ran, _) = run_raw_by(rt, alloc, plan, document, how)?;
     let other = run_plain_by(rt, alloc, plan, document, how)?;
@@ -287,9 +299,7 @@ pub(crate) fn run(
     query: &[u8],
     document: &[u8],
     how: How<'_>,
-) -> Result<Ran, Fail>
-    requires ahead { how.ahead ≤ 1000 }
-{
+) -> Result<Ran, Fail> {
     let plan = plan_of(alloc, query)?;
     run_by(rt, alloc, query, &plan, document, how)
 }
@@ -301,9 +311,56 @@ pub(crate) fn run_raw(
     query: &[u8],
     document: &[u8],
     how: How<'_>,
-) -> Result<(Ran, RawNodes<Row>), Fail>
-    requires ahead { how.ahead ≤ 1000 }
-{
+) -> Result<(Ran, RawNodes<Row>), Fail> {
     let plan = plan_of(alloc, query)?;
     run_raw_by(rt, alloc, &plan, document, how)
+}
+
+/// So it ended, and that it wrote.
+pub(crate) fn is_left(rt: &impl Abort, ran: &Ran, query: &[u8], ended: Ended, out: &[u8]) {
+    assert_eq!(rt; ran.report.ended, ended, "{query:?}");
+    assert_eq!(rt; ran.out.as_slice(), out, "{query:?}");
+}
+
+/// The run ends so, and writes that.
+pub(crate) fn ends(
+    rt: &impl Abort,
+    alloc: Global,
+    query: &[u8],
+    document: &[u8],
+    how: How<'_>,
+    ended: Ended,
+    out: &[u8],
+) -> Result<Report, Fail> {
+    let ran = run(rt, alloc, query, document, how)?;
+    is_left(rt, &ran, query, ended, out);
+    Ok(ran.report)
+}
+
+/// The whole document was read, and all was let go.
+fn is_through(rt: &impl Abort, report: Report, document: &[u8], query: &[u8]) {
+    let want = (document.len() as u64, 0);
+    assert_eq!(rt; (report.taken_bytes, report.held), want, "{query:?}");
+    assert_eq!(rt; report.given, report.taken, "{query:?}");
+}
+
+/// The run of the row's query ends with its answer.
+fn is_answered(rt: &impl Abort, alloc: Global, row: &Answered, how: How<'_>) -> Result<(), Fail> {
+    let Answered(query, document, answer) = row;
+    let report = ends(rt, alloc, query, document, how, Ended::Ok, answer)?;
+    is_through(rt, report, document, query);
+    Ok(())
+}
+
+/// In pieces of each size, one token after the other and far ahead.
+pub(crate) fn is_answered_in_pieces(
+    rt: &impl Abort,
+    alloc: Global,
+    row: &Answered,
+) -> Result<(), Fail> {
+    for most in PIECES {
+        is_answered(rt, alloc, row, plainly(most))?;
+        is_answered(rt, alloc, row, far(most))?;
+    }
+    Ok(())
 }

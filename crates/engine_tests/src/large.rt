@@ -1,21 +1,35 @@
-//! Large documents.
+//! Large documents, spelled by parts.
 use std::alloc::Global;
+use std::fmt::Write;
 use std::test::Fail;
 
-/// So many copies of a piece.
-pub(crate) fn repeated(alloc: Global, piece: &[u8], count: usize) -> Result<Vec<u8>, Fail> {
-    let mut bytes = Vec::new(alloc);
-    for _ in 0..count {
-        bytes.extend_from_slice(piece)?;
+/// A text, and the numbers from the first one up to the end for which it is put, each with its number for `#`.
+pub(crate) type Part = (&'static str, u32, u32);
+
+/// Puts the text with the number for each `#`.
+fn put_numbered(out: &mut String, text: &str, number: u32) -> Result<(), Fail> {
+    for letter in text.as_bytes() {
+        if *letter == b'#' {
+            write!(out, "{number}")?;
+        } else {
+            out.push(char::from(*letter))?;
+        }
     }
-    Ok(bytes)
+    Ok(())
 }
 
-/// These parts, one behind the other.
-pub(crate) fn joined(alloc: Global, parts: &[&[u8]]) -> Result<Vec<u8>, Fail> {
-    let mut bytes = Vec::new(alloc);
-    for part in parts {
-        bytes.extend_from_slice(part)?;
+fn put_part(out: &mut String, text: &str, first: u32, end: u32) -> Result<(), Fail> {
+    for number in first..end {
+        put_numbered(out, text, number)?;
     }
-    Ok(bytes)
+    Ok(())
+}
+
+/// What the parts spell.
+pub(crate) fn spelled(alloc: Global, parts: &[Part]) -> Result<Vec<u8>, Fail> {
+    let mut out = String::new(alloc);
+    for part in parts {
+        put_part(&mut out, part.0, part.1, part.2)?;
+    }
+    Ok(out.into_bytes())
 }

@@ -3,11 +3,23 @@ use cond_eval::Env;
 use gcx_base::{Serial, VarId};
 use node_store::Place;
 use std::alloc::Global;
+use std::process::Abort;
 use std::test::Fail;
 
-/// The nodes of the variables 0, 1 and 2.
-fn nodes(env: &Env) -> [Option<(Place, Serial)>; 3] {
-    [env.get(VarId(0)), env.get(VarId(1)), env.get(VarId(2))]
+/// The variable's node, by its place and serial.
+fn is_bound(rt: &impl Abort, env: &Env, variable: u32, want: Option<(u32, u64)>) {
+    let got = match env.get(VarId(variable)) {
+        Some((place, serial)) => Some((place.0, serial.0)),
+        None => None,
+    };
+    assert_eq!(rt; got, want, "{variable}");
+}
+
+/// The nodes of the variables 0 and 2; the variable 1 has none.
+fn are_bound(rt: &impl Abort, env: &Env, first: Option<(u32, u64)>, last: Option<(u32, u64)>) {
+    is_bound(rt, env, 0, first);
+    is_bound(rt, env, 1, None);
+    is_bound(rt, env, 2, last);
 }
 
 /// The variables 2 and 0 are bound.
@@ -22,10 +34,9 @@ fn two_bound(alloc: Global) -> Result<Env, Fail> {
 #[test]
 fn variables_are_bound(rt: HostRuntime) -> Result<(), Fail> {
     let alloc = rt.alloc();
-    assert_eq!(rt; nodes(&Env::new(alloc)), [None, None, None]);
-    let first = Some((Place(1), Serial(0)));
-    let last = Some((Place(7), Serial(3)));
-    assert_eq!(rt; nodes(&two_bound(alloc)?), [first, None, last]);
+    are_bound(&rt, &Env::new(alloc), None, None);
+    let env = two_bound(alloc)?;
+    are_bound(&rt, &env, Some((1, 0)), Some((7, 3)));
     Ok(())
 }
 
@@ -34,7 +45,6 @@ fn variables_are_bound_anew_and_unbound(rt: HostRuntime) -> Result<(), Fail> {
     let mut env = two_bound(rt.alloc())?;
     env.bind(VarId(2), Place(8), Serial(4))?;
     env.unbind(VarId(0));
-    let last = Some((Place(8), Serial(4)));
-    assert_eq!(rt; nodes(&env), [None, None, last]);
+    are_bound(&rt, &env, None, Some((8, 4)));
     Ok(())
 }

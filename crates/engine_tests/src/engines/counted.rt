@@ -1,6 +1,6 @@
 //! How many rows are made of elements without a role.
 use super::{plainly, plan_of, run_over};
-use crate::large::{joined, repeated};
+use crate::large::{Part, spelled};
 use cond_eval::Plain;
 use engine::Ended;
 use node_store::{NodeStore, Place, Refused, SlabNodes};
@@ -92,17 +92,14 @@ impl<T, N: NodeStore<T>> NodeStore<T> for Counted<N> {
 }
 
 /// Fifty thousand elements with an element in each.
-fn many_elements(alloc: Global) -> Result<Vec<u8>, Fail> {
-    let elements = repeated(alloc, b"<a><b/></a>", 50_000)?;
-    joined(alloc, &[b"<r>", &elements, b"</r>"])
-}
+const MANY_ELEMENTS: &[Part] = &[("<r>", 0, 1), ("<a><b/></a>", 0, 50_000), ("</r>", 0, 1)];
 
 // A row is made of an open element alone, where the bytes of a slice end: 4,096 of them.
 #[test]
 fn a_row_is_made_for_the_peak_or_at_the_end_of_a_slice(rt: HostRuntime) -> Result<(), Fail> {
     let alloc = rt.alloc();
     let plan = plan_of(alloc, b"<o>{/x/y}</o>")?;
-    let document = many_elements(alloc)?;
+    let document = spelled(alloc, MANY_ELEMENTS)?;
     let nodes = Counted {
         nodes: SlabNodes::new(alloc),
         made: 0,

@@ -1,8 +1,6 @@
 //! Conditions with an index: how many lists a run makes, and how many steps a look-up takes.
-ghost use Rattle.std.specs.Prelude.{◌≤◌};
-
-use super::{How, plainly, plan_of, run_indexed};
-use crate::large::joined;
+use super::{Built, How, far, is_left, plainly, plan_of, run_indexed};
+use crate::large::{Part, spelled};
 use engine::Ended;
 use gcx_base::Text;
 use join_index::{Probes, Values};
@@ -14,10 +12,7 @@ use std::test::Fail;
 const JOIN: &[u8] =
     b"for $a in /r/x return for $b in /r/y return if ($a/k = $b/k) then <m/> else ()";
 
-/// A query, a document, the answer, and the number of lists that are made.
-struct Built(&'static [u8], &'static [u8], &'static [u8], u64);
-
-const LISTS: [Built; 6] = [
+const LISTS: [Built<'static>; 6] = [
     Built(
         JOIN,
         b"<r><x><k>1</k></x><y><k>1</k></y><y><k>2</k></y></r>",
@@ -56,70 +51,71 @@ const LISTS: [Built; 6] = [
     ),
 ];
 
-fn builds(rt: &impl Abort, alloc: Global, row: &Built) -> Result<(), Fail> {
+/// The run with an index ends with the answer, and makes so many lists.
+pub(super) fn builds(
+    rt: &impl Abort,
+    alloc: Global,
+    row: &Built<'_>,
+    how: How<'_>,
+) -> Result<(), Fail> {
     let Built(query, document, answer, lists) = row;
     let plan = plan_of(alloc, query)?;
-    let (ran, built) = run_indexed(rt, alloc, &plan, document, plainly(7))?;
-    assert_eq!(rt; ran.report.ended, Ended::Ok, "{query:?}");
-    assert_eq!(rt; (ran.out.as_slice(), built), (*answer, *lists), "{query:?}");
+    let (ran, built) = run_indexed(rt, alloc, &plan, document, how)?;
+    is_left(rt, &ran, query, Ended::Ok, answer);
+    assert_eq!(rt; built, *lists, "{query:?}");
     Ok(())
 }
 
 #[test]
 fn each_outer_node_gets_a_list(rt: HostRuntime) -> Result<(), Fail> {
     for row in &LISTS {
-        builds(&rt, rt.alloc(), row)?;
+        builds(&rt, rt.alloc(), row, plainly(7))?;
     }
     Ok(())
 }
 
-/// An element with each of these numbers.
-fn keys(alloc: Global, from: u64, to: u64) -> Result<Vec<u8>, Fail> {
-    let mut bytes = Vec::new(alloc);
-    for number in from..to {
-        bytes.extend_from_slice(format!(in alloc; "<k>{number}</k>")?.as_bytes())?;
-    }
-    Ok(bytes)
+/// The document of these parts.
+fn builds_by(
+    rt: &impl Abort,
+    alloc: Global,
+    parts: &[Part],
+    how: How<'_>,
+    answer: &[u8],
+) -> Result<(), Fail> {
+    let document = spelled(alloc, parts)?;
+    builds(rt, alloc, &Built(JOIN, &document, answer, 1), how)
 }
+
+const ONE_OF_MANY: &[Part] = &[
+    ("<r><x>", 0, 1),
+    ("<k>#</k>", 0, 1_000),
+    ("</x><y><k>500</k></y></r>", 0, 1),
+];
 
 #[test]
 fn one_node_of_many_values_gets_one_list(rt: HostRuntime) -> Result<(), Fail> {
-    let alloc = rt.alloc();
-    let values = keys(alloc, 0, 1_000)?;
-    let document = joined(alloc, &[b"<r><x>", &values, b"</x><y><k>500</k></y></r>"])?;
-    let plan = plan_of(alloc, JOIN)?;
-    let (ran, built) = run_indexed(&rt, alloc, &plan, &document, plainly(65_536))?;
-    assert_eq!(&rt; (ran.out.as_slice(), built), (b"<m></m>".as_slice(), 1));
-    Ok(())
+    builds_by(&rt, rt.alloc(), ONE_OF_MANY, plainly(65_536), b"<m></m>")
 }
 
 /// No value of an inner node of many values is one of the outer node, which has as many.
-fn looks_up_many(rt: &impl Abort, alloc: Global, how: How<'_>) -> Result<(), Fail>
-    requires { how.ahead ≤ 1000 }
-{
-    let (outer, inner) = (keys(alloc, 0, 40_000)?, keys(alloc, 40_000, 80_000)?);
-    let document = joined(alloc, &[b"<r><x>", &outer, b"</x><y>", &inner, b"</y></r>"])?;
-    let plan = plan_of(alloc, JOIN)?;
-    let (ran, built) = run_indexed(rt, alloc, &plan, &document, how)?;
-    assert_eq!(rt; ran.report.ended, Ended::Ok);
-    assert_eq!(rt; (ran.out.as_slice(), built), (b"".as_slice(), 1));
-    Ok(())
-}
+const NONE_OF_MANY: &[Part] = &[
+    ("<r><x>", 0, 1),
+    ("<k>#</k>", 0, 40_000),
+    ("</x><y>", 0, 1),
+    ("<k>#</k>", 40_000, 80_000),
+    ("</y></r>", 0, 1),
+];
 
 // Compared pair by pair they would take some 10^11 steps.
 #[test]
 fn many_values_are_looked_up_among_as_many(rt: HostRuntime) -> Result<(), Fail> {
-    let how = How {
-        ahead: 1_000,
-        ..plainly(65_536)
-    };
-    looks_up_many(&rt, rt.alloc(), how)
+    builds_by(&rt, rt.alloc(), NONE_OF_MANY, far(65_536), b"")
 }
 
 // Looked up again behind each token they would take some 10^10 steps.
 #[test]
 fn each_value_of_an_open_node_is_looked_up_once(rt: HostRuntime) -> Result<(), Fail> {
-    looks_up_many(&rt, rt.alloc(), plainly(65_536))
+    builds_by(&rt, rt.alloc(), NONE_OF_MANY, plainly(65_536), b"")
 }
 
 /// The texts of the numbers below this one.

@@ -75,27 +75,38 @@ fn put_rows<N: NodeStore<Row>>(
     Ok(())
 }
 
-/// What is left: the bytes written, the rows, and how many rows there were at most.
+/// The numbers of a run: nodes, roles given and taken back, and rows that are held.
+type Numbers = (u64, u128, u128, u64);
+
+/// What is left: the bytes written, the rows, how many rows there were at most, and the numbers.
 #[derive(Drop, Debug, PartialEq, Eq)]
 struct Left {
     out: Vec<u8>,
     rows: String,
     most: usize,
+    numbers: Numbers,
 }
 
-fn what_is_left<N: NodeStore<Row>>(alloc: Global, out: Vec<u8>, nodes: &N) -> Result<Left, Fail> {
+fn what_is_left<N: NodeStore<Row>>(
+    alloc: Global,
+    out: Vec<u8>,
+    nodes: &N,
+    numbers: Numbers,
+) -> Result<Left, Fail> {
     let mut rows = String::new(alloc);
     if let Some(root) = nodes.root() {
         put_rows(&mut rows, At::new(nodes, root), ROWS)?;
     }
     let most = nodes.most();
-    Ok(Left { out, rows, most })
+    Ok(Left {
+        out,
+        rows,
+        most,
+        numbers,
+    })
 }
 
-/// The numbers of a run: nodes, roles given and taken back, and rows that are held.
-type Numbers = (u64, u128, u128, u64);
-
-/// What the engine leaves behind so many bytes of the document.
+/// What the engine leaves behind so many bytes of the document, and the peak that it tells.
 fn left_by_engine(
     rt: &impl Abort,
     alloc: Global,
@@ -103,10 +114,9 @@ fn left_by_engine(
     document: &[u8],
     length: usize,
     ahead: u32,
-) -> Result<(Left, Numbers, u64), Fail>
+) -> Result<(Left, u64), Fail>
     requires placed { (core : BodyTree) × Good core × Placed core (plan_tree plan.now) }
     requires some { 0 < length }
-    requires ahead { ahead ≤ 1000 }
 {
     // the second read fails
     let how = How {
@@ -118,7 +128,8 @@ fn left_by_engine(
     let (ran, nodes) = run_over(rt, alloc, plan, nodes, Plain, document, how)?;
     let report = ran.report;
     let numbers = (report.nodes, report.given, report.taken, report.held);
-    Ok((what_is_left(alloc, ran.out, &nodes)?, numbers, report.peak))
+    let left = what_is_left(alloc, ran.out, &nodes, numbers)?;
+    Ok((left, report.peak))
 }
 
 /// Puts so many turns.
@@ -142,12 +153,7 @@ fn groups_of(alloc: Global, tokens: usize, ahead: u32) -> Result<Vec<Turn>, Fail
 }
 
 /// What the two actors leave by hand.
-fn left_by_hand(
-    alloc: Global,
-    plan: &Plan,
-    front: &[u8],
-    ahead: u32,
-) -> Result<(Left, Numbers), Fail>
+fn left_by_hand(alloc: Global, plan: &Plan, front: &[u8], ahead: u32) -> Result<Left, Fail>
     requires placed { (core : BodyTree) × Good core × Placed core (plan_tree plan.now) }
 {
     let tokens = tokens_of_front(alloc, front)?;
@@ -155,7 +161,7 @@ fn left_by_hand(
     let (mut nodes, mut out) = (SlabNodes::new(alloc), Vec::new(alloc));
     let reached = interleave(alloc, plan, &mut nodes, Plain, tokens, &turns, &mut out)?;
     let numbers = (reached.nodes, reached.given, reached.taken, reached.held);
-    Ok((what_is_left(alloc, out, &nodes)?, numbers))
+    what_is_left(alloc, out, &nodes, numbers)
 }
 
 /// Both leave the same, and the peak of the run is the greatest number of rows.
@@ -170,12 +176,10 @@ fn is_same(
     requires placed { (core : BodyTree) × Good core × Placed core (plan_tree plan.now) }
     requires some { 0 < length }
     requires within { length ≤ size document.now }
-    requires ahead { ahead ≤ 1000 }
 {
-    let (want, numbers) = left_by_hand(alloc, plan, &document[..length], ahead)?;
-    let (got, counted, peak) = left_by_engine(rt, alloc, plan, document, length, ahead)?;
+    let want = left_by_hand(alloc, plan, &document[..length], ahead)?;
+    let (got, peak) = left_by_engine(rt, alloc, plan, document, length, ahead)?;
     assert_eq!(rt; got, want, "{document:?}, {length}, {ahead}");
-    assert_eq!(rt; counted, numbers, "{document:?}, {length}, {ahead}");
     assert_eq!(rt; peak, want.most as u64, "{document:?}, {length}, {ahead}");
     Ok(())
 }

@@ -1,16 +1,11 @@
 //! Joins: loops that pass the matches at which their bodies do nothing.
-ghost use Rattle.std.specs.Prelude.{◌≤◌};
-
-use super::{How, plainly, run, run_raw};
-use crate::large::joined;
+use super::{Answered, How, ends, far, is_answered_in_pieces, is_left, plainly, run_raw};
+use crate::large::{Part, spelled};
 use engine::Ended;
 use gcx_model::DocFault;
 use std::alloc::Global;
 use std::process::Abort;
 use std::test::Fail;
-
-/// A query, a document and the answer.
-struct Joined(&'static [u8], &'static [u8], &'static [u8]);
 
 /// Two x, and behind them three y.
 const XS_FIRST: &[u8] =
@@ -53,135 +48,119 @@ const THREE: &[u8] =
 const GROUPS: &[u8] =
     b"for $g in /r/g, $a in $g/x, $b in $g/y where $a/k = $b/k return <m>{$b/v}</m>";
 
-const ROWS: [Joined; 25] = [
-    Joined(
+const ROWS: [Answered; 25] = [
+    Answered(
         JOIN,
         XS_FIRST,
         b"<m><v>b</v></m><m><v>a</v></m><m><v>c</v></m>",
     ),
-    Joined(
+    Answered(
         JOIN,
         YS_FIRST,
         b"<m><v>b</v></m><m><v>a</v></m><m><v>c</v></m>",
     ),
-    Joined(
+    Answered(
         FLIPPED,
         XS_FIRST,
         b"<m><v>b</v></m><m><v>a</v></m><m><v>c</v></m>",
     ),
-    Joined(
+    Answered(
         FLIPPED,
         YS_FIRST,
         b"<m><v>b</v></m><m><v>a</v></m><m><v>c</v></m>",
     ),
-    Joined(BEFORE, XS_FIRST, b"<m><k>2</k></m>"),
-    Joined(BEFORE, YS_FIRST, b"<m><k>2</k></m>"),
-    Joined(BEHIND, XS_FIRST, b"<m><k>2</k></m>"),
-    Joined(BEHIND, YS_FIRST, b"<m><k>2</k></m>"),
-    Joined(
+    Answered(BEFORE, XS_FIRST, b"<m><k>2</k></m>"),
+    Answered(BEFORE, YS_FIRST, b"<m><k>2</k></m>"),
+    Answered(BEHIND, XS_FIRST, b"<m><k>2</k></m>"),
+    Answered(BEHIND, YS_FIRST, b"<m><k>2</k></m>"),
+    Answered(
         EITHER,
         XS_FIRST,
         b"<m><v>b</v></m><m><v>a</v></m><m><v>b</v></m><m><v>c</v></m>",
     ),
-    Joined(
+    Answered(
         EITHER,
         YS_FIRST,
         b"<m><v>b</v></m><m><v>a</v></m><m><v>b</v></m><m><v>c</v></m>",
     ),
-    Joined(
+    Answered(
         ANTI,
         XS_FIRST,
         b"<m><v>a</v></m><m><v>c</v></m><m><v>b</v></m>",
     ),
-    Joined(
+    Answered(
         ANTI,
         YS_FIRST,
         b"<m><v>a</v></m><m><v>c</v></m><m><v>b</v></m>",
     ),
-    Joined(
+    Answered(
         ELSE,
         XS_FIRST,
         b"<n></n><m></m><n></n><m></m><n></n><m></m>",
     ),
-    Joined(
+    Answered(
         ELSE,
         YS_FIRST,
         b"<n></n><m></m><n></n><m></m><n></n><m></m>",
     ),
-    Joined(LESS, XS_FIRST, b"<m><v>a</v></m><m><v>c</v></m>"),
-    Joined(
+    Answered(LESS, XS_FIRST, b"<m><v>a</v></m><m><v>c</v></m>"),
+    Answered(
         OTHER,
         YS_FIRST,
         b"<m><v>a</v></m><m><v>c</v></m><m><v>b</v></m>",
     ),
-    Joined(
+    Answered(
         ITSELF,
         b"<r><x><k>1</k></x><y>1</y><y>2</y><y>1</y></r>",
         b"<m></m><m></m>",
     ),
-    Joined(
+    Answered(
         THREE,
         b"<r><x><k>1</k></x><x><k>2</k></x><y><k>2</k></y><y><k>1</k></y><z><k>1</k><v>a</v></z><z><k>2</k><v>b</v></z><z><k>1</k><v>c</v></z></r>",
         b"<m><v>a</v></m><m><v>c</v></m><m><v>b</v></m>",
     ),
-    Joined(
+    Answered(
         GROUPS,
         b"<r><g><x><k>1</k></x><y><k>1</k><v>a</v></y><y><k>2</k><v>b</v></y></g><g><x><k>2</k></x><y><k>1</k><v>c</v></y><y><k>2</k><v>d</v></y></g></r>",
         b"<m><v>a</v></m><m><v>d</v></m>",
     ),
     // a node without a value, and one with two values
-    Joined(
+    Answered(
         JOIN,
         b"<r><x/><x><k>1</k><k>2</k></x><y><v>a</v></y><y><k>2</k><k>1</k><v>b</v></y><y><k>3</k><v>c</v></y></r>",
         b"<m><v>b</v></m>",
     ),
     // one value twice
-    Joined(
+    Answered(
         JOIN,
         b"<r><x><k>1</k><k>1</k></x><y><k>3</k><v>a</v></y><y><k>1</k><k>1</k><v>b</v></y></r>",
         b"<m><v>b</v></m>",
     ),
     // a value of several texts, and an empty one
-    Joined(
+    Answered(
         JOIN,
         b"<r><x><k>1<i>2</i>3</k></x><x><k/></x><y><k>12</k><v>a</v></y><y><k>123</k><v>b</v></y><y><k></k><v>c</v></y></r>",
         b"<m><v>b</v></m><m><v>c</v></m>",
     ),
     // keys in attributes
-    Joined(
+    Answered(
         JOIN,
         b"<r><x k='1'/><x k='2'/><y k='2' v='a'/><y k='1' v='b'/></r>",
         b"<m><v>b</v></m><m><v>a</v></m>",
     ),
     // a loop without a match, and none whose body writes
-    Joined(JOIN, b"<r><x><k>1</k></x></r>", b""),
-    Joined(
+    Answered(JOIN, b"<r><x><k>1</k></x></r>", b""),
+    Answered(
         JOIN,
         b"<r><x><k>1</k></x><y><k>2</k></y><y><k>3</k></y></r>",
         b"",
     ),
 ];
 
-/// The run of each row's query ends with its answer.
-fn is_joined(rt: &impl Abort, alloc: Global, row: &Joined, how: How<'_>) -> Result<(), Fail>
-    requires ahead { how.ahead ≤ 1000 }
-{
-    let Joined(query, document, answer) = row;
-    let ran = run(rt, alloc, query, document, how)?;
-    assert_eq!(rt; ran.report.ended, Ended::Ok, "{query:?}");
-    assert_eq!(rt; ran.out.as_slice(), *answer, "{query:?}");
-    Ok(())
-}
-
 #[test]
 fn joins_of_each_form_are_answered(rt: HostRuntime) -> Result<(), Fail> {
     for row in &ROWS {
-        is_joined(&rt, rt.alloc(), row, plainly(1))?;
-        let far = How {
-            ahead: 1_000,
-            ..plainly(65_536)
-        };
-        is_joined(&rt, rt.alloc(), row, far)?;
+        is_answered_in_pieces(&rt, rt.alloc(), row)?;
     }
     Ok(())
 }
@@ -204,14 +183,10 @@ const CUTS: [Cut; 2] = [
     ),
 ];
 
-fn is_cut(rt: &impl Abort, alloc: Global, row: &Cut, how: How<'_>) -> Result<(), Fail>
-    requires ahead { how.ahead ≤ 1000 }
-{
+fn is_cut(rt: &impl Abort, alloc: Global, row: &Cut, how: How<'_>) -> Result<(), Fail> {
     let Cut(query, document, written) = row;
-    let ran = run(rt, alloc, query, document, how)?;
-    let fault = DocFault::Truncated(document.len() as u64);
-    assert_eq!(rt; ran.report.ended, Ended::Refused(fault), "{query:?}");
-    assert_eq!(rt; ran.out.as_slice(), *written, "{query:?}");
+    let ended = Ended::Refused(DocFault::Truncated(document.len() as u64));
+    ends(rt, alloc, query, document, how, ended, written)?;
     Ok(())
 }
 
@@ -219,34 +194,25 @@ fn is_cut(rt: &impl Abort, alloc: Global, row: &Cut, how: How<'_>) -> Result<(),
 fn no_match_is_passed_that_may_be_written(rt: HostRuntime) -> Result<(), Fail> {
     for row in &CUTS {
         is_cut(&rt, rt.alloc(), row, plainly(1))?;
-        let far = How {
-            ahead: 1_000,
-            ..plainly(65_536)
-        };
-        is_cut(&rt, rt.alloc(), row, far)?;
+        is_cut(&rt, rt.alloc(), row, far(65_536))?;
     }
     Ok(())
 }
 
-/// Elements of this name with keys from one number up to another.
-fn keyed(alloc: Global, name: &str, from: u64, to: u64) -> Result<Vec<u8>, Fail> {
-    let mut bytes = Vec::new(alloc);
-    for number in from..to {
-        let element = format!(in alloc; "<{name}><k>{number}</k></{name}>")?;
-        bytes.extend_from_slice(element.as_bytes())?;
-    }
-    Ok(bytes)
-}
+/// Twenty thousand of each, of which three of one are joined with three of the other.
+const MANY_PAIRS: &[Part] = &[
+    ("<r>", 0, 1),
+    ("<x><k>#</k></x>", 0, 20_000),
+    ("<y><k>#</k></y>", 19_997, 39_997),
+    ("</r>", 0, 1),
+];
 
 // Turn by turn they would take some minutes.
 #[test]
 fn twenty_thousand_are_joined_with_as_many(rt: HostRuntime) -> Result<(), Fail> {
     let alloc = rt.alloc();
-    let outer = keyed(alloc, "x", 0, 20_000)?;
-    let inner = keyed(alloc, "y", 19_997, 39_997)?;
-    let document = joined(alloc, &[b"<r>", &outer, &inner, b"</r>"])?;
+    let document = spelled(alloc, MANY_PAIRS)?;
     let (ran, _) = run_raw(&rt, alloc, PAIRS, &document, plainly(65_536))?;
-    assert_eq!(&rt; ran.report.ended, Ended::Ok);
-    assert_eq!(&rt; ran.out.as_slice(), b"<m></m><m></m><m></m>".as_slice());
+    is_left(&rt, &ran, PAIRS, Ended::Ok, b"<m></m><m></m><m></m>");
     Ok(())
 }

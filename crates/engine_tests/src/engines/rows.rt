@@ -1,44 +1,15 @@
 //! The worked rows that are runs.
-ghost use Rattle.std.specs.Prelude.{◌≡◌, ◌≤◌};
-
-use super::{How, Ran, plainly, run, run_raw};
-use crate::large::{joined, repeated};
+use super::{
+    Answered, How, PIECES, Ran, ends, is_answered_in_pieces, is_left, plainly, run, run_raw,
+};
+use crate::large::spelled;
 use buf_tree::Row;
-use engine::{Ended, Report};
+use engine::Ended;
 use gcx_model::DocFault;
 use node_store::NodeStore;
 use std::alloc::Global;
 use std::process::Abort;
 use std::test::Fail;
-
-/// The most bytes of a read.
-const PIECES: [usize; 3] = [1, 7, 65_536];
-
-/// So it ended, and that it wrote.
-fn is_left(rt: &impl Abort, ran: &Ran, query: &[u8], ended: Ended, out: &[u8]) {
-    assert_eq!(rt; ran.report.ended, ended, "{query:?}");
-    assert_eq!(rt; ran.out.as_slice(), out, "{query:?}");
-}
-
-/// The run ends so, and writes that.
-fn ends(
-    rt: &impl Abort,
-    alloc: Global,
-    query: &[u8],
-    document: &[u8],
-    how: How<'_>,
-    ended: Ended,
-    out: &[u8],
-) -> Result<(), Fail>
-    requires ahead { how.ahead ≤ 1000 }
-{
-    let ran = run(rt, alloc, query, document, how)?;
-    is_left(rt, &ran, query, ended, out);
-    Ok(())
-}
-
-/// A query, a document and the answer.
-struct Answered(&'static [u8], &'static [u8], &'static [u8]);
 
 const ANSWERS: [Answered; 20] = [
     Answered(
@@ -123,28 +94,6 @@ const ANSWERS: [Answered; 20] = [
     ),
 ];
 
-/// The whole document was read, and all was let go.
-fn is_through(rt: &impl Abort, report: Report, document: &[u8], query: &[u8]) {
-    let want = (document.len() as u64, 0);
-    assert_eq!(rt; (report.taken_bytes, report.held), want, "{query:?}");
-    assert_eq!(rt; report.given, report.taken, "{query:?}");
-}
-
-fn is_answered(rt: &impl Abort, alloc: Global, row: &Answered, most: usize) -> Result<(), Fail> {
-    let Answered(query, document, answer) = row;
-    let ran = run(rt, alloc, query, document, plainly(most))?;
-    is_left(rt, &ran, query, Ended::Ok, answer);
-    is_through(rt, ran.report, document, query);
-    Ok(())
-}
-
-fn is_answered_in_pieces(rt: &impl Abort, alloc: Global, row: &Answered) -> Result<(), Fail> {
-    for most in PIECES {
-        is_answered(rt, alloc, row, most)?;
-    }
-    Ok(())
-}
-
 #[test]
 fn runs_answer_as_the_rows_say(rt: HostRuntime) -> Result<(), Fail> {
     for row in &ANSWERS {
@@ -200,41 +149,29 @@ fn what_is_settled_before_a_fault_is_written(rt: HostRuntime) -> Result<(), Fail
     Ok(())
 }
 
-/// A thousand starts, and as many ends.
-fn nested(alloc: Global, start: &[u8], end: &[u8]) -> Result<Vec<u8>, Fail> {
-    let starts = repeated(alloc, start, 1000)?;
-    let ends = repeated(alloc, end, 1000)?;
-    joined(alloc, &[&starts, &ends])
-}
-
 #[test]
 fn a_document_of_a_thousand_levels_is_copied(rt: HostRuntime) -> Result<(), Fail> {
     let alloc = rt.alloc();
-    let whole = nested(alloc, b"<a>", b"</a>")?;
-    ends(
-        &rt,
-        alloc,
-        b"/a",
-        &whole,
-        plainly(65_536),
-        Ended::Ok,
-        &whole,
-    )
+    let whole = spelled(alloc, &[("<a>", 0, 1000), ("</a>", 0, 1000)])?;
+    let how = plainly(65_536);
+    ends(&rt, alloc, b"/a", &whole, how, Ended::Ok, &whole)?;
+    Ok(())
 }
 
 #[test]
 fn a_deeper_document_is_copied_to_the_limit(rt: HostRuntime) -> Result<(), Fail> {
     let alloc = rt.alloc();
-    let starts = repeated(alloc, b"<a>", 1000)?;
-    let deeper = joined(alloc, &[b"<a>", &starts])?;
+    let deeper = spelled(alloc, &[("<a>", 0, 1001)])?;
     let ended = Ended::Refused(DocFault::Depth(3000));
-    ends(&rt, alloc, b"/a", &deeper, plainly(65_536), ended, &starts)
+    let starts = spelled(alloc, &[("<a>", 0, 1000)])?;
+    ends(&rt, alloc, b"/a", &deeper, plainly(65_536), ended, &starts)?;
+    Ok(())
 }
 
 #[test]
 fn many_chains_to_a_node_are_walked_once(rt: HostRuntime) -> Result<(), Fail> {
     let alloc = rt.alloc();
-    let document = nested(alloc, b"<x>", b"</x>")?;
+    let document = spelled(alloc, &[("<x>", 0, 1000), ("</x>", 0, 1000)])?;
     let query = b"if (//x//x//x//x//x//x = \"1\") then <y/> else <n/>";
     let (ran, _) = run_raw(&rt, alloc, query, &document, plainly(65_536))?;
     is_left(&rt, &ran, query, Ended::Ok, b"<n></n>");
@@ -252,23 +189,14 @@ fn a_write_that_fails_ends_the_run(rt: HostRuntime) -> Result<(), Fail> {
             writes,
             ..plainly(65_536)
         };
-        ends(
-            &rt,
-            rt.alloc(),
-            COPIES,
-            TWO,
-            how,
-            Ended::WriteFault,
-            written,
-        )?;
+        let ended = Ended::WriteFault;
+        ends(&rt, rt.alloc(), COPIES, TWO, how, ended, written)?;
     }
     Ok(())
 }
 
 /// The first read gives the whole front of a document, and the second one fails.
-fn front() -> How<'static>
-    ensures { result.ahead ≡ 1 }
-{
+fn front() -> How<'static> {
     How {
         reads: &[2],
         ..plainly(65_536)
@@ -279,15 +207,9 @@ fn front() -> How<'static>
 fn a_read_that_fails_ends_the_run(rt: HostRuntime) -> Result<(), Fail> {
     let query = b"for $x in //a return for $y in $x//b return <h/>";
     let document = b"<a><a><b/>";
-    ends(
-        &rt,
-        rt.alloc(),
-        query,
-        document,
-        front(),
-        Ended::ReadFault,
-        b"<h></h>",
-    )
+    let ended = Ended::ReadFault;
+    ends(&rt, rt.alloc(), query, document, front(), ended, b"<h></h>")?;
+    Ok(())
 }
 
 #[test]
@@ -386,15 +308,21 @@ const TRACES: [Traced; 3] = [
     ),
 ];
 
+fn is_traced(rt: &impl Abort, alloc: Global, row: &Traced) -> Result<(), Fail> {
+    let Traced(query, document, trace) = row;
+    let how = How {
+        ahead: 0,
+        ..plainly(9)
+    };
+    let ran = run(rt, alloc, query, document, how)?;
+    assert_eq!(rt; ran.trace.as_slice(), *trace);
+    Ok(())
+}
+
 #[test]
 fn traces_are_the_vectors(rt: HostRuntime) -> Result<(), Fail> {
-    for Traced(query, document, trace) in &TRACES {
-        let how = How {
-            ahead: 0,
-            ..plainly(9)
-        };
-        let ran = run(&rt, rt.alloc(), query, document, how)?;
-        assert_eq!(rt; ran.trace.as_slice(), *trace);
+    for row in &TRACES {
+        is_traced(&rt, rt.alloc(), row)?;
     }
     Ok(())
 }
