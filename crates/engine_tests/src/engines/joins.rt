@@ -1,5 +1,5 @@
 //! Conditions with an index: how many lists a run makes, and how many steps a look-up takes.
-use super::{How, far, is_left, plainly, plan_of, run_indexed};
+use super::{Built, How, far, is_left, plainly, plan_of, run_indexed};
 use crate::large::{Part, spelled};
 use engine::Ended;
 use gcx_base::Text;
@@ -12,10 +12,7 @@ use std::test::Fail;
 const JOIN: &[u8] =
     b"for $a in /r/x return for $b in /r/y return if ($a/k = $b/k) then <m/> else ()";
 
-/// A query, a document, the answer, and the number of lists that are made.
-struct Built(&'static [u8], &'static [u8], &'static [u8], u64);
-
-const LISTS: [Built; 6] = [
+const LISTS: [Built<'static>; 6] = [
     Built(
         JOIN,
         b"<r><x><k>1</k></x><y><k>1</k></y><y><k>2</k></y></r>",
@@ -58,23 +55,21 @@ const LISTS: [Built; 6] = [
 pub(super) fn builds(
     rt: &impl Abort,
     alloc: Global,
-    query: &[u8],
-    document: &[u8],
+    row: &Built<'_>,
     how: How<'_>,
-    answer: &[u8],
-    lists: u64,
 ) -> Result<(), Fail> {
+    let Built(query, document, answer, lists) = row;
     let plan = plan_of(alloc, query)?;
     let (ran, built) = run_indexed(rt, alloc, &plan, document, how)?;
     is_left(rt, &ran, query, Ended::Ok, answer);
-    assert_eq!(rt; built, lists, "{query:?}");
+    assert_eq!(rt; built, *lists, "{query:?}");
     Ok(())
 }
 
 #[test]
 fn each_outer_node_gets_a_list(rt: HostRuntime) -> Result<(), Fail> {
-    for Built(query, document, answer, lists) in &LISTS {
-        builds(&rt, rt.alloc(), query, document, plainly(7), answer, *lists)?;
+    for row in &LISTS {
+        builds(&rt, rt.alloc(), row, plainly(7))?;
     }
     Ok(())
 }
@@ -88,7 +83,7 @@ fn builds_by(
     answer: &[u8],
 ) -> Result<(), Fail> {
     let document = spelled(alloc, parts)?;
-    builds(rt, alloc, JOIN, &document, how, answer, 1)
+    builds(rt, alloc, &Built(JOIN, &document, answer, 1), how)
 }
 
 const ONE_OF_MANY: &[Part] = &[

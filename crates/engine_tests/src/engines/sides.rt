@@ -1,7 +1,7 @@
 //! Comparisons of two paths from nodes that are open: each value is looked at once, and the answers are those of a
 //! comparison made anew.
 use super::joins::builds;
-use super::{Answered, is_answered_in_pieces, plainly};
+use super::{Answered, Built, is_answered_in_pieces, plainly};
 use crate::large::{Part, spelled};
 use std::alloc::Global;
 use std::process::Abort;
@@ -189,7 +189,8 @@ fn many_values_are_compared_at_the_root(rt: HostRuntime) -> Result<(), Fail> {
     let alloc = rt.alloc();
     for parts in [X_FIRST, Y_FIRST] {
         let document = spelled(alloc, parts)?;
-        builds(&rt, alloc, ROOT, &document, plainly(65_536), b"<n></n>", 0)?;
+        let row = Built(ROOT, &document, b"<n></n>", 0);
+        builds(&rt, alloc, &row, plainly(65_536))?;
     }
     Ok(())
 }

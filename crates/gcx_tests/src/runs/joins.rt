@@ -63,8 +63,7 @@ fn several_queries_look_up_each_value(rt: HostRuntime) -> Result<(), Fail> {
         &[b"many", b"d", b"q", b"o"],
         &[(b"q", JOIN), (b"d", &document)],
         65_536,
-        Status::Ok,
-        &[(b"o", Some(b""))],
+        (Status::Ok, &[(b"o", Some(b""))]),
     )
 }
 

@@ -418,9 +418,9 @@ pub(super) fn ends_with_files_by(
     words: &[&[u8]],
     files: Files<'_>,
     most: usize,
-    status: Status,
-    kept: Kept<'_>,
+    end: (Status, Kept<'_>),
 ) -> Result<(), Fail> {
+    let (status, kept) = end;
     assert!(rt; most > 0);
     let words = texts(alloc, words)?;
     let mut shelf = files_of(alloc, files, most, None)?;
@@ -439,7 +439,7 @@ fn ends_with_files(
     kept: Kept<'_>,
 ) -> Result<(), Fail> {
     for &most in &[1, 7, 65_536] {
-        ends_with_files_by(rt, alloc, words, files, most, status, kept)?;
+        ends_with_files_by(rt, alloc, words, files, most, (status, kept))?;
     }
     Ok(())
 }
