@@ -180,7 +180,7 @@ stop_high Comment c l = grind (arith, nat_tests)
 stop_high Instruction c l = grind (arith, nat_tests)
 stop_high CDSect c l = grind (arith, nat_tests)
 
-by_text : (a x y : Bool) → a ≡ true → (x || y) || y ≡ false → a && (not x && not y) ≡ true
+by_text : (a x y : Bool) → a ≡ true → x || y ≡ false → a && (not x && not y) ≡ true
 by_text true false false e f = refl
 by_text a true y e f = absurd (true≢false f)
 by_text a false true e f = absurd (true≢false f)

@@ -3,7 +3,7 @@
 use Rattle.std.specs.Prelude.{ℕ, ◌≡◌, ◌≤◌, ◌<◌, ◌-◌, ◌==◌, Bool, true, false, not, ◌&&◌, ◌||◌, nat_lt, List, ◌++◌, length, take, slice_index}
 use Rattle.std.specs.List.{list_all}
 use Rattle.std.specs.Str.{chars, IsCharBoundary}
-use Rattle.memchr.specs.Find.{Nowhere, Passes, is_byte, is_byte3}
+use Rattle.memchr.specs.Find.{Nowhere, Passes, is_byte, is_byte2, is_byte3}
 use Rattle.gcx_base.specs.Characters.{between, is_char, is_part_char}
 use Rattle.gcx_base.specs.Name.{is_name}
 use Rattle.gcx_base.specs.declared.limits.Limits.{Limits}
@@ -36,7 +36,7 @@ is_name_span other = false
 
 -- the bytes at which a span may end, where it isn't a name
 abbrev pub is_stop : Span → ℕ → Bool
-is_stop Text = is_byte3 60 38 38
+is_stop Text = is_byte2 60 38
 is_stop (Value q) = is_byte3 60 38 (quote_of q)
 is_stop TagName = λ b. false
 is_stop AttributeName = λ b. false

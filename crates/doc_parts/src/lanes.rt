@@ -1,6 +1,6 @@
-//! How many bytes of one block, from its first, are of a kind: they are looked at in one go.
-ghost use Rattle.std.specs.Prelude.{◌≡◌, ◌+◌, ◌≤◌, length, not};
-ghost use Rattle.memchr.specs.Find.{is_byte3};
+//! The bytes of one block, which are looked at in one go.
+ghost use Rattle.std.specs.Prelude.{◌≡◌, ◌+◌, ◌≤◌, length};
+ghost use Rattle.memchr.specs.Find.{IsFirst, Passes, is_byte3};
 ghost use Rattle.doc_parts.specs.Blocks.{PassesBlock, first_set};
 ghost use Rattle.doc_parts.specs.Spans.{is_short_part};
 
@@ -21,17 +21,22 @@ fn first_set(mask: u64) -> usize
     }
 }
 
-/// How many bytes come before the first that is one of these.
+/// The first byte of the block from `at` on that is one of these.
 #[inline(always)]
-pub(crate) fn others_run(a: u8, b: u8, c: u8, bytes: &[u8], at: usize) -> usize
+pub(crate) fn first_in_block(a: u8, b: u8, c: u8, bytes: &[u8], at: usize) -> Option<usize>
     requires { at + 16 ≤ length bytes.now }
-    ensures { PassesBlock (λ x. not (is_byte3 a b c x)) bytes.now at 16 result }
+    ensures { IsFirst (Passes (is_byte3 a b c) bytes.now) at (at + 16) result }
 {
     let v = u8x16::from_slice(&bytes[at..]);
     let stops = v.simd_eq(u8x16::splat(a))
         | v.simd_eq(u8x16::splat(b))
         | v.simd_eq(u8x16::splat(c));
-    first_set(stops.to_bitmask())
+    let place = first_set(stops.to_bitmask());
+    if place < BLOCK {
+        Some(at + place)
+    } else {
+        None
+    }
 }
 
 /// How many bytes are small letters: it stops at other NameChars too.

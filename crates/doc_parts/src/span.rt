@@ -1,17 +1,17 @@
 //! Characters that are read as a whole.
-ghost use Rattle.std.specs.Prelude.{◌≡◌, ◌≤◌, length, MatchOption, ⊤};
+ghost use Rattle.std.specs.Prelude.{◌≡◌, ◌≤◌, Some, IfSome, MatchOption, ⊤};
 ghost use Rattle.std.specs.Str.{IsCharBoundary};
-ghost use Rattle.memchr.specs.Find.{IsFirstByte, Nowhere, Passes, is_byte3};
+ghost use Rattle.memchr.specs.Find.{IsFirstByte, is_byte2, is_byte3};
 ghost use Rattle.doc_chars.specs.Stream.{AreChars};
 ghost use Rattle.doc_machine.specs.Machine.{scan_state};
 ghost use Rattle.doc_machine.specs.Steps.{Becomes};
 ghost use Rattle.doc_parts.specs.Spans.{is_name_span, IsStop, IsSpanFront, IsSameFront, Allows, spread};
 
-use crate::lanes::{BLOCK, others_run};
+use crate::lanes::{BLOCK, first_in_block};
 use crate::name::part_front;
 use doc_machine::{Brackets, Mode, Quote, Scan};
 use gcx_base::{Limits, Memory};
-use memchr::{memchr, memchr3};
+use memchr::{memchr, memchr2, memchr3};
 
 /// Where characters are read as a whole.
 #[derive(Clone, Copy, Debug)]
@@ -41,51 +41,42 @@ fn boundary_within(text: &str, most: usize) -> usize
     end
 }
 
-/// From how many bytes on they are searched many at a time.
-const FAR: usize = 1024;
-
-/// How many bytes stand at the front without one of these, as far as blocks tell, up to some `FAR`.
+/// The first place among those of two blocks that has one of these bytes: most texts end there.
 #[inline(always)]
-fn blocks_without(a: u8, b: u8, c: u8, bytes: &[u8]) -> usize
-    ensures within { result ≤ length bytes.now }
-    ensures none { Nowhere (Passes (is_byte3 a b c) bytes.now) 0 result }
+fn first_near(a: u8, b: u8, c: u8, bytes: &[u8]) -> Option<usize>
+    ensures { IfSome result (λ k. IsFirstByte (is_byte3 a b c) bytes.now (Some k)) }
 {
-    let mut at = 0;
-    while at < FAR && bytes.len() - at >= BLOCK {
-        let run = others_run(a, b, c, bytes, at);
-        if run < BLOCK {
-            return at + run;
-        }
-        at += BLOCK;
+    if bytes.len() < BLOCK {
+        return None;
     }
-    at
+    if let Some(place) = first_in_block(a, b, c, bytes, 0) {
+        return Some(place);
+    }
+    if bytes.len() < 2 * BLOCK {
+        return None;
+    }
+    first_in_block(a, b, c, bytes, BLOCK)
 }
 
-/// The first place from this one on that has one of these bytes.
+/// The first place that has one of these two bytes.
 #[inline(always)]
-fn first_from(a: u8, b: u8, c: u8, bytes: &[u8], from: usize) -> Option<usize>
-    requires within { from ≤ length bytes.now }
-    requires none { Nowhere (Passes (is_byte3 a b c) bytes.now) 0 from }
-    ensures { IsFirstByte (is_byte3 a b c) bytes.now result }
+fn first_of_two(a: u8, b: u8, bytes: &[u8]) -> Option<usize>
+    ensures { IsFirstByte (is_byte2 a b) bytes.now result }
 {
-    for i in from..bytes.len() {
-        if bytes[i] == a || bytes[i] == b || bytes[i] == c {
-            return Some(i);
-        }
+    match first_near(a, b, b, bytes) {
+        Some(near) => Some(near),
+        None => memchr2(a, b, bytes),
     }
-    None
 }
 
-/// The first place that has one of these bytes.
+/// The first place that has one of these three bytes.
 #[inline(always)]
-fn first_of(a: u8, b: u8, c: u8, bytes: &[u8]) -> Option<usize>
+fn first_of_three(a: u8, b: u8, c: u8, bytes: &[u8]) -> Option<usize>
     ensures { IsFirstByte (is_byte3 a b c) bytes.now result }
 {
-    let near = blocks_without(a, b, c, bytes);
-    if near >= FAR {
-        memchr3(a, b, c, bytes)
-    } else {
-        first_from(a, b, c, bytes, near)
+    match first_near(a, b, c, bytes) {
+        Some(near) => Some(near),
+        None => memchr3(a, b, c, bytes),
     }
 }
 
@@ -103,9 +94,9 @@ impl Span {
         ensures { IsStop result self bytes.now }
     {
         let found = match self {
-            Span::Text => first_of(b'<', b'&', b'&', bytes),
-            Span::Value(Quote::Double) => first_of(b'<', b'&', b'"', bytes),
-            Span::Value(Quote::Single) => first_of(b'<', b'&', b'\'', bytes),
+            Span::Text => first_of_two(b'<', b'&', bytes),
+            Span::Value(Quote::Double) => first_of_three(b'<', b'&', b'"', bytes),
+            Span::Value(Quote::Single) => first_of_three(b'<', b'&', b'\'', bytes),
             Span::TagName | Span::AttributeName => None,
             Span::Comment => memchr(b'-', bytes),
             Span::Instruction => memchr(b'?', bytes),

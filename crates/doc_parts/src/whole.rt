@@ -10,7 +10,7 @@ ghost use Rattle.doc_parts.specs.Wholes.{IsBetween};
 
 use crate::front::begins;
 use crate::reference::whole_reference;
-use crate::span::{keep, same_front, span_at};
+use crate::span::{Span, keep, same_front, span_at};
 use crate::whole_tag::{whole_attribute, whole_tag, whole_tag_end};
 use doc_machine::{Mode, Quote, Scan, end_value};
 use gcx_base::{Limits, Memory};
@@ -48,6 +48,20 @@ fn read_span(m: &mut Scan, limits: &Limits, rest: &str) -> Result<usize, Memory>
     }
 }
 
+/// Reads characters of text, and says how many bytes they are.
+#[inline(always)]
+fn read_text(m: &mut Scan, limits: &Limits, rest: &str) -> Result<usize, Memory>
+    requires { IsBetween limits.now (scan_state m.old) rest.now }
+    ensures moves { IfOk result (λ n. Moves limits.now (scan_state m.old) rest.now n (scan_state m.new)) }
+    ensures tokens { OnErr result ((scan_state m.new).tokens ≡ (scan_state m.old).tokens) }
+{
+    let most = limits.text as usize - m.tokens.run_len();
+    let n = Span::Text.front(rest, most);
+    let (front, _) = rest.split_at(n);
+    m.tokens.push_str(front)?;
+    Ok(n)
+}
+
 /// Reads what stands at the front between two tags of an element, and says how many bytes it takes.
 #[inline(always)]
 fn read_between(m: &mut Scan, limits: &Limits, rest: &str) -> Result<usize, Memory>
@@ -61,7 +75,7 @@ fn read_between(m: &mut Scan, limits: &Limits, rest: &str) -> Result<usize, Memo
     } else if begins(bytes, b"&") {
         whole_reference(m, limits, rest)
     } else {
-        read_span(m, limits, rest)
+        read_text(m, limits, rest)
     }
 }
 

@@ -1,9 +1,0 @@
-use Rattle.std.proofs.Common.{◌≤◌, ◌-◌, length}
-use Rattle.memchr.specs.Find.{Nowhere, Passes, is_byte3}
-use Rattle.doc_parts.proofs.span.blocks_without.Given as goal
-
-abbrev pub invariant-loop-at : goal.invariant-loop-at
-invariant-loop-at l = (l.at ≤ length l.bytes) × Nowhere (Passes (is_byte3 l.a l.b l.c) l.bytes) 0 l.at
-
-abbrev pub decreases-loop-at : goal.decreases-loop-at
-decreases-loop-at l = length l.bytes - l.at
