@@ -1,0 +1,15 @@
+"""`gq`: `gcx` for the hand. A layer beside the proved program, which it starts; the layer itself isn't proved.
+
+Modules by subject:
+
+    words     the command line, help, and what is done with each order
+    program   finding and starting `gcx` and other programs, signals, how a run ends
+    flow      the bytes between documents, programs and standard output, in one loop
+    inputs    documents: files, pipes, compressed, in other encodings, with declarations in a DOCTYPE
+    syntax    tokens and the grammar of the query language, with places
+    marked    queries that mark each match; lines, counts and tables are cut from their answers
+    table     rows as text and as JSON
+    faults    messages with line, column, caret and hint
+    nearest   what a query that matches nothing may have meant
+    plan, held, plot, progress, pretty
+"""
