@@ -101,13 +101,18 @@ def prepare() -> None:
             signal.signal(number, stopped)
 
 
-def stopped(number: int, _frame: object) -> None:
-    """A signal came: no child outlives gq, which ends by the same signal."""
+def kill_all() -> None:
+    """Ends all children at once."""
     for pid in list(living):
         try:
             os.kill(pid, signal.SIGKILL)
         except OSError:
             pass
+
+
+def stopped(number: int, _frame: object) -> None:
+    """A signal came: no child outlives gq, which ends by the same signal."""
+    kill_all()
     for act in at_end:
         act()
     end_by(number)
