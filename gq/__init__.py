@@ -5,11 +5,15 @@ Modules by subject:
     words     the command line, help, and what is done with each order
     program   finding and starting `gcx` and other programs, signals, how a run ends
     flow      the bytes between documents, programs and standard output, in one loop
-    inputs    documents: files, pipes, compressed, in other encodings, with declarations in a DOCTYPE
+    inputs, encodings, doctype    documents: files, pipes, compressed, in other encodings, with declarations in a DOCTYPE
     syntax    tokens and the grammar of the query language, with places
+    made      a query that gq gives to gcx, and where its parts come from
     marked    queries that mark each match; lines, counts and tables are cut from their answers
-    table     rows as text and as JSON
-    faults    messages with line, column, caret and hint
-    nearest   what a query that matches nothing may have meant
+    table, json_rows    rows as text and as JSON
+    run       an order over documents
+    answer    what becomes of an answer
+    kept      lines and columns of a document
+    faults, hints    messages with line, column, caret and hint
+    outline, nearest    what a document has, and what a query that matches nothing may have meant
     plan, held, plot, progress, pretty
 """

@@ -53,8 +53,9 @@ class Subset:
 class Blank:
     """A step of a pump that makes the declarations of a DOCTYPE spaces."""
 
-    def __init__(self, name: bytes) -> None:
+    def __init__(self, name: bytes, tells: bool) -> None:
         self.name = name
+        self.tells = tells
         self.held: bytes | None = b""
 
     def feed(self, block: bytes, over: bool = False) -> bytes:
@@ -65,7 +66,7 @@ class Blank:
         subset = Subset(self.held, over)
         if not subset.decided and not over and len(self.held) < MOST:
             return b""
-        if not subset.decided and len(self.held) >= MOST:
+        if self.tells and not subset.decided and len(self.held) >= MOST:
             tell(self.name + b": the DOCTYPE isn't over within 1 MiB, and stays as it is")
         text, self.held = self.held, None
         return self.without(text, subset.start, subset.end)
@@ -74,7 +75,7 @@ class Blank:
         """The text with spaces for the declarations."""
         inner = text[start:end]
         given = [it[1] + b" " + found[1] for it in ATTLIST.finditer(COMMENT.sub(b" ", inner)) for found in DEFAULT.finditer(it[2])]
-        if given:
+        if given and self.tells:
             more = b", .." if len(given) > 3 else b""
             tell(self.name + b": the DOCTYPE gives attributes default values, which aren't added: " + b", ".join(given[:3]) + more)
         return text[:start] + inner.translate(SPACES) + text[end:]

@@ -6,7 +6,7 @@ from gq.say import tell
 MARKS = ((b"\xff\xfe\x00\x00", "utf-32-le"), (b"\x00\x00\xfe\xff", "utf-32-be"), (b"\xff\xfe", "utf-16-le"), (b"\xfe\xff", "utf-16-be"),
          (b"\xef\xbb\xbf", ""))
 BARE = ((b"<\x00?\x00", "utf-16-le"), (b"\x00<\x00?", "utf-16-be"), (b"<\x00\x00\x00", "utf-32-le"), (b"\x00\x00\x00<", "utf-32-be"))
-PLAIN = ("utf-8", "ascii")
+PLAIN = ("utf-8", "utf8", "us-ascii", "ascii")
 NOT_FOR_DOCUMENTS = ("idna", "punycode", "unicode-escape", "raw-unicode-escape", "undefined", "utf-7", "unicode_escape", "raw_unicode_escape",
                      "mbcs", "oem", "utf-8-sig", "utf-16", "utf-32", "utf-16-le", "utf-16-be", "utf-32-le", "utf-32-be")
 announced: set[str] = set()
@@ -26,17 +26,29 @@ def of(head: bytes) -> str | None:
             return name or None
     if not head.startswith(b"<?xml"):
         return None
-    import re
-    found = re.match(rb"<\?xml\s[^>]*?\sencoding\s*=\s*[\"']([A-Za-z][-A-Za-z0-9._]*)[\"']", head)
-    return None if found is None else text_encoding(found[1].decode())
+    return declared(head.partition(b"?>")[0])
+
+
+def declared(words: bytes) -> str | None:
+    """The encoding that an XML declaration has."""
+    after = words.partition(b"encoding")[2].lstrip()
+    value = after[1:].lstrip()
+    if after[:1] != b"=" or value[:1] not in (b'"', b"'"):
+        return None
+    name, end, _ = value[1:].partition(value[:1])
+    if not end or not name.replace(b"-", b"").replace(b".", b"").replace(b"_", b"").isalnum():
+        return None
+    return text_encoding(name.decode("ascii", "replace"))
 
 
 def text_encoding(name: str) -> str | None:
     """The codec of a declared name; None for UTF-8, for what no codec has, and for what this document can't be in."""
+    if name.lower() in PLAIN:
+        return None
     import codecs
     try:
         codec = codecs.lookup(name)
-    except LookupError:
+    except (LookupError, ValueError):
         return None
     if codec.name in PLAIN or codec.name in NOT_FOR_DOCUMENTS or not getattr(codec, "_is_text_encoding", True):
         return None
@@ -59,6 +71,7 @@ class Decoder:
         self.decoder = codecs.getincrementaldecoder(codec)()
         self.given = 0
         self.fault: tuple[int, str] | None = None
+        self.over = False
 
     def feed(self, block: bytes, final: bool = False) -> bytes:
         """The block in UTF-8."""
@@ -70,6 +83,7 @@ class Decoder:
             text = self.before(error)
             out = text.encode("utf-8", "replace")
             self.fault = (self.given + len(out), f"not {self.codec.upper()} from here on")
+            self.over = True
         else:
             out = text.encode("utf-8", "replace")
         self.given += len(out)

@@ -2,7 +2,7 @@
 from __future__ import annotations
 
 from gq.kept import Counted, Place
-from gq.marked import Made
+from gq.made import Made
 from gq.say import as_bytes, say
 
 SHOWN = 110  # characters of a line
@@ -78,7 +78,8 @@ def query(name: bytes, made: Made, kind: str, words: list[str]) -> None:
         text_fault(name + b" (made by gq)", made.text, offset, QUERY.get(kind, kind), hints.of_query(kind, made.text, offset))
         return
     what, place = origin
-    slip(name if what == "query" else what.encode(), made.words[what], kind, place, what)
+    shown = what.partition("#")[0]
+    slip(name if what == "query" else shown.encode(), made.words[what], kind, place, shown)
     show_made(made)
 
 

@@ -134,7 +134,7 @@ class Pump:
             self.error, block = error, b""
         if block:
             self.pending = memoryview(self.through(block, 0))
-            self.ended = any(getattr(it, "fault", None) for it in self.steps)
+            self.ended = any(getattr(it, "over", False) for it in self.steps)
         else:
             self.finish_reading()
         self.write()

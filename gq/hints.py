@@ -71,7 +71,7 @@ def of_syntax(rest: bytes, before: bytes, text: bytes, what: str) -> str:
     past = before.rstrip()
     if text.startswith(b"\xef\xbb\xbf"):
         return "the query begins with a byte order mark"
-    if what == "query" and not past:
+    if what in ("query", "row") and not past:
         found = of_first_word(word, rest, text)
         if found:
             return found

@@ -62,6 +62,10 @@ class Document:
         """The bytes of a regular file."""
         return os.fstat(self.descriptor).st_size - self.base
 
+    def packed(self) -> bool:
+        """Whether a regular file is compressed."""
+        return packed_by(self.head(LONGEST_MAGIC)) is not None
+
     def close(self) -> None:
         """Closes it; standard input stays."""
         if self.descriptor > 0:
@@ -98,11 +102,31 @@ class Head:
         return self.decide(head)
 
 
+class Limit:
+    """A step of a pump: the document ends after so many bytes."""
+
+    def __init__(self, size: int) -> None:
+        self.left = size
+        self.over = False
+
+    def feed(self, block: bytes) -> bytes:
+        """The part of a block that is within."""
+        block = block[:self.left]
+        self.left -= len(block)
+        self.over = self.left == 0
+        return block
+
+    def end(self) -> bytes:
+        """It holds nothing back."""
+        return b""
+
+
 class Feed:
     """How a document comes to `gcx`: directly where that can be, else through a program that unpacks it, and through steps."""
 
-    def __init__(self, loop: Loop, document: Document, subset: bool) -> None:
+    def __init__(self, loop: Loop, document: Document, subset: bool, first: int | None = None) -> None:
         self.loop, self.document, self.subset = loop, document, subset
+        self.first = first  # only so many bytes, and nothing is told: the document was read before
         self.kept: Kept | None = None
         self.unpacker: program.Child | None = None
         self.said: Said | None = None
@@ -138,13 +162,16 @@ class Feed:
         steps: list = []
         codec = encodings.of(head)
         if codec:
-            encodings.announce(self.document.name, codec)
+            if self.first is None:
+                encodings.announce(self.document.name, codec)
             self.kept = self.kept or Kept()
             steps.append(encodings.Decoder(codec))
         if self.subset:
             from gq.doctype import Blank
             if codec or not self.document.regular or self.unpacks or Blank.applies(self.document.head):
-                steps.append(Blank(self.document.name))
+                steps.append(Blank(self.document.name, self.first is None))
+        if self.first is not None and (self.unpacks or self.document.size() > self.first):
+            steps.append(Limit(self.first))
         return steps + ([self.kept] if self.kept else [])
 
     def unpack(self, stdin: int) -> None:
@@ -221,7 +248,9 @@ class Feed:
             tell(self.document.name + b": " + words)
             return None
         if status != 0:
-            tell(self.document.name + b": " + (words or f"{self.unpacks} ended with {status}".encode()))
+            name = self.unpacks.encode()
+            words = words if words.startswith(name) else name + b": " + (words or f"ended with {status}".encode())
+            tell(self.document.name + b": " + words)
             return 5
         return None
 

@@ -23,8 +23,8 @@ class Child:
         actions = [(os.POSIX_SPAWN_DUP2, it, place) for place, it in enumerate((stdin, stdout, stderr)) if it != place]
         mask = signal.pthread_sigmask(signal.SIG_BLOCK, ENDING)
         try:
-            self.pid = os.posix_spawn(words[0], words, os.environ, file_actions=actions, setsigmask=mask,
-                                      setsigdef=[signal.SIGPIPE, signal.SIGXFSZ])
+            self.pid = os.posix_spawn(words[0], [os.path.basename(words[0]), *words[1:]], os.environ, file_actions=actions,
+                                      setsigmask=mask, setsigdef=[signal.SIGPIPE, signal.SIGXFSZ])
             living.add(self.pid)
         except OSError as error:
             raise Refused(5, os.fsencode(words[0]) + f": {error.strerror}".encode()) from None

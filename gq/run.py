@@ -8,8 +8,8 @@ from gq import program
 from gq.answer import Count, Enough, Lines, Plain, Quiet
 from gq.flow import Closed, Full, Loop, Reading, Said, write_out
 from gq.inputs import Document, Feed
-from gq.marked import Made, as_it_is, marked, new_mark
-from gq.say import Refused, say, tell
+from gq.made import Made, as_it_is, new_mark
+from gq.say import Ended, Refused, say, tell
 from gq.words import Order
 
 LAST_CODES = (2, 3, 6, 7)  # no other file goes better
@@ -30,12 +30,18 @@ class Job:
         """The query that gcx runs."""
         order = self.order
         if order.row is not None:
-            from gq.table import table_query
-            return table_query(order.row, order.where, order.columns)
+            from gq.table import PartFault, table_query
+            try:
+                return table_query(order.row, order.where, order.columns)
+            except PartFault as fault:
+                from gq import faults
+                faults.slip(fault.what.encode(), fault.text, fault.slip.kind, fault.slip.place, fault.what)
+                raise Ended(3) from None
         if not (order.lines or order.zero or order.count):
             return as_it_is(self.query)
         if order.count:
             self.mark = b"m"
+        from gq.marked import marked
         from gq.syntax import Slip
         try:
             return marked(self.query, self.mark, order.count)
@@ -72,7 +78,7 @@ class Job:
             return RowCount()
         if self.order.json:
             from gq.json_rows import JsonRows
-            return JsonRows(self.order.columns)
+            return JsonRows(self.order.columns, write_out)
         from gq.table import Rows
         return Rows(b";" if self.order.separator is None else self.order.separator)
 
@@ -184,9 +190,19 @@ class Run:
             from gq import faults
             offset = int(part[3])
             faults.refused_document(self.document.name, part[2], self.feed.place(offset), offset)
+            self.tell_open(offset)
         elif words:
             tell(self.document.name + b": " + words.encode().replace(b"gcx: ", b"", 1))
         return code
+
+    def tell_open(self, offset: int) -> None:
+        """Tells which elements are open at a fault, where that can be found out."""
+        from gq.outline import open_path
+        path = open_path(self.document, self.job.order.subset, offset) if offset else None
+        if path:
+            say(b"  open there: " + path)
+        elif path == b"":
+            say("  no element is open there")
 
     def write_fault(self) -> None:
         """gcx couldn't write: a reader that has gone ends gq without a word, as it ends others."""
@@ -213,25 +229,33 @@ def why_not_written() -> str:
 
 def every_file(order: Order) -> int:
     """Obeys an order over all its files; the first code that isn't 0."""
-    from gq.table import PartFault
-    try:
-        job = Job(order)
-    except PartFault as fault:
-        from gq import faults
-        faults.slip(fault.what.partition("#")[0].encode(), fault.text, fault.slip.kind, fault.slip.place, fault.what.partition("#")[0])
-        return 3
-    worst, found = 0, False
+    job = Job(order)
+    worst, empty = 0, []
     for word in order.files or [None]:
         code, some = one_file(job, word)
-        found = found or some
-        if order.quiet and found:
+        if order.quiet and some:
             return 0
+        if code == 0 and not some:
+            empty.append(word)
         worst = worst or code
         if code in LAST_CODES:
             break
     if order.quiet:
         return worst or 1
+    if job.terminal and worst == 0 and len(empty) == len(order.files or [None]):
+        tell_nothing(job, empty[0])
     return worst
+
+
+def tell_nothing(job: Job, word: bytes | None) -> None:
+    """An answer is empty, and somebody looks at it."""
+    from gq import nearest
+    try:
+        document = Document(word)
+    except Refused:
+        document = None
+    query = job.made.text if job.order.row is not None else job.query
+    nearest.tell_nothing(document, job.order.subset, query)
 
 
 def one_file(job: Job, word: bytes | None) -> tuple[int, bool]:

@@ -13,6 +13,14 @@ class Refused(Exception):
         self.text = text
 
 
+class Ended(Exception):
+    """Ends the order with an exit code; all is told."""
+
+    def __init__(self, code: int) -> None:
+        super().__init__(code)
+        self.code = code
+
+
 def as_bytes(text: str | bytes) -> bytes:
     """Words as they go out: UTF-8, and names of files with the bytes that they have."""
     return text if isinstance(text, bytes) else text.encode("utf-8", "surrogateescape")

@@ -6,7 +6,8 @@ from __future__ import annotations
 
 import re
 
-from gq.marked import Made, column_edits, condition_edits, row_path
+from gq.made import Made
+from gq.marked import column_edits, condition_edits, row_path
 from gq.syntax import Slip
 
 VALUE, CELL, ROW = b"<v></v>", b"<c></c>", b"<n></n>"
@@ -28,7 +29,12 @@ def part(what: str, text: bytes, read):
     try:
         return read(text)
     except Slip as slip:
-        raise PartFault(what, text, slip) from None
+        raise PartFault(shown(what), text, slip) from None
+
+
+def shown(what: str) -> str:
+    """What messages call a part: columns have numbers here."""
+    return what.partition("#")[0]
 
 
 def table_query(row: bytes, where: bytes | None, columns: list[bytes]) -> Made:
@@ -126,6 +132,26 @@ class Rows:
     def end(self) -> bytes:
         """A row that a fault cut isn't written; of a large one what was there stays."""
         return b""
+
+
+class RowCount(Rows):
+    """How many rows there are."""
+
+    def __init__(self) -> None:
+        super().__init__(b"")
+        self.rows = 0
+
+    def feed(self, block: bytes) -> bytes:
+        """A block of the answer."""
+        self.any = True
+        text = self.held + block
+        self.rows += text.count(ROW)
+        self.held = text[-len(ROW) + 1:]
+        return b""
+
+    def end(self) -> bytes:
+        """The number."""
+        return b"%d\n" % self.rows
 
 
 def escaped(text: bytes) -> bytes:

@@ -5,7 +5,7 @@ import os
 import sys
 
 from gq import program
-from gq.say import Refused, tell
+from gq.say import Ended, Refused, tell
 
 WORD_OPTIONS = b"ftws"  # those that take a word
 
@@ -106,6 +106,10 @@ def check(order: Order) -> None:
                 raise wrong(f"{letter} is for tables: gq -t ROW COLUMN .. -- [FILE ..]")
     elif order.query_file is not None:
         raise wrong("-f and -t don't go together")
+    elif order.json and len(set(order.columns)) < len(order.columns):
+        raise wrong("-j needs each column once")
+    elif order.json and order.separator is not None:
+        raise wrong("-j and -s don't go together")
 
 
 def obey(words: list[bytes]) -> int:
@@ -137,3 +141,5 @@ def main(words: list[str], folder: str | None = None) -> int:
     except Refused as refused:
         tell(refused.text)
         return refused.code
+    except Ended as ended:
+        return ended.code

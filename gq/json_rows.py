@@ -1,0 +1,163 @@
+"""Rows of a table as JSON (RFC 8259), an object a line: a column without a match is null, one with several an array."""
+from __future__ import annotations
+
+from gq.table import CELL, CUT, MOST, ROW, TAG, VALUE, decoded
+
+ESCAPES = ((b"\\", b"\\\\"), (b'"', b'\\"'), (b"\n", b"\\n"), (b"\t", b"\\t"), (b"\r", b"\\r"))
+
+
+def quoted(text: bytes) -> bytes:
+    """Text as it stands within a string. XML has no other characters below the space."""
+    for sign, escape in ESCAPES:
+        if sign in text:
+            text = text.replace(sign, escape)
+    return text
+
+
+class JsonRows:
+    """Takes the answer of a table's query. A row larger than a MiB is written cell by cell, from a file where a cell is."""
+
+    def __init__(self, columns: list[bytes], emit) -> None:
+        self.emit = emit
+        names = [b'"' + quoted(it) + b'":' for it in columns]
+        self.names = names
+        self.single = b"{" + b",".join(it.replace(b"%", b"%%") + b'"%b"' for it in names) + b"}\n"
+        self.any = False
+        self.held = b""
+        self.cell = Cell(emit)
+        self.number: int | None = None  # of the column in a row that is written piece by piece
+
+    def feed(self, block: bytes) -> bytes:
+        """A block of the answer. Rows are written at once: nothing is given back."""
+        self.any = True
+        text = self.held + block
+        if self.number is not None:
+            end = text.find(ROW) + len(ROW)
+            if end < len(ROW):
+                self.piece(text)
+                return b""
+            self.piece(text[:end])
+            text = text[end:]
+        last = text.rfind(ROW) + len(ROW)
+        if last >= len(ROW):
+            self.emit(self.whole(text[:last]))
+            text = text[last:]
+        self.held = text
+        if len(text) > MOST:
+            self.piece(text)
+        return b""
+
+    def whole(self, text: bytes) -> bytes:
+        """Rows that are whole."""
+        rows = quoted(text).split(ROW)
+        rows.pop()
+        return decoded(b"".join([self.row(it.split(CELL)) for it in rows]))
+
+    def row(self, cells: list[bytes]) -> bytes:
+        """A row of these cells, each value with its mark after it."""
+        values = [it[:-7] for it in cells]
+        joined = b"".join(values)
+        if b"<" not in joined and b"" not in cells:
+            return self.single % tuple(values)
+        return b"{" + b",".join([name + value(it) for name, it in zip(self.names, cells)]) + b"}\n"
+
+    def piece(self, text: bytes) -> None:
+        """A piece of one row."""
+        if self.number is None:
+            self.number = 0
+            self.emit(b"{" + self.names[0])
+        cut = CUT.search(text, max(0, len(text) - 7))
+        self.held = b""
+        if cut:
+            text, self.held = text[:cut.start()], text[cut.start():]
+        for token in TAG.split(text):
+            if token:
+                self.write(token)
+
+    def write(self, token: bytes) -> None:
+        """A text of the row, or a mark."""
+        if token == VALUE:
+            self.cell.end_value()
+        elif token == CELL:
+            self.number = (self.number or 0) + 1
+            self.cell.over()
+            self.emit(b"," + self.names[self.number])
+        elif token == ROW:
+            self.number = None
+            self.cell.over()
+            self.emit(b"}\n")
+        else:
+            self.cell.add(decoded(quoted(token)))
+
+    def end(self) -> bytes:
+        """A row that a fault cut isn't written."""
+        return b""
+
+
+def value(cell: bytes) -> bytes:
+    """The JSON of a cell that is whole."""
+    values = cell.split(VALUE)
+    values.pop()
+    if not values:
+        return b"null"
+    if len(values) == 1:
+        return b'"' + values[0] + b'"'
+    return b'["' + b'","'.join(values) + b'"]'
+
+
+class Cell:
+    """A cell that comes in pieces. It is kept, in a file if it is large, until it is known whether it has several values."""
+
+    def __init__(self, emit) -> None:
+        self.emit = emit
+        self.parts: list[bytes] = []
+        self.size = self.count = 0
+        self.ended = False  # a value is over, and no other has begun
+        self.file = None
+
+    def add(self, text: bytes) -> None:
+        """More of a value."""
+        if self.ended:
+            self.keep(b'","')
+            self.ended = False
+        self.keep(text)
+
+    def end_value(self) -> None:
+        """A value is over."""
+        if self.ended:
+            self.keep(b'","')
+        self.ended = True
+        self.count += 1
+
+    def keep(self, text: bytes) -> None:
+        """Keeps what comes."""
+        self.parts.append(text)
+        self.size += len(text)
+        if self.size > MOST:
+            if self.file is None:
+                import tempfile
+                self.file = tempfile.TemporaryFile()
+            self.file.write(b"".join(self.parts))
+            self.parts, self.size = [], 0
+
+    def over(self) -> None:
+        """The cell is whole, and is written."""
+        if self.count:
+            self.emit(b'"' if self.count == 1 else b'["')
+            self.emit_file()
+            self.emit(b"".join(self.parts) + (b'"' if self.count == 1 else b'"]'))
+        else:
+            self.emit(b"null")
+        self.__init__(self.emit)  # type: ignore[misc]
+
+    def emit_file(self) -> None:
+        """Writes what the file holds."""
+        if self.file is None:
+            return
+        self.file.seek(0)
+        while True:
+            block = self.file.read(MOST)
+            if not block:
+                break
+            self.emit(block)
+        self.file.close()
