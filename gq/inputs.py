@@ -212,6 +212,14 @@ class Feed:
         if self.target >= 0:
             os.close(self.stdin)
 
+    def reader(self, pid: int) -> tuple[int, int] | None:
+        """The process and the descriptor that read a regular file; PID is gcx."""
+        if not self.document.regular:
+            return None
+        if self.unpacker is not None:
+            return self.unpacker.pid, 0
+        return (os.getpid(), self.pumps[0].source) if self.pumps else (pid, 0)
+
     def stop(self) -> None:
         """Nothing more is read."""
         for pump in self.pumps:

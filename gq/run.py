@@ -117,6 +117,7 @@ class Run:
         self.loop = Loop()
         self.said: Said | None = None
         self.answer: Reading | None = None
+        self.progress = None
 
     def start(self) -> None:
         """Starts gcx over the document."""
@@ -137,7 +138,20 @@ class Run:
         """A block of the answer."""
         block = self.sink.feed(block)
         if block:
+            if self.progress is not None and self.job.terminal:
+                self.progress.clear()
             write_out(block)
+
+    def follow(self) -> None:
+        """Goes on until gcx has nothing more to say, with progress where that is asked for."""
+        if not self.job.order.verbose:
+            self.loop.run(self.over)
+            return
+        from gq import progress
+        place = self.feed.reader(self.child.pid)
+        size = os.fstat(self.document.descriptor).st_size if place else None
+        with progress.watch(self.document.name, self.child.pid, place, size) as self.progress:
+            self.loop.run(self.over)
 
     def over(self) -> bool:
         """Whether gcx has nothing more to say."""
@@ -147,7 +161,7 @@ class Run:
         """Runs to the end, and gives the exit code."""
         try:
             self.start()
-            self.loop.run(self.over)
+            self.follow()
             if self.sink is not None:
                 rest = self.sink.end()
                 if rest:

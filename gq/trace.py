@@ -21,7 +21,7 @@ class Moment(NamedTuple):
 
 
 class Column(NamedTuple):
-    """The fullest state of a run while so many nodes were read: from the one of this number on, up to the next column's."""
+    """The fullest state of a run while nodes were read: those behind the FIRST ones, as many as a column is wide."""
 
     first: int
     held: int
@@ -43,7 +43,7 @@ class Held:
         self.read = 0
         self.peak = Moment(0, 0, {}, 0)
         self.columns: List[Column] = []
-        self.fullest: Tuple[int, Counts] = (0, {})
+        self.fullest: Tuple[int, Counts] = (-1, {})
         self.latest: Optional[Tuple[bytes, Key]] = None
         self.rises = False
         self.last = 0
@@ -121,13 +121,14 @@ class Held:
                 self.peak = Moment(self.held, self.read, self.fullest[1], self.last)
 
     def next_column(self) -> None:
-        """A column is full: another one begins with the state as it is."""
+        """A column is full: another one begins with the next state."""
         if self.read:
             self.look()
             self.columns.append(Column(self.read - self.width, *self.fullest))
             if len(self.columns) >= self.limit:
                 self.join_columns()
-        self.fullest = (self.held, dict(self.counts))
+        self.fullest = (-1, {})
+        self.rises = True
 
     def join_columns(self) -> None:
         """Of each two columns the fuller one stays, over the width of both."""
