@@ -132,8 +132,8 @@ class Pictures(Case):
         for serial in range(2, 30_000):
             lines += [b"+ %d # 1" % serial]
             alive.append(b"x %d" % serial)
-            if generator.random() < 0.6 and alive:
-                lines.append(alive.pop(generator.randrange(len(alive))))
+            if generator.random() < 0.6:
+                lines += [b"o 1 1", alive.pop(generator.randrange(len(alive)))]
         held = Held(64)
         held.lines(lines)
         held.end()
