@@ -212,13 +212,13 @@ class Feed:
         if self.target >= 0:
             os.close(self.stdin)
 
-    def reader(self, pid: int) -> tuple[int, int] | None:
-        """The process and the descriptor that read a regular file; PID is gcx."""
+    def read_at(self, reader: int) -> tuple[int, int] | None:
+        """The process and its descriptor whose offset tells how far a regular file was read. READER is gcx."""
         if not self.document.regular:
             return None
         if self.unpacker is not None:
             return self.unpacker.pid, 0
-        return (os.getpid(), self.pumps[0].source) if self.pumps else (pid, 0)
+        return (os.getpid(), self.pumps[0].source) if self.pumps else (reader, 0)
 
     def stop(self) -> None:
         """Nothing more is read."""

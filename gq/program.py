@@ -120,6 +120,7 @@ def stopped(number: int, _frame: object) -> None:
 
 def end_by(number: int) -> None:
     """Ends gq by a signal, as one that never caught it."""
-    signal.signal(number, signal.SIG_DFL)
+    if number != signal.SIGKILL:
+        signal.signal(number, signal.SIG_DFL)
     signal.pthread_sigmask(signal.SIG_UNBLOCK, [number])
     os.kill(os.getpid(), number)

@@ -6,7 +6,7 @@ import select
 
 from gq import program
 from gq.answer import Count, Enough, Lines, Plain, Quiet
-from gq.flow import Closed, Full, Loop, Reading, Said, write_out
+from gq.flow import Full, Loop, Reading, Said, write_out
 from gq.inputs import Document, Feed
 from gq.made import Made, as_it_is, new_mark
 from gq.say import Ended, Refused, say, tell
@@ -117,7 +117,7 @@ class Run:
         self.loop = Loop()
         self.said: Said | None = None
         self.answer: Reading | None = None
-        self.progress = None
+        self.shown = None  # the line of progress
 
     def start(self) -> None:
         """Starts gcx over the document."""
@@ -135,22 +135,21 @@ class Run:
         self.feed.begun()
 
     def take(self, block: bytes) -> None:
-        """A block of the answer."""
+        """A block of the answer. On a terminal it takes the place of the line of progress."""
         block = self.sink.feed(block)
         if block:
-            if self.progress is not None and self.job.terminal:
-                self.progress.clear()
+            if self.shown is not None and self.job.terminal:
+                self.shown.clear()
             write_out(block)
 
-    def follow(self) -> None:
-        """Goes on until gcx has nothing more to say, with progress where that is asked for."""
+    def wait(self) -> None:
+        """Until gcx has nothing more to say."""
         if not self.job.order.verbose:
             self.loop.run(self.over)
             return
         from gq import progress
-        place = self.feed.reader(self.child.pid)
-        size = os.fstat(self.document.descriptor).st_size if place else None
-        with progress.watch(self.document.name, self.child.pid, place, size) as self.progress:
+        size = self.document.size() if self.document.regular else None
+        with progress.watch(self.document.name, self.child.pid, self.feed.read_at(self.child.pid), size) as self.shown:
             self.loop.run(self.over)
 
     def over(self) -> bool:
@@ -161,7 +160,7 @@ class Run:
         """Runs to the end, and gives the exit code."""
         try:
             self.start()
-            self.follow()
+            self.wait()
             if self.sink is not None:
                 rest = self.sink.end()
                 if rest:
@@ -169,13 +168,7 @@ class Run:
         except Enough:
             self.stop()
             return 0
-        except Closed:
-            self.stop()
-            program.end_by(program.signal.SIGPIPE)
-        except Full as full:
-            self.stop()
-            raise Refused(6, f"standard output: {full}") from None
-        except BaseException:
+        except Exception:
             self.stop()
             raise
         self.feed.stop()
@@ -281,6 +274,9 @@ def one_file(job: Job, word: bytes | None) -> tuple[int, bool]:
     except Refused as refused:
         tell(refused.text)
         return refused.code, False
+    except Full as full:
+        tell(f"standard output: {full}")
+        return 6, True
     finally:
         if run is not None:
             run.close()

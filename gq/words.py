@@ -5,6 +5,7 @@ import os
 import sys
 
 from gq import program
+from gq.flow import Closed, Full
 from gq.say import Ended, Refused, tell
 
 WORD_OPTIONS = b"ftws"  # those that take a word
@@ -143,3 +144,17 @@ def main(words: list[str], folder: str | None = None) -> int:
         return refused.code
     except Ended as ended:
         return ended.code
+    except Closed:
+        program.kill_all()
+        program.end_by(program.signal.SIGPIPE)
+    except Full as full:
+        tell(f"standard output: {full}")
+    except MemoryError:
+        program.kill_all()
+        tell("out of memory")
+        return 7
+    except Exception as error:  # a fault of gq itself
+        program.kill_all()
+        tell(f"gq broke down: {type(error).__name__}: {error}")
+        return 70
+    return 6

@@ -3,7 +3,6 @@ from __future__ import annotations
 
 import os
 import signal
-import subprocess
 import threading
 import unittest
 
@@ -40,7 +39,7 @@ class Output(Case):
         for words in ("/r/a", "-l /r/a"):
             self.assertEqual(self.shell(f"$GQ {words} large.xml >&-")[2], "")
         self.assertEqual(self.shell("cmp large.xml <(printf '<r>'; printf '<a>0123456789</a>%.0s' {1..100000}; printf '</r>')"), (0, b"", ""))
-        self.assertEqual(self.shell("$GQ -c /r/a <&-")[0], 5 if False else 4)
+        self.assertEqual(self.shell("$GQ -c /r/a <&-")[0], 4)
 
     def test_reader_that_does_not_wait(self) -> None:
         source, place = os.pipe()
@@ -93,7 +92,7 @@ class Signals(Case):
     def test_with_an_unpacker(self) -> None:
         import zlib
         packer = zlib.compressobj(wbits=31)
-        document = packer.compress(b"<a><b>1</b>" + os.urandom(200_000).hex().encode()) + packer.flush(zlib.Z_SYNC_FLUSH)
+        document = packer.compress(b"<a><b>1</b>" + os.urandom(400_000).hex().encode()) + packer.flush(zlib.Z_SYNC_FLUSH)
         self.ends(signal.SIGTERM, ["-l", "/a/b"], document, b"<b>1</b>\n")
 
     def test_gcx_that_ignores_signals(self) -> None:
