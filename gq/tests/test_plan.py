@@ -4,7 +4,8 @@ from __future__ import annotations
 import subprocess
 import unittest
 
-from gq.explained import read
+from gq.explained import Plan, read
+from gq.plan import words
 from gq.tests.common import GCX, Case
 from gq.waits import Walk
 
@@ -52,9 +53,13 @@ class Plans(Case):
         done = subprocess.run([GCX, "peak", "q", document], cwd=self.folder, capture_output=True, check=True)
         return int(done.stdout.split()[1])
 
+    def plan(self, query: str) -> Plan:
+        """The plan of a query."""
+        return read(subprocess.run([GCX or "", "explain", "-"], input=query.encode(), capture_output=True, check=True).stdout.decode())
+
     def verdict(self, query: str) -> str:
         """The last part of what is said: flat, or may grow."""
-        return self.gq("plan", query)[0].decode().rpartition("\n\n")[2] or self.gq("plan", query)[0].decode()
+        return self.gq("plan", query)[0].decode().rpartition("\n\n")[2]
 
     def test_none_that_grows_is_called_flat(self) -> None:
         flat, doubted = 0, []
@@ -63,7 +68,7 @@ class Plans(Case):
             self.write("two.xml", make(200))
             for query in queries:
                 grows = self.peak(query, "two.xml") > 1.2 * self.peak(query, "one.xml")
-                verdict = self.verdict(query)
+                verdict = words(self.plan(query)).rpartition("\n\n")[2]
                 self.assertRegex(verdict, r"\A(flat: |may grow with the document: /)", query)
                 if grows:
                     self.assertTrue(verdict.startswith("may grow"), (query, verdict))
@@ -130,9 +135,7 @@ class Plans(Case):
             self.assertRegex(self.gq(*words, code=2)[1], r"\Agq: .*\n\Z")
 
     def test_uses_of_roles(self) -> None:
-        done = subprocess.run([GCX or "", "explain", "-"], input=b"for $a in /r/a where $a/x = 2 and exists($a/k) return ($a, $a/x)",
-                              capture_output=True, check=True)
-        plan = read(done.stdout.decode())
+        plan = self.plan("for $a in /r/a where $a/x = 2 and exists($a/k) return ($a, $a/x)")
         for number, role in plan.roles.items():
             use = plan.uses[number]
             self.assertEqual(role.kind, {"loop": "own", "exists": "first"}.get(use, "whole"))

@@ -199,7 +199,7 @@ class Pictures(Case):
     def test_memory_of_the_picture_is_constant_but_for_what_is_held(self) -> None:
         place = os.path.join(self.folder, "large.xml")
         sizes = []
-        for count in (6000, 60000):
+        for count in (2000, 20000):
             with open(place, "wb") as out:
                 subprocess.run([GCX or "", "gen", "5", str(count)], stdout=out, check=True)
             code, _, err = self.shell("""python3 -c '
