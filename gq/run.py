@@ -176,8 +176,9 @@ class Run:
         return self.told(code)
 
     def stop(self) -> None:
-        """Ends all children."""
-        program.kill_all()
+        """Ends all children, and reads nothing more."""
+        program.end_all()
+        self.loop.close_all()
 
     def told(self, code: int) -> int:
         """Tells what gcx said, and gives the exit code."""
@@ -237,6 +238,8 @@ def why_not_written() -> str:
 def every_file(order: Order) -> int:
     """Obeys an order over all its files; the first code that isn't 0."""
     job = Job(order)
+    if not order.files and os.isatty(0) and os.isatty(2):
+        tell("no FILE: the document is read from this terminal")
     worst, empty = 0, []
     for word in order.files or [None]:
         code, some = one_file(job, word)
