@@ -4,15 +4,12 @@ The answer of that query holds text alone, but for empty elements of gq's own: <
 <n></n> after a row. So nothing that the document has can be taken for them."""
 from __future__ import annotations
 
-import re
-
 from gq.made import Made
 from gq.marked import column_edits, condition_edits, row_path
 from gq.syntax import Slip
 
 VALUE, CELL, ROW = b"<v></v>", b"<c></c>", b"<n></n>"
 MOST = 1 << 20  # bytes of a row from which it is written piece by piece
-CUT = re.compile(rb"(?:<(?:[vcn](?:>(?:<(?:/[vcn]?)?)?)?)?|&[a-z]{0,3})\Z")
 
 
 class PartFault(Exception):
@@ -69,7 +66,8 @@ def decoded(text: bytes) -> bytes:
 
 def cut_at_mark(text: bytes) -> tuple[bytes, bytes]:
     """A text without what its end has of a mark or an entity, and that."""
-    cut = CUT.search(text, max(0, len(text) - len(VALUE)))
+    import re
+    cut = re.compile(rb"(?:<(?:[vcn](?:>(?:<(?:/[vcn]?)?)?)?)?|&[a-z]{0,3})\Z").search(text, max(0, len(text) - len(VALUE)))
     return (text[:cut.start()], text[cut.start():]) if cut else (text, b"")
 
 
