@@ -39,12 +39,14 @@ class Job:
                 raise Ended(3) from None
         if not (order.lines or order.zero or order.count):
             return as_it_is(self.query)
-        if order.count:
-            self.mark = b"m"
-        from gq.marked import marked
-        from gq.syntax import Slip
+        from gq import marked
+        from gq.tokens import Slip
         try:
-            return marked(self.query, self.mark, order.count)
+            if not order.count:
+                return marked.marked(self.query, self.mark)
+            self.mark = b"m"
+            made, whole = marked.counted(self.query, self.mark)
+            return made if whole or explains(as_it_is(self.query)) else as_it_is(self.query)
         except Slip:
             return self.unmarked()
 
