@@ -6,7 +6,7 @@ Modules by subject:
     program   finding and starting `gcx` and other programs, signals, how a run ends
     flow      the bytes between documents, programs and standard output, in one loop
     inputs, encodings, doctype    documents: files, pipes, compressed, in other encodings, with declarations in a DOCTYPE
-    syntax    tokens and the grammar of the query language, with places
+    tokens, syntax    the words and the grammar of the query language, with places
     made      a query that gq gives to gcx, and where its parts come from
     marked    queries that mark each match; lines, counts and tables are cut from their answers
     table, json_rows    rows as text and as JSON

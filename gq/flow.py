@@ -57,6 +57,11 @@ class Loop:
         if place != 0:
             os.close(place)
 
+    def close_all(self) -> None:
+        """Closes all descriptors."""
+        for place in list(self.acts):
+            self.close(place)
+
     def run(self, over) -> None:
         """Goes on until OVER says so."""
         while not over():

@@ -128,7 +128,7 @@ def of_first_word(word: bytes, rest: bytes, text: bytes) -> str:
     if re.match(rb"[-\w]+\s*\(", rest):
         return "there are no functions; /text() gives the text"
     if re.match(rb"[\w*]", rest):
-        return "a path begins with /"
+        return "a path begins with /: /bib/title, or //title wherever it stands"
     return ""
 
 

@@ -146,8 +146,9 @@ class Feed:
         """A file that begins so."""
         self.unpacks = packed_by(head) or ""
         if self.unpacks:
+            place = self.find_unpacker()
             self.stdin, self.target = program.pipe()
-            self.unpack(self.document.again())
+            self.unpack(place, self.document.again())
             return
         self.steps = self.changes(head)
         if self.steps:
@@ -174,11 +175,15 @@ class Feed:
             steps.append(Limit(self.first))
         return steps + ([self.kept] if self.kept else [])
 
-    def unpack(self, stdin: int) -> None:
-        """Starts the program that unpacks, and copies what it gives."""
+    def find_unpacker(self) -> str:
+        """The program that unpacks."""
         place = program.on_path(self.unpacks)
         if place is None:
             raise Refused(5, self.document.name + f": needs {self.unpacks}, which isn't installed".encode())
+        return place
+
+    def unpack(self, place: str, stdin: int) -> None:
+        """Starts it, and copies what it gives."""
         source, out = program.pipe()
         said, error = os.pipe()
         self.unpacker = program.Child([place, "-dc"], stdin, out, error)
@@ -193,10 +198,11 @@ class Feed:
         self.unpacks = packed_by(head) or ""
         if not self.unpacks:
             return self.decide_unpacked(head)
+        place = self.find_unpacker()
         pump = self.pumps[0]
         self.loop.forget(self.target)
         stdin, target = os.pipe()
-        self.unpack(stdin)
+        self.unpack(place, stdin)
         os.close(stdin)
         pump.aim(target)
         return head

@@ -1,7 +1,7 @@
 """Rows of a table as JSON (RFC 8259), an object a line: a column without a match is null, one with several an array."""
 from __future__ import annotations
 
-from gq.table import CELL, CUT, MOST, ROW, TAG, VALUE, decoded
+from gq.table import CELL, MOST, ROW, VALUE, cut_at_mark, decoded
 
 ESCAPES = ((b"\\", b"\\\\"), (b'"', b'\\"'), (b"\n", b"\\n"), (b"\t", b"\\t"), (b"\r", b"\\r"))
 
@@ -66,28 +66,18 @@ class JsonRows:
         if self.number is None:
             self.number = 0
             self.emit(b"{" + self.names[0])
-        cut = CUT.search(text, max(0, len(text) - 7))
-        self.held = b""
-        if cut:
-            text, self.held = text[:cut.start()], text[cut.start():]
-        for token in TAG.split(text):
-            if token:
-                self.write(token)
-
-    def write(self, token: bytes) -> None:
-        """A text of the row, or a mark."""
-        if token == VALUE:
-            self.cell.end_value()
-        elif token == CELL:
-            self.number = (self.number or 0) + 1
-            self.cell.over()
-            self.emit(b"," + self.names[self.number])
-        elif token == ROW:
+        text, self.held = cut_at_mark(quoted(text))
+        over = text.endswith(ROW)
+        for number, cell in enumerate(text[:-len(ROW)].split(CELL) if over else text.split(CELL)):
+            if number:
+                self.number += 1
+                self.cell.over()
+                self.emit(b"," + self.names[self.number])
+            self.cell.add(cell)
+        if over:
             self.number = None
             self.cell.over()
             self.emit(b"}\n")
-        else:
-            self.cell.add(decoded(quoted(token)))
 
     def end(self) -> bytes:
         """A row that a fault cut isn't written."""
@@ -116,18 +106,15 @@ class Cell:
         self.file = None
 
     def add(self, text: bytes) -> None:
-        """More of a value."""
+        """More of the cell: texts with marks."""
+        if not text:
+            return
         if self.ended:
             self.keep(b'","')
-            self.ended = False
-        self.keep(text)
-
-    def end_value(self) -> None:
-        """A value is over."""
-        if self.ended:
-            self.keep(b'","')
-        self.ended = True
-        self.count += 1
+        self.count += text.count(VALUE)
+        self.ended = text.endswith(VALUE)
+        text = text[:-len(VALUE)] if self.ended else text
+        self.keep(decoded(text.replace(VALUE, b'","')))
 
     def keep(self, text: bytes) -> None:
         """Keeps what comes."""

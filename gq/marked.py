@@ -17,36 +17,50 @@ class Marking(Grammar):
     def met_output(self, path: Path) -> None:
         """Each match of a path is a part."""
         if path.steps:
-            self.edits.append((path.start, 0, b" for $gq in "))
-            self.edits.append((path.end, 0, b" return " + self.around(b"{$gq}")))
+            self.put(path.start, b" for $gq in ", path.end, b" return <" + self.mark + b">{$gq}</" + self.mark + b">")
         else:
-            self.edits.append((path.start, path.end - path.start, self.around(b"{" + (path.variable or b"") + b"}")))
+            self.put(path.start, b"<" + self.mark + b">{", path.end, b"}</" + self.mark + b">")
 
     def met_element(self, start: int, end: int) -> None:
         """A constructor is one."""
-        self.edits.append((start, 0, b"<" + self.mark + b">"))
-        self.edits.append((end, 0, b"</" + self.mark + b">"))
+        self.put(start, b"<" + self.mark + b">", end, b"</" + self.mark + b">")
 
-    def around(self, inner: bytes) -> bytes:
-        """The pair of tags."""
-        return b"<" + self.mark + b">" + inner + b"</" + self.mark + b">"
+    def put(self, start: int, before: bytes, end: int, after: bytes) -> None:
+        """Puts words before a part and after it."""
+        self.edits += [(start, 0, before), (end, 0, after)]
 
 
 class Counting(Marking):
     """Writes an empty pair of tags for each part: nothing of the document is copied."""
 
+    drops = False  # a part of the query isn't in what is made, so that gcx wouldn't judge it
+
+    def met_output(self, path: Path) -> None:
+        """A variable alone stands for one node."""
+        if path.steps:
+            self.put(path.start, b" for $gq in ", path.end, b" return <" + self.mark + b"/>")
+        else:
+            self.put(path.start, b" if (exists(", path.end, b")) then <" + self.mark + b"/> else ()")
+
     def met_element(self, start: int, end: int) -> None:
         """The constructor goes, with what it would copy."""
-        self.edits.append((start, end - start, self.around(b"")))
-
-    def around(self, inner: bytes) -> bytes:
-        """The pair of tags."""
-        return b"<" + self.mark + b"/>"
+        self.drops = True
+        self.edits.append((start, end - start, b"<" + self.mark + b"/>"))
 
 
-def marked(query: bytes, mark: bytes, count: bool = False) -> Made:
-    """The query with each match in a pair of tags; COUNT: with an empty pair for it. Raises `Slip` for what is no query."""
-    reader = (Counting if count else Marking)(query, mark)
+def marked(query: bytes, mark: bytes) -> Made:
+    """The query with each match in a pair of tags. Raises `Slip` for what is no query."""
+    return made_by(Marking(query, mark), query)
+
+
+def counted(query: bytes, mark: bytes) -> tuple[Made, bool]:
+    """The query with an empty pair of tags for each match, and whether all of the query is in it. Raises `Slip` for what is no query."""
+    reader = Counting(query, mark)
+    return made_by(reader, query), not reader.drops
+
+
+def made_by(reader: Marking, query: bytes) -> Made:
+    """What a reader's edits make."""
     reader.query()
     return Made().add_edited("query", query, sorted(reader.edits, key=lambda it: it[0]))
 

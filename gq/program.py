@@ -12,6 +12,7 @@ from gq.say import Refused
 
 ENDING = (signal.SIGINT, signal.SIGTERM, signal.SIGHUP, signal.SIGQUIT)
 living: set[int] = set()  # the children that aren't waited for yet
+ended: dict[int, int] = {}  # the codes of those that `end_all` waited for
 at_end: list = []  # called before a signal ends gq: a line of progress is taken away
 beside: list[str] = []  # the folder that the launcher stands in
 
@@ -35,16 +36,16 @@ class Child:
     def wait(self) -> int:
         """Its exit code, or a signal's number below 0. It has ended then."""
         if self.code is None:
-            status = os.waitpid(self.pid, 0)[1]
-            living.discard(self.pid)
-            self.code = os.waitstatus_to_exitcode(status)
+            self.code = ended.pop(self.pid, None)
+        if self.code is None:
+            self.code = reap(self.pid)
         return self.code
 
     def kill(self) -> None:
         """Ends it at once, whatever it does."""
-        if self.code is None:
+        if self.code is None and self.pid in living:
             os.kill(self.pid, signal.SIGKILL)
-            self.wait()
+        self.wait()
 
 
 def on_path(name: str) -> str | None:
@@ -108,6 +109,20 @@ def kill_all() -> None:
             os.kill(pid, signal.SIGKILL)
         except OSError:
             pass
+
+
+def end_all() -> None:
+    """Ends all children, and waits for them: gq goes on."""
+    kill_all()
+    for pid in list(living):
+        ended[pid] = reap(pid)
+
+
+def reap(pid: int) -> int:
+    """Waits for a child; its exit code, or a signal's number below 0."""
+    status = os.waitpid(pid, 0)[1]
+    living.discard(pid)
+    return os.waitstatus_to_exitcode(status)
 
 
 def stopped(number: int, _frame: object) -> None:

@@ -39,12 +39,14 @@ class Job:
                 raise Ended(3) from None
         if not (order.lines or order.zero or order.count):
             return as_it_is(self.query)
-        if order.count:
-            self.mark = b"m"
-        from gq.marked import marked
-        from gq.syntax import Slip
+        from gq import marked
+        from gq.tokens import Slip
         try:
-            return marked(self.query, self.mark, order.count)
+            if not order.count:
+                return marked.marked(self.query, self.mark)
+            self.mark = b"m"
+            made, whole = marked.counted(self.query, self.mark)
+            return made if whole or explains(as_it_is(self.query)) else as_it_is(self.query)
         except Slip:
             return self.unmarked()
 
@@ -176,8 +178,9 @@ class Run:
         return self.told(code)
 
     def stop(self) -> None:
-        """Ends all children."""
-        program.kill_all()
+        """Ends all children, and reads nothing more."""
+        program.end_all()
+        self.loop.close_all()
 
     def told(self, code: int) -> int:
         """Tells what gcx said, and gives the exit code."""
@@ -237,6 +240,8 @@ def why_not_written() -> str:
 def every_file(order: Order) -> int:
     """Obeys an order over all its files; the first code that isn't 0."""
     job = Job(order)
+    if not order.files and os.isatty(0) and os.isatty(2):
+        tell("no FILE: the document is read from this terminal")
     worst, empty = 0, []
     for word in order.files or [None]:
         code, some = one_file(job, word)

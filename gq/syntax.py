@@ -1,77 +1,15 @@
-"""Tokens of the query language with their places, and its grammar. Places are offsets in bytes, as `gcx` tells them.
+"""The grammar of the query language.
 
 In a part of a table (a condition, a column) a path may begin at the row: by a name, `@name` or `.`. `gcx` judges each query; what is
 refused here is what can't be built into a larger one."""
 from __future__ import annotations
 
-import re
 import sys
 
-NAME = rb"(?:(?!::)[A-Za-z_:\x80-\xff])(?:(?!::)[-.0-9A-Za-z_:\x80-\xff])*"
-TOKEN = re.compile(rb"(?P<space>[ \t\r\n]+)|(?P<comment>\(:)|(?P<var>\$" + NAME + rb")|(?P<name>" + NAME + rb")"
-                   rb"|(?P<number>-?[0-9]+(?:\.[0-9]+)?)|(?P<string>\"(?:[^\"]|\"\")*\"|'(?:[^']|'')*')"
-                   rb"|(?P<sign>//|::|</|/>|!=|<=|>=|[(){},/*=<>])")
-COMMENT = re.compile(rb"\(:|:\)")
+from gq.tokens import Slip, Token, tokens
+
 RELATIONS = (b"=", b"!=", b"<", b"<=", b">", b">=")
 MOST_OPEN = 500  # expressions and conditions in one another, of which a query that gcx takes has 401 at most
-
-
-class Slip(Exception):
-    """A text that is no query, with the name that `gcx` gives the fault, and its place."""
-
-    def __init__(self, kind: str, place: int) -> None:
-        super().__init__(kind, place)
-        self.kind = kind
-        self.place = place
-
-
-class Token:
-    """A word of a query: `kind` is var, name, number, string, sign or end; `text` its bytes; it begins at `start`."""
-    __slots__ = ("kind", "text", "start")
-
-    def __init__(self, kind: str, text: bytes, start: int) -> None:
-        self.kind = kind
-        self.text = text
-        self.start = start
-
-    @property
-    def end(self) -> int:
-        """The place after it."""
-        return self.start + len(self.text)
-
-
-def after_comment(text: bytes, start: int) -> int:
-    """The place after the comment that begins at a place. Comments nest."""
-    depth, at = 0, start
-    while True:
-        sign = COMMENT.search(text, at)
-        if sign is None:
-            raise Slip("Lex", start)
-        depth += 1 if sign.group() == b"(:" else -1
-        at = sign.end()
-        if depth == 0:
-            return at
-
-
-def tokens(text: bytes, relative: bool = False) -> list[Token]:
-    """The tokens of a query, and at last one of kind end. RELATIVE: `.` and `@` are tokens too."""
-    found = []
-    at = 0
-    while at < len(text):
-        match = TOKEN.match(text, at)
-        if match is None:
-            if not (relative and text[at:at + 1] in (b".", b"@")):
-                raise Slip("Lex", at)
-            found.append(Token("sign", text[at:at + 1], at))
-            at += 1
-        elif match.lastgroup == "comment":
-            at = after_comment(text, at)
-        else:
-            if match.lastgroup != "space":
-                found.append(Token(match.lastgroup or "", match.group(), at))
-            at = match.end()
-    found.append(Token("end", b"", len(text)))
-    return found
 
 
 class Path:

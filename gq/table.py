@@ -4,16 +4,12 @@ The answer of that query holds text alone, but for empty elements of gq's own: <
 <n></n> after a row. So nothing that the document has can be taken for them."""
 from __future__ import annotations
 
-import re
-
 from gq.made import Made
 from gq.marked import column_edits, condition_edits, row_path
 from gq.syntax import Slip
 
 VALUE, CELL, ROW = b"<v></v>", b"<c></c>", b"<n></n>"
 MOST = 1 << 20  # bytes of a row from which it is written piece by piece
-TAG = re.compile(rb"(<[vcn]></[vcn]>)")
-CUT = re.compile(rb"(?:<(?:[vcn](?:>(?:<(?:/[vcn]?)?)?)?)?|&[a-z]{0,3})\Z")
 
 
 class PartFault(Exception):
@@ -68,6 +64,13 @@ def decoded(text: bytes) -> bytes:
     return text.replace(b"&lt;", b"<").replace(b"&gt;", b">").replace(b"&amp;", b"&")
 
 
+def cut_at_mark(text: bytes) -> tuple[bytes, bytes]:
+    """A text without what its end has of a mark or an entity, and that."""
+    import re
+    cut = re.compile(rb"(?:<(?:[vcn](?:>(?:<(?:/[vcn]?)?)?)?)?|&[a-z]{0,3})\Z").search(text, max(0, len(text) - len(VALUE)))
+    return (text[:cut.start()], text[cut.start():]) if cut else (text, b"")
+
+
 class Rows:
     """Rows as lines, a tab between cells."""
 
@@ -97,7 +100,7 @@ class Rows:
         return out
 
     def whole(self, text: bytes) -> bytes:
-        """Rows that are whole, all at once."""
+        """Rows that are whole, or a part of one, all at once."""
         text = escaped(text)
         text = text.replace(VALUE + CELL, b"\t").replace(VALUE + ROW, b"\n")
         if b"<" in text:
@@ -106,28 +109,12 @@ class Rows:
         return decoded(text)
 
     def piece(self, text: bytes) -> bytes:
-        """A piece of one row."""
-        self.within = True
-        cut = CUT.search(text, max(0, len(text) - 7))
-        self.held = b""
-        if cut:
-            text, self.held = text[:cut.start()], text[cut.start():]
-        return b"".join(self.write(it) for it in TAG.split(text) if it)
-
-    def write(self, token: bytes) -> bytes:
-        """A text of the row, or a mark."""
-        before = b""
-        if self.valued and token not in (CELL, ROW):
-            before = self.separator
-        self.valued = token == VALUE
-        if token == VALUE:
-            return before
-        if token == CELL:
-            return b"\t"
-        if token == ROW:
-            self.within = False
-            return b"\n"
-        return before + decoded(escaped(token))
+        """A piece of one row, or its end."""
+        text, self.held = cut_at_mark(text)
+        before = self.separator if self.valued and text and not text.startswith((CELL, ROW)) else b""
+        self.valued = text.endswith(VALUE) or (self.valued and not text)
+        self.within = not text.endswith(ROW)
+        return before + self.whole(text[:-len(VALUE)] if text.endswith(VALUE) else text)
 
     def end(self) -> bytes:
         """A row that a fault cut isn't written; of a large one what was there stays."""

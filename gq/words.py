@@ -97,19 +97,29 @@ def check(order: Order) -> None:
     """Options that can't stand together, or stand for nothing."""
     ways = [letter for letter, on in (("-l", order.lines or order.zero), ("-q", order.quiet), ("-p", order.pretty),
                                       ("-t", order.row is not None)) if on]
-    if order.count and order.pretty:
-        raise wrong("-c and -p don't go together")
+    if order.pretty and (order.count or order.quiet):
+        raise wrong("-p goes with neither -c nor -q")
     if len(ways) > 1 and ways != ["-q", "-t"]:
         raise wrong(f"{ways[0]} and {ways[1]} don't go together")
     if order.row is None:
         for letter, on in (("-j", order.json), ("-w", order.where is not None), ("-s", order.separator is not None)):
             if on:
                 raise wrong(f"{letter} is for tables: gq -t ROW COLUMN .. -- [FILE ..]")
-    elif order.query_file is not None:
+    if order.query_file == b"-" and (not order.files or b"-" in order.files):
+        raise wrong("-f - reads the query from standard input, so the document is a FILE")
+    if order.row is not None:
+        check_table(order)
+
+
+def check_table(order: Order) -> None:
+    """The same of a table."""
+    if order.zero:
+        raise wrong("-0 and -t don't go together")
+    if order.query_file is not None:
         raise wrong("-f and -t don't go together")
-    elif order.json and len(set(order.columns)) < len(order.columns):
+    if order.json and len(set(order.columns)) < len(order.columns):
         raise wrong("-j needs each column once")
-    elif order.json and order.separator is not None:
+    if order.json and order.separator is not None:
         raise wrong("-j and -s don't go together")
 
 

@@ -77,15 +77,15 @@ class Faults(Case):
                 self.assertIn(words, err)
 
     def test_documents(self) -> None:
-        for document, place, words in DOCUMENTS:
+        for number, (document, place, words) in enumerate(DOCUMENTS):
             self.write("doc.xml", document)
             content = document if isinstance(document, bytes) else document.encode()
-            for name, stdin, given in ((["doc.xml"], b"", "doc.xml"), ([], content, "<stdin>")):
+            ways = [(["doc.xml"], b"", "doc.xml"), ([], content, "<stdin>")]
+            for name, stdin, given in ways if number % 4 == 0 else ways[:1]:
                 with self.subTest(document=document, name=given):
                     _, err = self.gq("/a/c", *name, stdin=stdin, code=4)
                     self.assertTrue(err.startswith(f"{given}:{place}: "), err)
-                    if given == "doc.xml":
-                        self.assertIn(words, err)
+                    self.assertTrue(words in err or given == "<stdin>", err)
 
     def test_the_whole_message(self) -> None:
         _, err = self.gq("/bib/book[price < 50]/title", "bib.xml", code=3)
@@ -119,11 +119,11 @@ class Faults(Case):
         self.assertEqual(lines[1][len(lines[2]) - 1], "x")
 
     def test_one_long_line(self) -> None:
-        document = b"<r>" + b"<a>\xc3\xa9</a>" * 1_000_000 + b"&x;</r>"
+        document = b"<r>" + b"<a>\xc3\xa9</a>" * 300_000 + b"&x;</r>"
         self.write("doc.xml", document)
         for name, stdin in ((["doc.xml"], b""), ([], document)):
             err = self.gq("/r/none", *name, stdin=stdin, code=4)[1]
-            self.assertIn(":1:8000005: the entity &x;", err)
+            self.assertIn(":1:2400005: the entity &x;", err)
 
     def test_a_pipe_of_many_lines(self) -> None:
         lines = b"<r>\n" + b" <a>\xc3\xa9</a>\n" * 300_000
@@ -192,7 +192,7 @@ class Silence(Case):
         self.assertEqual(self.gq("/x", "bib.xml"), (b"", ""))
 
     def test_what_comes_late(self) -> None:
-        self.write("late.xml", "<r>" + "<a>0123456789</a>" * 300_000 + "<b/></r>")
+        self.write("late.xml", "<r>" + ("<a>" + "0123456789" * 20 + "</a>") * 20_000 + "<b/></r>")
         self.told(["  no element is /r/b/c"], "/r/b/c", "late.xml")
         self.told(["  no element is /r/bb: there are <a>"], "/r/bb", "late.xml")
 

@@ -79,6 +79,10 @@ class Lines(Case):
         self.answers("0\n", "-c", "//none", "bib.xml")
         self.answers("3\n3\n", "-c", "//author", "bib.xml", "bib.xml")
         self.answers("2\n", "-ct", "/bib/book", "title", "--", "bib.xml")
+        for query, count in (("for $b in /bib/book return $b", 2), ("<r>{/bib}</r>, <s/>", 2), ("for $b in /bib/book return (<x/>, $b/author)", 5)):
+            self.answers(f"{count}\n", "-c", query, "bib.xml")
+        for query, place in (("$x", 1), ("<r>{$x}</r>", 5), ("<r>{/a/b, //c/d}</r>", 11), ("/a, <r>{/a[}</r>", 11)):
+            self.assertTrue(self.gq("-c", query, "bib.xml", code=3)[1].startswith(f"query:1:{place}: "))
         self.assertEqual(self.gq("-c", "/a/b", stdin=b"<a><b/><b/></x>", code=4)[0], b"2\n")
 
     def test_quiet(self) -> None:
@@ -133,9 +137,9 @@ class Grammar(unittest.TestCase):
                 marked.marked(text, b"m")
 
     def test_places_come_back(self) -> None:
-        query = b"for $b in /a/b return ($b/c, <d/>)"
+        query = b"for $b in /a/b return ($b/c, <d/>, $e)"
         made = marked.marked(query, b"m")
-        for word in (b"/a/b", b"$b/c", b"<d/>", b"return"):
+        for word in (b"/a/b", b"$b/c", b"<d/>", b"return", b"$e"):
             self.assertEqual(made.origin(made.text.index(word)), ("query", query.index(word)))
         self.assertIsNone(made.origin(made.text.index(b"$gq")))
         self.assertEqual(as_it_is(b"/a").origin(2), ("query", 2))

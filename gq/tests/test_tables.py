@@ -112,17 +112,17 @@ class Tables(Case):
         self.assertEqual(out, b"x&y\\n;\t1\n" * 60_000)
 
     def test_large_rows(self) -> None:
-        large = b"<a>" + b"<b>x&amp;\"\n</b>" * 150_000 + b"<b/>" * 150_000 + b"<c>1</c></a>"
+        large = b"<a>" + b"<b>x&amp;\"\n and more</b>" * 60_000 + b"<b/>" * 60_000 + b"<c>1</c></a>"
         document = b"<r><a><c>0</c></a>" + large + b"<a><b>2</b></a>" + large + b"</r>"
-        wide = b";".join([b'x&"\\n'] * 150_000 + [b""] * 150_000) + b"\t1\n"
+        wide = b";".join([b'x&"\\n and more'] * 60_000 + [b""] * 60_000) + b"\t1\n"
         self.assertEqual(self.gq("-t", "/r/a", "b", "c", stdin=document)[0], b"\t0\n" + wide + b"2\t\n" + wide)
         rows = [json.loads(it) for it in self.gq("-jt", "/r/a", "b", "c", stdin=document)[0].splitlines()]
-        values = ['x&"\n'] * 150_000 + [""] * 150_000
+        values = ['x&"\n and more'] * 60_000 + [""] * 60_000
         self.assertEqual(rows, [{"b": None, "c": "0"}, {"b": values, "c": "1"}, {"b": "2", "c": None}, {"b": values, "c": "1"}])
 
     def test_a_large_cell(self) -> None:
-        document = b"<r><a><b>" + b"<c>0123456789\\</c>" * 200_000 + b"</b></a></r>"
-        text = b"0123456789\\\\" * 200_000
+        document = b"<r><a><b>" + b"<c>0123456789\\</c>" * 120_000 + b"</b></a></r>"
+        text = b"0123456789\\\\" * 120_000
         self.assertEqual(self.gq("-t", "/r/a", "b", stdin=document)[0], text + b"\n")
         self.assertEqual(self.gq("-jt", "/r/a", "b", stdin=document)[0], b'{"b":"' + text + b'"}\n')
 

@@ -119,11 +119,13 @@ class Words(Case):
 
     def test_start_loads_little(self) -> None:
         script = ("import sys; sys.path.append(sys.argv[1]); import gq.words as w\n"
-                  "try: w.main(['/bib/note', 'bib.xml'])\n"
+                  "try: w.main(sys.argv[2:])\n"
                   "finally: print(*sorted(sys.modules), file=sys.stderr)")
-        done = self.shell(f"{sys.executable} -IS -c \"{script}\" {TOP}")
         heavy = {"re", "enum", "subprocess", "argparse", "typing", "threading", "dataclasses", "tempfile", "inspect"}
-        self.assertEqual(heavy & set(done[2].split()), set())
+        for words in ("/bib/note bib.xml", "-l /bib/note bib.xml", "-c /bib/note bib.xml", "-jt /bib/book title -- bib.xml"):
+            done = self.shell(f"{sys.executable} -IS -c \"{script}\" {TOP} {words}")
+            self.assertIn("gq.run", done[2])
+            self.assertEqual(heavy & set(done[2].split()), set())
 
 
 if __name__ == "__main__":
