@@ -130,4 +130,6 @@ def watch(job: Job) -> tuple[Held, int]:
 def title_of(job: Job) -> str:
     """The name of the document, without its folder."""
     word = (job.order.files or [b"-"])[0]
+    if word.startswith((b"/dev/fd/", b"/proc/")):
+        return "a stream"
     return "standard input" if word == b"-" else os.path.basename(word).decode("utf-8", "replace")
