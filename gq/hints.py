@@ -26,6 +26,8 @@ def of_query(kind: str, text: bytes, place: int, what: str = "query") -> str:
         return of_word(rest, before, what)
     if kind == "DescendantNotLast":
         return "make it a loop: for $x in //name return $x/.."
+    if kind == "UnknownVar" and what != "query":
+        return "a name begins at the row, without a variable: price, a/b, @year"
     if kind == "UnknownVar":
         return "after return stands one expression: a list needs parentheses, return ($x/a, $x/b)"
     if kind == "Absolute":
@@ -69,6 +71,8 @@ def of_syntax(rest: bytes, before: bytes, text: bytes, what: str) -> str:
     """A hint for a word that can't stand where it does."""
     word = word_at(rest, 0)
     past = before.rstrip()
+    if what == "column" and rest.startswith((b",", b";")):
+        return "each column is a word of its own: title author"
     if text.startswith(b"\xef\xbb\xbf"):
         return "the query begins with a byte order mark"
     if what in ("query", "row") and not past:

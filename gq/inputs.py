@@ -62,6 +62,15 @@ class Document:
         """The bytes of a regular file."""
         return os.fstat(self.descriptor).st_size - self.base
 
+    def why_not_read(self) -> str:
+        """The system's reason why no more can be read, as far as it can be asked."""
+        if self.regular:
+            try:
+                os.pread(self.descriptor, 1, os.lseek(self.descriptor, 0, os.SEEK_CUR))
+            except OSError as error:
+                return error.strerror or "can't be read"
+        return "read fault"
+
     def packed(self) -> bool:
         """Whether a regular file is compressed."""
         return packed_by(self.head(LONGEST_MAGIC)) is not None

@@ -201,6 +201,8 @@ class Run:
             offset = int(part[3])
             faults.refused_document(self.document.name, part[2], self.feed.place(offset), offset)
             self.tell_open(offset)
+        elif code == 5:
+            tell(self.document.name + b": " + self.document.why_not_read().encode())
         elif words:
             tell(self.document.name + b": " + words.encode().replace(b"gcx: ", b"", 1))
         return code
@@ -239,6 +241,7 @@ def why_not_written() -> str:
 
 def every_file(order: Order) -> int:
     """Obeys an order over all its files; the first code that isn't 0."""
+    program.gcx()  # before the first file
     job = Job(order)
     if not order.files and os.isatty(0) and os.isatty(2):
         tell("no FILE: the document is read from this terminal")

@@ -4,6 +4,9 @@ from __future__ import annotations
 import os
 
 
+UNSEEN = bytes(it if it in b"\t\n" or 32 <= it != 127 else 63 for it in range(256))  # for what a terminal would obey: a question mark
+
+
 class Refused(Exception):
     """Ends the order with an exit code, after one line on standard error that begins with `gq: `."""
 
@@ -28,7 +31,7 @@ def as_bytes(text: str | bytes) -> bytes:
 
 def say(text: str | bytes) -> None:
     """Writes a line on standard error. A standard error that can't be written is no reason to fail."""
-    rest = as_bytes(text) + b"\n"
+    rest = as_bytes(text).translate(UNSEEN) + b"\n"
     try:
         while rest:
             rest = rest[os.write(2, rest):]

@@ -45,7 +45,7 @@ can't be written, 7 out of memory. With several FILEs the first that isn't 0.
   gq -l 'for $b in /bib/book where $b/price < 50 return $b/title' bib.xml
   gq -t /bib/book -w 'price < 50' @year title author -- bib.xml
 
-What a query may be: man gcx.
+More, with examples: man gq. What a query may be: man gcx.
 """
 
 

@@ -99,6 +99,8 @@ class Tables(Case):
                                    (["/bib/book", "title[1]"], "column:1:6", "no predicates"), (["/bib/book", "/title"], "column:1:1", "without a slash"),
                                    (["/bib/book", "title}"], "column:1:6", "can't stand"), (["/bib/book", "a", "../x"], "column:1:2", ""),
                                    (["/bib/book", "node()"], "column:1:1", "node()"), (["/bib/book", "title", "-w", "price"], "condition:1:6", "exists"),
+                                   (["/bib/book", "title,author"], "column:1:6", "a word of its own"),
+                                   (["/bib/book", "title", "-w", "$b/price < 5"], "condition:1:1", "without a variable"),
                                    (["//bib/book", "title"], "row:1:1", "a loop"), (["/bib/book", "a//b/c"], "column:1:2", "a loop")):
             with self.subTest(words=words):
                 out, err = self.gq("-t", *words, "--", "bib.xml", code=3)

@@ -116,6 +116,22 @@ class Words(Case):
     def test_many_files_in_one_process(self) -> None:
         names = [self.write(f"d{it}.xml", f"<a><b>{it}</b></a>") for it in range(60)]
         self.answers("".join(f"<b>{it}</b>\n" for it in range(60)), "-l", "/a/b", *names)
+        self.write("bad.gz", b"\x1f\x8b")
+        self.write("latin.xml", b"<?xml version='1.0' encoding='latin-1'?><!DOCTYPE a [ ]><a>\xe9</a>")
+        done = self.shell("ulimit -n 24; $GQ --subset -c //b " + " d1.xml bad.gz nothing latin.xml .".strip(".") * 30)
+        self.assertEqual((done[0], done[1].split()), (5, [b"1", b"0", b"0"] * 30))
+        self.assertNotIn("broke down", done[2])
+
+    def test_standard_input_is_left_to_others(self) -> None:
+        self.assertEqual(self.shell("gzip -c bib.xml >bib.gz; printf 'bib.xml\nbib.gz\n' | while read -r it; do $GQ -c //author $it; done"), (0, b"3\n3\n", ""))
+
+    def test_name_with_signs_that_a_terminal_obeys(self) -> None:
+        self.assertEqual(self.gq("/a", "no\x1b[2Jsuch", code=5)[1], "gq: no?[2Jsuch: No such file or directory\n")
+
+    def test_read_faults(self) -> None:
+        self.assertEqual(self.gq("/a", "/proc/self/mem", code=5)[1], "gq: /proc/self/mem: Input/output error\n")
+        self.fake("sys.stderr.write('gcx: read fault\\n'); sys.exit(5)")
+        self.assertEqual(self.gq("/a", "bib.xml", code=5)[1], "gq: bib.xml: read fault\n")
 
     def test_start_loads_little(self) -> None:
         script = ("import sys; sys.path.append(sys.argv[1]); import gq.words as w\n"
