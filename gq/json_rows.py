@@ -3,6 +3,7 @@ from __future__ import annotations
 
 from gq.table import CELL, MOST, ROW, VALUE, cut_at_mark, decoded
 
+NO_TEXT = b"\0"  # no document has it
 ESCAPES = ((b"\\", b"\\\\"), (b'"', b'\\"'), (b"\n", b"\\n"), (b"\t", b"\\t"), (b"\r", b"\\r"))
 
 
@@ -49,7 +50,14 @@ class JsonRows:
 
     def whole(self, text: bytes) -> bytes:
         """Rows that are whole."""
-        rows = quoted(text).split(ROW)
+        text = quoted(text)
+        count = text.count(ROW)
+        flat = text.replace(VALUE + CELL, NO_TEXT).replace(VALUE + ROW, NO_TEXT)
+        if text.count(VALUE) == count * len(self.names) == flat.count(NO_TEXT):  # each cell has one value
+            cells = flat.split(NO_TEXT)
+            cells.pop()
+            return decoded(self.single * count % tuple(cells))
+        rows = text.split(ROW)
         rows.pop()
         return decoded(b"".join([self.row(it.split(CELL)) for it in rows]))
 
