@@ -208,7 +208,7 @@ subprocess.run(sys.argv[1:], stdout=subprocess.DEVNULL, check=True)
 print(resource.getrusage(resource.RUSAGE_CHILDREN).ru_maxrss, file=sys.stderr)' $GQ held /items/item large.xml""")
             self.assertEqual(code, 0, err)
             sizes.append(int(err))
-        self.assertLess(sizes[1], 1.3 * sizes[0])
+        self.assertLess(sizes[1], sizes[0] + 6000)  # kilobytes; a document that is held takes 17,000 more
 
 
 if __name__ == "__main__":
