@@ -103,10 +103,11 @@ def verdict(plan: Plan, walk: Walk) -> Iterator[str]:
             yield "  " + TIPS[why] + (f": begin both loops at one {around}, and they are kept until that ends" if around else "")
         return
     paths = units(plan, walk)
-    yield f"flat: at most one {' and one '.join(paths)} is kept at a time" if paths else "flat: nothing is kept but the open elements"
-    for path in paths:
-        if path.startswith("//") and "/" not in path[2:] and not path.endswith(")"):
-            yield f"  unless {path} is the root element, or holds most of the document"
+    if paths:
+        of_each = " of each" if len(paths) > 1 else ""
+        yield f"flat as long as each {' and each '.join(paths)} is small: at most one{of_each} is kept at a time"
+    else:
+        yield "flat: nothing is kept but the open elements"
 
 
 def words(plan: Plan) -> str:

@@ -69,7 +69,7 @@ class Plans(Case):
             for query in queries:
                 grows = self.peak(query, "two.xml") > 1.2 * self.peak(query, "one.xml")
                 verdict = words(self.plan(query)).rpartition("\n\n")[2]
-                self.assertRegex(verdict, r"\A(flat: |may grow with the document: /)", query)
+                self.assertRegex(verdict, r"\A(flat: |flat as long as each /|may grow with the document: /)", query)
                 if grows:
                     self.assertTrue(verdict.startswith("may grow"), (query, verdict))
                 else:
@@ -89,14 +89,14 @@ class Plans(Case):
         told = self.gq("plan", "for $i in /items/item return ($i/price, $i/note)")[0].decode()
         self.assertIn("  then, after that loop is over, when its /items/item ends:\n", told)
         self.assertIn("until its /items/item ends: its loop begins when the one before is over\n", told)
-        self.assertIn("flat: at most one /items/item is kept at a time\n", told)
+        self.assertIn("flat as long as each /items/item is small: at most one is kept at a time\n", told)
 
     def test_joins_in_words(self) -> None:
         told = self.gq("plan", "for $a in /s/d/r, $b in /s/d/f where $a/k = $b/k return $b")[0].decode()
         self.assertIn("until the document ends: each turn of the loop around needs it   <-- may grow", told)
         self.assertIn("begin both loops at one /s/d, and they are kept until that ends", told)
         told = self.gq("plan", "for $d in /s/d, $a in $d/r, $b in $d/f where $a/k = $b/k return $b")[0].decode()
-        self.assertIn("flat: at most one /s/d is kept at a time", told)
+        self.assertIn("flat as long as each /s/d is small: at most one is kept at a time", told)
 
     def test_a_loop_before_a_join_waits_too(self) -> None:
         told = self.gq("plan", "for $a in /r/x return ($a/p, for $b in /r/y return $b)")[0].decode()
@@ -111,21 +111,21 @@ class Plans(Case):
 
     def test_a_number_is_no_variable(self) -> None:
         for query in ("for $a in /r/a where $a/b = 0 return $a/b", "for $a in /r/a where 1 = $a/b return $a/b"):
-            self.assertTrue(self.verdict(query).startswith("flat: at most one /r/a "), query)
+            self.assertTrue(self.verdict(query).startswith("flat as long as each /r/a is small: "), query)
 
     def test_nothing_kept(self) -> None:
         self.assertIn("flat: nothing is kept but the open elements", self.gq("plan", "for $x in /a/b return <y/>")[0].decode())
         self.assertIn("flat: nothing is kept but the open elements", self.gq("plan", "<a/>")[0].decode())
-        self.assertIn("unless //a is the root element", self.gq("plan", "//a")[0].decode())
+        self.assertIn("flat as long as each //a is small", self.gq("plan", "//a")[0].decode())
 
     def test_large_queries(self) -> None:
         deep = "".join(f"for $v{it} in //a return " for it in range(190)) + "<x/>"
         self.assertTrue(self.verdict(deep).startswith("may grow"))
         path = "/a" * 490
-        self.assertIn("flat: ", self.gq("plan", path)[0].decode())
+        self.assertIn("flat as long as each /a/a/", self.gq("plan", path)[0].decode())
         many = " and ".join(["$x = 1"] * 1900)
         self.write("q", f"for $x in /a/b where {many} return <y/>")
-        self.assertIn("flat: at most one /a/b", self.gq("plan", "-f", "q")[0].decode())
+        self.assertIn("flat as long as each /a/b is small", self.gq("plan", "-f", "q")[0].decode())
 
     def test_faults(self) -> None:
         out, err = self.gq("plan", "/a[b]", code=3)

@@ -5,7 +5,9 @@ import gzip
 import os
 import random
 import re
+import signal
 import subprocess
+import time
 import unittest
 
 from gq.plot import PLAIN, in_text
@@ -186,7 +188,39 @@ class Pictures(Case):
             self.assertEqual((out, err.split(": ")[0]), (b"", "<stdin>:1:10"))
             self.assertEqual(self.gq(command, "//a", "none.xml", code=5)[1], "gq: none.xml: No such file or directory\n")
             self.assertEqual(self.gq(command, "//a", self.folder, code=5)[1], f"gq: {self.folder}: Is a directory\n")
-        self.assertEqual(self.shell(f"$GQ plot '{COMMA}' items.xml >/dev/full")[0], 6)
+
+    def test_ends(self) -> None:
+        for command in ("plan /a", f"held '{COMMA}' items.xml", f"plot '{COMMA}' items.xml"):
+            code, _, err = self.shell(f"$GQ {command} >/dev/full")
+            self.assertEqual((code, err), (6, "gq: standard output: No space left on device\n"), command)
+            code, _, err = self.shell(f"set -o pipefail; (sleep 0.2; exec $GQ {command}) | true")
+            self.assertEqual((code, err), (141, ""), command)
+
+    def test_no_gcx_outlives_a_signal(self) -> None:
+        started = self.folder + "/started"
+        for number, text in ((signal.SIGINT, "time.sleep(60)"), (signal.SIGTERM, "while True: os.write(2, b'w 1\\n' * 1000)")):
+            explains = f"if sys.argv[1] == 'explain':\n  os.unlink({started!r})\n  os.execv({GCX!r}, sys.argv)"
+            self.fake(f"{explains}\nsignal.signal(signal.SIGPIPE, signal.SIG_IGN)\n{text}")
+            child = self.start("held", "/a", "bib.xml")
+            pid = self.started()
+            time.sleep(0.3)
+            pid = self.started()
+            child.send_signal(number)
+            self.assertEqual(child.wait(timeout=60), -number)
+            self.assertEqual(child.communicate(), (b"", b""))
+            self.gone(pid)
+            os.unlink(started)
+
+    def test_names_that_are_no_utf8(self) -> None:
+        name = b"caf\xe9 <&>.xml"
+        self.write(name, items(2))
+        self.write("held.svg", self.gq("plot", "/items/item", name)[0])
+        title = self.gq("-l", "/svg/title/text()", "held.svg")[0].decode()
+        self.assertEqual(title, "Nodes held over caf\ufffd &lt;&amp;&gt;.xml: at most 7 of 12\n")
+        self.assertIn(b"peak 7 of 12 nodes", self.gq("held", "/items/item", name)[0])
+        for command in (["plan"], ["held"], ["plot"]):
+            words = [*command, b"/caf\xe9"] + ([] if command == ["plan"] else ["items.xml"])
+            self.assertRegex(self.gq(*words, code=3)[1], r"\Aquery:1:5: not UTF-8")
 
     def test_many_paths(self) -> None:
         document = "<r>" + "".join(f"<n{it}><v>{it}</v></n{it}>" for it in range(400)) + "</r>"
