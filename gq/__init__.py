@@ -15,5 +15,8 @@ Modules by subject:
     kept      lines and columns of a document
     faults, hints    messages with line, column, caret and hint
     outline, nearest    what a document has, and what a query that matches nothing may have meant
-    plan, held, plot, progress, pretty
+    explained, waits, reasons    a plan, until when its roles keep their nodes, and that in words
+    trace, watched    what a run holds, from its trace
+    plan, held, plot, svg    the orders that tell what is kept, and pictures
+    progress, pretty    how far a run is; an answer with line ends and indentation
 """

@@ -40,36 +40,36 @@ class Quiet(Plain):
 
 
 class Lines:
-    """Each marked match as a line, whatever its size: of a match no more than a block is kept."""
+    """Each match as a line, whatever its size: of a match no more than a block is kept. A mark stands after each."""
 
     def __init__(self, mark: bytes, zero: bool) -> None:
-        self.begin, self.close = b"<" + mark + b">", b"</" + mark + b">"
+        self.mark = b"<" + mark + b"></" + mark + b">"
         self.zero = zero
         self.line_end = b"\0" if zero else b"\n"
         self.held = b""
         self.any = False
 
     def feed(self, block: bytes) -> bytes:
-        """A block of the answer. After the end of a match nothing stands but the beginning of the next."""
+        """A block of the answer."""
         self.any = True
         text = self.held + block
-        tag = text.rfind(b"<", -len(self.close) + 1)
-        if tag >= 0 and (self.close.startswith(text[tag:]) or self.begin.startswith(text[tag:])):
-            text, self.held = text[:tag], text[tag:]
-        else:
-            self.held = b""
+        at = begin_of_mark(text, self.mark)
+        text, self.held = text[:at], text[at:]
         if not self.zero and b"\n" in text:
             text = text.replace(b"\n", b"&#10;")
-        text = text.replace(self.close + self.begin, self.line_end)
-        if text.startswith(self.begin):
-            text = text[len(self.begin):]
-        if text.endswith(self.close):
-            text = text[:-len(self.close)] + self.line_end
-        return text
+        return text.replace(self.mark, self.line_end)
 
     def end(self) -> bytes:
         """A match that a fault cut stays as it is."""
         return self.held
+
+
+def begin_of_mark(text: bytes, mark: bytes) -> int:
+    """The place from which on a text is a beginning of the mark, which may be its end."""
+    at = text.find(b"<", max(0, len(text) - len(mark) + 1))
+    while at >= 0 and not mark.startswith(text[at:]):
+        at = text.find(b"<", at + 1)
+    return len(text) if at < 0 else at
 
 
 class Count:

@@ -11,7 +11,6 @@ FUNCTIONS = (b"contains", b"starts-with", b"ends-with", b"string", b"concat", b"
              b"distinct-values", b"normalize-space", b"name", b"local-name", b"data", b"string-length", b"substring", b"empty", b"matches",
              b"id", b"root", b"round", b"floor", b"ceiling", b"false", b"string-join", b"upper-case", b"lower-case", b"translate")
 WORD_RELATIONS = {b"lt": "<", b"le": "<=", b"gt": ">", b"ge": ">=", b"eq": "=", b"ne": "!="}
-NAME_END = re.compile(rb"[-.\w:]*\Z")
 
 
 def word_at(text: bytes, place: int) -> bytes:

@@ -3,7 +3,6 @@ from __future__ import annotations
 
 from gq.table import CELL, MOST, ROW, VALUE, cut_at_mark, decoded
 
-NO_TEXT = b"\0"  # no document has it
 ESCAPES = ((b"\\", b"\\\\"), (b'"', b'\\"'), (b"\n", b"\\n"), (b"\t", b"\\t"), (b"\r", b"\\r"))
 
 
@@ -22,7 +21,8 @@ class JsonRows:
         self.emit = emit
         names = [b'"' + quoted(it) + b'":' for it in columns]
         self.names = names
-        self.single = b"{" + b",".join(it.replace(b"%", b"%%") + b'"%b"' for it in names) + b"}\n"
+        row = b"{" + b",".join(it.replace(b"%", b"%%") + b"%b" for it in names) + b"}\n"
+        self.any_row, self.single = row, row.replace(b"%b", b'"%b"')
         self.any = False
         self.held = b""
         self.cell = Cell(emit)
@@ -49,25 +49,16 @@ class JsonRows:
         return b""
 
     def whole(self, text: bytes) -> bytes:
-        """Rows that are whole."""
-        text = quoted(text)
-        count = text.count(ROW)
-        flat = text.replace(VALUE + CELL, NO_TEXT).replace(VALUE + ROW, NO_TEXT)
-        if text.count(VALUE) == count * len(self.names) == flat.count(NO_TEXT):  # each cell has one value
-            cells = flat.split(NO_TEXT)
+        """Rows that are whole, all at once; most have one value in each cell."""
+        text, rows = quoted(text), text.count(ROW)
+        middle, last = text.count(VALUE + CELL), text.count(VALUE + ROW)
+        if last == rows and middle == rows * (len(self.names) - 1) and text.count(VALUE) == middle + last:
+            cells = text.replace(VALUE + ROW, VALUE + CELL).split(VALUE + CELL)
             cells.pop()
-            return decoded(self.single * count % tuple(cells))
-        rows = text.split(ROW)
-        rows.pop()
-        return decoded(b"".join([self.row(it.split(CELL)) for it in rows]))
-
-    def row(self, cells: list[bytes]) -> bytes:
-        """A row of these cells, each value with its mark after it."""
-        values = [it[:-7] for it in cells]
-        joined = b"".join(values)
-        if b"<" not in joined and b"" not in cells:
-            return self.single % tuple(values)
-        return b"{" + b",".join([name + value(it) for name, it in zip(self.names, cells)]) + b"}\n"
+            return decoded((self.single * rows) % tuple(cells))
+        cells = text.replace(ROW, CELL).split(CELL)
+        cells.pop()
+        return decoded((self.any_row * rows) % tuple([value(it) for it in cells]))
 
     def piece(self, text: bytes) -> None:
         """A piece of one row."""
@@ -94,12 +85,12 @@ class JsonRows:
 
 def value(cell: bytes) -> bytes:
     """The JSON of a cell that is whole."""
+    if cell.find(b"<") == len(cell) - len(VALUE):
+        return b'"%b"' % cell[:-len(VALUE)]
     values = cell.split(VALUE)
     values.pop()
     if not values:
         return b"null"
-    if len(values) == 1:
-        return b'"' + values[0] + b'"'
     return b'["' + b'","'.join(values) + b'"]'
 
 

@@ -50,5 +50,11 @@ def as_it_is(query: bytes) -> Made:
 
 
 def new_mark() -> bytes:
-    """A name that no document has: it is another in each run."""
-    return b"g" + os.urandom(8).hex().encode()
+    """A name that no document has: it is one of 10^14, another in each run."""
+    letters = b"abcdefghijklmnopqrstuvwxyzABCDEFGHIJKLMNOPQRSTUVWXYZ"
+    number = int.from_bytes(os.urandom(8), "big")
+    name = b"_"
+    for _ in range(8):
+        number, letter = divmod(number, len(letters))
+        name += letters[letter:letter + 1]
+    return name

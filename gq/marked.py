@@ -6,7 +6,7 @@ from gq.syntax import Grammar, Path, Slip
 
 
 class Marking(Grammar):
-    """Notes the edits that put each part of the answer into a pair of tags."""
+    """Notes the edits that put a mark after each part of the answer: an empty pair of tags."""
 
     def __init__(self, text: bytes, mark: bytes) -> None:
         super().__init__(text)
@@ -17,13 +17,13 @@ class Marking(Grammar):
     def met_output(self, path: Path) -> None:
         """Each match of a path is a part."""
         if path.steps:
-            self.put(path.start, b" for $gq in ", path.end, b" return <" + self.mark + b">{$gq}</" + self.mark + b">")
+            self.put(path.start, b" for $gq in ", path.end, b" return ($gq, <" + self.mark + b"/>)")
         else:
-            self.put(path.start, b"<" + self.mark + b">{", path.end, b"}</" + self.mark + b">")
+            self.met_element(path.start, path.end)
 
     def met_element(self, start: int, end: int) -> None:
         """A constructor is one."""
-        self.put(start, b"<" + self.mark + b">", end, b"</" + self.mark + b">")
+        self.put(start, b" (", end, b", <" + self.mark + b"/>)")
 
     def put(self, start: int, before: bytes, end: int, after: bytes) -> None:
         """Puts words before a part and after it."""
@@ -31,7 +31,7 @@ class Marking(Grammar):
 
 
 class Counting(Marking):
-    """Writes an empty pair of tags for each part: nothing of the document is copied."""
+    """Writes the mark alone for each part: nothing of the document is copied."""
 
     drops = False  # a part of the query isn't in what is made, so that gcx wouldn't judge it
 
@@ -49,12 +49,12 @@ class Counting(Marking):
 
 
 def marked(query: bytes, mark: bytes) -> Made:
-    """The query with each match in a pair of tags. Raises `Slip` for what is no query."""
+    """The query with a mark after each match. Raises `Slip` for what is no query."""
     return made_by(Marking(query, mark), query)
 
 
 def counted(query: bytes, mark: bytes) -> tuple[Made, bool]:
-    """The query with an empty pair of tags for each match, and whether all of the query is in it. Raises `Slip` for what is no query."""
+    """The query with a mark for each match, and whether all of the query is in it. Raises `Slip` for what is no query."""
     reader = Counting(query, mark)
     return made_by(reader, query), not reader.drops
 

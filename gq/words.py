@@ -8,7 +8,6 @@ from gq import program
 from gq.flow import Closed, Full
 from gq.say import Ended, Refused, tell
 
-WORD_OPTIONS = b"ftws"  # those that take a word
 
 
 class Order:

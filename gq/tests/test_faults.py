@@ -147,7 +147,7 @@ class Faults(Case):
     def test_query_that_gq_made_is_shown(self) -> None:
         _, err = self.gq("-l", "//book/title", "bib.xml", code=3)
         self.assertTrue(err.startswith("query:1:1: a step follows //"), err)
-        self.assertRegex(err, r"made by gq: for \$gq in //book/title return <g[0-9a-f]{16}>")
+        self.assertRegex(err, r"made by gq: for \$gq in //book/title return \(\$gq, <_[A-Za-z]{8}/>\)")
         _, err = self.gq("-t", "/bib/book", "-w", "//a/b = 1 and IntegerWide = 99999999999999999999", "title", "--", "bib.xml", code=3)
         self.assertTrue(err.startswith("condition:1:29: the number is beyond"), err)
         self.assertIn("made by gq: for $gq in /bib/book where //a/b = 1 and $gq/IntegerWide", err)

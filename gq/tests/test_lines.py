@@ -5,7 +5,7 @@ import re
 import subprocess
 import unittest
 
-from gq import marked
+from gq import answer, marked
 from gq.made import as_it_is
 from gq.syntax import Slip
 from gq.tests.common import GCX, TOP, Case
@@ -111,6 +111,13 @@ class Lines(Case):
             self.assertEqual(self.read_some(child, len(wanted)), wanted)
             child.communicate(b"</a>")
             self.assertEqual(child.returncode, 0)
+
+    def test_a_mark_in_pieces(self) -> None:
+        text, mark = b"<a>1</a><mm/><m></mm><m></m><a>\n2</a><m></m><", b"m"
+        for size in range(1, 12):
+            lines = answer.Lines(mark, False)
+            out = b"".join(lines.feed(text[at:at + size]) for at in range(0, len(text), size)) + lines.end()
+            self.assertEqual(out, b"<a>1</a><mm/><m></mm>\n<a>&#10;2</a>\n<")
 
     def test_a_match_in_pieces(self) -> None:
         text = b"<b>" + b"<c>\nx&amp;</c>" * 100_000 + b"</b>"

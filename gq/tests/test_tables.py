@@ -90,6 +90,10 @@ class Tables(Case):
         self.write("d.xml", "<r><a><b/><b/></a><a/><a><b></b></a><a><b>\r\x7f\u2028%s é</b></a></r>")
         rows = [json.loads(it) for it in self.gq("-jt", "/r/a", "b", "--", "d.xml")[0].decode().rstrip("\n").split("\n")]
         self.assertEqual(rows, [{"b": ["", ""]}, {"b": None}, {"b": ""}, {"b": "\r\x7f\u2028%s é"}])
+        out = self.gq("-jt", "/r/a", "b", "%b", "--", "d.xml", code=3)
+        self.write("d.xml", "<r>" + "<a><b>%b 100%</b><c>1</c></a>" * 3 + "</r>")
+        rows = [json.loads(it) for it in self.gq("-jt", "/r/a", "b", "c", "--", "d.xml")[0].splitlines()]
+        self.assertEqual(rows, [{"b": "%b 100%", "c": "1"}] * 3)
         if shutil.which("jq"):
             done = self.shell("$GQ -jt /bib/book title author -- bib.xml | jq -r '.author | if type == \"array\" then length else 1 end'")
             self.assertEqual(done, (0, b"1\n2\n", ""))
