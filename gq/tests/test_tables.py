@@ -1,0 +1,137 @@
+"""Tables as text and as JSON, and their conditions."""
+from __future__ import annotations
+
+import json
+import shutil
+import unittest
+
+from gq.made import Made
+from gq.marked import condition_edits
+from gq.syntax import Slip
+from gq.tests.common import Case
+
+CONDITIONS = [  # what is written, and what it is for the row
+    ("price < 50", "$gq/price < 50"),
+    ("price<50", "$gq/price<50"),
+    ("@year = 1994", "$gq/year = 1994"),
+    ("a/b = 'x'", "$gq/a/b = 'x'"),
+    ("a/@b != c/d", "$gq/a/b != $gq/c/d"),
+    (". = 'and'", "$gq = 'and'"),
+    ("text() = \"or\"", "$gq/text() = \"or\""),
+    ("exists(a) and not(exists(b/text()))", "exists($gq/a) and not(exists($gq/b/text()))"),
+    ("not(a = 1 or b = 2)", "not($gq/a = 1 or $gq/b = 2)"),
+    ("and = 1 and or = 2 or not = 3", "$gq/and = 1 and $gq/or = 2 or $gq/not = 3"),
+    ("exists(exists) and true()", "exists($gq/exists) and true()"),
+    ("'say \"\"and\"\" price' = note", "'say \"\"and\"\" price' = $gq/note"),
+    ("a-b >= -5 and a.b <= 2.50", "$gq/a-b >= -5 and $gq/a.b <= 2.50"),
+    ("dc:date = '1'", "$gq/dc:date = '1'"),
+    (".//name = 'x'", "$gq//name = 'x'"),
+    ("./a = * ", "$gq/a = $gq/* "),
+    ("a//b = 1", "$gq/a//b = 1"),
+    ("child::a = descendant::b", "$gq/child::a = $gq/descendant::b"),
+    ("/bib/limit = price", "/bib/limit = $gq/price"),
+    ("(a = 1 (: b = 2 :) and (text = 3))", "($gq/a = 1 (: b = 2 :) and ($gq/text = 3))"),
+    ("größe > 3", "$gq/größe > 3"),
+    ("a = 'it''s'", "$gq/a = 'it''s'"),
+]
+REFUSED = ["price", "a = 1 return <x/>", "a = 1) or (b = 2", "a[1] = 2", "a + 1 = 2", "../a = 1", "a lt 5", "contains(a, 'b')", "1 = 2", "",
+           "a = 1, b = 2", "a = }", "a/. = 1", "exists()"]
+
+
+class Conditions(unittest.TestCase):
+    """Names of a condition become paths of the row."""
+
+    def test_conditions(self) -> None:
+        self.assertGreaterEqual(len(CONDITIONS), 20)
+        for text, wanted in CONDITIONS:
+            with self.subTest(text=text):
+                words = text.encode()
+                self.assertEqual(Made().add_edited("condition", words, condition_edits(words)).text.decode(), wanted)
+
+    def test_refused(self) -> None:
+        for text in REFUSED:
+            with self.subTest(text=text), self.assertRaises(Slip):
+                condition_edits(text.encode())
+
+
+class Tables(Case):
+    """Rows and cells."""
+
+    def test_rows(self) -> None:
+        self.answers("1994\tTCP/IP\tStevens\n2000\tData on the Web\tAbiteboul;Buneman\n",
+                     "-t", "/bib/book", "@year", "title", "author", "--", "bib.xml")
+        self.answers("2000\tData on the Web\n", "-t", "/bib/book", "-w", "price < 50", "@year", "title", "--", "bib.xml")
+        self.answers("2000\tAbiteboul and Buneman\n", "-t", "/bib/book", "-w", "@year = 2000", "-s", " and ", "@year", "author", "--", "bib.xml")
+        self.answers("2000\tAbiteboulBuneman\n", "-t", "/bib/book", "-w", "@year = 2000", "-s", "", "@year", "author", "--", "bib.xml")
+        self.answers("A < B & C\n", "-t", "//note", ".", "--", "bib.xml")
+
+    def test_cells_never_shift(self) -> None:
+        self.write("d.xml", "<r><a><x>1</x></a><a><y>2</y></a><a/><a><y/><x/></a></r>")
+        self.answers("1\t\n\t2\n\t\n\t\n", "-t", "/r/a", "x", "y", "--", "d.xml")
+        self.answers("\t1\t\n\t\t2\n\t\t\n\t\t\n", "-t", "/r/a", "none", "x", "y", "--", "d.xml")
+
+    def test_string_values(self) -> None:
+        self.write("d.xml", "<r><a id='7'><t>On <i>XML</i>!</t><p c='E'>9<!-- x -->5</p><b/><t><![CDATA[<&>]]></t></a></r>")
+        self.answers("7\tOn XML!;<&>\tE95\t95\tXML\t\n", "-t", "/r/a", "@id", "t", "p", "p/text()", "t/i", "b", "--", "d.xml")
+        self.answers("On ;!;<&>\tXML\t7;On XML!;E95;;<&>\n", "-t", "/r/a", "t/text()", ".//i", "*", "--", "d.xml")
+        self.answers("E\t95\n", "-t", "/r/a/p", "@c", "text()", "--", "d.xml")
+
+    def test_signs(self) -> None:
+        self.write("d.xml", "<r><a><t>a\tb\nc\\d;e&amp;amp;&lt;&quot;</t><t>f</t></a></r>")
+        self.answers("a\\tb\\nc\\\\d;e&amp;<\";f\n", "-t", "/r/a", "t", "--", "d.xml")
+        row = json.loads(self.gq("-j", "-t", "/r/a", "t", "--", "d.xml")[0])
+        self.assertEqual(row, {"t": ["a\tb\nc\\d;e&amp;<\"", "f"]})
+
+    def test_json(self) -> None:
+        out = self.gq("-jt", "/bib/book", "@year", "title", "author", "none", ".", "--", "bib.xml")[0]
+        rows = [json.loads(it) for it in out.splitlines()]
+        self.assertEqual(rows[0], {"@year": "1994", "title": "TCP/IP", "author": "Stevens", "none": None, ".": "1994TCP/IPStevens65.95"})
+        self.assertEqual(rows[1]["author"], ["Abiteboul", "Buneman"])
+        self.write("d.xml", "<r><a><b/><b/></a><a/><a><b></b></a><a><b>\r\x7f\u2028%s é</b></a></r>")
+        rows = [json.loads(it) for it in self.gq("-jt", "/r/a", "b", "--", "d.xml")[0].decode().rstrip("\n").split("\n")]
+        self.assertEqual(rows, [{"b": ["", ""]}, {"b": None}, {"b": ""}, {"b": "\r\x7f\u2028%s é"}])
+        out = self.gq("-jt", "/r/a", "b", "%b", "--", "d.xml", code=3)
+        self.write("d.xml", "<r>" + "<a><b>%b 100%</b><c>1</c></a>" * 3 + "</r>")
+        rows = [json.loads(it) for it in self.gq("-jt", "/r/a", "b", "c", "--", "d.xml")[0].splitlines()]
+        self.assertEqual(rows, [{"b": "%b 100%", "c": "1"}] * 3)
+        if shutil.which("jq"):
+            done = self.shell("$GQ -jt /bib/book title author -- bib.xml | jq -r '.author | if type == \"array\" then length else 1 end'")
+            self.assertEqual(done, (0, b"1\n2\n", ""))
+
+    def test_parts_that_are_refused(self) -> None:
+        for words, place, part in ((["/bib/book[1]", "title"], "row:1:10", "no predicates"), (["bib/book", "title"], "row:1:1", "begins with /"),
+                                   (["/bib/book", "title[1]"], "column:1:6", "no predicates"), (["/bib/book", "/title"], "column:1:1", "without a slash"),
+                                   (["/bib/book", "title}"], "column:1:6", "can't stand"), (["/bib/book", "a", "../x"], "column:1:2", ""),
+                                   (["/bib/book", "node()"], "column:1:1", "node()"), (["/bib/book", "title", "-w", "price"], "condition:1:6", "exists"),
+                                   (["/bib/book", "title,author"], "column:1:6", "a word of its own"),
+                                   (["/bib/book", "title", "-w", "$b/price < 5"], "condition:1:1", "without a variable"),
+                                   (["//bib/book", "title"], "row:1:1", "a loop"), (["/bib/book", "a//b/c"], "column:1:2", "a loop")):
+            with self.subTest(words=words):
+                out, err = self.gq("-t", *words, "--", "bib.xml", code=3)
+                self.assertEqual(out, b"")
+                self.assertTrue(err.startswith(place + ": "), err)
+                self.assertIn(part, err)
+
+    def test_rows_in_pieces(self) -> None:
+        row = b"<a><b>x&amp;y\n</b><b/><c>1</c></a>"
+        out = self.gq("-t", "/r/a", "b", "c", stdin=b"<r>" + row * 60_000 + b"</r>")[0]
+        self.assertEqual(out, b"x&y\\n;\t1\n" * 60_000)
+
+    def test_large_rows(self) -> None:
+        large = b"<a>" + b"<b>x&amp;\"\n and more</b>" * 60_000 + b"<b/>" * 60_000 + b"<c>1</c></a>"
+        document = b"<r><a><c>0</c></a>" + large + b"<a><b>2</b></a>" + large + b"</r>"
+        wide = b";".join([b'x&"\\n and more'] * 60_000 + [b""] * 60_000) + b"\t1\n"
+        self.assertEqual(self.gq("-t", "/r/a", "b", "c", stdin=document)[0], b"\t0\n" + wide + b"2\t\n" + wide)
+        rows = [json.loads(it) for it in self.gq("-jt", "/r/a", "b", "c", stdin=document)[0].splitlines()]
+        values = ['x&"\n and more'] * 60_000 + [""] * 60_000
+        self.assertEqual(rows, [{"b": None, "c": "0"}, {"b": values, "c": "1"}, {"b": "2", "c": None}, {"b": values, "c": "1"}])
+
+    def test_a_large_cell(self) -> None:
+        document = b"<r><a><b>" + b"<c>0123456789\\</c>" * 120_000 + b"</b></a></r>"
+        text = b"0123456789\\\\" * 120_000
+        self.assertEqual(self.gq("-t", "/r/a", "b", stdin=document)[0], text + b"\n")
+        self.assertEqual(self.gq("-jt", "/r/a", "b", stdin=document)[0], b'{"b":"' + text + b'"}\n')
+
+
+if __name__ == "__main__":
+    unittest.main()
