@@ -78,6 +78,7 @@ pub(crate) fn far(most: usize) -> How<'static> {
 pub(crate) struct Answered(&'static [u8], &'static [u8], &'static [u8]);
 
 /// The same with the number of lists that are made, where conditions have an index.
+#[derive(Clone, Copy)]
 pub(crate) struct Built<'a>(&'a [u8], &'a [u8], &'a [u8], u64);
 
 /// The document, and what takes output and trace.

@@ -7,7 +7,7 @@ use std::process::Abort;
 use std::test::Fail;
 
 /// The variable's node, by its place and serial.
-fn is_bound(rt: &impl Abort, env: &Env, variable: u32, want: Option<(u32, u64)>) {
+fn is_bound(rt: &impl Abort, env: &Env, variable: u32, want: Option<(usize, u64)>) {
     let got = match env.get(VarId(variable)) {
         Some((place, serial)) => Some((place.0, serial.0)),
         None => None,
@@ -16,7 +16,7 @@ fn is_bound(rt: &impl Abort, env: &Env, variable: u32, want: Option<(u32, u64)>)
 }
 
 /// The nodes of the variables 0 and 2; the variable 1 has none.
-fn are_bound(rt: &impl Abort, env: &Env, first: Option<(u32, u64)>, last: Option<(u32, u64)>) {
+fn are_bound(rt: &impl Abort, env: &Env, first: Option<(usize, u64)>, last: Option<(usize, u64)>) {
     is_bound(rt, env, 0, first);
     is_bound(rt, env, 1, None);
     is_bound(rt, env, 2, last);
