@@ -243,14 +243,14 @@ fn assert_passes(rt: &impl Abort, alloc: Global, kind: &Kind, passed: &[bool]) -
 enum Made {
     Document,
     Element(&'static [u8]),
-    Text(&'static [u8]),
+    Text(&'static str),
 }
 
 fn kind_made(alloc: Global, made: Made) -> Result<Kind, Fail> {
     match made {
         Made::Document => Ok(Kind::Document),
         Made::Element(bytes) => Ok(Kind::Element(name(alloc, bytes)?)),
-        Made::Text(bytes) => Ok(Kind::Text(Text::of_text(alloc, bytes)?)),
+        Made::Text(text) => Ok(Kind::Text(Text::of_text(alloc, text.as_bytes())?)),
     }
 }
 
@@ -272,7 +272,7 @@ const KINDS: &[(Made, &[bool], bool)] = &[
     (Made::Document, &[false, false, false, false], false),
     (Made::Element(b"a"), &[true, true, false, true], false),
     (Made::Element(b"b"), &[false, true, false, true], false),
-    (Made::Text(b"a"), &[false, false, true, true], true),
+    (Made::Text("a"), &[false, false, true, true], true),
 ];
 
 #[test]

@@ -37,7 +37,7 @@ fn assert_has(rt: &impl Abort, roles: &RoleSet, numbers: &[u32]) {
 /// Takes the roles in turn: each is there before, and not after.
 fn take_all(rt: &impl Abort, roles: &mut RoleSet, numbers: &[u32]) {
     for number in numbers {
-        assert_role(rt, roles, *number, true);
+        assert!(rt; roles.has(Role(*number)), "at {number}");
         roles.take(Role(*number));
         assert_role(rt, roles, *number, false);
     }

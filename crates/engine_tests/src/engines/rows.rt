@@ -1,6 +1,6 @@
 //! The worked rows that are runs.
 use super::{
-    Answered, How, PIECES, Ran, ends, is_answered_in_pieces, is_left, plainly, run, run_raw,
+    Answered, How, PIECES, Ran, ends, far, is_answered_in_pieces, is_left, plainly, run, run_raw,
 };
 use crate::large::spelled;
 use buf_tree::Row;
@@ -173,9 +173,18 @@ fn many_chains_to_a_node_are_walked_once(rt: HostRuntime) -> Result<(), Fail> {
     let alloc = rt.alloc();
     let document = spelled(alloc, &[("<x>", 0, 1000), ("</x>", 0, 1000)])?;
     let query = b"if (//x//x//x//x//x//x = \"1\") then <y/> else <n/>";
-    let how = plainly(65_536);
+    let (ran, _) = run_raw(&rt, alloc, query, &document, plainly(65_536))?;
+    is_left(&rt, &ran, query, Ended::Ok, b"<n></n>");
     // with and without an index
-    ends(&rt, alloc, query, &document, how, Ended::Ok, b"<n></n>")?;
+    ends(
+        &rt,
+        alloc,
+        query,
+        &document,
+        far(65_536),
+        Ended::Ok,
+        b"<n></n>",
+    )?;
     Ok(())
 }
 
