@@ -533,22 +533,34 @@ fn documents_are_read_in_any_pieces(rt: HostRuntime) -> Result<(), Fail> {
     Ok(())
 }
 
-/// Documents that are refused, with the tokens before the fault.
-const REFUSED: &[&[(&[u8], &[u8], DocFault)]] = &[
-    OTHER_ELEMENTS,
-    OTHER_ATTRIBUTES,
-    OTHER_RUNS,
-    OTHER_MARKUP,
-    OTHER_FRONTS,
-    forms::FAULTS,
-];
+#[test]
+fn other_elements_are_refused(rt: HostRuntime) -> Result<(), Fail> {
+    are_refused(&rt, rt.alloc(), Limits::full(), OTHER_ELEMENTS)
+}
 
 #[test]
-fn other_documents_are_refused(rt: HostRuntime) -> Result<(), Fail> {
-    for rows in REFUSED {
-        are_refused(&rt, rt.alloc(), Limits::full(), rows)?;
-    }
-    Ok(())
+fn other_attributes_are_refused(rt: HostRuntime) -> Result<(), Fail> {
+    are_refused(&rt, rt.alloc(), Limits::full(), OTHER_ATTRIBUTES)
+}
+
+#[test]
+fn other_runs_are_refused(rt: HostRuntime) -> Result<(), Fail> {
+    are_refused(&rt, rt.alloc(), Limits::full(), OTHER_RUNS)
+}
+
+#[test]
+fn other_markup_is_refused(rt: HostRuntime) -> Result<(), Fail> {
+    are_refused(&rt, rt.alloc(), Limits::full(), OTHER_MARKUP)
+}
+
+#[test]
+fn other_fronts_are_refused(rt: HostRuntime) -> Result<(), Fail> {
+    are_refused(&rt, rt.alloc(), Limits::full(), OTHER_FRONTS)
+}
+
+#[test]
+fn each_fault_has_its_place(rt: HostRuntime) -> Result<(), Fail> {
+    are_refused(&rt, rt.alloc(), Limits::full(), forms::FAULTS)
 }
 
 /// Documents that end too soon, and their tokens.

@@ -50,26 +50,3 @@ fn are_explained(rt: &impl Abort, alloc: Global, rows: &[Row]) -> Result<(), Fai
     }
     Ok(())
 }
-
-/// All the queries with their plans.
-const PLANS: &[&[Row]] = &[
-    vectors::SHOWN,
-    conditions::EXISTS,
-    conditions::COMPARED,
-    conditions::JOINED,
-    branches::FILTERED,
-    branches::NESTED,
-    branches::PATHS,
-    loops::FOREIGN,
-    loops::DEEP,
-    loops::SHADOWED,
-    loops::SIDE_BY_SIDE,
-];
-
-#[test]
-fn plans_are_explained_line_by_line(rt: HostRuntime) -> Result<(), Fail> {
-    for rows in PLANS {
-        are_explained(&rt, rt.alloc(), rows)?;
-    }
-    Ok(())
-}

@@ -1,8 +1,8 @@
 //! Plans of branches that are moved inside loops.
-use super::Row;
+use super::{Row, are_explained};
+use std::test::Fail;
 
-/// A where is moved inside the loops of its body.
-pub(super) const FILTERED: &[Row] = &[
+const FILTERED: &[Row] = &[
     // a where over a loop: it goes inside the loop
     (
         r#"for $x in /a where exists($x/k) return for $y in $x/b return $y"#,
@@ -168,8 +168,7 @@ off 0 0 . . own
     ),
 ];
 
-/// A branch is moved with those round it.
-pub(super) const NESTED: &[Row] = &[
+const NESTED: &[Row] = &[
     // nested ifs with loops in both branches
     (
         r#"for $x in /a return if (exists($x/p)) then (if (exists($x/q)) then $x/b else $x/c) else $x/d"#,
@@ -386,8 +385,7 @@ off 0 0 . . own
     ),
 ];
 
-/// Output paths of both sides are loops.
-pub(super) const PATHS: &[Row] = &[
+const PATHS: &[Row] = &[
     // output paths in branches, the second one from the document node
     (
         r#"for $x in /r return if ($x/k = 1) then $x/a/b else //c"#,
@@ -575,3 +573,18 @@ off 0 0 . . own
 "#,
     ),
 ];
+
+#[test]
+fn a_where_is_moved_inside_the_loops_of_its_body(rt: HostRuntime) -> Result<(), Fail> {
+    are_explained(&rt, rt.alloc(), FILTERED)
+}
+
+#[test]
+fn a_branch_is_moved_with_those_round_it(rt: HostRuntime) -> Result<(), Fail> {
+    are_explained(&rt, rt.alloc(), NESTED)
+}
+
+#[test]
+fn output_paths_of_both_sides_are_loops(rt: HostRuntime) -> Result<(), Fail> {
+    are_explained(&rt, rt.alloc(), PATHS)
+}

@@ -1,8 +1,8 @@
 //! Plans with conditions.
-use super::Row;
+use super::{Row, are_explained};
+use std::test::Fail;
 
-/// A path that is looked for has one role.
-pub(super) const EXISTS: &[Row] = &[
+const EXISTS: &[Row] = &[
     // exists of a variable alone is true
     (
         r#"for $x in /a return if (exists($x) and not(exists($x/b))) then $x else ()"#,
@@ -101,8 +101,7 @@ off 0 0 . . own
     ),
 ];
 
-/// Each path of a comparison has a role.
-pub(super) const COMPARED: &[Row] = &[
+const COMPARED: &[Row] = &[
     // a comparison of two paths of two variables
     (
         r#"for $a in /r/x, $b in $a/y where $a/k != $b/m/n return $b"#,
@@ -223,8 +222,7 @@ off 0 0 . . own
     ),
 ];
 
-/// Conditions are read from the left.
-pub(super) const JOINED: &[Row] = &[
+const JOINED: &[Row] = &[
     // not, and, or
     (
         r#"for $x in /r return if (not($x/a = $x/b) and (true() or exists($x//c)) and ($x < 2 or $x > 5)) then <y/> else ()"#,
@@ -276,3 +274,18 @@ off 0 0 . . own
 "#,
     ),
 ];
+
+#[test]
+fn a_path_that_is_looked_for_has_one_role(rt: HostRuntime) -> Result<(), Fail> {
+    are_explained(&rt, rt.alloc(), EXISTS)
+}
+
+#[test]
+fn each_path_of_a_comparison_has_a_role(rt: HostRuntime) -> Result<(), Fail> {
+    are_explained(&rt, rt.alloc(), COMPARED)
+}
+
+#[test]
+fn conditions_are_read_from_the_left(rt: HostRuntime) -> Result<(), Fail> {
+    are_explained(&rt, rt.alloc(), JOINED)
+}

@@ -1,8 +1,8 @@
 //! Plans of loops.
-use super::Row;
+use super::{Row, are_explained};
+use std::test::Fail;
 
-/// Loops over another variable have an outer base.
-pub(super) const FOREIGN: &[Row] = &[
+const FOREIGN: &[Row] = &[
     // foreign loops: a nest in a nest
     (
         r#"for $a in /r/x return for $b in /r/y return <m/>"#,
@@ -147,8 +147,7 @@ off 0 0 . . own
     ),
 ];
 
-/// A second descendant step has an outer base.
-pub(super) const DEEP: &[Row] = &[
+const DEEP: &[Row] = &[
     // two descendant steps on a path
     (
         r#"for $x in //a return for $y in $x//b return $y"#,
@@ -198,8 +197,7 @@ off 0 0 . . own
     ),
 ];
 
-/// Hidden variables are renamed.
-pub(super) const SHADOWED: &[Row] = &[
+const SHADOWED: &[Row] = &[
     // shadowing, and a copy of the inner one
     (
         r#"for $x in /a return for $x in $x/b return ($x, $x/c)"#,
@@ -303,8 +301,7 @@ off 0 0 . . own
     ),
 ];
 
-/// Loops side by side are straight.
-pub(super) const SIDE_BY_SIDE: &[Row] = &[
+const SIDE_BY_SIDE: &[Row] = &[
     // sequences, and nothing between
     (
         r#"<a/>, (), (/b, ((), <c/>))"#,
@@ -420,3 +417,23 @@ off 0 0 . . own
 "#,
     ),
 ];
+
+#[test]
+fn loops_over_another_variable_have_an_outer_base(rt: HostRuntime) -> Result<(), Fail> {
+    are_explained(&rt, rt.alloc(), FOREIGN)
+}
+
+#[test]
+fn a_second_descendant_step_has_an_outer_base(rt: HostRuntime) -> Result<(), Fail> {
+    are_explained(&rt, rt.alloc(), DEEP)
+}
+
+#[test]
+fn hidden_variables_are_renamed(rt: HostRuntime) -> Result<(), Fail> {
+    are_explained(&rt, rt.alloc(), SHADOWED)
+}
+
+#[test]
+fn loops_side_by_side_are_straight(rt: HostRuntime) -> Result<(), Fail> {
+    are_explained(&rt, rt.alloc(), SIDE_BY_SIDE)
+}

@@ -1,8 +1,8 @@
 //! Plans that the documents show whole.
-use super::Row;
+use super::{Row, are_explained};
+use std::test::Fail;
 
-/// Plans are explained line by line.
-pub(super) const SHOWN: &[Row] = &[
+const SHOWN: &[Row] = &[
     (
         "()",
         r#"var 0 root
@@ -92,3 +92,8 @@ off 0 0 . . own
 "#,
     ),
 ];
+
+#[test]
+fn plans_are_explained_line_by_line(rt: HostRuntime) -> Result<(), Fail> {
+    are_explained(&rt, rt.alloc(), SHOWN)
+}
