@@ -14,6 +14,7 @@ TOP = os.path.dirname(HERE)
 PROGRAM = f"{TOP}/crates/gcx/out/gcx"
 PIECE = 1 << 16
 CRATES = "/usr/share/cargo/registry"
+TRIALS = ("gen", "selfrun")  # commands that README leaves to the man page
 
 
 def text_of(path):
