@@ -13,7 +13,8 @@ Modules by subject:
     run       an order over documents
     answer    what becomes of an answer
     kept      lines and columns of a document
-    faults, hints    messages with line, column, caret and hint
+    faults    messages with line, column and caret
+    hints, functions, cures    what a fault of a query or of a document usually means, and what to write
     outline, nearest    what a document has, and what a query that matches nothing may have meant
     explained, waits, reasons    a plan, until when its roles keep their nodes, and that in words
     trace, watched    what a run holds, from its trace
