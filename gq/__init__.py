@@ -9,7 +9,7 @@ Modules by subject:
     tokens, syntax    the words and the grammar of the query language, with places
     made      a query that gq gives to gcx, and where its parts come from
     marked    queries that mark each match; lines, counts and tables are cut from their answers
-    table, json_rows    rows as text and as JSON
+    table, json_rows, unmet    rows as text and as JSON; which columns no row has
     run       an order over documents
     answer    what becomes of an answer
     kept      lines and columns of a document

@@ -9,7 +9,7 @@ from gq.kept import Place
 def of_document(kind: str, at: Place | None, offset: int) -> tuple[str, str]:
     """Words and a hint for a fault of a document; empty words for the usual ones."""
     if kind == "Utf8":
-        return "", "in another encoding that it doesn't declare? iconv -f ISO-8859-1 -t UTF-8 FILE | gq .. for that one"
+        return "", "in ISO-8859-1? iconv -f ISO-8859-1 -t UTF-8 FILE | gq ..; another encoding has another name there"
     if kind == "Truncated" and offset == 0:
         return "the document is empty", ""
     if kind != "Syntax" or at is None:

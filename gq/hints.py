@@ -225,6 +225,9 @@ def of_condition(word: bytes, rest: bytes, past: bytes, what: str) -> str:
         return "a comparison has one value: $x/a = \"1\" or $x/a = \"2\""
     if re.search(rb"\bnot\Z", past):
         return "not(exists(..)), with parentheses"
+    text = re.search(rb"[=<>]\s*([-\w.\x80-\xff]+)\Z", past)
+    if what == "condition" and text and word not in (b"", b"and", b"or"):
+        return f'a text stands in quotes: "{shown(text[1])} {shown(word)}"'
     if what == "row" and word == b"where":
         return "the condition of the rows is -w: -w 'price < 50'"
     for begin, end in ((b"(", b")"), (b"{", b"}")):
