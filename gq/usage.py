@@ -16,7 +16,7 @@ Usage:
   gq -t ROW [-w CONDITION] COLUMN .. -- [FILE ..]    a table
   gq plan QUERY                                  what is kept, and until when
   gq held QUERY [FILE]                           what is held at the peak
-  gq plot QUERY [FILE]                           the nodes held over the document
+  gq plot QUERY [FILE]                           what is held, over the document
 
 The query is one word: write it in single quotes. No FILE, or -, is standard
 input. FILE may be compressed (gzip, bzip2, xz, zstd), and in any encoding that
@@ -29,7 +29,7 @@ Options:
   -q    nothing: exit status 0 where there is an answer, 1 where there is none
   -p    with line ends and indentation, which changes mixed content
   -t ROW    a line for each match of the path ROW, with a tab between COLUMNs. A
-            COLUMN is a path from the row: title, a/b, @year, text(), . (the row);
+            COLUMN is a path from the row: title, a/b, @year, text(), . for all;
             its cell is all text of the match, of several joined by ;
             The text of an element begins with the values of its attributes:
             where a price has some, price/text() is the text alone.
@@ -46,10 +46,10 @@ Options:
   --subset    leaves out the declarations of a DOCTYPE
   --help, --version
 
-Exit status: that of gcx. 0 all was written, and if nothing matches too; 1 of -q:
-nothing matches; 2 wrong words; 3 QUERY is refused; 4 a FILE is refused; 5 a FILE
-can't be read; 6 the answer can't be written; 7 out of memory. With several FILEs
-the first that isn't 0.
+Exit status: that of gcx. 0 all was written, and if nothing matches too; 1 of
+-q: nothing matches; 2 wrong words; 3 QUERY is refused; 4 a FILE is refused; 5 a
+FILE can't be read; 6 the answer can't be written; 7 out of memory. With several
+FILEs the first that isn't 0.
 
   gq /bib/book/title bib.xml
   gq -l 'for $b in /bib/book where $b/price < 50 return $b/title' bib.xml
