@@ -83,8 +83,9 @@ def place(order: Order, names: list[bytes], files: list[bytes]) -> None:
         order.columns, order.files = names, files
         if not names:
             raise wrong("-t needs columns: gq -t ROW COLUMN .. -- [FILE ..]")
-        if not order.dashes and is_file(names[-1]):
-            raise wrong(b"no -- stands before the files: .. -- " + names[-1] + b", or .. " + names[-1] + b" -- for a column")
+        file = None if order.dashes else file_of(names)
+        if file is not None:
+            raise wrong(b"no -- stands before the files: .. -- " + file + b", or .. " + file + b" -- for a column")
     else:
         names += files
         if order.query_file is None:
@@ -94,9 +95,12 @@ def place(order: Order, names: list[bytes], files: list[bytes]) -> None:
         order.files = names
 
 
-def is_file(column: bytes) -> bool:
-    """Whether the last column, after which no -- stands, is a file, or its name is like that of one."""
-    return column.lower().endswith(SUFFIXES) or os.path.exists(column) and (b"/" in column or not os.path.isdir(column))
+def file_of(columns: list[bytes]) -> bytes | None:
+    """Of columns after which no -- stands the one that is meant as a file: its name is like that of one, or the last is one."""
+    last = columns[-1]
+    if os.path.exists(last) and (b"/" in last or not os.path.isdir(last)):
+        return last
+    return next((it for it in columns if it.lower().endswith(SUFFIXES)), None)
 
 
 def check(order: Order) -> None:

@@ -42,6 +42,7 @@ class Words(Case):
         for name in ("bib.xml", "nothing.xml", "none/all.xml.gz", "author"):
             _, err = self.gq("-t", "/bib/book", "title", name, code=2)
             self.assertTrue(err.startswith(f"gq: no -- stands before the files: .. -- {name}, or .. {name} -- for a column"), err)
+        self.assertIn(".. -- bib.xml", self.gq("-t", "/bib/book", "bib.xml", "title", code=2)[1])
         self.answers("TCP/IP\nData on the Web\n", "-t", "/bib/book", "title", stdin=BIB)
         self.answers("Stevens\nAbiteboul;Buneman\n", "-t", "/bib/book", "author", "--", stdin=BIB)
         self.answers("\n\n", "-t", "/bib/book", "all.xml", "--", stdin=BIB)
