@@ -9,11 +9,12 @@ Modules by subject:
     tokens, syntax    the words and the grammar of the query language, with places
     made      a query that gq gives to gcx, and where its parts come from
     marked    queries that mark each match; lines, counts and tables are cut from their answers
-    table, json_rows    rows as text and as JSON
+    table, json_rows, unmet    rows as text and as JSON; which columns no row has
     run       an order over documents
     answer    what becomes of an answer
     kept      lines and columns of a document
-    faults, hints    messages with line, column, caret and hint
+    faults    messages with line, column and caret
+    hints, functions, cures    what a fault of a query or of a document usually means, and what to write
     outline, nearest    what a document has, and what a query that matches nothing may have meant
     explained, waits, reasons    a plan, until when its roles keep their nodes, and that in words
     trace, watched    what a run holds, from its trace

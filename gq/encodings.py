@@ -24,13 +24,15 @@ def of(head: bytes) -> str | None:
     for mark, name in MARKS + BARE:
         if head.startswith(mark):
             return name or None
-    if not head.startswith(b"<?xml"):
+    name = declared(head)
+    return None if name is None else text_encoding(name)
+
+
+def declared(head: bytes) -> str | None:
+    """The encoding that the XML declaration of a document names."""
+    if not head.startswith((b"<?xml", b"\xef\xbb\xbf<?xml")):
         return None
-    return declared(head.partition(b"?>")[0])
-
-
-def declared(words: bytes) -> str | None:
-    """The encoding that an XML declaration has."""
+    words = head.partition(b"?>")[0]
     after = words.partition(b"encoding")[2].lstrip()
     value = after[1:].lstrip()
     if after[:1] != b"=" or value[:1] not in (b'"', b"'"):
@@ -38,7 +40,7 @@ def declared(words: bytes) -> str | None:
     name, end, _ = value[1:].partition(value[:1])
     if not end or not name.replace(b"-", b"").replace(b".", b"").replace(b"_", b"").isalnum():
         return None
-    return text_encoding(name.decode("ascii", "replace"))
+    return name.decode("ascii", "replace")
 
 
 def text_encoding(name: str) -> str | None:
@@ -53,6 +55,26 @@ def text_encoding(name: str) -> str | None:
     if codec.name in PLAIN or codec.name in NOT_FOR_DOCUMENTS or not getattr(codec, "_is_text_encoding", True):
         return None
     return codec.name
+
+
+def unknown(head: bytes) -> str | None:
+    """The declared name of an encoding that has no codec."""
+    name = declared(head)
+    if name is None or name.lower() in PLAIN:
+        return None
+    import codecs
+    try:
+        codecs.lookup(name)
+    except (LookupError, ValueError):
+        return name
+    return None
+
+
+def announce_unknown(name: bytes, encoding: str) -> None:
+    """Says once for each encoding that it isn't known."""
+    if encoding not in announced:
+        announced.add(encoding)
+        tell(name + f": the encoding {encoding}, which it declares, isn't known here: read as UTF-8".encode())
 
 
 def announce(name: bytes, codec: str) -> None:

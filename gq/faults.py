@@ -47,11 +47,12 @@ def cut(before: str, after: str) -> tuple[str, str]:
 
 
 def show(name: bytes, line: int, column: int, words: str, before: str, after: str, hint: str) -> None:
-    """Writes a message, the line with its caret, and a hint if there is one."""
+    """Writes a message, the line with its caret if it isn't empty, and a hint if there is one."""
     before, after = cut(clean(before), clean(after))
     say(name + f":{line}:{column}: {words}".encode())
-    say(f"  {before}{after}")
-    say("  " + " " * width(before) + "^")
+    if before or after:
+        say(f"  {before}{after}")
+        say("  " + " " * width(before) + "^")
     if hint:
         say("  " + hint)
 
@@ -65,7 +66,8 @@ def text_fault(name: bytes, text: bytes, offset: int, words: str, hint: str) -> 
 
 
 def query(name: bytes, made: Made, kind: str, words: list[str]) -> None:
-    """A query that gcx refused. NAME is what messages call the user's query; what gq made of it is shown where that isn't the same."""
+    """A query that gcx refused. NAME is what messages call the user's query. A place is shown in the user's words; what gq made of them is
+    shown where it has none there."""
     from gq import hints
     if kind == "TooLarge":
         limit = f"{int(words[1]):,}" if len(words) > 1 and words[1].isdigit() else ""
@@ -80,7 +82,6 @@ def query(name: bytes, made: Made, kind: str, words: list[str]) -> None:
     what, place = origin
     shown = what.partition("#")[0]
     slip(name if what == "query" else shown.encode(), made.words[what], kind, place, shown)
-    show_made(made)
 
 
 def slip(name: bytes, text: bytes, kind: str, place: int, what: str) -> None:
@@ -107,8 +108,8 @@ def document(name: bytes, words: str, hint: str, at: Place | None, offset: int) 
 
 def refused_document(name: bytes, kind: str, at: Place | None, offset: int) -> None:
     """A document that gcx refused."""
-    from gq import hints
-    words, hint = hints.of_document(kind, at, offset)
+    from gq import cures
+    words, hint = cures.of_document(kind, at, offset)
     document(name, words or DOCUMENT.get(kind, kind), hint, at, offset)
 
 

@@ -1,34 +1,40 @@
-"""What a fault usually means, and what to write."""
+"""What a fault of a query usually means, and what to write."""
 from __future__ import annotations
 
 import os
 import re
 
-from gq.kept import Place
+from gq import functions
+from gq.nearest import nearest
 
 LOOP = "for $x in /a/b where $x/price < 50 return $x/title"
-FUNCTIONS = (b"contains", b"starts-with", b"ends-with", b"string", b"concat", b"sum", b"avg", b"min", b"max", b"position", b"last", b"number",
-             b"distinct-values", b"normalize-space", b"name", b"local-name", b"data", b"string-length", b"substring", b"empty", b"matches",
-             b"id", b"root", b"round", b"floor", b"ceiling", b"false", b"string-join", b"upper-case", b"lower-case", b"translate")
 WORD_RELATIONS = {b"lt": "<", b"le": "<=", b"gt": ">", b"ge": ">=", b"eq": "=", b"ne": "!="}
+KEYWORDS = (b"for", b"in", b"where", b"return", b"if", b"then", b"else", b"and", b"or", b"not", b"exists", b"true")
+ARITHMETIC = "there is no arithmetic: the next program of the pipe computes"
+UP = "there is no way up: begin a loop further up, and name what it must have"
+STRAIGHT = (b"\xe2\x80\x9c", b"\xe2\x80\x9d", b"\xe2\x80\x98", b"\xe2\x80\x99")  # quotes that are curved
+BOUND = re.compile(rb"(\$[-\w.:]+)\s+in\b")
 
 
 def word_at(text: bytes, place: int) -> bytes:
     """The name that begins at a place."""
-    return re.match(rb"[-.\w:]*", text[place:])[0]  # type: ignore[index]
+    return re.match(rb"[-.\w:\x80-\xff]*", text[place:])[0]  # type: ignore[index]
+
+
+def shown(text: bytes) -> str:
+    """A part of a query within a hint."""
+    return text[:60].decode("utf-8", "replace")
 
 
 def of_query(kind: str, text: bytes, place: int, what: str = "query") -> str:
-    """A hint for a fault of a query; empty where there is none."""
+    """A hint for a fault of a query; empty where there is none. WHAT is query, row, column or condition."""
     rest, before = text[place:], text[:place]
     if kind == "Lex":
-        return of_word(rest, before, what)
+        return of_word(rest, before, text, what)
     if kind == "DescendantNotLast":
-        return "make it a loop: for $x in //name return $x/.."
-    if kind == "UnknownVar" and what != "query":
-        return "a name begins at the row, without a variable: price, a/b, @year"
+        return of_descendant(before, rest, what)
     if kind == "UnknownVar":
-        return "after return stands one expression: a list needs parentheses, return ($x/a, $x/b)"
+        return of_variable(rest, before, text, what)
     if kind == "Absolute":
         return "title, a/b, @name, . or .//name"
     if kind == "Syntax":
@@ -36,171 +42,257 @@ def of_query(kind: str, text: bytes, place: int, what: str = "query") -> str:
     return ""
 
 
-def of_word(rest: bytes, before: bytes, what: str) -> str:
+def of_word(rest: bytes, before: bytes, text: bytes, what: str) -> str:
     """A hint for a character with which no word begins."""
     sign = rest[:1]
     if sign == b"[":
+        number = re.match(rb"\[\s*(\d+)\s*\]", rest)
+        if number and what == "query":
+            return f"a path has no predicates: gq -l .. | sed -n {shown(number[1])}p takes that one of all"
         return f"a path has no predicates: {LOOP}" if what == "query" else "a path has no predicates: -w 'price < 50'"
     if sign == b"@":
-        return "an attribute is a child here: /year for /@year"
-    if sign == b"|":
-        return "a comma joins two paths: /a/b, /a/c"
+        name = shown(word_at(rest, 1))
+        return f"an attribute is a child here: /{name} for /@{name}" if name else "an attribute is a child here: /* are all children"
     if sign == b".":
         if re.match(rb"\.[0-9]", rest):
             return "a number begins with a digit: 0.5"
-        return "there is no way up: begin a loop further up, and name what it must have" if rest[:2] == b".." else \
-            "a path begins with / or a variable, and has no ."
+        return UP if rest[:2] == b".." else "a path begins with / or a variable, and has no ."
     if sign in (b'"', b"'"):
         inner = rest[1:].partition(sign)
         return "& in a string is written &amp;" if inner[1] and b"&" in inner[0] else "the string isn't closed"
+    if rest.startswith(STRAIGHT):
+        return 'quotes are straight: "text"'
     if rest[:2] == b"(:":
         return "the comment isn't closed"
     if sign == b"$":
         return "a name stands directly after $"
     if sign == b";":
-        return "there are no declarations: a prefix is a part of the name, /b:bib"
-    if sign in (b"+", b"-"):
-        return "there is no arithmetic"
-    if sign == b":" and rest[:2] == b":=":
+        return "there are no declarations: a prefix is a part of the name, /b:bib" if re.search(rb"\b(declare|import|module)\b", text) else \
+            "no ; stands after a query"
+    if rest[:2] == b":=":
         return "there is no let: for $x in .. return .."
-    return ""
+    return of_operator(rest)
+
+
+def of_operator(rest: bytes) -> str:
+    """The same of a sign that joins two things in other languages."""
+    if rest[:2] == b"||":
+        return "it is written or"
+    if rest[:1] == b"|":
+        return "a comma joins two paths: /a/b, /a/c"
+    if rest[:1] == b"&":
+        return "it is written and"
+    if rest[:1] == b"!":
+        return "not(..) turns a condition"
+    return ARITHMETIC if rest[:1] in (b"+", b"-", b"%") else ""
+
+
+def of_descendant(before: bytes, rest: bytes, what: str) -> str:
+    """A hint for a step after //, of which the path is looked at."""
+    base = re.search(rb"(?:\$[-\w.:\x80-\xff]+)?(?:/[-\w.:*\x80-\xff]+)*\Z", before)[0]  # type: ignore[index]
+    steps = re.match(rb"(//[-\w.:*\x80-\xff]+(?:\(\))?)(/[-\w.:*/()\x80-\xff]*[-\w.:*\x80-\xff](?:\(\))?)?", rest)
+    if steps is None or not steps[2]:
+        return "make it a loop: for $x in //name return $x/.."
+    above, below = shown(base + steps[1]), shown(steps[2])
+    if what == "row":
+        return f"let the rows be {above}, and begin each column there: {below.lstrip('/')}"
+    if what == "column":
+        return "only the last step of a column has //: name the steps after it, or end there"
+    if re.search(rb"\bin\s*\Z", before[:len(before) - len(base)]):
+        return f"two clauses: for $y in {above}, $x in $y{below}"
+    return f"make it a loop: for $x in {above} return $x{below}"
+
+
+def of_variable(rest: bytes, before: bytes, text: bytes, what: str) -> str:
+    """A hint for a variable that isn't bound."""
+    if what == "row":
+        return "the rows are a path from the document: /bib/book, or //book"
+    if what != "query":
+        return "a name begins at the row, without a variable: price, a/b, @year"
+    name = b"$" + word_at(rest, 1)
+    earlier, all_of_them = BOUND.findall(before), BOUND.findall(text)
+    if name in earlier:
+        return "after return stands one expression: a list needs parentheses, return ($x/a, $x/b)"
+    if name in all_of_them:
+        return "it is bound only later: clauses are read from left to right"
+    like = nearest(name, earlier)
+    if like is not None:
+        return f"did you mean {shown(like)}?"
+    bound = list(dict.fromkeys(earlier))
+    return "bound here: " + ", ".join(map(shown, bound)) if bound else f"a loop binds it: for {shown(name)} in /a/b return {shown(name)}"
 
 
 def of_syntax(rest: bytes, before: bytes, text: bytes, what: str) -> str:
     """A hint for a word that can't stand where it does."""
     word = word_at(rest, 0)
     past = before.rstrip()
-    if what == "column" and rest.startswith((b",", b";")):
+    if what == "column" and (rest.startswith((b",", b";")) or word and before[-1:].isspace()):
         return "each column is a word of its own: title author"
     if text.startswith(b"\xef\xbb\xbf"):
         return "the query begins with a byte order mark"
+    if word.lower() in KEYWORDS and word != word.lower():
+        return f"keywords are in small letters: {shown(word.lower())}"
     if what in ("query", "row") and not past:
-        found = of_first_word(word, rest, text)
+        found = of_first_word(word, rest, text, what)
         if found:
             return found
     if not rest.strip():
         return of_end(past, what)
     if word in WORD_RELATIONS:
         return f"the relation is written {WORD_RELATIONS[word]}"
-    called = re.search(rb"([-\w]+)\s*\Z", past) if rest[:1] == b"(" else re.match(rb"([-\w]+)\s*\(", rest)
-    if called and (called[1] == b"count" or called[1] in FUNCTIONS):
-        return "gq -c counts" if called[1] == b"count" else f"there is no function {called[1].decode()}: there are only exists, not and true"
+    called = functions.called(rest, past)
+    if called:
+        return functions.instead(called, text, what)
+    if rest[:2] == b"::" or re.match(rb"[-\w]+::", rest):
+        return of_axis(word if rest[:2] != b"::" else re.search(rb"[-\w]*\Z", past)[0])  # type: ignore[index]
+    if past.endswith(b"*") and rest[:1] == b":":
+        return f"a prefix is a part of the name, as the document has it: p{shown(word)}"
     if word == b"in" and re.search(rb"\bfor\Z", past):
         return "the shell took the variable: write the query in single quotes"
+    return of_keyword(word, past) or of_relation(rest, past) or of_constructor(word, rest, past) or of_bare(word, rest, past, what) or \
+        of_condition(word, rest, past, what)
+
+
+def of_axis(name: bytes) -> str:
+    """A hint for an axis."""
+    name = name.partition(b"::")[0]
+    if name == b"attribute":
+        return "an attribute is a child here: /year for /@year"
+    if name in (b"parent", b"ancestor", b"ancestor-or-self"):
+        return UP
+    return "there are only the axes child, as /, and descendant, as //"
+
+
+def of_keyword(word: bytes, past: bytes) -> str:
+    """A hint for a keyword of XQuery or XPath."""
     if word in (b"order", b"group"):
         return f"there is no {word.decode()} by: the next program of the pipe sorts"
     if word == b"let":
         return "there is no let: for $x in .. return .."
-    if word == b"for":
+    if word == b"for" and not re.search(rb"(?:[({,]|\breturn|\bthen|\belse)\Z", past):
         return "one for has all clauses: for $a in /r/a, $b in $a/b return $b"
-    return of_condition(word, rest, past)
-
-
-def of_condition(word: bytes, rest: bytes, past: bytes) -> str:
-    """A hint for a condition or a constructor."""
-    if re.search(rb"<[-\w:.]+\Z", past) and word:
-        return "a constructor has no attributes: <year>{$x/year}</year>"
-    if re.search(rb"<[-\w:.]+>\Z", past) or (re.search(rb"[>}]\Z", past) and not rest.startswith((b"{", b"<"))):
-        return "a constructor holds {queries} and constructors, no text"
-    if rest.startswith(b"(") and re.search(rb"[=<>]\Z", past):
-        return "a comparison has one value: $x/a = \"1\" or $x/a = \"2\""
-    if word in (b"return", b"then", b"and", b"or") or rest[:1] == b")":
-        return "a condition asks for existence by exists(..)"
-    if re.search(rb"\bnot\Z", past):
-        return "not(exists(..)), with parentheses"
+    if word == b"at":
+        return "there is no position: gq -l .. | nl numbers the matches"
+    if word == b"union":
+        return "a comma joins two paths: /a/b, /a/c"
+    if word in (b"div", b"idiv", b"mod", b"to"):
+        return ARITHMETIC
+    if re.search(rb"\bif\Z", past):
+        return "the condition stands in parentheses: if (..) then .. else .."
     return ""
 
 
-def of_first_word(word: bytes, rest: bytes, text: bytes) -> str:
-    """A hint for the word that a query begins with."""
+def of_relation(rest: bytes, past: bytes) -> str:
+    """A hint for two signs that are one elsewhere, and for what an operator has on its sides."""
+    pair = past[-1:] + rest[:1]
+    if pair == b"==":
+        return "the relation is written " + ("!=" if past.endswith(b"!=") else "=")
+    if pair in (b"=<", b"=>", b"<>"):
+        return "the relation is written " + {b"=<": "<=", b"=>": ">=", b"<>": "!="}[pair]
+    return ARITHMETIC if rest[:1] == b"*" and re.search(rb"[-\w.)\x80-\xff]\Z", past) else ""
+
+
+def of_bare(word: bytes, rest: bytes, past: bytes, what: str) -> str:
+    """A hint for a name or a text where a query has a path."""
+    after = re.search(rb"(?:(=|<|>)|\b(in|where|and|or|return|then|else)|[({,])\Z", past)
+    if what != "query" or after is None:
+        return ""
+    writes = after[2] in (b"return", b"then", b"else") or after[0] in (b"{", b",")
+    if writes and (rest[:1] in (b'"', b"'") or rest[:1].isdigit()):
+        return "a query writes elements and parts of the document, and no text of its own"
+    if not word or word[:1].isdigit() or word in KEYWORDS:
+        return ""
+    if after[1]:
+        return f'a text stands in quotes: "{shown(word)}"; a path begins with / or a variable'
+    bound = BOUND.findall(past)
+    if after[2] == b"in" or not bound:
+        return f"a path begins with / or a variable: /{shown(word)}, or //{shown(word)} wherever it stands"
+    return f"a path begins with / or a variable: {shown(bound[-1])}/{shown(word)}"
+
+
+def of_constructor(word: bytes, rest: bytes, past: bytes) -> str:
+    """A hint for a constructor."""
+    if re.search(rb"<[-\w:.]+\Z", past) and word:
+        return "a constructor has no attributes: <year>{$x/year}</year>"
+    if re.search(rb"<[-\w:.]+>\Z", past) or (re.search(rb"(?:/[-\w:.]*>|})\Z", past) and not rest.startswith((b"{", b"<", b"}", b")"))):
+        return "a constructor holds {queries} and constructors, no text"
+    return ""
+
+
+def of_condition(word: bytes, rest: bytes, past: bytes, what: str) -> str:
+    """A hint for a condition."""
+    if rest.startswith(b"(") and re.search(rb"[=<>]\Z", past):
+        return "a comparison has one value: $x/a = \"1\" or $x/a = \"2\""
+    if re.search(rb"\bnot\Z", past):
+        return "not(exists(..)), with parentheses"
+    text = re.search(rb"[=<>]\s*([-\w.\x80-\xff]+)\Z", past)
+    if what == "condition" and text and word not in (b"", b"and", b"or"):
+        return f'a text stands in quotes: "{shown(text[1])} {shown(word)}"'
+    if what == "row" and word == b"where":
+        return "the condition of the rows is -w: -w 'price < 50'"
+    for begin, end in ((b"(", b")"), (b"{", b"}")):
+        if rest[:1] == end and past.count(begin) <= past.count(end):
+            return f"no {begin.decode()} is open here"
+    if word in (b"return", b"then", b"and", b"or") or rest[:1] == b")":
+        return of_existence(past)
+    return ""
+
+
+def of_existence(past: bytes) -> str:
+    """A hint for a path that stands as a condition."""
+    path = re.search(rb"[-\w.:/@*$\x80-\xff]*[-\w*\x80-\xff](?:\(\))?\Z", past)
+    if path and path[0] in (b"true", b"false"):
+        return "it is written true()" if path[0] == b"true" else "it is written not(true())"
+    return f"a condition asks for existence by exists({shown(path[0]) if path else '..'})"
+
+
+def of_first_word(word: bytes, rest: bytes, text: bytes, what: str) -> str:
+    """A hint for the word that a query or a row begins with."""
     name = text.strip()
-    if len(name) < 4096 and b"\0" not in name and os.path.isfile(name):
+    if what == "query" and len(name) < 4096 and b"\0" not in name and os.path.isfile(name):
         return "that is a file: the query comes first, then the files; -f FILE has the query in a file"
     if word == b"let":
         return "there is no let: for $x in .. return .."
     if word in (b"some", b"every"):
         return "if (/a/b < 50) then <yes/> else <no/>"
-    if word == b"declare":
+    if word in (b"declare", b"import"):
         return "there are no declarations: a prefix is a part of the name, /b:bib"
+    if word == b"for" and what == "row":
+        return "the rows are a path: for a loop, gq -l 'for ..'"
     if re.match(rb"doc\s*\(|document\s*\(|collection\s*\(", rest):
         return "the document is FILE: gq /a/b FILE"
-    if re.match(rb"count\s*\(", rest):
-        return "gq -c counts"
-    if re.match(rb"exists\s*\(|not\s*\(", rest):
-        return f"if ({rest.strip().decode('utf-8', 'replace')[:60]}) then <yes/> else <no/>"
-    if re.match(rb"[-\w]+\s*\(", rest):
-        return "there are no functions; /text() gives the text"
-    if re.match(rb"[\w*]", rest):
-        return "a path begins with /: /bib/title, or //title wherever it stands"
-    return ""
+    if re.match(rb"exists\s*\(|not\s*\(|true\s*\(", rest):
+        return f"if ({shown(rest.strip())}) then <yes/> else <no/>"
+    if functions.CALL.match(rest) or re.match(rb"[-\w]+::", rest):
+        return ""
+    if re.match(rb"\w|[\x80-\xff]", rest) and not word[:1].isdigit():
+        return f"a path begins with /: /{shown(word)}, or //{shown(word)} wherever it stands"
+    return "a query is a path, a loop, an if, or a constructor" if re.match(rb"[\d\"']", rest) else ""
 
 
 def of_end(past: bytes, what: str) -> str:
     """A hint where the words end too soon."""
+    if not past:
+        return f"the {what} is empty"
     if past in (b"/", b"//"):
         return "the whole document is /*"
-    if what == "query" and not past:
-        return "the query is empty"
-    if re.search(rb"\bthen\b", past) and len(re.findall(rb"\bthen\b", past)) > len(re.findall(rb"\belse\b", past)):
-        return "an if has both sides: else ()"
-    if what == "condition" or re.search(rb"\bwhere\b(?!.*\breturn\b)", past, re.S):
-        return "a condition asks for existence by exists(..)" if what == "condition" else "return is missing"
-    return "something is missing at the end"
-
-
-def of_document(kind: str, at: Place | None, offset: int) -> tuple[str, str]:
-    """Words and a hint for a fault of a document; empty words for the usual ones."""
-    if kind == "Utf8":
-        return "", "another encoding? Its declaration doesn't tell: iconv -f ISO-8859-1 -t UTF-8"
-    if kind == "Truncated" and offset == 0:
-        return "the document is empty", ""
-    if kind != "Syntax" or at is None:
-        return "", ""
-    if offset == 0:
-        return "this is no XML", ""
-    return of_text(at.head, at.after)
-
-
-def of_text(head: bytes, after: str) -> tuple[str, str]:
-    """The same by the text before the place and after it."""
-    sign = after[:1]
-    tag = head[head.rfind(b"<"):] if b"<" in head else b""
-    inside = b">" not in tag and tag[1:2] not in (b"!", b"?")  # a tag is open, as it seems
-    entity = re.search(rb"&([A-Za-z][\w.]*)?\Z", head)
-    if sign == "[" and re.search(rb"<!DOCTYPE[^>]*\Z", head):
-        return "a DOCTYPE with declarations in it", "gq --subset leaves them out"
-    if entity:
-        name = re.match(r"[\w.]*;", after)
-        if name is None:
-            return "a bare &", "& in a text is written &amp;"
-        whole = "&" + (entity[1] or b"").decode() + name[0]
-        known = " (it is &#160;)" if whole == "&nbsp;" else ""
-        return f"the entity {whole} isn't one of XML's five{known}", \
-            "xmllint --nonet --noent --dropdtd puts in what a DOCTYPE declares" if not known else "sed 's/&nbsp;/\\&#160;/g'"
-    if re.search(rb"&#x?[0-9A-Fa-f]*\Z", head):
-        return "no reference to a character", ""
-    if re.search(rb"<!--(?:(?!-->).)*--\Z", head, re.S):
-        return "-- within a comment", ""
-    if tag.startswith(b"</"):
-        return "another end tag than that of the open element", ""
-    if sign and (ord(sign) < 32 or sign in "\ufffe\uffff"):
-        return "a character that XML hasn't", ""
-    if tag == b"<":
-        return "a bare <", "< in a text is written &lt;"
-    if inside and tag:
-        return of_tag(tag, sign)
-    return "", ""
-
-
-def of_tag(tag: bytes, sign: str) -> tuple[str, str]:
-    """The same within a start tag."""
-    if re.search(rb"=\s*\Z", tag):
-        return "an attribute's value without quotes", ""
-    if tag.count(b'"') % 2 or (tag.count(b"'") % 2 and b'"' not in tag):
-        return ("a < within an attribute's value", "< is written &lt;") if sign == "<" else ("", "")
-    name = re.search(rb"\s([^\s=\"'<>]+)\s*\Z", tag)
-    if name and re.search(rb"\s" + re.escape(name[1]) + rb"\s*=", tag):
-        return "the attribute stands twice in its tag", ""
-    if sign == "<":
-        return "the tag isn't closed", ""
-    return "", ""
+    if past.endswith((b"/", b"::")):
+        return "a name is missing at the end"
+    if past.endswith(b","):
+        return "nothing stands after the last comma"
+    words = re.findall(rb"(?<![-\w/$.:])(?:for|return|if|else)(?![-\w.:])", past)
+    if what == "query" and words.count(b"for") > words.count(b"return"):
+        return "return is missing"
+    if what == "query" and words.count(b"if") > words.count(b"else"):
+        return "an if has both sides: then .. else ()"
+    if re.search(rb"\b(return|then|else|where|and|or|in)\Z", past) or re.search(rb"[=<>(]\Z", past):
+        return "something is missing at the end"
+    for begin, end in ((b"(", b")"), (b"{", b"}")):
+        if past.count(begin) > past.count(end):
+            return f"{end.decode()} is missing"
+    if what == "condition":
+        return of_existence(past)
+    tags: list[bytes] = []
+    for close, name, empty in re.findall(rb"<(/?)([-\w.:\x80-\xff]+)\s*(/?)>", past):
+        tags = tags[:-1] if close else tags if empty else [*tags, name]
+    return f"</{shown(tags[-1])}> is missing" if tags else "something is missing at the end"

@@ -176,6 +176,8 @@ class Feed:
                 encodings.announce(self.document.name, codec)
             self.kept = self.kept or Kept()
             steps.append(encodings.Decoder(codec))
+        elif self.first is None and (encoding := encodings.unknown(head)):
+            encodings.announce_unknown(self.document.name, encoding)
         if self.subset:
             from gq.doctype import Blank
             if codec or not self.document.regular or self.unpacks or Blank.applies(self.document.head):

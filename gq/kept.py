@@ -5,6 +5,7 @@ import os
 
 LAST = 1 << 20  # bytes of a stream that are kept
 AROUND = 600  # bytes of a line that are shown at most, before the place and after it
+FAR = 1 << 16  # bytes after the place in which a cause is looked for
 BLOCK = 1 << 20
 SMALL = 1 << 12  # blocks below are joined to the next
 CONTINUES = bytes(range(0x80, 0xC0))  # the bytes of UTF-8 that begin no character
@@ -44,6 +45,7 @@ class Place:
         self.before = line[-AROUND:].decode("utf-8", "replace").replace("\ufeff", "")
         self.after = after.partition(b"\n")[0].rstrip(b"\r")[:AROUND].decode("utf-8", "replace")
         self.head = head  # what stands before it, over line ends
+        self.rest = after  # the same after it
 
 
 class Kept:
@@ -80,7 +82,7 @@ class Kept:
         counted = Counted()
         counted.size, counted.lines, counted.column = self.gone.size, self.gone.lines, self.gone.column
         counted.count(text[:at])
-        return Place(counted, text[:at], text[at:at + AROUND], text[max(0, at - AROUND):at])
+        return Place(counted, text[:at], text[at:at + FAR], text[max(0, at - AROUND):at])
 
 
 class InFile:
@@ -98,4 +100,4 @@ class InFile:
                 return None
             counted.count(block)
             last = (last + block)[-AROUND:]
-        return Place(counted, last, os.pread(self.descriptor, AROUND, self.base + offset), last)
+        return Place(counted, last, os.pread(self.descriptor, FAR, self.base + offset), last)

@@ -7,8 +7,10 @@ from gq import program
 from gq.flow import Loop, Reading
 from gq.inputs import Document, Feed
 from gq.outline import FIRST, SAMPLE, outline
+from gq.marked import column_edits, row_path
 from gq.say import say, tell
-from gq.syntax import Grammar, Path, Slip
+from gq.syntax import RELATIONS, Grammar, Path, Slip
+from gq.tokens import tokens
 
 MOST_TOLD = 4
 Steps = tuple  # of (descendant, test)
@@ -141,35 +143,61 @@ def written(steps: Steps) -> bytes:
     return b"".join((b"//" if deep else b"/") + test for deep, test in steps)
 
 
-def tell_nothing(document: Document | None, subset: bool, query: bytes) -> None:
-    """Says that nothing matches, and of a regular file what was likely meant."""
+def tell_nothing(document: Document | None, subset: bool, query: bytes, where: bytes = b"") -> None:
+    """Says that nothing matches, and of a regular file what was likely meant. WHERE is the condition of a table."""
     tell("nothing matches")
     reader = Paths(query)
     try:
         reader.query()
     except Slip:
         return
+    tell_unmet(document, subset, reader.found, texts(where))
+
+
+def tell_columns(document: Document | None, subset: bool, row: bytes, columns: list[bytes]) -> None:
+    """Says which columns of a table no row has, and of a regular file what was likely meant."""
+    base = tuple(row_path(row).steps)
+    for column in columns[:MOST_TOLD]:
+        tell(b"no row has " + column)
+        tell_unmet(document, subset, [base + tuple(column_edits(column)[1].steps)], set())
+    if len(columns) > MOST_TOLD:
+        tell(f"nor {len(columns) - MOST_TOLD} other columns")
+
+
+def tell_unmet(document: Document | None, subset: bool, paths: list[Steps], maybe_texts: set[bytes]) -> None:
+    """Tells of a regular file the first step of each path that no element meets."""
     if document is None or not document.regular:
         return
     root = outline(document, subset)
     whole = not document.packed() and document.size() <= SAMPLE
     told: list[bytes] = []
-    for steps in reader.found:
+    for steps in paths:
         unmet = first_unmet(document, subset, root, steps, whole)
         if unmet is None or len(told) == MOST_TOLD:
             continue
         number, nodes = unmet
-        line = told_line(steps[:number + 1], names_at(nodes, steps[number][0]))
+        line = told_line(steps[:number + 1], names_at(nodes, steps[number][0]), maybe_texts)
         if line not in told:
             told.append(line)
             say(line)
 
 
-def told_line(steps: Steps, names: list[bytes]) -> bytes:
+def texts(where: bytes) -> set[bytes]:
+    """The names that stand after a relation in a condition, where somebody may have left the quotes out."""
+    words = tokens(where, True)
+    return {name.text for sign, name, after in zip(words, words[1:], words[2:])
+            if sign.text in RELATIONS and name.kind == "name" and after.text in (b"", b")", b"and", b"or")}
+
+
+def told_line(steps: Steps, names: list[bytes], maybe_texts: set[bytes]) -> bytes:
     """What is said of a path of which the last step isn't met."""
     test = steps[-1][1]
     line = b"  no element is " + written(steps) if names_step(steps[-1]) else b"  nothing is below " + written(steps[:-1])
+    if test in maybe_texts:
+        return line + b": a text stands in quotes, \"" + test + b"\""
     name = nearest(test, names) if names_step(steps[-1]) else None
+    if name is None and test == b"text":
+        return line + b": did you mean text()?"
     if name is not None:
         return line + b": did you mean <" + name + b">?"
     if names and len(names) <= 6:

@@ -65,7 +65,7 @@ def gcx() -> str:
             return place
     place = on_path("gcx")
     if place is None:
-        raise Refused(5, "gcx is neither beside gq nor on PATH")
+        raise Refused(5, "gcx is neither beside gq nor on PATH: ./install puts both into one folder, and PATH=FOLDER:$PATH adds the folder of gcx")
     return place
 
 

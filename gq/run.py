@@ -25,6 +25,7 @@ class Job:
         self.query = b"" if order.row is not None else read_query(order)
         self.mark = new_mark()
         self.made = self.make()
+        self.unmet = self.watched_columns()  # None: nobody asks
 
     def make(self) -> Made:
         """The query that gcx runs."""
@@ -57,13 +58,25 @@ class Job:
             raise Refused(3, "this query can't be cut into lines")
         return made
 
-    def sink(self):
-        """What takes an answer; None: it goes to standard output by itself."""
+    def tells(self) -> bool:
+        """Whether silence is told: somebody looks at the answer, or asked for more words."""
+        return (self.terminal or self.order.verbose) and not self.order.quiet
+
+    def watched_columns(self):
+        """What notes which columns have no value, where that is told."""
+        order = self.order
+        if order.row is None or order.count or not self.tells():
+            return None
+        from gq.unmet import Unmet
+        return Unmet(len(order.columns))
+
+    def sink(self, emit):
+        """What takes an answer; None: it goes to standard output by itself. EMIT writes."""
         order = self.order
         if order.quiet:
             return Quiet()
         if order.row is not None:
-            return self.table_sink()
+            return self.table_sink(emit)
         if order.count:
             return Count(self.mark)
         if order.lines or order.zero:
@@ -73,14 +86,14 @@ class Job:
             return Pretty()
         return Plain() if self.terminal else None
 
-    def table_sink(self):
+    def table_sink(self, emit):
         """What takes the answer of a table."""
         if self.order.count:
             from gq.table import RowCount
             return RowCount()
         if self.order.json:
             from gq.json_rows import JsonRows
-            return JsonRows(self.order.columns, write_out)
+            return JsonRows(self.order.columns, emit)
         from gq.table import Rows
         return Rows(b";" if self.order.separator is None else self.order.separator)
 
@@ -114,7 +127,8 @@ class Run:
 
     def __init__(self, job: Job, word: bytes | None) -> None:
         self.job = job
-        self.sink = job.sink()
+        self.sink = job.sink(self.write)
+        self.last = b"\n"  # the last byte that was written
         self.document = Document(word)
         self.loop = Loop()
         self.said: Said | None = None
@@ -138,10 +152,16 @@ class Run:
 
     def take(self, block: bytes) -> None:
         """A block of the answer. On a terminal it takes the place of the line of progress."""
-        block = self.sink.feed(block)
+        if self.job.unmet is not None:
+            self.job.unmet.feed(block)
+        self.write(self.sink.feed(block))
+
+    def write(self, block: bytes) -> None:
+        """Writes a part of what is shown of it."""
         if block:
             if self.shown is not None and self.job.terminal:
                 self.shown.clear()
+            self.last = block[-1:]
             write_out(block)
 
     def wait(self) -> None:
@@ -164,9 +184,7 @@ class Run:
             self.start()
             self.wait()
             if self.sink is not None:
-                rest = self.sink.end()
-                if rest:
-                    write_out(rest)
+                self.write(self.sink.end())
         except Enough:
             self.stop()
             return 0
@@ -184,6 +202,8 @@ class Run:
 
     def told(self, code: int) -> int:
         """Tells what gcx said, and gives the exit code."""
+        if code != 0 and self.job.terminal and self.last != b"\n":
+            write_out(b"\n")
         words = self.said.text.decode("utf-8", "replace").strip()
         part = words.split()
         trouble = self.feed.trouble(code, part[1:3] == ["document", "Truncated"])
@@ -242,9 +262,13 @@ def why_not_written() -> str:
 def every_file(order: Order) -> int:
     """Obeys an order over all its files; the first code that isn't 0."""
     program.gcx()  # before the first file
+    for word in order.files:
+        if word != b"-" and os.path.isdir(word):
+            raise Refused(5, word + b": Is a directory")
     job = Job(order)
     if not order.files and os.isatty(0) and os.isatty(2):
-        tell("no FILE: the document is read from this terminal")
+        missing = "no -- stands before the files" if order.row is not None and not order.dashes else "no FILE"
+        tell(f"{missing}: the document is read from this terminal")
     worst, empty = 0, []
     for word in order.files or [None]:
         code, some = one_file(job, word)
@@ -257,20 +281,26 @@ def every_file(order: Order) -> int:
             break
     if order.quiet:
         return worst or 1
-    if job.terminal and worst == 0 and len(empty) == len(order.files or [None]):
-        tell_nothing(job, empty[0])
+    if job.tells() and worst == 0:
+        tell_silence(job, empty, len(order.files or [None]))
     return worst
 
 
-def tell_nothing(job: Job, word: bytes | None) -> None:
-    """An answer is empty, and somebody looks at it."""
+def tell_silence(job: Job, empty: list[bytes | None], count: int) -> None:
+    """Tells it where the answer is empty for all documents, or a column of a table is."""
+    order = job.order
+    nothing = len(empty) == count
+    if not nothing and (job.unmet is None or not job.unmet.left or not job.unmet.any_row):
+        return
     from gq import nearest
     try:
-        document = Document(word)
+        document = Document((order.files or [None])[0])
     except Refused:
         document = None
-    query = job.made.text if job.order.row is not None else job.query
-    nearest.tell_nothing(document, job.order.subset, query)
+    if nothing:
+        nearest.tell_nothing(document, order.subset, job.query if order.row is None else job.made.text, order.where or b"")
+    else:
+        nearest.tell_columns(document, order.subset, order.row or b"", [order.columns[it] for it in sorted(job.unmet.left)])
 
 
 def one_file(job: Job, word: bytes | None) -> tuple[int, bool]:

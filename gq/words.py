@@ -9,7 +9,6 @@ from gq.flow import Closed, Full
 from gq.say import Ended, Refused, tell
 
 
-
 class Order:
     """What the words of a command line ask for."""
 
@@ -22,9 +21,12 @@ class Order:
         self.separator: bytes | None = None
         self.columns: list[bytes] = []
         self.files: list[bytes] = []
+        self.dashes = False  # -- stands among the words
 
 
 FLAGS = {b"l": "lines", b"0": "zero", b"c": "count", b"q": "quiet", b"j": "json", b"p": "pretty", b"v": "verbose"}
+SUFFIXES = (b".xml", b".gz", b".bz2", b".xz", b".zst", b".html", b".xhtml", b".rss", b".atom", b".rdf", b".svg", b".kml", b".gpx", b".osm", b".xsd",
+            b".xsl", b".pom", b".plist")
 VALUES = {b"f": "query_file", b"t": "row", b"w": "where", b"s": "separator"}
 
 
@@ -51,7 +53,8 @@ def read(words: list[bytes]) -> Order:
             read_flags(order, word, rest)
         else:
             names.append(word)
-    place(order, names, files)
+    order.dashes = files is not None
+    place(order, names, files or [])
     check(order)
     return order
 
@@ -74,17 +77,17 @@ def read_flags(order: Order, word: bytes, rest: list[bytes]) -> None:
             raise wrong(b"there is no option -" + letter)
 
 
-def place(order: Order, names: list[bytes], files: list[bytes] | None) -> None:
+def place(order: Order, names: list[bytes], files: list[bytes]) -> None:
     """Which of the names are the query, columns and files."""
     if order.row is not None:
-        order.columns, order.files = names, files or []
+        order.columns, order.files = names, files
         if not names:
             raise wrong("-t needs columns: gq -t ROW COLUMN .. -- [FILE ..]")
-        last = names[-1]
-        if files is None and (b"." in last[1:] or b"/" in last) and os.path.exists(last):
-            raise wrong(b"-- stands before the files of a table: .. -- " + last)
+        file = None if order.dashes else file_of(names)
+        if file is not None:
+            raise wrong(b"no -- stands before the files: .. -- " + file + b", or .. " + file + b" -- for a column")
     else:
-        names += files or []
+        names += files
         if order.query_file is None:
             if not names:
                 raise wrong("there is no query")
@@ -92,10 +95,20 @@ def place(order: Order, names: list[bytes], files: list[bytes] | None) -> None:
         order.files = names
 
 
+def file_of(columns: list[bytes]) -> bytes | None:
+    """Of columns after which no -- stands the one that is meant as a file: its name is like that of one, or the last is one."""
+    last = columns[-1]
+    if os.path.exists(last) and (b"/" in last or not os.path.isdir(last)):
+        return last
+    return next((it for it in columns if it.lower().endswith(SUFFIXES)), None)
+
+
 def check(order: Order) -> None:
     """Options that can't stand together, or stand for nothing."""
     ways = [letter for letter, on in (("-l", order.lines or order.zero), ("-q", order.quiet), ("-p", order.pretty),
                                       ("-t", order.row is not None)) if on]
+    if order.row is not None and order.lines:
+        raise wrong("a table has a line for each row already: leave -l out")
     if order.pretty and (order.count or order.quiet):
         raise wrong("-p goes with neither -c nor -q")
     if len(ways) > 1 and ways != ["-q", "-t"]:

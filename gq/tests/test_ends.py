@@ -35,6 +35,17 @@ class Output(Case):
                 code, out, err = self.shell(f"$GQ {words} large.xml large.xml | head -c 5; exit ${{PIPESTATUS[0]}}")
                 self.assertEqual((code, len(out), err), (128 + signal.SIGPIPE, 5, ""))
 
+    def test_message_after_a_line_that_is_not_over(self) -> None:
+        self.write("bad.xml", "<a><b>1</b><b>2</a>")
+        bad = "bad.xml:1:18: another end tag"
+        for words, lines in (("/a/b", ["<b>1</b><b>"]), ("-l /a/b", ["<b>1</b>", "<b>"]), ("-l /a/b/text()", ["1"]), ("-p /a/b", ["<b>1</b>", "<b>"]),
+                             ("-t /a/b . --", ["1"]), ("-jt /a/b . --", ['{".":"1"}']), ("-l //none", [])):
+            with self.subTest(words=words):
+                code, shown = self.on_terminal(*words.split(), "bad.xml")
+                self.assertEqual((code, shown.splitlines()[:len(lines)]), (4, lines))
+                self.assertTrue(shown.splitlines()[len(lines)].startswith(bad), shown)
+        self.assertEqual(self.gq("-l", "/a/b", "bad.xml", code=4)[0], b"<b>1</b>\n<b>")
+
     def test_closed_standard_output(self) -> None:
         for words in ("/r/a", "-l /r/a"):
             self.assertEqual(self.shell(f"$GQ {words} large.xml >&-")[2], "")

@@ -7,22 +7,57 @@ from gq.tests.common import Case
 
 QUERIES = [  # a query, its place, and a part of what is said
     ("/bib/book[price < 50]/title", "1:10", "no predicates: for $x"),
-    ("/bib/book/@year", "1:11", "an attribute is a child here"),
+    ("/bib/book/@year", "1:11", "an attribute is a child here: /year for /@year"),
+    ("/bib/book[2]", "1:10", "sed -n 2p"),
     ("let $b := /bib return $b", "1:1", "there is no let"),
     ("/bib/book | /bib/note", "1:11", "a comma joins"),
-    ("//book/title", "1:1", "make it a loop"),
+    ("//book/title", "1:1", "make it a loop: for $x in //book return $x/title"),
+    ("for $t in /bib//book/title return $t", "1:15", "two clauses: for $y in /bib//book, $x in $y/title"),
     ("//title/..", "1:9", "no way up"),
     ("bib/note", "1:1", "a path begins with /"),
     ("bib.xml", "1:1", "the query comes first"),
     ("/", "1:2", "the whole document is /*"),
     ("", "1:1", "the query is empty"),
-    ("count(/bib/book)", "1:1", "gq -c counts"),
-    ("string(/bib/note)", "1:1", "no functions"),
+    ("count(/bib/book)", "1:1", "gq -c '/bib/book' FILE counts"),
+    ("for $b in /bib/book return <n>{count($b/author)}</n>", "1:32", "the matches of a whole query"),
+    ("distinct-values(/bib/book/author)", "1:1", "gq -l '/bib/book/author/text()' FILE | sort -u"),
+    ("for $a in distinct-values(/bib/book/author) return $a", "1:11", "FILE | sort -u"),
+    ("string(/bib/note)", "1:1", "no function string: /text()"),
+    ("for $b in //* where local-name($b) = \"book\" return $b", "1:21", "with its prefix"),
+    ("//*:book", "1:4", "a prefix is a part of the name"),
+    ("/bib/parent::a", "1:12", "no way up"),
     ('doc("bib.xml")/bib', "1:1", "gq /a/b FILE"),
     ("exists(//editor)", "1:1", "if (exists(//editor)) then <yes/> else <no/>"),
-    ("for $b in /bib/book where $b/editor return $b", "1:37", "exists(..)"),
+    ("for $b in /bib/book where $b/editor return $b", "1:37", "exists($b/editor)"),
+    ("for $b in /bib/book where true return $b", "1:32", "written true()"),
     ("for $b in /bib/book where not $b/editor return $b", "1:31", "parentheses"),
     ("for $b in /bib/book return $b/title, $b/year", "1:38", "a list needs parentheses"),
+    ("for $book in /bib/book return $bok/title", "1:31", "did you mean $book?"),
+    ("for $b in /bib/book return $other/title", "1:28", "bound here: $b"),
+    ("for $a in $b/author, $b in /bib/book return $a", "1:11", "bound only later"),
+    ("$b/title", "1:1", "for $b in /a/b return $b"),
+    ("FOR $b IN /bib/book RETURN $b", "1:1", "in small letters: for"),
+    ("for $b in /bib/book WHERE $b/price = 1 return $b", "1:21", "in small letters: where"),
+    ("for $b in /bib/book where $b/price = 1 AND $b/year = 2 return $b", "1:40", "in small letters: and"),
+    ("for $b in /bib/book where $b/price == 1 return $b", "1:37", "written ="),
+    ("for $b in /bib/book where $b/price <> 1 return $b", "1:37", "written !="),
+    ("for $b in /bib/book where $b/price = 1 && $b/year = 2 return $b", "1:40", "written and"),
+    ("for $b in /bib/book where $b/price = 1 || $b/year = 2 return $b", "1:40", "written or"),
+    ("for $b in /bib/book where !exists($b/editor) return $b", "1:27", "not(..)"),
+    ("for $b in /bib/book where $b/price + 1 = 2 return $b", "1:36", "no arithmetic"),
+    ("for $b in /bib/book where $b/price * 2 = 2 return $b", "1:36", "no arithmetic"),
+    ("for $b in /bib/book return $b/price div 2", "1:37", "no arithmetic"),
+    ("for $b in book return $b", "1:11", "/book, or //book"),
+    ("for $b in /bib/book return title", "1:28", "$b/title"),
+    ("for $b in /bib/book where price < 5 return $b", "1:27", "$b/price"),
+    ("for $b in /bib/book where $b/title = Foo return $b", "1:38", 'in quotes: "Foo"'),
+    ("for $b in /bib/book where $b/title = “Foo” return $b", "1:38", "quotes are straight"),
+    ('for $b in /bib/book return "x"', "1:28", "no text of its own"),
+    ("if exists(/bib) then /bib else ()", "1:4", "in parentheses"),
+    ("for $b in /bib/book", "1:20", "return is missing"),
+    ("(/bib/book", "1:11", ") is missing"),
+    ("<r>{/bib/book}", "1:15", "</r> is missing"),
+    ("/bib/book)", "1:10", "no ( is open"),
     ("for $b in /bib/book return if ($b/price < 50) then $b/title", "1:60", "else ()"),
     ("for $b in /bib/book where $b/price lt 50 return $b", "1:36", "written <"),
     ("for $b in /bib/book where $b/price < .5 return $b", "1:38", "0.5"),
@@ -57,7 +92,9 @@ DOCUMENTS = [  # a document, its place, and a part of what is said
     ("hello", "1:1", "no XML"),
     ("", "1:1", "the document is empty"),
     ("<a><b>", "1:7", "ends too soon"),
-    ("<!DOCTYPE a [<!ENTITY b 'c'>]><a/>", "1:13", "gq --subset"),
+    ("<!DOCTYPE a [<!ENTITY b 'c'>]><a/>", "1:13", "  its entities are put in by xmllint --nonet --noent --dropdtd FILE | gq ..; gq --subset"),
+    ("<!DOCTYPE a [\n<!ELEMENT a ANY>\n" + "<!ATTLIST a b CDATA ''>\n" * 99 + "<!ENTITY b 'c'>]><a/>", "1:13", "  its entities"),
+    ("<!DOCTYPE a [<!ELEMENT a ANY>]><a><!ENTITY></a>", "1:13", "  gq --subset leaves them out"),
     (b"<a>\n caf\xe9</a>", "2:5", "iconv"),
     ("<ä>é &x;</ä>", "1:7", "isn't one"),
     ("\ufeff<a>\n", "2:1", "ends too soon"),
@@ -144,16 +181,25 @@ class Faults(Case):
         with open(self.folder + "/doc.xml", "rb") as file:
             self.assertNotIn("open there", self.gq("/a/none", stdin=file.read(), code=4)[1])
 
+    def test_place_in_the_words_of_the_user(self) -> None:
+        for words, wanted in ((["-l", "//book/title"], "query:1:1: a step follows // here\n  //book/title\n  ^\n  make it a loop:"),
+                              (["-t", "//book/title", "."], "row:1:1: a step follows // here\n  //book/title\n  ^\n  let the rows be //book,"),
+                              (["-t", "/bib/book", "a", "x//b/c"], "column:1:2: a step follows // here\n  x//b/c\n   ^\n  only the last"),
+                              (["-t", "/bib/book", "-w", "//a/b = 1 and IntegerWide = 99999999999999999999", "title"],
+                               "condition:1:29: the number is beyond 64 bits, or has more than 18 decimals\n  //a/b = 1 and I")):
+            with self.subTest(words=words):
+                _, err = self.gq(*words, "--", "bib.xml", code=3)
+                self.assertTrue(err.startswith(wanted), err)
+                self.assertNotIn("made by gq", err)
+                self.assertNotIn("$gq", err)
+
     def test_query_that_gq_made_is_shown(self) -> None:
-        _, err = self.gq("-l", "//book/title", "bib.xml", code=3)
-        self.assertTrue(err.startswith("query:1:1: a step follows //"), err)
-        self.assertRegex(err, r"made by gq: for \$gq in //book/title return \(\$gq, <_[A-Za-z]{8}/>\)")
-        _, err = self.gq("-t", "/bib/book", "-w", "//a/b = 1 and IntegerWide = 99999999999999999999", "title", "--", "bib.xml", code=3)
-        self.assertTrue(err.startswith("condition:1:29: the number is beyond"), err)
-        self.assertIn("made by gq: for $gq in /bib/book where //a/b = 1 and $gq/IntegerWide", err)
         nested = "<a>{" * 199 + "/a" + "}</a>" * 199
         self.assertEqual(self.gq("-l", nested, "bib.xml", code=0)[0], (b"<a>" * 199 + b"</a>" * 199 + b"\n"))
         self.assertIn("made by gq", self.gq("-l", "(" * 199 + "/a" + ")" * 199, "bib.xml", code=3)[1])
+        self.fake("sys.stderr.write('gcx: query Syntax 3\\n'); sys.exit(3)")
+        _, err = self.gq("-l", "/bib", "bib.xml", code=3)
+        self.assertRegex(err, r"\Aquery \(made by gq\):1:4: this can't stand here\n   for \$gq in /bib return \(\$gq, <_[A-Za-z]{8}/>\)\n     \^\n\Z")
 
     def test_a_message_that_is_not_known(self) -> None:
         self.fake("sys.stderr.write('gcx: something else\\n'); sys.exit(9)")

@@ -105,9 +105,19 @@ class Encodings(Case):
 
     def test_utf8_is_left_alone(self) -> None:
         for declared in ("<?xml version='1.0' encoding='UTF-8'?>", "<?xml version='1.0' encoding=\"us-ascii\"?>", "\ufeff", "",
-                         "<?xml version='1.0' encoding='x-unknown'?>", "<?xml version='1.0' encoding='hex'?>", "<?xml version='1.0' encoding='UTF-16'?>"):
+                         "<?xml version='1.0' encoding='hex'?>", "<?xml version='1.0' encoding='UTF-16'?>"):
             self.write("doc.xml", declared + "<a>ü</a>")
             self.answers("<a>ü</a>", "/a", "doc.xml")
+
+    def test_an_encoding_that_is_not_known(self) -> None:
+        document = "<?xml version='1.0' encoding='x-klingon'?><a>ü</a>".encode()
+        self.write("doc.xml", document)
+        said = "gq: {}: the encoding x-klingon, which it declares, isn't known here: read as UTF-8\n"
+        self.assertEqual(self.gq("/a", "doc.xml", "doc.xml"), ("<a>ü</a><a>ü</a>".encode(), said.format("doc.xml")))
+        self.assertEqual(self.gq("/a", stdin=document), ("<a>ü</a>".encode(), said.format("<stdin>")))
+        self.write("doc.xml", document.replace("ü".encode(), b"\xfc"))
+        err = self.gq("/b", "doc.xml", code=4)[1]
+        self.assertTrue(err.startswith(said.format("doc.xml") + "doc.xml:1:46: not UTF-8 from here on\n"), err)
 
     def test_said_once(self) -> None:
         for name in "abc":

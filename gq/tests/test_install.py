@@ -139,7 +139,7 @@ class Completes(Case):
         script = f'. {TOP}/completion/gq.bash; COMP_WORDS=("$@"); COMP_CWORD=$(($# - 1)); _gq; printf "%s\\n" "${{COMPREPLY[@]}}"'
         done = subprocess.run(["bash", "-c", script, "bash", *words], cwd=self.folder, capture_output=True, text=True, check=True)
         self.assertEqual(done.stderr, "")
-        return done.stdout.split()
+        return sorted(done.stdout.split())
 
     def test_words(self) -> None:
         self.assertEqual(self.completed("gq", "pl"), ["plan", "plot"])

@@ -8,7 +8,8 @@ import unittest
 from gq.made import Made
 from gq.marked import condition_edits
 from gq.syntax import Slip
-from gq.tests.common import Case
+from gq.tests.common import BIB, Case
+from gq.unmet import Unmet
 
 CONDITIONS = [  # what is written, and what it is for the row
     ("price < 50", "$gq/price < 50"),
@@ -102,15 +103,57 @@ class Tables(Case):
         for words, place, part in ((["/bib/book[1]", "title"], "row:1:10", "no predicates"), (["bib/book", "title"], "row:1:1", "begins with /"),
                                    (["/bib/book", "title[1]"], "column:1:6", "no predicates"), (["/bib/book", "/title"], "column:1:1", "without a slash"),
                                    (["/bib/book", "title}"], "column:1:6", "can't stand"), (["/bib/book", "a", "../x"], "column:1:2", ""),
-                                   (["/bib/book", "node()"], "column:1:1", "node()"), (["/bib/book", "title", "-w", "price"], "condition:1:6", "exists"),
+                                   (["/bib/book", "node()"], "column:1:1", "node()"), (["/bib/book", "title", "-w", "price"], "condition:1:6", "exists(price)"),
                                    (["/bib/book", "title,author"], "column:1:6", "a word of its own"),
                                    (["/bib/book", "title", "-w", "$b/price < 5"], "condition:1:1", "without a variable"),
-                                   (["//bib/book", "title"], "row:1:1", "a loop"), (["/bib/book", "a//b/c"], "column:1:2", "a loop")):
+                                   (["//bib/book", "title"], "row:1:1", "let the rows be //bib, and begin each column there: book"),
+                                   (["/bib/book", "a//b/c"], "column:1:2", "only the last step"), (["$b/book", "title"], "row:1:1", "from the document"),
+                                   (["/bib/book where", "a"], "row:1:11", "-w 'price < 50'"), (["for $b in /bib", "a"], "row:1:1", "are a path"),
+                                   (["", "a"], "row:1:1", "the row is empty"), (["/bib/book", ""], "column:1:1", "the column is empty"),
+                                   (["/bib/book", "a b"], "column:1:3", "a word of its own"), (["/bib/book", "count(a)"], "column:1:6", "no function count"),
+                                   (["/bib/book", "a", "-w", ""], "condition:1:1", "the condition is empty"),
+                                   (["/bib/book", "a", "-w", "(price < 50"], "condition:1:12", ") is missing"),
+                                   (["/bib/book", "a", "-w", "price == 50"], "condition:1:8", "written ="),
+                                   (["/bib/book", "a", "-w", "price = 5 && year = 1"], "condition:1:11", "written and"),
+                                   (["/bib/book", "a", "-w", "price = 5 OR year = 1"], "condition:1:11", "small letters: or"),
+                                   (["/bib/book", "a", "-w", "price * 2 > 50"], "condition:1:7", "no arithmetic"),
+                                   (["/bib/book", "a", "-w", "title = TCP IP"], "condition:1:13", 'in quotes: "TCP IP"'),
+                                   (["/bib/book", "a", "-w", "contains(title, 'x')"], "condition:1:9", "grep")):
             with self.subTest(words=words):
                 out, err = self.gq("-t", *words, "--", "bib.xml", code=3)
                 self.assertEqual(out, b"")
                 self.assertTrue(err.startswith(place + ": "), err)
                 self.assertIn(part, err)
+
+    def test_columns_that_no_row_has(self) -> None:
+        no = "gq: no row has {0}\n  no element is /bib/book/{0}"
+        rows = "TCP/IP\t{}\nData on the Web\t{}\n"
+        for words, wanted in ((["title", "prise"], rows.format("", "") + no.format("prise") + ": did you mean <price>?\n"),
+                              (["title", "price/text"], rows.format("", "") + no.format("price/text") + ": did you mean text()?\n"),
+                              (["title", "author/text()"], rows.format("Stevens", "Abiteboul;Buneman"))):
+            self.assertEqual(self.on_terminal("-t", "/bib/book", *words, "--", "bib.xml"), (0, wanted))
+        self.assertIn(no.format("none") + ": there are", self.on_terminal("-jt", "/bib/book", "none", "title", "--", "bib.xml")[1])
+        self.assertEqual(self.on_terminal("-ct", "/bib/book", "none", "--", "bib.xml"), (0, "2\n"))
+        self.assertEqual(self.gq("-t", "/bib/book", "none", "--", "bib.xml"), (b"\n\n", ""))
+        self.assertIn(no.format("prise"), self.gq("-v", "-t", "/bib/book", "prise", "--", "bib.xml")[1])
+        self.assertEqual(self.gq("-vt", "/bib/book", "none", "--", stdin=BIB), (b"\n\n", "gq: no row has none\n"))
+        self.write("other.xml", "<bib><book><none/></book></bib>")
+        self.assertEqual(self.gq("-vt", "/bib/book", "none", "--", "bib.xml", "other.xml")[1], "")
+        self.assertEqual(self.gq("-vt", "/bib/book", "-w", "price > 50", "editor", "author", "--", "bib.xml")[1].splitlines()[0], "gq: no row has editor")
+
+    def test_columns_in_pieces(self) -> None:
+        text = b"<v></v><v></v><c></c><c></c>x<v></v><n></n><c></c>" + b"y<v></v>" * 50 + b"<c></c><n></n>"
+        for size in range(1, 20):
+            unmet = Unmet(4)
+            for at in range(0, len(text), size):
+                unmet.feed(text[at:at + size])
+                self.assertLess(len(unmet.held) + len(unmet.marks), 12)
+            self.assertEqual((unmet.left, unmet.any_row), ({3}, True))
+
+    def test_a_text_without_quotes(self) -> None:
+        for condition, name in (("title = Web", "Web"), ("year = 1994 and (title != Web or price < 3)", "Web")):
+            shown = self.on_terminal("-t", "/bib/book", "-w", condition, "title", "--", "bib.xml")
+            self.assertEqual(shown, (0, f'gq: nothing matches\n  no element is /bib/book/{name}: a text stands in quotes, "{name}"\n'))
 
     def test_rows_in_pieces(self) -> None:
         row = b"<a><b>x&amp;y\n</b><b/><c>1</c></a>"

@@ -2,6 +2,7 @@
 from __future__ import annotations
 
 import os
+import pty
 import sys
 import unittest
 
@@ -36,8 +37,30 @@ class Words(Case):
             self.assertRegex(err, r"\Agq: .*\n\Z")
 
     def test_files_of_a_table_stand_after_two_dashes(self) -> None:
-        _, err = self.gq("-t", "/bib/book", "title", "bib.xml", code=2)
-        self.assertIn("-- stands before the files", err)
+        os.mkdir(self.folder + "/title")
+        self.write("author", BIB)
+        for name in ("bib.xml", "nothing.xml", "none/all.xml.gz", "author"):
+            _, err = self.gq("-t", "/bib/book", "title", name, code=2)
+            self.assertTrue(err.startswith(f"gq: no -- stands before the files: .. -- {name}, or .. {name} -- for a column"), err)
+        self.assertIn(".. -- bib.xml", self.gq("-t", "/bib/book", "bib.xml", "title", code=2)[1])
+        self.answers("TCP/IP\nData on the Web\n", "-t", "/bib/book", "title", stdin=BIB)
+        self.answers("Stevens\nAbiteboul;Buneman\n", "-t", "/bib/book", "author", "--", stdin=BIB)
+        self.answers("\n\n", "-t", "/bib/book", "all.xml", "--", stdin=BIB)
+        self.assertIn("leave -l out", self.gq("-l", "-t", "/bib/book", "title", "--", "bib.xml", code=2)[1])
+
+    def test_a_terminal_is_the_document(self) -> None:
+        for words, said in ((["/bib"], "gq: no FILE: the document"), (["-t", "/bib/book", "title"], "gq: no -- stands before the files: the document"),
+                            (["-t", "/bib/book", "title", "--"], "gq: no FILE: the document")):
+            main, side = pty.openpty()
+            child = self.start(*words, stdin=side, stdout=side, stderr=side)
+            os.close(side)
+            shown = b""
+            while b"terminal" not in shown:
+                shown += os.read(main, 1000)
+            self.assertIn(said, shown.decode())
+            child.terminate()
+            child.wait(timeout=60)
+            os.close(main)
 
     def test_names_after_two_dashes(self) -> None:
         os.rename(self.folder + "/bib.xml", self.folder + "/-l")
@@ -48,7 +71,11 @@ class Words(Case):
             out, err = self.gq(word)
             self.assertIn(b"isn't itself proved", out)
             self.assertEqual(err, "")
-        self.assertRegex(self.gq("--version")[0], rb"\Agcx [0-9.]+\n\Z")
+        out, err = self.gq("--version")
+        self.assertRegex(out, rb"\Agq ([0-9.]+)\ngcx \1\n\Z")
+        self.assertEqual(err, "")
+        page = (TOP / "docs" / "gq.1").read_bytes()
+        self.assertIn(out.split()[1], page.split(b"\n")[0])
 
     def test_file_faults_name_the_file_and_the_reason(self) -> None:
         out, err = self.gq("/bib/note", "nothing.xml", code=5)
@@ -60,7 +87,7 @@ class Words(Case):
     def test_folder_is_refused_before_anything_starts(self) -> None:
         self.fake("sys.exit(0)")
         os.mkdir(self.folder + "/sub")
-        for words in (["/a", "sub"], ["-l", "/a", "sub"]):
+        for words in (["/a", "sub"], ["-l", "/a", "sub"], ["/a", "bib.xml", "sub"], ["-t", "/a", "b", "--", "bib.xml", "sub", "none"]):
             self.assertEqual(self.gq(*words, code=5)[1], "gq: sub: Is a directory\n")
         self.assertEqual(self.shell(f"{TOP}/gq/launcher /a <sub")[2], "gq: <stdin>: Is a directory\n")
         self.assertFalse(os.path.exists(self.folder + "/started"))
@@ -86,7 +113,8 @@ class Words(Case):
 
     def test_no_gcx(self) -> None:
         os.unlink(self.bin + "/gcx")
-        self.assertEqual(self.shell("PATH=/nowhere " + " ".join(LAUNCHER) + " /a bib.xml")[2], "gq: gcx is neither beside gq nor on PATH\n")
+        self.assertEqual(self.shell("PATH=/nowhere " + " ".join(LAUNCHER) + " /a bib.xml")[2],
+                         "gq: gcx is neither beside gq nor on PATH: ./install puts both into one folder, and PATH=FOLDER:$PATH adds the folder of gcx\n")
 
     def test_gcx_beside_the_launcher(self) -> None:
         place = self.folder + "/opt/bin"
