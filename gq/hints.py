@@ -37,6 +37,8 @@ def of_query(kind: str, text: bytes, place: int, what: str = "query") -> str:
         return of_variable(rest, before, text, what)
     if kind == "Absolute":
         return "title, a/b, @name, . or .//name"
+    if kind == "FromRoot":
+        return of_root(rest)
     if kind == "Syntax":
         return of_syntax(rest, before, text, what)
     return ""
@@ -101,6 +103,13 @@ def of_descendant(before: bytes, rest: bytes, what: str) -> str:
     if re.search(rb"\bin\s*\Z", before[:len(before) - len(base)]):
         return f"two clauses: for $y in {above}, $x in $y{below}"
     return f"make it a loop: for $x in {above} return $x{below}"
+
+
+def of_root(rest: bytes) -> str:
+    """A hint for a path of a condition that begins at the document."""
+    path = re.match(rb"(?:/{1,2}(?:@?[-\w.:\x80-\xff]+|\*)(?:\(\))?)*", rest)[0]  # type: ignore[index]
+    last = shown(path.rpartition(b"/")[2]) or "name"
+    return f"{last} for a child of the row, .//{last} for any in it"
 
 
 def of_variable(rest: bytes, before: bytes, text: bytes, what: str) -> str:

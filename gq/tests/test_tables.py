@@ -30,13 +30,12 @@ CONDITIONS = [  # what is written, and what it is for the row
     ("./a = * ", "$gq/a = $gq/* "),
     ("a//b = 1", "$gq/a//b = 1"),
     ("child::a = descendant::b", "$gq/child::a = $gq/descendant::b"),
-    ("/bib/limit = price", "/bib/limit = $gq/price"),
     ("(a = 1 (: b = 2 :) and (text = 3))", "($gq/a = 1 (: b = 2 :) and ($gq/text = 3))"),
     ("größe > 3", "$gq/größe > 3"),
     ("a = 'it''s'", "$gq/a = 'it''s'"),
 ]
 REFUSED = ["price", "a = 1 return <x/>", "a = 1) or (b = 2", "a[1] = 2", "a + 1 = 2", "../a = 1", "a lt 5", "contains(a, 'b')", "1 = 2", "",
-           "a = 1, b = 2", "a = }", "a/. = 1", "exists()"]
+           "a = 1, b = 2", "a = }", "a/. = 1", "exists()", "/bib/limit = price", "price < /bib/limit", "exists(//em)", "not(a = 1 or /b = 2)"]
 
 
 class Conditions(unittest.TestCase):
@@ -118,7 +117,12 @@ class Tables(Case):
                                    (["/bib/book", "a", "-w", "price = 5 OR year = 1"], "condition:1:11", "small letters: or"),
                                    (["/bib/book", "a", "-w", "price * 2 > 50"], "condition:1:7", "no arithmetic"),
                                    (["/bib/book", "a", "-w", "title = TCP IP"], "condition:1:13", 'in quotes: "TCP IP"'),
-                                   (["/bib/book", "a", "-w", "contains(title, 'x')"], "condition:1:9", "grep")):
+                                   (["/bib/book", "a", "-w", "contains(title, 'x')"], "condition:1:9", "grep"),
+                                   (["/bib/book", "a", "-w", '//em = "not"'], "condition:1:1", "begins at the row, without a slash"),
+                                   (["/bib/book", "a", "-w", '//em = "not"'], "condition:1:1", "  em for a child of the row, .//em for any in it\n"),
+                                   (["/bib/book", "a", "-w", 'a = 1 and /page/p/@em = "not"'], "condition:1:11", "  @em for a child"),
+                                   (["/bib/book", "a", "-w", "not(exists( //text()))"], "condition:1:13", ".//text() for any"),
+                                   (["/bib/book", "a", "-w", "price < /bib/*"], "condition:1:9", "  * for a child")):
             with self.subTest(words=words):
                 out, err = self.gq("-t", *words, "--", "bib.xml", code=3)
                 self.assertEqual(out, b"")
