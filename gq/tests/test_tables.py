@@ -122,7 +122,22 @@ class Tables(Case):
                                    (["/bib/book", "a", "-w", '//em = "not"'], "condition:1:1", "  em for a child of the row, .//em for any in it\n"),
                                    (["/bib/book", "a", "-w", 'a = 1 and /page/p/@em = "not"'], "condition:1:11", "  @em for a child"),
                                    (["/bib/book", "a", "-w", "not(exists( //text()))"], "condition:1:13", ".//text() for any"),
-                                   (["/bib/book", "a", "-w", "price < /bib/*"], "condition:1:9", "  * for a child")):
+                                   (["/bib/book", "a", "-w", "price < /bib/*"], "condition:1:9", "  * for a child"),
+                                   (["/bib/book", "a", "-w", "at > 2026-03-01T08:00:01Z"], "condition:1:10", 'in quotes: "2026-03-01T08:00:01Z"\n'),
+                                   (["/bib/book", "a", "-w", "(t = a  b c ) and d = 1"], "condition:1:9", 'in quotes: "a  b c"\n'),
+                                   (["/bib/book", "a", "-w", "t = 08:00 or d = 1"], "condition:1:7", 'in quotes: "08:00"\n'),
+                                   (["/bib/book", ".//figure/@file"], "column:1:2", "has //: .//@file, or each step by its name, a/figure/@file\n"),
+                                   (["/bib/book", "../@id"], "column:1:2", "no way up: a loop has both, for $p in /a/b, $r in $p/c return"),
+                                   (["/bib/book", "a/../@id"], "column:1:3", "no way up: a loop"),
+                                   (["/bib/book", "a", "-w", "a = 1 and ../@id = 5"], "condition:1:12", "no way up: a loop"),
+                                   (["/bib/book", "a", "-w", "tag[@k='amenity']/@v = \"cafe\""], "condition:1:4", "  a path has no predicates: gq -l '"
+                                    "for $r in ROW, $c in $r/tag where $c/k = \"amenity\" and $c/v = \"cafe\" return $r/name'\n"),
+                                   (["/bib/book", "a", "-w", 'exists(b/tag[k="x"])'], "condition:1:13", "no predicates: -w 'b/tag/k = \"x\"'\n"),
+                                   (["/bib/book", "a", "-w", "a[contains(b, 'x')] = 1"], "condition:1:2", "where $c/a = 1 and $c/b = 2 return $r/name'\n"),
+                                   (["/bib/book", 'tag[@k="x"]/@v'], "column:1:4", "gq -l 'for $r in ROW return <row>{$r/name, "
+                                    "for $c in $r/tag where $c/k = \"x\" return $c/v}</row>'\n"),
+                                   (["/bib/book", "title[1]"], "column:1:6", "a cell has all values"),
+                                   (["/bib/book[a < 5]", "title"], "row:1:10", "no predicates: -w 'price < 50'\n")):
             with self.subTest(words=words):
                 out, err = self.gq("-t", *words, "--", "bib.xml", code=3)
                 self.assertEqual(out, b"")

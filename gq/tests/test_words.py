@@ -41,15 +41,24 @@ class Words(Case):
         self.write("author", BIB)
         for name in ("bib.xml", "nothing.xml", "none/all.xml.gz", "author"):
             _, err = self.gq("-t", "/bib/book", "title", name, code=2)
-            self.assertTrue(err.startswith(f"gq: no -- stands before the files: .. -- {name}, or .. {name} -- for a column"), err)
-        self.assertIn(".. -- bib.xml", self.gq("-t", "/bib/book", "bib.xml", "title", code=2)[1])
+            self.assertTrue(err.startswith(f"gq: -- is missing between the columns and the files: write -- before {name}, or after it if"), err)
+        self.assertIn("write -- before bib.xml, or", self.gq("-t", "/bib/book", "bib.xml", "title", code=2)[1])
         self.answers("TCP/IP\nData on the Web\n", "-t", "/bib/book", "title", stdin=BIB)
         self.answers("Stevens\nAbiteboul;Buneman\n", "-t", "/bib/book", "author", "--", stdin=BIB)
         self.answers("\n\n", "-t", "/bib/book", "all.xml", "--", stdin=BIB)
         self.assertIn("leave -l out", self.gq("-l", "-t", "/bib/book", "title", "--", "bib.xml", code=2)[1])
 
+    def test_a_condition_stands_once(self) -> None:
+        err = "gq: -w stands twice: join the conditions by and (gq --help)\n"
+        self.assertEqual(self.gq("-t", "/a", "-w", "b = 1", "-w", "c = 2", "d", code=2), (b"", err))
+
+    def test_file_before_the_query(self) -> None:
+        for words in (["bib.xml", "//name"], ["-l", "bib.xml", "for $b in /bib/book return $b"]):
+            no = f"gq: {words[-1]}: No such file or directory\n"
+            self.assertEqual(self.gq(*words, code=5), (b"", no + "  bib.xml is a file: the query comes first, then the files\n"))
+
     def test_a_terminal_is_the_document(self) -> None:
-        for words, said in ((["/bib"], "gq: no FILE: the document"), (["-t", "/bib/book", "title"], "gq: no -- stands before the files: the document"),
+        for words, said in ((["/bib"], "gq: no FILE: the document"), (["-t", "/bib/book", "title"], "gq: no -- with a FILE after it: the document"),
                             (["-t", "/bib/book", "title", "--"], "gq: no FILE: the document")):
             main, side = pty.openpty()
             child = self.start(*words, stdin=side, stdout=side, stderr=side)
