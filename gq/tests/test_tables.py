@@ -174,6 +174,19 @@ class Tables(Case):
             shown = self.on_terminal("-t", "/bib/book", "-w", condition, "title", "--", "bib.xml")
             self.assertEqual(shown, (0, f'gq: nothing matches\n  no element is /bib/book/{name}: a text stands in quotes, "{name}"\n'))
 
+    def test_values_with_those_of_attributes(self) -> None:
+        self.write("d.xml", "<o><x a='1'/><order id='1'><total currency='EUR'>950</total><x a='1'/><p>Do <em>not</em> <b>run</b> it.</p></order></o>")
+        has = "  the value of <{}> has that of {} in it: {} is its own text\n"
+        total = has.format("total", "currency", "total/text()")
+        for row, condition, wanted in (("/o/order", "total > 900", total), ("/o", "900 < .//total and exists(*/p)", total), ("/o/order", "total/text() < 900", ""),
+                                       ("/o/order/total", ". > 900", has.format("total", "currency", "text()")), ("/o/order", "x > 1", ""),
+                                       ("/o/order", "p = 'x' or p = 'y'", has.format("p", "b, em", "p/text()")), ("/o/order", "exists(total/none)", None)):
+            _, err = self.gq("-vt", row, "-w", condition, ".", "--", "d.xml")
+            self.assertEqual(err, "gq: nothing matches\n" + wanted) if wanted is not None else self.assertNotIn("the value", err)
+        self.assertIn(total, self.on_terminal("for $o in //order where $o/total > 900 return $o/p", "d.xml")[1])
+        self.assertEqual(self.gq("-vt", "/o/order", "-w", "total > 900", ".", "--", stdin=b"<o><order><total c='1'>2</total></order></o>")[1], "gq: nothing matches\n")
+        self.assertEqual(self.gq("-vt", "/o/order", "-w", "total/text() > 900", "@id", "--", "d.xml"), (b"1\n", ""))
+
     def test_rows_in_pieces(self) -> None:
         row = b"<a><b>x&amp;y\n</b><b/><c>1</c></a>"
         out = self.gq("-t", "/r/a", "b", "c", stdin=b"<r>" + row * 60_000 + b"</r>")[0]
