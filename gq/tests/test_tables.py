@@ -76,6 +76,16 @@ class Tables(Case):
         self.answers("On ;!;<&>\tXML\t7;On XML!;E95;;<&>\n", "-t", "/r/a", "t/text()", ".//i", "*", "--", "d.xml")
         self.answers("E\t95\n", "-t", "/r/a/p", "@c", "text()", "--", "d.xml")
 
+    def test_white_space_between_two_tags(self) -> None:
+        self.write("d.xml", "<r><p>Do <em>not</em> <b>run</b> it.</p></r>")
+        self.answers("Do notrun it.\n", "-t", "//p", ".", "--", "d.xml")
+        self.answers("<p>Do <em>not</em><b>run</b> it.</p>", "//p", "d.xml")
+
+    def test_numbers_in_quotes_are_texts(self) -> None:
+        self.write("d.xml", "<r><a><number>20</number></a><a><number>099</number></a></r>")
+        self.answers("099\n", "-t", "/r/a", "-w", 'number < "100"', "number", "--", "d.xml")
+        self.answers("20\n099\n", "-t", "/r/a", "-w", "number < 100", "number", "--", "d.xml")
+
     def test_signs(self) -> None:
         self.write("d.xml", "<r><a><t>a\tb\nc\\d;e&amp;amp;&lt;&quot;</t><t>f</t></a></r>")
         self.answers("a\\tb\\nc\\\\d;e&amp;<\";f\n", "-t", "/r/a", "t", "--", "d.xml")

@@ -78,7 +78,10 @@ class Words(Case):
     def test_help_and_version(self) -> None:
         for word in ("--help", "-h", "help"):
             out, err = self.gq(word)
-            self.assertIn(b"isn't itself proved", out)
+            self.assertIn(b"that part is proved, and gq\nisn't.", out)
+            for part in (b"$b/year and not $b/@year", b"White space between two tags is dropped", b"total/text() > 900", b'number < "100"'):
+                self.assertIn(part, out)
+            self.assertLessEqual(max(map(len, out.splitlines())), 80)
             self.assertEqual(err, "")
         out, err = self.gq("--version")
         self.assertRegex(out, rb"\Agq ([0-9.]+)\ngcx \1\n\Z")
