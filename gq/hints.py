@@ -316,7 +316,7 @@ def of_end(past: bytes, what: str) -> str:
     if not past:
         return f"the {what} is empty"
     if past in (b"/", b"//"):
-        return "the whole document is /*"
+        return "the whole document is /*" if what in ("query", "row") else "the row itself is ."
     if past.endswith((b"/", b"::")):
         return "a name is missing at the end"
     if past.endswith(b","):

@@ -311,7 +311,7 @@ def one_file(job: Job, word: bytes | None) -> tuple[int, bool]:
         return run.go(), run.sink is None or run.sink.any
     except Refused as refused:
         tell(refused.text)
-        if refused.code == 5 and job.order.query and os.path.isfile(job.order.query):
+        if refused.code == 5 and job.order.files[:1] == [word] and job.order.query and os.path.isfile(job.order.query):
             say(b"  " + job.order.query + b" is a file: the query comes first, then the files")
         return refused.code, False
     except Full as full:

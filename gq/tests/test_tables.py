@@ -136,6 +136,7 @@ class Tables(Case):
                                    (["/bib/book", "a", "-w", "at > 2026-03-01T08:00:01Z"], "condition:1:10", 'in quotes: "2026-03-01T08:00:01Z"\n'),
                                    (["/bib/book", "a", "-w", "(t = a  b c ) and d = 1"], "condition:1:9", 'in quotes: "a  b c"\n'),
                                    (["/bib/book", "a", "-w", "t = 08:00 or d = 1"], "condition:1:7", 'in quotes: "08:00"\n'),
+                                   (["/bib/book", "a", "-w", "/"], "condition:1:2", "the row itself is ."),
                                    (["/bib/book", ".//figure/@file"], "column:1:2", "has //: .//@file, or each step by its name, a/figure/@file\n"),
                                    (["/bib/book", "../@id"], "column:1:2", "no way up: a loop has both, for $p in /a/b, $r in $p/c return"),
                                    (["/bib/book", "a/../@id"], "column:1:3", "no way up: a loop"),

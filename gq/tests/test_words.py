@@ -53,6 +53,8 @@ class Words(Case):
         self.assertEqual(self.gq("-t", "/a", "-w", "b = 1", "-w", "c = 2", "d", code=2), (b"", err))
 
     def test_file_before_the_query(self) -> None:
+        self.assertEqual(self.gq("bib.xml", "//name", "none", code=5)[1].count("the query comes first"), 1)
+        self.assertEqual(self.gq("//name", "none", code=5)[1], "gq: none: No such file or directory\n")
         for words in (["bib.xml", "//name"], ["-l", "bib.xml", "for $b in /bib/book return $b"]):
             no = f"gq: {words[-1]}: No such file or directory\n"
             self.assertEqual(self.gq(*words, code=5), (b"", no + "  bib.xml is a file: the query comes first, then the files\n"))
