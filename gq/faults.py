@@ -10,6 +10,7 @@ QUERY = {
     "Lex": "no word of a query begins here", "Syntax": "this can't stand here", "UnknownVar": "no loop around it binds this variable",
     "DescendantNotLast": "a step follows // here", "TagMismatch": "the end tag has another name than the start tag", "Utf8": "not UTF-8",
     "IntegerWide": "the number is beyond 64 bits, or has more than 18 decimals", "Absolute": "a column begins at the row, without a slash",
+    "FromRoot": "a path of a condition begins at the row, without a slash",
     "NodeColumn": "node() can't be a column: * or text() can", "TooLarge": "too much stands in one another",
 }
 TOO_LARGE = {

@@ -12,6 +12,8 @@ WORD_RELATIONS = {b"lt": "<", b"le": "<=", b"gt": ">", b"ge": ">=", b"eq": "=", 
 KEYWORDS = (b"for", b"in", b"where", b"return", b"if", b"then", b"else", b"and", b"or", b"not", b"exists", b"true")
 ARITHMETIC = "there is no arithmetic: the next program of the pipe computes"
 UP = "there is no way up: begin a loop further up, and name what it must have"
+UP_FROM_ROW = "there is no way up: a loop has both, for $p in /a/b, $r in $p/c return <row>{$p/id, $r/name}</row>"
+TEST = rb"(=|!=|<=?|>=?)\s*(\"[^\"]*\"|'[^']*'|-?[0-9.]+)"  # a relation and a literal
 STRAIGHT = (b"\xe2\x80\x9c", b"\xe2\x80\x9d", b"\xe2\x80\x98", b"\xe2\x80\x99")  # quotes that are curved
 BOUND = re.compile(rb"(\$[-\w.:]+)\s+in\b")
 
@@ -37,6 +39,8 @@ def of_query(kind: str, text: bytes, place: int, what: str = "query") -> str:
         return of_variable(rest, before, text, what)
     if kind == "Absolute":
         return "title, a/b, @name, . or .//name"
+    if kind == "FromRoot":
+        return of_root(rest)
     if kind == "Syntax":
         return of_syntax(rest, before, text, what)
     return ""
@@ -49,7 +53,7 @@ def of_word(rest: bytes, before: bytes, text: bytes, what: str) -> str:
         number = re.match(rb"\[\s*(\d+)\s*\]", rest)
         if number and what == "query":
             return f"a path has no predicates: gq -l .. | sed -n {shown(number[1])}p takes that one of all"
-        return f"a path has no predicates: {LOOP}" if what == "query" else "a path has no predicates: -w 'price < 50'"
+        return "a path has no predicates: " + (LOOP if what == "query" else of_predicate(rest, before, what))
     if sign == b"@":
         name = shown(word_at(rest, 1))
         return f"an attribute is a child here: /{name} for /@{name}" if name else "an attribute is a child here: /* are all children"
@@ -74,6 +78,32 @@ def of_word(rest: bytes, before: bytes, text: bytes, what: str) -> str:
     return of_operator(rest)
 
 
+def of_predicate(rest: bytes, before: bytes, what: str) -> str:
+    """What does the work of a predicate in a part of a table, in the user's words as far as they are simple."""
+    inner = re.match(rb"\[\s*@?([-\w.:\x80-\xff]+)\s*" + TEST + rb"\s*\]", rest)
+    path = re.search(rb"[-\w.:/@*\x80-\xff]*\Z", before)[0]  # type: ignore[index]
+    if what == "row":
+        return "-w 'price < 50'"
+    if what == "column" and re.match(rb"\[\s*\d+\s*\]", rest):
+        return "a cell has all values, and -j writes them as an array"
+    if inner is None or not re.match(rb"[\w\x80-\xff]", path) or b"//" in path:
+        return "gq -l 'for $r in ROW, $c in $r/child where $c/a = 1 and $c/b = 2 return $r/name'"
+    after = re.match(rb"/@?([-\w.:\x80-\xff]+)(?:\s*" + TEST + rb")?", rest[inner.end():])
+    fact, value = f"{shown(inner[1])} {shown(inner[2])} {in_quotes(inner[3])}", shown(after[1]) if after else ""
+    if what == "column":
+        copied = f"$c/{value}" if value else "$c"
+        return f"gq -l 'for $r in ROW return <row>{{$r/name, for $c in $r/{shown(path)} where $c/{fact} return {copied}}}</row>'"
+    if after is None or not after[2]:
+        return f"-w '{shown(path)}/{fact}'"
+    other = f"{value} {shown(after[2])} {in_quotes(after[3])}"
+    return f"gq -l 'for $r in ROW, $c in $r/{shown(path)} where $c/{fact} and $c/{other} return $r/name'"
+
+
+def in_quotes(literal: bytes) -> str:
+    """A literal as it can stand in a word of the shell that is in single quotes."""
+    return shown(b'"' + literal[1:-1] + b'"' if literal[:1] == b"'" and b'"' not in literal else literal)
+
+
 def of_operator(rest: bytes) -> str:
     """The same of a sign that joins two things in other languages."""
     if rest[:2] == b"||":
@@ -90,17 +120,24 @@ def of_operator(rest: bytes) -> str:
 def of_descendant(before: bytes, rest: bytes, what: str) -> str:
     """A hint for a step after //, of which the path is looked at."""
     base = re.search(rb"(?:\$[-\w.:\x80-\xff]+)?(?:/[-\w.:*\x80-\xff]+)*\Z", before)[0]  # type: ignore[index]
-    steps = re.match(rb"(//[-\w.:*\x80-\xff]+(?:\(\))?)(/[-\w.:*/()\x80-\xff]*[-\w.:*\x80-\xff](?:\(\))?)?", rest)
+    steps = re.match(rb"(//[-\w.:*\x80-\xff]+(?:\(\))?)(/[-\w.:*/()@\x80-\xff]*[-\w.:*\x80-\xff](?:\(\))?)?", rest)
     if steps is None or not steps[2]:
         return "make it a loop: for $x in //name return $x/.."
     above, below = shown(base + steps[1]), shown(steps[2])
     if what == "row":
         return f"let the rows be {above}, and begin each column there: {below.lstrip('/')}"
     if what == "column":
-        return "only the last step of a column has //: name the steps after it, or end there"
+        return f"only the last step of a column has //: .//{below.rpartition('/')[2]}, or each step by its name, a/{shown(steps[1][2:])}{below}"
     if re.search(rb"\bin\s*\Z", before[:len(before) - len(base)]):
         return f"two clauses: for $y in {above}, $x in $y{below}"
     return f"make it a loop: for $x in {above} return $x{below}"
+
+
+def of_root(rest: bytes) -> str:
+    """A hint for a path of a condition that begins at the document."""
+    path = re.match(rb"(?:/{1,2}(?:@?[-\w.:\x80-\xff]+|\*)(?:\(\))?)*", rest)[0]  # type: ignore[index]
+    last = shown(path.rpartition(b"/")[2]) or "name"
+    return f"{last} for a child of the row, .//{last} for any in it"
 
 
 def of_variable(rest: bytes, before: bytes, text: bytes, what: str) -> str:
@@ -143,6 +180,8 @@ def of_syntax(rest: bytes, before: bytes, text: bytes, what: str) -> str:
     called = functions.called(rest, past)
     if called:
         return functions.instead(called, text, what)
+    if what in ("column", "condition") and re.search(rb"(?<![^\s/(=<>@])\.\Z", before) and rest[:1] == b"." or rest[:2] == b"..":
+        return UP_FROM_ROW
     if rest[:2] == b"::" or re.match(rb"[-\w]+::", rest):
         return of_axis(word if rest[:2] != b"::" else re.search(rb"[-\w]*\Z", past)[0])  # type: ignore[index]
     if past.endswith(b"*") and rest[:1] == b":":
@@ -150,7 +189,7 @@ def of_syntax(rest: bytes, before: bytes, text: bytes, what: str) -> str:
     if word == b"in" and re.search(rb"\bfor\Z", past):
         return "the shell took the variable: write the query in single quotes"
     return of_keyword(word, past) or of_relation(rest, past) or of_constructor(word, rest, past) or of_bare(word, rest, past, what) or \
-        of_condition(word, rest, past, what)
+        of_condition(word, rest, before, what)
 
 
 def of_axis(name: bytes) -> str:
@@ -219,15 +258,17 @@ def of_constructor(word: bytes, rest: bytes, past: bytes) -> str:
     return ""
 
 
-def of_condition(word: bytes, rest: bytes, past: bytes, what: str) -> str:
+def of_condition(word: bytes, rest: bytes, before: bytes, what: str) -> str:
     """A hint for a condition."""
+    past = before.rstrip()
     if rest.startswith(b"(") and re.search(rb"[=<>]\Z", past):
         return "a comparison has one value: $x/a = \"1\" or $x/a = \"2\""
     if re.search(rb"\bnot\Z", past):
         return "not(exists(..)), with parentheses"
-    text = re.search(rb"[=<>]\s*([-\w.\x80-\xff]+)\Z", past)
+    text = re.search(rb"[=<>]\s*([-\w.\x80-\xff]+\s*)\Z", before)
     if what == "condition" and text and word not in (b"", b"and", b"or"):
-        return f'a text stands in quotes: "{shown(text[1])} {shown(word)}"'
+        more = re.match(rb"(?:(?!\s+(?:and|or)\b)[^)])*", rest)[0]  # type: ignore[index]
+        return f'a text stands in quotes: "{shown(text[1] + more.rstrip())}"'
     if what == "row" and word == b"where":
         return "the condition of the rows is -w: -w 'price < 50'"
     for begin, end in ((b"(", b")"), (b"{", b"}")):
@@ -275,7 +316,7 @@ def of_end(past: bytes, what: str) -> str:
     if not past:
         return f"the {what} is empty"
     if past in (b"/", b"//"):
-        return "the whole document is /*"
+        return "the whole document is /*" if what in ("query", "row") else "the row itself is ."
     if past.endswith((b"/", b"::")):
         return "a name is missing at the end"
     if past.endswith(b","):

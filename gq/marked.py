@@ -74,7 +74,9 @@ class Relative(Grammar):
         self.edits = [(it.start, 1, b"") for it in self.list if it.kind == "sign" and it.text == b"@"]
 
     def met_condition(self, path: Path) -> None:
-        """A path of the condition."""
+        """A path of the condition. One that begins at the document would ask the same of each row."""
+        if not path.relative and path.variable is None:
+            raise Slip("FromRoot", path.start)
         if path.relative:
             dot = self.text[path.start:path.start + 1] == b"."
             self.edits.append((path.start, 1, b"$gq") if dot else (path.start, 0, b"$gq/"))

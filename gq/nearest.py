@@ -6,7 +6,7 @@ import os
 from gq import program
 from gq.flow import Loop, Reading
 from gq.inputs import Document, Feed
-from gq.outline import FIRST, SAMPLE, outline
+from gq.outline import FIRST, SAMPLE, Node, outline
 from gq.marked import column_edits, row_path
 from gq.say import say, tell
 from gq.syntax import RELATIONS, Grammar, Path, Slip
@@ -23,6 +23,7 @@ class Paths(Grammar):
         super().__init__(text)
         self.bound: dict[bytes, Steps] = {}
         self.found: list[Steps] = []
+        self.compared: list[tuple[Steps, bytes]] = []
 
     def met_clause(self, variable: bytes, path: Path) -> None:
         """A loop binds its variable."""
@@ -40,6 +41,11 @@ class Paths(Grammar):
         self.note(path)
 
     met_inner = met_condition = met_output
+
+    def met_compared(self, path: Path) -> None:
+        """A side of a comparison, with how its own text is asked for."""
+        own = path.steps[-1][1] + b"/text()" if path.steps else b"text()"
+        self.compared.append((self.note(path), own))
 
 
 def names_step(step: tuple[bool, bytes]) -> bool:
@@ -151,7 +157,20 @@ def tell_nothing(document: Document | None, subset: bool, query: bytes, where: b
         reader.query()
     except Slip:
         return
-    tell_unmet(document, subset, reader.found, texts(where))
+    root = tell_unmet(document, subset, reader.found, texts(where))
+    for steps, own in dict.fromkeys(reader.compared) if root is not None else ():
+        tell_values_within(root, steps, own)
+
+
+def tell_values_within(root: Node, steps: Steps, own: bytes) -> None:
+    """Says it where the value of an element that is compared has that of others in it beside a text of its own, which is asked for by OWN."""
+    nodes: list = [root]
+    for step in steps:
+        nodes = below(nodes, step)
+    within = sorted({name for it in nodes if it.has_text for name in it})
+    if within and names_step(steps[-1]):
+        others = b", ".join(within[:MOST_TOLD]) + (b" and others" if len(within) > MOST_TOLD else b"")
+        say(b"  the value of <" + steps[-1][1] + b"> has that of " + others + b" in it: " + own + b" is its own text")
 
 
 def tell_columns(document: Document | None, subset: bool, row: bytes, columns: list[bytes]) -> None:
@@ -164,10 +183,10 @@ def tell_columns(document: Document | None, subset: bool, row: bytes, columns: l
         tell(f"nor {len(columns) - MOST_TOLD} other columns")
 
 
-def tell_unmet(document: Document | None, subset: bool, paths: list[Steps], maybe_texts: set[bytes]) -> None:
-    """Tells of a regular file the first step of each path that no element meets."""
+def tell_unmet(document: Document | None, subset: bool, paths: list[Steps], maybe_texts: set[bytes]) -> Node | None:
+    """Tells of a regular file the first step of each path that no element meets; its names, if they were read."""
     if document is None or not document.regular:
-        return
+        return None
     root = outline(document, subset)
     whole = not document.packed() and document.size() <= SAMPLE
     told: list[bytes] = []
@@ -180,6 +199,7 @@ def tell_unmet(document: Document | None, subset: bool, paths: list[Steps], mayb
         if line not in told:
             told.append(line)
             say(line)
+    return root
 
 
 def texts(where: bytes) -> set[bytes]:

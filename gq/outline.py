@@ -35,25 +35,33 @@ class Reader:
         raise NotImplementedError
 
 
+class Node(dict):
+    """The elements with one path: maps a name to the node of those below. Attributes are such elements too."""
+    has_text = False  # directly in one of them
+
+
 class Outline(Reader):
-    """The names of the elements: each node maps a name to the node of the elements with that path."""
+    """The names of the elements."""
 
     def __init__(self) -> None:
         super().__init__()
-        self.root: dict = {}
-        self.above: list[dict] = [self.root]
+        self.root = Node()
+        self.above: list[Node] = [self.root]
         self.paths = 0
 
     def read(self, lines: bytes) -> None:
         """Adds what is new. Texts have no line of their own for their end."""
         above = self.above
         for name in EVENT.findall(lines):
-            if name in (b"#", b"/"):
+            if name == b"/":
+                continue
+            if name == b"#":
+                above[-1].has_text = True
                 continue
             if name:
                 node = above[-1].get(name)
                 if node is None:
-                    node = {}
+                    node = Node()
                     if self.paths < MOST:
                         above[-1][name] = node
                         self.paths += 1
@@ -115,7 +123,7 @@ def open_path(document: Document, subset: bool, offset: int) -> bytes | None:
     return b"".join(b"/" + it for it in reader.names)
 
 
-def outline(document: Document, subset: bool) -> dict:
+def outline(document: Document, subset: bool) -> Node:
     """The names in the first bytes of a regular file."""
     reader = Outline()
     trace(document, subset, reader, SAMPLE)

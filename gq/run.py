@@ -267,7 +267,7 @@ def every_file(order: Order) -> int:
             raise Refused(5, word + b": Is a directory")
     job = Job(order)
     if not order.files and os.isatty(0) and os.isatty(2):
-        missing = "no -- stands before the files" if order.row is not None and not order.dashes else "no FILE"
+        missing = "no -- with a FILE after it" if order.row is not None and not order.dashes else "no FILE"
         tell(f"{missing}: the document is read from this terminal")
     worst, empty = 0, []
     for word in order.files or [None]:
@@ -311,6 +311,8 @@ def one_file(job: Job, word: bytes | None) -> tuple[int, bool]:
         return run.go(), run.sink is None or run.sink.any
     except Refused as refused:
         tell(refused.text)
+        if refused.code == 5 and job.order.files[:1] == [word] and job.order.query and os.path.isfile(job.order.query):
+            say(b"  " + job.order.query + b" is a file: the query comes first, then the files")
         return refused.code, False
     except Full as full:
         tell(f"standard output: {full}")

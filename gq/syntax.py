@@ -50,6 +50,10 @@ class Grammar:
     def met_condition(self, path: Path) -> None:
         """A path in a condition."""
 
+    def met_compared(self, path: Path) -> None:
+        """One that is a side of a comparison."""
+        self.met_condition(path)
+
     # Tokens.
     @property
     def now(self) -> Token:
@@ -277,5 +281,5 @@ class Grammar:
         if self.now.kind in ("number", "string"):
             self.step()
             return True
-        self.met_condition(self.path())
+        self.met_compared(self.path())
         return False

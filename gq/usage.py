@@ -8,7 +8,9 @@ from gq.flow import write_out
 
 VERSION = "0.2.0"  # that of gcx, with which it is installed
 TEXT = """\
-gq answers a query over XML documents. It runs gcx, and isn't itself proved.
+gq takes what you ask for out of XML documents, and writes it as XML, as lines
+or as a table. It runs gcx, which answers the query: that part is proved, and gq
+isn't.
 
 Usage:
   gq [OPTION ..] QUERY [FILE ..]                 the answer
@@ -18,9 +20,10 @@ Usage:
   gq held QUERY [FILE]                           what is held at the peak
   gq plot QUERY [FILE]                           what is held, over the document
 
-The query is one word: write it in single quotes. No FILE, or -, is standard
-input. FILE may be compressed (gzip, bzip2, xz, zstd), and in any encoding that
-its byte order mark or its declaration tells.
+The query is one word: write it in single quotes. An attribute is written in it
+as a child, $b/year and not $b/@year, and its copy is an element. No FILE, or -,
+is standard input. FILE may be compressed (gzip, bzip2, xz, zstd), and in any
+encoding that its byte order mark or its declaration tells.
 
 Options:
   -l    each match as a line; a newline in it is written &#10;
@@ -31,11 +34,14 @@ Options:
   -t ROW    a line for each match of the path ROW, with a tab between COLUMNs. A
             COLUMN is a path from the row: title, a/b, @year, text(), . for all;
             its cell is all text of the match, of several joined by ;
-            The text of an element begins with the values of its attributes:
-            where a price has some, price/text() is the text alone.
+            White space between two tags is dropped. The text of an element
+            begins with the values of its attributes: where a price has some,
+            price/text() is the text alone.
             -- ends the COLUMNs: without it no FILE is read
   -w CONDITION    only rows in which it holds: -w 'price < 50 and @year = 1994'
             Names are paths from the row, texts stand in quotes: a = "x".
+            A number in quotes is compared as a text: number < "100".
+            Where a total has attributes, its text alone: total/text() > 900.
             not(a = "x") holds where no a is x, a != "x" where some a isn't.
             Two conditions on a child that comes several times may be met by
             two of them. For two facts of one child take a loop: gq -l 'for $r

@@ -70,7 +70,7 @@ def read_flags(order: Order, word: bytes, rest: list[bytes]) -> None:
             if not value and not rest:
                 raise wrong(b"-" + letter + b" needs a word after it")
             if getattr(order, VALUES[letter]) is not None:
-                raise wrong(b"-" + letter + b" stands twice")
+                raise wrong(b"-" + letter + b" stands twice" + (b": join the conditions by and" if letter == b"w" else b""))
             setattr(order, VALUES[letter], value or rest.pop(0))
             return
         else:
@@ -85,7 +85,7 @@ def place(order: Order, names: list[bytes], files: list[bytes]) -> None:
             raise wrong("-t needs columns: gq -t ROW COLUMN .. -- [FILE ..]")
         file = None if order.dashes else file_of(names)
         if file is not None:
-            raise wrong(b"no -- stands before the files: .. -- " + file + b", or .. " + file + b" -- for a column")
+            raise wrong(b"-- is missing between the columns and the files: write -- before " + file + b", or after it if it is a column")
     else:
         names += files
         if order.query_file is None:

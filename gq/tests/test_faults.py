@@ -185,8 +185,8 @@ class Faults(Case):
         for words, wanted in ((["-l", "//book/title"], "query:1:1: a step follows // here\n  //book/title\n  ^\n  make it a loop:"),
                               (["-t", "//book/title", "."], "row:1:1: a step follows // here\n  //book/title\n  ^\n  let the rows be //book,"),
                               (["-t", "/bib/book", "a", "x//b/c"], "column:1:2: a step follows // here\n  x//b/c\n   ^\n  only the last"),
-                              (["-t", "/bib/book", "-w", "//a/b = 1 and IntegerWide = 99999999999999999999", "title"],
-                               "condition:1:29: the number is beyond 64 bits, or has more than 18 decimals\n  //a/b = 1 and I")):
+                              (["-t", "/bib/book", "-w", ".//a = 1 and IntegerWide = 99999999999999999999", "title"],
+                               "condition:1:28: the number is beyond 64 bits, or has more than 18 decimals\n  .//a = 1 and I")):
             with self.subTest(words=words):
                 _, err = self.gq(*words, "--", "bib.xml", code=3)
                 self.assertTrue(err.startswith(wanted), err)

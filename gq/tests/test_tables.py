@@ -30,13 +30,12 @@ CONDITIONS = [  # what is written, and what it is for the row
     ("./a = * ", "$gq/a = $gq/* "),
     ("a//b = 1", "$gq/a//b = 1"),
     ("child::a = descendant::b", "$gq/child::a = $gq/descendant::b"),
-    ("/bib/limit = price", "/bib/limit = $gq/price"),
     ("(a = 1 (: b = 2 :) and (text = 3))", "($gq/a = 1 (: b = 2 :) and ($gq/text = 3))"),
     ("größe > 3", "$gq/größe > 3"),
     ("a = 'it''s'", "$gq/a = 'it''s'"),
 ]
 REFUSED = ["price", "a = 1 return <x/>", "a = 1) or (b = 2", "a[1] = 2", "a + 1 = 2", "../a = 1", "a lt 5", "contains(a, 'b')", "1 = 2", "",
-           "a = 1, b = 2", "a = }", "a/. = 1", "exists()"]
+           "a = 1, b = 2", "a = }", "a/. = 1", "exists()", "/bib/limit = price", "price < /bib/limit", "exists(//em)", "not(a = 1 or /b = 2)"]
 
 
 class Conditions(unittest.TestCase):
@@ -76,6 +75,16 @@ class Tables(Case):
         self.answers("7\tOn XML!;<&>\tE95\t95\tXML\t\n", "-t", "/r/a", "@id", "t", "p", "p/text()", "t/i", "b", "--", "d.xml")
         self.answers("On ;!;<&>\tXML\t7;On XML!;E95;;<&>\n", "-t", "/r/a", "t/text()", ".//i", "*", "--", "d.xml")
         self.answers("E\t95\n", "-t", "/r/a/p", "@c", "text()", "--", "d.xml")
+
+    def test_white_space_between_two_tags(self) -> None:
+        self.write("d.xml", "<r><p>Do <em>not</em> <b>run</b> it.</p></r>")
+        self.answers("Do notrun it.\n", "-t", "//p", ".", "--", "d.xml")
+        self.answers("<p>Do <em>not</em><b>run</b> it.</p>", "//p", "d.xml")
+
+    def test_numbers_in_quotes_are_texts(self) -> None:
+        self.write("d.xml", "<r><a><number>20</number></a><a><number>099</number></a></r>")
+        self.answers("099\n", "-t", "/r/a", "-w", 'number < "100"', "number", "--", "d.xml")
+        self.answers("20\n099\n", "-t", "/r/a", "-w", "number < 100", "number", "--", "d.xml")
 
     def test_signs(self) -> None:
         self.write("d.xml", "<r><a><t>a\tb\nc\\d;e&amp;amp;&lt;&quot;</t><t>f</t></a></r>")
@@ -118,7 +127,28 @@ class Tables(Case):
                                    (["/bib/book", "a", "-w", "price = 5 OR year = 1"], "condition:1:11", "small letters: or"),
                                    (["/bib/book", "a", "-w", "price * 2 > 50"], "condition:1:7", "no arithmetic"),
                                    (["/bib/book", "a", "-w", "title = TCP IP"], "condition:1:13", 'in quotes: "TCP IP"'),
-                                   (["/bib/book", "a", "-w", "contains(title, 'x')"], "condition:1:9", "grep")):
+                                   (["/bib/book", "a", "-w", "contains(title, 'x')"], "condition:1:9", "grep"),
+                                   (["/bib/book", "a", "-w", '//em = "not"'], "condition:1:1", "begins at the row, without a slash"),
+                                   (["/bib/book", "a", "-w", '//em = "not"'], "condition:1:1", "  em for a child of the row, .//em for any in it\n"),
+                                   (["/bib/book", "a", "-w", 'a = 1 and /page/p/@em = "not"'], "condition:1:11", "  @em for a child"),
+                                   (["/bib/book", "a", "-w", "not(exists( //text()))"], "condition:1:13", ".//text() for any"),
+                                   (["/bib/book", "a", "-w", "price < /bib/*"], "condition:1:9", "  * for a child"),
+                                   (["/bib/book", "a", "-w", "at > 2026-03-01T08:00:01Z"], "condition:1:10", 'in quotes: "2026-03-01T08:00:01Z"\n'),
+                                   (["/bib/book", "a", "-w", "(t = a  b c ) and d = 1"], "condition:1:9", 'in quotes: "a  b c"\n'),
+                                   (["/bib/book", "a", "-w", "t = 08:00 or d = 1"], "condition:1:7", 'in quotes: "08:00"\n'),
+                                   (["/bib/book", "a", "-w", "/"], "condition:1:2", "the row itself is ."),
+                                   (["/bib/book", ".//figure/@file"], "column:1:2", "has //: .//@file, or each step by its name, a/figure/@file\n"),
+                                   (["/bib/book", "../@id"], "column:1:2", "no way up: a loop has both, for $p in /a/b, $r in $p/c return"),
+                                   (["/bib/book", "a/../@id"], "column:1:3", "no way up: a loop"),
+                                   (["/bib/book", "a", "-w", "a = 1 and ../@id = 5"], "condition:1:12", "no way up: a loop"),
+                                   (["/bib/book", "a", "-w", "tag[@k='amenity']/@v = \"cafe\""], "condition:1:4", "  a path has no predicates: gq -l '"
+                                    "for $r in ROW, $c in $r/tag where $c/k = \"amenity\" and $c/v = \"cafe\" return $r/name'\n"),
+                                   (["/bib/book", "a", "-w", 'exists(b/tag[k="x"])'], "condition:1:13", "no predicates: -w 'b/tag/k = \"x\"'\n"),
+                                   (["/bib/book", "a", "-w", "a[contains(b, 'x')] = 1"], "condition:1:2", "where $c/a = 1 and $c/b = 2 return $r/name'\n"),
+                                   (["/bib/book", 'tag[@k="x"]/@v'], "column:1:4", "gq -l 'for $r in ROW return <row>{$r/name, "
+                                    "for $c in $r/tag where $c/k = \"x\" return $c/v}</row>'\n"),
+                                   (["/bib/book", "title[1]"], "column:1:6", "a cell has all values"),
+                                   (["/bib/book[a < 5]", "title"], "row:1:10", "no predicates: -w 'price < 50'\n")):
             with self.subTest(words=words):
                 out, err = self.gq("-t", *words, "--", "bib.xml", code=3)
                 self.assertEqual(out, b"")
@@ -154,6 +184,19 @@ class Tables(Case):
         for condition, name in (("title = Web", "Web"), ("year = 1994 and (title != Web or price < 3)", "Web")):
             shown = self.on_terminal("-t", "/bib/book", "-w", condition, "title", "--", "bib.xml")
             self.assertEqual(shown, (0, f'gq: nothing matches\n  no element is /bib/book/{name}: a text stands in quotes, "{name}"\n'))
+
+    def test_values_with_those_of_attributes(self) -> None:
+        self.write("d.xml", "<o><x a='1'/><order id='1'><total currency='EUR'>950</total><x a='1'/><p>Do <em>not</em> <b>run</b> it.</p></order></o>")
+        has = "  the value of <{}> has that of {} in it: {} is its own text\n"
+        total = has.format("total", "currency", "total/text()")
+        for row, condition, wanted in (("/o/order", "total > 900", total), ("/o", "900 < .//total and exists(*/p)", total), ("/o/order", "total/text() < 900", ""),
+                                       ("/o/order/total", ". > 900", has.format("total", "currency", "text()")), ("/o/order", "x > 1", ""),
+                                       ("/o/order", "p = 'x' or p = 'y'", has.format("p", "b, em", "p/text()")), ("/o/order", "exists(total/none)", None)):
+            _, err = self.gq("-vt", row, "-w", condition, ".", "--", "d.xml")
+            self.assertEqual(err, "gq: nothing matches\n" + wanted) if wanted is not None else self.assertNotIn("the value", err)
+        self.assertIn(total, self.on_terminal("for $o in //order where $o/total > 900 return $o/p", "d.xml")[1])
+        self.assertEqual(self.gq("-vt", "/o/order", "-w", "total > 900", ".", "--", stdin=b"<o><order><total c='1'>2</total></order></o>")[1], "gq: nothing matches\n")
+        self.assertEqual(self.gq("-vt", "/o/order", "-w", "total/text() > 900", "@id", "--", "d.xml"), (b"1\n", ""))
 
     def test_rows_in_pieces(self) -> None:
         row = b"<a><b>x&amp;y\n</b><b/><c>1</c></a>"

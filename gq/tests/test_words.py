@@ -41,15 +41,26 @@ class Words(Case):
         self.write("author", BIB)
         for name in ("bib.xml", "nothing.xml", "none/all.xml.gz", "author"):
             _, err = self.gq("-t", "/bib/book", "title", name, code=2)
-            self.assertTrue(err.startswith(f"gq: no -- stands before the files: .. -- {name}, or .. {name} -- for a column"), err)
-        self.assertIn(".. -- bib.xml", self.gq("-t", "/bib/book", "bib.xml", "title", code=2)[1])
+            self.assertTrue(err.startswith(f"gq: -- is missing between the columns and the files: write -- before {name}, or after it if"), err)
+        self.assertIn("write -- before bib.xml, or", self.gq("-t", "/bib/book", "bib.xml", "title", code=2)[1])
         self.answers("TCP/IP\nData on the Web\n", "-t", "/bib/book", "title", stdin=BIB)
         self.answers("Stevens\nAbiteboul;Buneman\n", "-t", "/bib/book", "author", "--", stdin=BIB)
         self.answers("\n\n", "-t", "/bib/book", "all.xml", "--", stdin=BIB)
         self.assertIn("leave -l out", self.gq("-l", "-t", "/bib/book", "title", "--", "bib.xml", code=2)[1])
 
+    def test_a_condition_stands_once(self) -> None:
+        err = "gq: -w stands twice: join the conditions by and (gq --help)\n"
+        self.assertEqual(self.gq("-t", "/a", "-w", "b = 1", "-w", "c = 2", "d", code=2), (b"", err))
+
+    def test_file_before_the_query(self) -> None:
+        self.assertEqual(self.gq("bib.xml", "//name", "none", code=5)[1].count("the query comes first"), 1)
+        self.assertEqual(self.gq("//name", "none", code=5)[1], "gq: none: No such file or directory\n")
+        for words in (["bib.xml", "//name"], ["-l", "bib.xml", "for $b in /bib/book return $b"]):
+            no = f"gq: {words[-1]}: No such file or directory\n"
+            self.assertEqual(self.gq(*words, code=5), (b"", no + "  bib.xml is a file: the query comes first, then the files\n"))
+
     def test_a_terminal_is_the_document(self) -> None:
-        for words, said in ((["/bib"], "gq: no FILE: the document"), (["-t", "/bib/book", "title"], "gq: no -- stands before the files: the document"),
+        for words, said in ((["/bib"], "gq: no FILE: the document"), (["-t", "/bib/book", "title"], "gq: no -- with a FILE after it: the document"),
                             (["-t", "/bib/book", "title", "--"], "gq: no FILE: the document")):
             main, side = pty.openpty()
             child = self.start(*words, stdin=side, stdout=side, stderr=side)
@@ -69,7 +80,10 @@ class Words(Case):
     def test_help_and_version(self) -> None:
         for word in ("--help", "-h", "help"):
             out, err = self.gq(word)
-            self.assertIn(b"isn't itself proved", out)
+            self.assertIn(b"that part is proved, and gq\nisn't.", out)
+            for part in (b"$b/year and not $b/@year", b"White space between two tags is dropped", b"total/text() > 900", b'number < "100"'):
+                self.assertIn(part, out)
+            self.assertLessEqual(max(map(len, out.splitlines())), 80)
             self.assertEqual(err, "")
         out, err = self.gq("--version")
         self.assertRegex(out, rb"\Agq ([0-9.]+)\ngcx \1\n\Z")
