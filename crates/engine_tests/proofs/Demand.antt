@@ -1,6 +1,5 @@
 -- A pair behind a token and behind an action.
 use Rattle.std.proofs.Common.{◌≡◌, ◌∙◌, ℕ, suc, ◌+◌, ◌≤◌, ◌^◌, true, List, [], ◌∷◌, ◌++◌, length, map, ap, refl, subst, sym, arith, append_assoc, Some}
-use Rattle.std.specs.Prelude.{Unit}
 use Rattle.std.proofs.lemmas.Bool.{and_parts}
 use Rattle.gcx_model.specs.Core.{PlanTree}
 use Rattle.gcx_model.specs.Growth.{level, may_all, may_come}
@@ -47,8 +46,8 @@ module _ (a : Pair) (h : Demands a) where
     fed = h.fed;
     taken = h.taken;
     stand = subst (λ z. ActorsStand h.plan Always z d.machine.position d.buffer P h.taken) (sym p)
-    (subst (λ z. ActorsStand h.plan Always a.projector z.position d.buffer P h.taken) (sym m)
-    (subst (λ (z : View). ActorsStand h.plan Always a.projector a.machine.position z P h.taken) (sym v) h.stand));
+        (subst (λ z. ActorsStand h.plan Always a.projector z.position d.buffer P h.taken) (sym m)
+        (subst (λ (z : View). ActorsStand h.plan Always a.projector a.machine.position z P h.taken) (sym v) h.stand));
     may = subst (λ (z : List Token). may_all (h.fed ++ map said_of z) opening ≡ true) (sym ts) h.may;
     within = subst (λ (z : List Token). AreWithin (h.fed ++ map said_of z)) (sym ts) h.within;
   }
@@ -90,9 +89,9 @@ module _ (a : Pair) (h : Demands a) where
           fed = h.fed ++ t ∷ [];
           taken = h.taken;
           stand = subst (λ (T : Tree). ActorsStand h.plan Always d.projector d.machine.position d.buffer T h.taken) (sym (grow_all-append h.fed (t ∷ []) opening))
-          (subst (λ z. ActorsStand h.plan Always z d.machine.position d.buffer (grow t P) h.taken) (sym p)
-          (subst (λ z. ActorsStand h.plan Always q z.position d.buffer (grow t P) h.taken) (sym m)
-          (subst (λ (z : View). ActorsStand h.plan Always q a.machine.position z (grow t P) h.taken) (sym v) s)));
+              (subst (λ z. ActorsStand h.plan Always z d.machine.position d.buffer (grow t P) h.taken) (sym p)
+              (subst (λ z. ActorsStand h.plan Always q z.position d.buffer (grow t P) h.taken) (sym m)
+              (subst (λ (z : View). ActorsStand h.plan Always q a.machine.position z (grow t P) h.taken) (sym v) s)));
           may = subst (λ (z : List Token). may_all ((h.fed ++ t ∷ []) ++ map said_of z) opening ≡ true) (sym ts) (ap (λ (z : List Said). may_all z opening) more ∙ may);
           within = subst (λ (z : List Token). AreWithin ((h.fed ++ t ∷ []) ++ map said_of z)) (sym ts) (subst (λ (z : List Said). AreWithin z) (sym more) within);
         }
@@ -118,8 +117,8 @@ module _ (a : Pair) (h : Demands a) where
         fed = h.fed;
         taken = s.0;
         stand = subst (λ z. ActorsStand h.plan Always z d.machine.position d.buffer P s.0) (sym p)
-        (subst (λ (z : Position). ActorsStand h.plan Always a.projector z d.buffer P s.0) (sym w)
-        (subst (λ (z : View). ActorsStand h.plan Always a.projector m z P s.0) (sym v) s.1));
+            (subst (λ (z : Position). ActorsStand h.plan Always a.projector z d.buffer P s.0) (sym w)
+            (subst (λ (z : View). ActorsStand h.plan Always a.projector m z P s.0) (sym v) s.1));
         may = subst (λ z. may_all (h.fed ++ map said_of z.items) opening ≡ true) (sym ts) h.may;
         within = subst (λ z. AreWithin (h.fed ++ map said_of z.items)) (sym ts) h.within;
       }

@@ -1,5 +1,5 @@
 -- What projector and machine over one buffer stand for, by their own calls (this project's).
-use Rattle.std.specs.Prelude.{◌≡◌, Unit, ℕ, true, List, ◌++◌, map}
+use Rattle.std.specs.Prelude.{◌≡◌, ℕ, true, List, ◌++◌, map}
 use Rattle.gcx_model.specs.Core.{PlanTree}
 use Rattle.gcx_model.specs.Tree.{Token as Said, opening, grow_all}
 use Rattle.gcx_model.specs.Growth.{may_all}

@@ -1,5 +1,5 @@
 //! The two actors by their own calls, in the demand schedule: each action as soon as it is possible.
-ghost use Rattle.std.specs.Prelude.{◌≡◌, IfOk, OnOk};
+ghost use Rattle.std.specs.Prelude.{◌≡◌, [], IfOk, OnOk};
 ghost use Rattle.gcx_model.specs.Core.{BodyTree};
 ghost use Rattle.gcx_model.specs.Cores.{Good};
 ghost use Rattle.gcx_model.specs.Placed.{Placed};
@@ -45,7 +45,12 @@ impl<'p> Pair<'p> {
     }
 
     /// Takes the next action, if one is possible.
-    fn act(&mut self, alloc: Global, out: &mut Vec<u8>, gone: &mut Vec<Serial>) -> Result<Acted, Fail>
+    fn act(
+        &mut self,
+        alloc: Global,
+        out: &mut Vec<u8>,
+        gone: &mut Vec<Serial>,
+    ) -> Result<Acted, Fail>
         requires { Demands self.old }
         ensures { IfOk result (λ _. Demands self.new) }
     {
@@ -119,7 +124,13 @@ fn nodes_leave_as_they_close(rt: HostRuntime) -> Result<(), Fail> {
     let mut pair = pair_of(alloc, &plan, b"<r><p><k/></p></r>")?;
     let mut out = Vec::new(alloc);
     let (gone, last) = demanded(alloc, &mut pair, DEMAND, &mut out)?;
-    assert_eq!(rt; gone.as_slice(), [Serial(3), Serial(2), Serial(1), Serial(0)].as_slice());
-    assert_eq!(rt; (out.as_slice(), last), (b"<y></y>".as_slice(), Acted::Finished));
+    assert_eq!(rt;
+        gone.as_slice(),
+        [Serial(3), Serial(2), Serial(1), Serial(0)].as_slice()
+    );
+    assert_eq!(rt;
+        (out.as_slice(), last),
+        (b"<y></y>".as_slice(), Acted::Finished)
+    );
     Ok(())
 }
