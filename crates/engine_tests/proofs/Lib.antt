@@ -1,3 +1,4 @@
 pub mod Tokens
 pub mod Acted
 pub mod Manies
+pub mod Demand

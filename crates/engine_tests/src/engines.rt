@@ -2,6 +2,7 @@
 //! find the truth of conditions.
 mod checks;
 mod counted;
+mod demand;
 mod joins;
 mod lean;
 mod manies;
