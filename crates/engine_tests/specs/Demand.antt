@@ -4,15 +4,17 @@ use Rattle.gcx_model.specs.Core.{PlanTree}
 use Rattle.gcx_model.specs.Tree.{Token as Said, opening, grow_all}
 use Rattle.gcx_model.specs.Growth.{may_all}
 use Rattle.gcx_model.specs.Seen.{AreWithin}
-use Rattle.doc_reader.specs.Standing.{said_of}
+use Rattle.doc_reader.specs.Standing.{Token, said_of}
+use Rattle.buf_tree.specs.View.{View}
+use Rattle.projector.specs.View.{ProjectorView}
+use Rattle.pull_eval.specs.declared.position.Position.{Position}
 use Rattle.engine.specs.Actors.{ActorsStand}
-use Rattle.engine_tests.specs.declared.engines.demand.Pair.{Pair}
 
--- They stand for the tree of these tokens with so many actions taken, and the tokens that are left may come behind it.
-pub record Demands (a : Pair) : Type 0 where
+-- They stand for the tree of these tokens with so many actions taken, and the tokens that are left may come after it.
+pub record Demands (p : ProjectorView) (w : Position) (v : View) (left : List Token) : Type 0 where
   pub plan : PlanTree
   pub fed : List Said
   pub taken : ℕ
-  pub stand : ActorsStand plan (λ _. Unit {0}) a.projector a.machine.position a.buffer (grow_all fed opening) taken
-  pub may : may_all (fed ++ map said_of a.tokens.items) opening ≡ true
-  pub within : AreWithin (fed ++ map said_of a.tokens.items)
+  pub stand : ActorsStand plan (λ _. Unit {0}) p w v (grow_all fed opening) taken
+  pub may : may_all (fed ++ map said_of left) opening ≡ true
+  pub within : AreWithin (fed ++ map said_of left)

@@ -33,8 +33,9 @@ struct Pair<'p> {
 impl<'p> Pair<'p> {
     /// Feeds the next token, if one is left.
     fn feed(&mut self, alloc: Global, gone: &mut Vec<Serial>) -> Result<(), Fail>
-        requires { Demands self.old }
-        ensures { OnOk result (Demands self.new) }
+        requires { Demands self.old.projector self.old.machine.position self.old.buffer self.old.tokens.items }
+        ensures { OnOk result
+            (Demands self.new.projector self.new.machine.position self.new.buffer self.new.tokens.items) }
     {
         let Some(token) = self.tokens.pop_front() else {
             return Ok(());
@@ -51,8 +52,9 @@ impl<'p> Pair<'p> {
         out: &mut Vec<u8>,
         gone: &mut Vec<Serial>,
     ) -> Result<Acted, Fail>
-        requires { Demands self.old }
-        ensures { IfOk result (λ _. Demands self.new) }
+        requires { Demands self.old.projector self.old.machine.position self.old.buffer self.old.tokens.items }
+        ensures { IfOk result
+            (λ _. Demands self.new.projector self.new.machine.position self.new.buffer self.new.tokens.items) }
     {
         let acted = self.machine.act(alloc, &mut self.buffer, out)?;
         note_gone(&mut self.buffer, gone)?;
@@ -74,7 +76,7 @@ fn note_gone(buffer: &mut Buffer<SlabNodes<Row>>, gone: &mut Vec<Serial>) -> Res
 /// The pair before any token of the document and any action.
 fn pair_of<'p>(alloc: Global, plan: &'p Plan, document: &[u8]) -> Result<Pair<'p>, Fail>
     requires placed { (core : BodyTree) × Good core × Placed core (plan_tree plan.now) }
-    ensures { IfOk result (λ pair. Demands pair) }
+    ensures { IfOk result (λ pair. Demands pair.projector pair.machine.position pair.buffer pair.tokens.items) }
 {
     let tokens = tokens_of(alloc, document)?;
     let projector = Projector::new(alloc, plan)?;
@@ -96,7 +98,7 @@ fn demanded(
     turns: &str,
     out: &mut Vec<u8>,
 ) -> Result<(Vec<Serial>, Acted), Fail>
-    requires { Demands pair.old }
+    requires { Demands pair.old.projector pair.old.machine.position pair.old.buffer pair.old.tokens.items }
 {
     let mut gone = Vec::new(alloc);
     let mut last = Acted::Blocked;

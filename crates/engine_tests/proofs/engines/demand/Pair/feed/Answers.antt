@@ -1,28 +1,21 @@
-use Rattle.std.proofs.Common.{refl, sym}
+use Rattle.std.proofs.Common.{sym}
 use Rattle.engine_tests.proofs.Demand.{fed_depth, fed_may, fed_nodes, fed_on, none_left}
-use Rattle.engine_tests.specs.declared.engines.demand.Pair.{Pair}
 use Rattle.engine_tests.proofs.engines.demand.Pair.feed.Goals as goal
 
 pub feed_token-requires-clause-place : goal.feed_token-requires-clause-place
 feed_token-requires-clause-place c = c.requires.stand.keeps
 
 pub feed_token-requires-clause-may : goal.feed_token-requires-clause-may
-feed_token-requires-clause-may c = fed_may c.args.self.now c.requires c.in-Some.token c.pop_front.new.self.items c.in-Some.ensures.items
+feed_token-requires-clause-may c = fed_may _ _ _ _ c.requires c.in-Some.token c.pop_front.new.self.items c.in-Some.ensures.items
 
 pub feed_token-requires-clause-nodes : goal.feed_token-requires-clause-nodes
-feed_token-requires-clause-nodes c = fed_nodes c.args.self.now c.requires c.in-Some.token c.pop_front.new.self.items c.in-Some.ensures.items
+feed_token-requires-clause-nodes c = fed_nodes _ _ _ _ c.requires c.in-Some.token c.pop_front.new.self.items c.in-Some.ensures.items
 
 pub feed_token-requires-clause-depth : goal.feed_token-requires-clause-depth
-feed_token-requires-clause-depth c = fed_depth c.args.self.now c.requires c.in-Some.token c.pop_front.new.self.items c.in-Some.ensures.items
+feed_token-requires-clause-depth c = fed_depth _ _ _ _ c.requires c.in-Some.token c.pop_front.new.self.items c.in-Some.ensures.items
 
 pub returns-in_default : goal.returns-in_default
-returns-in_default c =
-    let a = c.args.self.now in
-    let d : Pair = record { projector = a.projector; buffer = a.buffer; machine = a.machine; tokens = c.pop_front.new.self } in
-    none_left a c.requires d refl refl refl (sym c.in_default.ensures.items)
+returns-in_default c = none_left _ _ _ _ c.requires c.pop_front.new.self.items (sym c.in_default.ensures.items)
 
 pub returns : goal.returns
-returns c =
-    let a = c.args.self.now in
-    let d : Pair = record { projector = c.feed_token.new.self; buffer = c.note_gone.new.buffer; machine = a.machine; tokens = c.pop_front.new.self } in
-    fed_on a c.requires c.in-Some.token c.pop_front.new.self.items c.in-Some.ensures.items _ _ _ c.in_ok-feed_token.ensures.feeds d refl refl c.in_ok-note_gone.ensures refl
+returns c = fed_on _ _ _ _ c.requires c.in-Some.token c.pop_front.new.self.items c.in-Some.ensures.items _ _ _ c.in_ok-feed_token.ensures.feeds c.note_gone.new.buffer c.in_ok-note_gone.ensures
