@@ -69,10 +69,14 @@ class Shows(Case):
             os.dup2(before, 2)
             os.close(before)
             os.close(side)
+        return self.all_shown(main)
+
+    def all_shown(self, main: int) -> str:
+        """All that a terminal shows whose other side is closed."""
         shown = b""
         try:
-            while True:
-                shown += os.read(main, 65536)
+            while block := os.read(main, 65536):
+                shown += block
         except OSError:
             pass
         os.close(main)
@@ -112,8 +116,7 @@ class Shows(Case):
         self.assertEqual(child.stdout.read(), b"100000\n")
         self.assertEqual(child.wait(), 0)
         child.stdout.close()
-        shown = os.read(main, 65536).decode()
-        os.close(main)
+        shown = self.all_shown(main)
         self.assertRegex(shown, r"\A\r<stdin>: \d\.\d MB, \d+ MB/s, memory [\d.]+ MB")
         self.assertRegex(shown, r"\r +\r\Z")
 
