@@ -38,3 +38,4 @@ pub mod ItemView
 pub mod Given
 pub mod Refusals
 pub mod PlanView
+pub mod Steps

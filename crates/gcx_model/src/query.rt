@@ -300,7 +300,8 @@ fn loop_over(
     body: Box<Expr>,
     alloc: Global,
 ) -> Result<Expr, Memory>
-    ensures { IfOk result (λ expr. expr_tree expr ≡ tree.For clauses.now (option_map cond_tree filter.now) (expr_tree (box_value body))) }
+    ensures { IfOk result (λ expr. expr_tree expr ≡
+        tree.For clauses.now (option_map cond_tree filter.now) (expr_tree (box_value body))) }
 {
     let clauses = clauses.copy(alloc)?;
     let filter = copy_filter(filter, alloc)?;
@@ -313,7 +314,8 @@ fn loop_over(
 
 /// An `if` with these branches, and a copy of the condition.
 fn choice_of(cond: &QCond, then: Box<Expr>, other: Box<Expr>, alloc: Global) -> Result<Expr, Memory>
-    ensures { IfOk result (λ expr. expr_tree expr ≡ tree.If (cond_tree cond.now) (expr_tree (box_value then)) (expr_tree (box_value other))) }
+    ensures { IfOk result (λ expr. expr_tree expr ≡
+        tree.If (cond_tree cond.now) (expr_tree (box_value then)) (expr_tree (box_value other))) }
 {
     let cond = cond.copy(alloc)?;
     Ok(Expr::If { cond, then, other })

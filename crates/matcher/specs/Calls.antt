@@ -16,7 +16,7 @@ use Rattle.gcx_model.specs.Placed.{Placed, offs_in}
 use Rattle.gcx_model.specs.Held.{path_of, roles_given, signed, taken, roles_taken}
 use Rattle.gcx_model.specs.Past.{Past, IsLast, Opens, open_nodes, opening_past, past_acted, past_grown, token_for}
 use Rattle.spread_laws.specs.Tops.{roles_newly_given}
-use Rattle.run_words.specs.Steps.{Follows, StandsAsBefore}
+use Rattle.gcx_model.specs.Steps.{Follows, StandsAsBefore}
 use Rattle.matcher.specs.Ahead.{AreTaken, HasSign}
 use Rattle.matcher.specs.Entering.{GoesBy}
 use Rattle.matcher.specs.Matcher.{Stands}
