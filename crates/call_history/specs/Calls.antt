@@ -1,10 +1,12 @@
 -- What calls did, for clauses alone (this project's).
 use Rattle.std.specs.Prelude.{ℕ, List}
 
--- What one call did: a read gave these bytes, none at the end; a write took these; or it failed.
+-- What one call did: a read that asked for so many bytes gave these, none at the end; a write took these; a write that was
+-- offered these failed; or a read failed.
 pub data Call : Type 0 where
-  Gave : List ℕ → Call
+  Gave : (asked : ℕ) → List ℕ → Call
   Took : List ℕ → Call
+  Denied : List ℕ → Call
   Failed : Call
 
 -- a handle: the name that it was opened by, and what its calls did

@@ -1,6 +1,6 @@
-ghost use Rattle.std.specs.Prelude.{◌≡◌, List, [], ◌∷◌, ◌++◌};
+ghost use Rattle.std.specs.Prelude.{◌≡◌, List, [], ◌∷◌, ◌++◌, length, take};
 ghost use Rattle.std.specs.Borrow.{ftrue};
-ghost use Rattle.call_history.specs.Calls.{Call, Gave, Took, Failed};
+ghost use Rattle.call_history.specs.Calls.{Call, Gave, Took, Denied, Failed};
 
 use std::marker::{Model, PhantomData};
 
@@ -25,9 +25,9 @@ impl History {
         }
     }
 
-    /// A read gave these bytes, none at the end.
-    pub fn gave(&mut self, _bytes: &[u8])
-        ensures { self.new.calls ≡ self.old.calls ++ Gave _bytes.now ∷ [] }
+    /// A read into this buffer put so many bytes at its front, none at the end.
+    pub fn gave(&mut self, _buf: &[u8], _count: usize)
+        ensures { self.new.calls ≡ self.old.calls ++ Gave (length _buf.now) (take _count _buf.now) ∷ [] }
     {}
 
     /// A write took these bytes.
@@ -35,7 +35,12 @@ impl History {
         ensures { self.new.calls ≡ self.old.calls ++ Took _bytes.now ∷ [] }
     {}
 
-    /// A call failed, whatever its buffer holds.
+    /// A write that was offered these bytes failed.
+    pub fn denied(&mut self, _piece: &[u8])
+        ensures { self.new.calls ≡ self.old.calls ++ Denied _piece.now ∷ [] }
+    {}
+
+    /// A read failed, whatever its buffer holds.
     pub fn failed(&mut self, _buf: &[u8])
         ensures { self.new.calls ≡ self.old.calls ++ Failed ∷ [] }
     {}

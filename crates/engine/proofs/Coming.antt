@@ -26,7 +26,7 @@ use Rattle.run_laws.proofs.Feeds.{nodes_grow, matches_grow}
 use Rattle.node_store.specs.declared.store.Place.{Place}
 use Rattle.buf_tree.specs.Shape.{Cell, num}
 use Rattle.cond_eval.specs.Asking.{PlacedAt}
-use Rattle.pull_eval.specs.TurnsStay.{turns_grow}
+use Rattle.pull_eval.specs.TurnsStay.{all_grow}
 use Rattle.pull_eval.specs.Position.{items, KnowsNext, IsUpTo, IsRound, SeenItem, SeenTo, AreFrames, none, alone, in_round, PresentAt, Copies, StandsAt}
 use Rattle.pull_eval.specs.declared.block.Next.{Next}
 use Rattle.pull_eval.specs.declared.block.Next.TheVariants.{Unsought, Found, NoneUpTo}
@@ -195,5 +195,5 @@ module _ (P Q : Tree) (l : Leads opening P) (m : Leads P Q) (rows now : List Cel
               let b = s.bound begun x n h in
               record { place = b.place; pair = b.pair; at = placed_on n b.place i b.at };
           begins = s.begins;
-          turns = λ t i. turns_grow P Q l m rows now placed_on t (s.turns t i);
+          turns = all_grow P Q l m rows now placed_on w.turns.items s.turns;
         }

@@ -7,7 +7,7 @@ use Rattle.std.proofs.lemmas.Bool.{false≢true}
 use Rattle.gcx_base.specs.declared.limits.Limits.{Limits}
 use Rattle.gcx_io.proofs.Written.{joined_push, takes_none}
 use Rattle.gcx_io.specs.Views.{SourceView, SinkView}
-use Rattle.gcx_io.specs.Writing.{Takes, Owes, joined}
+use Rattle.gcx_io.specs.Writing.{IsSomeBytes, Takes, Owes, joined}
 use Rattle.gcx_model.specs.declared.fault.DocFault.{DocFault}
 use Rattle.gcx_model.specs.Tree.{Tree}
 use Rattle.gcx_model.specs.Core.{PlanTree}
@@ -34,11 +34,12 @@ use Rattle.engine.proofs.TellingCalls.{trace_of as trace_text, trace_one, traces
 
 -- nothing is owed of nothing
 none_owed : (a b : SinkView) → Owes a b [] [] → ⊥
-none_owed a b o = o.owed (nil_behind o.more o.rest o.split)
+none_owed a b o = none_offered o.more o.next o.later o.offered o.split
   where
-    nil_behind : (xs ys : List ℕ) → [] ≡ xs ++ ys → ys ≡ []
-    nil_behind [] ys e = sym e
-    nil_behind (x ∷ xs) ys e = absurd (cc)
+    none_offered : (more next later : List ℕ) → IsSomeBytes next → [] ≡ more ++ next ++ later → ⊥
+    none_offered [] [] later some e = some
+    none_offered [] (x ∷ next) later some e = cc
+    none_offered (x ∷ more) next later some e = cc
 
 -- all of it was written
 traces_on : (tracing : Bool) (a b c : SinkView) (told rest waits : List ℕ) → Traces tracing a b told → (tracing ≡ true → rest ≡ waits) → Takes b c waits

@@ -242,7 +242,7 @@ KeepsAmong bytes stands ahead old new left quiet u v now = OfSlice bytes stands 
 abbrev pub BreaksAmong : {C : Type 0} → (bytes : List ℕ) → (C → Tree → Type 0) → (ahead : ℕ) → (old new : ActorsView C) → (left : ℕ) → (quiet : Bool) → (before after : List ℕ) → Type 0
 BreaksAmong bytes stands ahead old new left quiet u v = OfSlice bytes stands ahead old u left quiet (λ plan first ts all rest before. BrokeLate plan new ts all before v)
 
--- All tokens of a slice were fed, in groups of `ahead`, and every action taken; no row is left to be made.
+-- All tokens of a slice were fed, some at a time (how many isn't said), and every action taken; no row is left to be made.
 pub record FedLent {C : Type 0} (stands : C → Tree → Type 0) (plan : PlanTree) (ahead : ℕ) (old new : ActorsView C) (ts more : List Said) (before after : List ℕ) : Type 0 where
   pub stand : StandBehind stands plan ahead new (ts ++ more)
   pub goes : GoesBehind plan ts more before after

@@ -54,7 +54,7 @@ pub record Numbers (plan : PlanTree) (lim : Limits) (bytes : List ℕ) (ended : 
   pub taken : t.taken ≡ sum_taken plan (seen_tree tokens) (actions plan (seen_tree tokens))
   pub held_is : t.held ≡ length (held plan (seen_tree tokens) (actions plan (seen_tree tokens)))
 
--- but for want of memory the engine stands for the bytes that were read
+-- this holds, unless memory ran out
 abbrev pub UnlessMemory : Ended → Type 0 → Type 0
 UnlessMemory ends.Ok X = X
 UnlessMemory (ends.Refused f) X = X

@@ -1,4 +1,5 @@
--- How the trace of an engine goes on from one state to a later one (this project's). This follows the code: no public clause speaks of it.
+-- How the trace of an engine goes on from one state to a later one (this project's). This follows the code: of public clauses only those of
+-- `interleave` speak of it, by `GrewPart`.
 use Rattle.std.specs.Prelude.{◌≡◌, ℕ, suc, Bool, true, false, List, [], ◌∷◌, ◌++◌, length, map, drop}
 use Rattle.gcx_base.specs.declared.ids.Role.{Role}
 use Rattle.gcx_model.specs.Tree.{Tree, Token as Said, Start, Chars, End, grow}

@@ -91,8 +91,8 @@ impl<'p, N: NodeStore<Row>, C: Conds> Model for Engine<'p, N, C> {
 }
 
 impl<'p, N: NodeStore<Row> + Drop, C: Conds + Drop> Engine<'p, N, C> {
-    /// An engine before any input, with every action taken that is possible. The store is empty. `ahead` is 1 to 1,000,
-    /// and 1 with `tracing`.
+    /// An engine before any input, with every action taken that is possible. The store is empty. `ahead` is 1 to 1,000. What
+    /// the trace is if `ahead` is above 1 no clause says, so with `tracing` the program asks for 1.
     pub fn new(
         alloc: Global,
         plan: &'p Plan,
@@ -121,7 +121,7 @@ impl<'p, N: NodeStore<Row> + Drop, C: Conds + Drop> Engine<'p, N, C> {
         Ok(engine)
     }
 
-    /// The same before the first action.
+    /// An engine before any input and before the first action.
     fn begin(
         alloc: Global,
         plan: &'p Plan,
@@ -209,7 +209,7 @@ impl<'p, N: NodeStore<Row>, C: Conds> Engine<'p, N, C> {
         }
     }
 
-    /// The same, where nothing is refused yet.
+    /// Takes the next piece of the document, of which nothing is refused yet.
     fn feed_piece(&mut self, alloc: Global, piece: &[u8])
         requires stands { StandsSome C.stands self.old false }
         requires fresh { self.old.refused ≡ None }
@@ -269,7 +269,7 @@ impl<'p, N: NodeStore<Row>, C: Conds> Engine<'p, N, C> {
         }
     }
 
-    /// The same, where nothing is refused yet.
+    /// Ends the document, of which nothing is refused yet.
     fn end_input(&mut self, alloc: Global)
         requires stands { (ended : Bool) × StandsSome C.stands self.old ended }
         requires fresh { self.old.refused ≡ None }
@@ -338,7 +338,8 @@ impl<'p, N: NodeStore<Row>, C: Conds> Engine<'p, N, C> {
         self.feed_groups(alloc)
     }
 
-    /// The same with the tokens owned, one by one, and their lines where a trace is wanted.
+    /// Feeds the tokens that wait, owned and one by one, with their lines where a trace is wanted, in groups, and takes
+    /// every possible action behind each group.
     fn feed_groups(&mut self, alloc: Global) -> Result<(), Memory>
         requires { SomeParts C.stands self.old }
         ensures feeds { OnOk result (FeedsFrom C.stands self.old self.new) }

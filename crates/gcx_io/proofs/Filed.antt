@@ -1,5 +1,5 @@
 -- How the writing of a text into a handle goes on over several calls.
-use Rattle.std.proofs.Common.{◌≡◌, ◌≢◌, inl, inr, ℕ, zero, suc, ◌+◌, ◌-◌, ◌<◌, ◌≤◌, List, [], ◌∷◌, ◌++◌, take, drop, length, map, slice_get, slice_set, Result, Ok, Err, Option, None, Some, refl, sym, ap, subst, ◌∙◌, append_assoc, append-nil, arith, length-drop, take-append-drop}
+use Rattle.std.proofs.Common.{◌≡◌, inl, inr, ℕ, zero, suc, ◌+◌, ◌-◌, ◌<◌, ◌≤◌, List, [], ◌∷◌, ◌++◌, take, drop, length, map, slice_get, slice_set, Result, Ok, Err, Option, None, Some, refl, sym, ap, subst, ◌∙◌, append_assoc, append-nil, arith, length-drop, take-append-drop}
 use Rattle.std.specs.Prelude.{unwrap_or, option_map}
 use Rattle.std.proofs.lemmas.List.{map_push, length-take-le, take_rest}
 use Rattle.std.proofs.lemmas.Option.{slice_get-map}
@@ -9,7 +9,7 @@ use Rattle.gcx_io.specs.Causes.{Rose}
 use Rattle.gcx_io.specs.Shelf.{Names, Appends, AppendsAll, Stays, OthersStay}
 use Rattle.gcx_io.specs.Views.{Call, Took, HandleCalls, HandleView, ShelfView, calls_of}
 use Rattle.gcx_io.specs.Calls.{write_call, WritesHandle}
-use Rattle.gcx_io.specs.Writing.{IsSomeBytes, Answers, TakesInto, OwesInto}
+use Rattle.gcx_io.specs.Writing.{IsSomeBytes, joined, Answers, TakesInto, OwesInto}
 use Rattle.gcx_io.proofs.Written.{joined_push, is_some}
 
 -- ---- what the names hold
@@ -120,14 +120,15 @@ into_more h a b c text piece n t once some within = record {
   write_faults = once.calm ∙ t.write_faults;
 }
 
-owes_into : {E : Type 0} (e : E) (h : ℕ) (a b c : ShelfView) (text piece : List ℕ) → TakesInto h a b text → WritesHandle {E = E} h b c (Err e) piece → piece ≢ [] → OwesInto h a c (text ++ piece)
+owes_into : {E : Type 0} (e : E) (h : ℕ) (a b c : ShelfView) (text piece : List ℕ) → TakesInto h a b text → WritesHandle {E = E} h b c (Err e) piece → IsSomeBytes piece → OwesInto h a c (text ++ piece)
 owes_into e h a b c text piece t once some = record {
   pieces = t.pieces;
-  rest = piece;
+  next = piece;
+  later = [];
   some = t.some;
   answers = answers_more h a b c (map Took t.pieces) (Err e) piece t.answers once;
-  split = ap (λ (l : List ℕ). l ++ piece) (sym t.whole);
-  owed = some;
+  split = ap (λ (l : List ℕ). l ++ piece) (sym t.whole) ∙ sym (append-nil (joined t.pieces ++ piece));
+  offered = some;
   write_faults = subst (λ (k : ℕ). Rose k c.write_faults) t.write_faults once.write_faults.failed;
 }
 
@@ -144,7 +145,7 @@ pub owes_rest_into : {E : Type 0} (e : E) (h : ℕ) (a b c : ShelfView) (text : 
 owes_rest_into {E = E} e h a b c text i t more before =
     let once : WritesHandle {E = E} h b c (Err e) (drop i text) = subst (λ (l : List ℕ). WritesHandle {E = E} h b c (Err e) l) (take_rest text i) more in
     subst (λ (l : List ℕ). OwesInto h a c l) (take-append-drop i text) (owes_into e h a b c (take i text) (drop i text) t once
-    (λ none. absurd (omega (arith, length-drop i text, ap length none, before))))
+    (is_some (drop i text) (omega (arith, length-drop i text, before))))
 
 pub names_next : (a b c : Names) (owner : Option (List ℕ)) (text : List ℕ) (i n : ℕ) → AppendsAll a b owner (take i text) → Appends b c owner (take n (take (length text - i) (drop i text))) → 1 ≤ n
     → n ≤ length (take (length text - i) (drop i text)) → AppendsAll a c owner (take (i + n) text)

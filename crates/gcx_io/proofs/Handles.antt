@@ -13,27 +13,27 @@ name_there [] handle given = absurd (omega arith)
 name_there (o ∷ os) zero given = refl
 name_there (o ∷ os) (suc handle) given = name_there os handle (omega arith)
 
-other_read : (os : List OpenHandle) (handle n k : ℕ) → k ≢ handle → slice_get (rests_of (read_at os handle n)) k ≡ slice_get (rests_of os) k
-other_read [] handle n k other = refl
-other_read (o ∷ os) zero n zero other = absurd (other refl)
-other_read (o ∷ os) zero n (suc k) other = refl
-other_read (o ∷ os) (suc handle) n zero other = refl
-other_read (o ∷ os) (suc handle) n (suc k) other = other_read os handle n k (λ same. other (ap suc same))
+other_read : (os : List OpenHandle) (handle asked n k : ℕ) → k ≢ handle → slice_get (rests_of (read_at os handle asked n)) k ≡ slice_get (rests_of os) k
+other_read [] handle asked n k other = refl
+other_read (o ∷ os) zero asked n zero other = absurd (other refl)
+other_read (o ∷ os) zero asked n (suc k) other = refl
+other_read (o ∷ os) (suc handle) asked n zero other = refl
+other_read (o ∷ os) (suc handle) asked n (suc k) other = other_read os handle asked n k (λ same. other (ap suc same))
 
-pub count_read : (os : List OpenHandle) (handle n : ℕ) → length (read_at os handle n) ≡ length os
-count_read [] handle n = refl
-count_read (o ∷ os) zero n = refl
-count_read (o ∷ os) (suc handle) n = ap suc (count_read os handle n)
+pub count_read : (os : List OpenHandle) (handle asked n : ℕ) → length (read_at os handle asked n) ≡ length os
+count_read [] handle asked n = refl
+count_read (o ∷ os) zero asked n = refl
+count_read (o ∷ os) (suc handle) asked n = ap suc (count_read os handle asked n)
 
-pub names_read : (os : List OpenHandle) (handle n : ℕ) → names_of (read_at os handle n) ≡ names_of os
-names_read [] handle n = refl
-names_read (o ∷ os) zero n = refl
-names_read (o ∷ os) (suc handle) n = ap (λ l. o.name ∷ l) (names_read os handle n)
+pub names_read : (os : List OpenHandle) (handle asked n : ℕ) → names_of (read_at os handle asked n) ≡ names_of os
+names_read [] handle asked n = refl
+names_read (o ∷ os) zero asked n = refl
+names_read (o ∷ os) (suc handle) asked n = ap (λ l. o.name ∷ l) (names_read os handle asked n)
 
-pub read_set : (os : List OpenHandle) (handle n : ℕ) (o : OpenHandle) → handle < length os → o ≡ get_or os handle o → slice_set os handle (read_opening n o) ≡ read_at os handle n
-read_set [] handle n o given is = absurd (omega arith)
-read_set (x ∷ os) zero n o given is = ap (λ (y : OpenHandle). read_opening n y ∷ os) is
-read_set (x ∷ os) (suc handle) n o given is = ap (λ l. x ∷ l) (read_set os handle n o (omega arith) is)
+pub read_set : (os : List OpenHandle) (handle asked n : ℕ) (o : OpenHandle) → handle < length os → o ≡ get_or os handle o → slice_set os handle (read_opening asked n o) ≡ read_at os handle asked n
+read_set [] handle asked n o given is = absurd (omega arith)
+read_set (x ∷ os) zero asked n o given is = ap (λ (y : OpenHandle). read_opening asked n y ∷ os) is
+read_set (x ∷ os) (suc handle) asked n o given is = ap (λ l. x ∷ l) (read_set os handle asked n o (omega arith) is)
 
 pub rest_is : (os : List OpenHandle) (handle : ℕ) (o : OpenHandle) → handle < length os → o ≡ get_or os handle o → rest_at os handle ≡ o.rest
 rest_is [] handle o given is = absurd (omega arith)
@@ -45,8 +45,8 @@ name_is [] handle o given is = absurd (omega arith)
 name_is (x ∷ os) zero o given is = ap (λ (y : OpenHandle). y.name) (sym is)
 name_is (x ∷ os) (suc handle) o given is = name_is os handle o (omega arith) is
 
-pub others_stay : (whole : Bool) (os : List OpenHandle) (handle n : ℕ) → LeavesOthers (told_rest whole os) (told_rest whole (read_at os handle n)) handle
-others_stay whole os handle n k other = ap (λ (o : Option (List ℕ)). while_whole whole o) (other_read os handle n k other)
+pub others_stay : (whole : Bool) (os : List OpenHandle) (handle asked n : ℕ) → LeavesOthers (told_rest whole os) (told_rest whole (read_at os handle asked n)) handle
+others_stay whole os handle asked n k other = ap (λ (o : Option (List ℕ)). while_whole whole o) (other_read os handle asked n k other)
 
 -- n bytes at the front of what was left, none only at the end
 abbrev pub Consumed : Option (List ℕ) → Option (List ℕ) → ℕ → List ℕ → Type 0

@@ -51,10 +51,10 @@ there os h given = slice_get-get_or os h nothing given
 seen_there : (whole : Bool) (os : List OpenHandle) (h : ℕ) → h < length os → slice_get (views whole os) h ≡ Some (view_of whole (opening_of os h))
 seen_there whole os h given = slice_get-map (view_of whole) os h ∙ ap (option_map (view_of whole)) (there os h given)
 
-read_is : (os : List OpenHandle) (h n : ℕ) → h < length os → read_at os h n ≡ slice_set os h (read_opening n (opening_of os h))
-read_is [] h n given = absurd (omega (arith, given))
-read_is (o ∷ os) zero n given = refl
-read_is (o ∷ os) (suc h) n given = ap (λ l. o ∷ l) (read_is os h n (omega (arith, given)))
+read_is : (os : List OpenHandle) (h asked n : ℕ) → h < length os → read_at os h asked n ≡ slice_set os h (read_opening asked n (opening_of os h))
+read_is [] h asked n given = absurd (omega (arith, given))
+read_is (o ∷ os) zero asked n given = refl
+read_is (o ∷ os) (suc h) asked n given = ap (λ l. o ∷ l) (read_is os h asked n (omega (arith, given)))
 
 noted_is : (os : List OpenHandle) (h : ℕ) (call : Call) → h < length os → noted_at os h call ≡ slice_set os h (noted_opening call (opening_of os h))
 noted_is [] h call given = absurd (omega (arith, given))
@@ -82,7 +82,7 @@ front_taken rest buf now n most count moved =
     ap (λ (l : List ℕ). take n l) moved ∙ take_at (take n rest) (drop n buf) n (length-take-le n rest (omega (arith, count)))
 
 pub shelf_reads : {E : Type 0} (na nb : Names) (f f' w w' : ℕ) (old new : OpenFiles) (h n most : ℕ) (buf now : List ℕ) → nb ≡ na → f' ≡ f → w' ≡ w
-    → new ≡ record old { openings = read_at old.openings h n } → h < length old.openings → 0 < most → 0 < length buf
+    → new ≡ record old { openings = read_at old.openings h (length now) n } → h < length old.openings → 0 < most → 0 < length buf
     → n ≡ min (min (length (rest_at old.openings h)) (length buf)) most → now ≡ take n (rest_at old.openings h) ++ drop n buf
     → ReadsOnce {E = E} h (files_seen na f w old) (files_seen nb f' w' new) (Ok n) now
 shelf_reads na nb f f' w w' old new h n most buf now names ff ww is given some room count moved =
@@ -92,11 +92,11 @@ shelf_reads na nb f f' w w' old new h n most buf now names ff ww is given some r
     let moved' : now ≡ take n o.rest ++ drop n buf = moved ∙ ap (λ (l : List ℕ). take n l ++ drop n buf) rest in
     record {
       old = view_of old.whole o;
-      new = view_of old.whole (read_opening n o);
+      new = view_of old.whole (read_opening (length now) n o);
       was = seen_there old.whole old.openings h given;
-      given = ap (λ (s : OpenFiles). views s.whole s.openings) is ∙ ap (views old.whole) (read_is old.openings h n given) ∙ map-set (view_of old.whole) old.openings h (read_opening n o);
+      given = ap (λ (s : OpenFiles). views s.whole s.openings) is ∙ ap (views old.whole) (read_is old.openings h (length now) n given) ∙ map-set (view_of old.whole) old.openings h (read_opening (length now) n o);
       name = refl;
-      calls = ap (λ (l : List ℕ). o.calls ++ Gave l ∷ []) (sym (front_taken o.rest buf now n most count' moved'));
+      calls = ap (λ (l : List ℕ). o.calls ++ Gave (length now) l ∷ []) (sym (front_taken o.rest buf now n most count' moved'));
       left = consumed old.whole o.rest buf now n most some room count' moved';
       names = names;
       refused = ap (λ (s : OpenFiles). s.refused) is;

@@ -60,11 +60,11 @@ write_appends all old new os handle piece given keeps lost =
 
 -- ---- read
 
-pub read_others : (old new : OpenFiles) (handle n : ℕ) → new ≡ record old { openings = read_at old.openings handle n } → LeavesOthers (rests old) (rests new) handle
-read_others old new handle n is = subst (λ (f : OpenFiles). LeavesOthers (rests old) (rests f) handle) (sym is) (others_stay old.whole old.openings handle n)
+pub read_others : (old new : OpenFiles) (handle asked n : ℕ) → new ≡ record old { openings = read_at old.openings handle asked n } → LeavesOthers (rests old) (rests new) handle
+read_others old new handle asked n is = subst (λ (f : OpenFiles). LeavesOthers (rests old) (rests f) handle) (sym is) (others_stay old.whole old.openings handle asked n)
 
-pub read_names : (old new : OpenFiles) (handle n : ℕ) → new ≡ record old { openings = read_at old.openings handle n } → owners new ≡ owners old
-read_names old new handle n is = ap (λ (f : OpenFiles). owners f) is ∙ ap (λ (l : List (List ℕ)). slice_get l) (names_read old.openings handle n)
+pub read_names : (old new : OpenFiles) (handle asked n : ℕ) → new ≡ record old { openings = read_at old.openings handle asked n } → owners new ≡ owners old
+read_names old new handle asked n is = ap (λ (f : OpenFiles). owners f) is ∙ ap (λ (l : List (List ℕ)). slice_get l) (names_read old.openings handle asked n)
 
-pub read_count : (old new : OpenFiles) (handle n : ℕ) → new ≡ record old { openings = read_at old.openings handle n } → handle_count new ≡ handle_count old
-read_count old new handle n is = ap (λ (f : OpenFiles). handle_count f) is ∙ count_read old.openings handle n
+pub read_count : (old new : OpenFiles) (handle asked n : ℕ) → new ≡ record old { openings = read_at old.openings handle asked n } → handle_count new ≡ handle_count old
+read_count old new handle asked n is = ap (λ (f : OpenFiles). handle_count f) is ∙ count_read old.openings handle asked n

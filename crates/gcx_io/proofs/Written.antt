@@ -1,11 +1,11 @@
 -- How the writing of a text goes on over several calls.
-use Rattle.std.proofs.Common.{◌≡◌, ◌≢◌, ℕ, ◌+◌, ◌-◌, ◌<◌, ◌≤◌, List, [], ◌∷◌, ◌++◌, take, drop, length, map, Result, Ok, Err, OnErr, Option, None, Some, refl, sym, ap, subst, ◌∙◌, append_assoc, append-nil, arith, length-drop, take-append-drop}
+use Rattle.std.proofs.Common.{◌≡◌, ℕ, ◌+◌, ◌-◌, ◌<◌, ◌≤◌, List, [], ◌∷◌, ◌++◌, take, drop, length, map, Result, Ok, Err, OnErr, Option, None, Some, refl, sym, ap, subst, ◌∙◌, append_assoc, append-nil, arith, length-drop, take-append-drop}
 use Rattle.std.proofs.lemmas.List.{map_push, length-take-le, take_rest}
 use Rattle.std.proofs.Math.Seq.{take-add}
 use Rattle.std.proofs.lemmas.List.Elements.{All-push}
 use Rattle.gcx_io.specs.Bytes.{Grows}
 use Rattle.gcx_io.specs.Causes.{Rose}
-use Rattle.gcx_io.specs.Views.{Call, Took, Failed, SinkView}
+use Rattle.gcx_io.specs.Views.{Call, Took, Denied, SinkView}
 use Rattle.gcx_io.specs.Calls.{WritesOnce}
 use Rattle.gcx_io.specs.Writing.{IsSomeBytes, joined, Takes, Owes}
 use Rattle.gcx_io.proofs.Grown.{grows_on}
@@ -43,16 +43,17 @@ takes_more a b c text piece n t once some within = record {
   faults = once.calm ∙ t.faults;
 }
 
-pub owes : {E : Type 0} (e : E) (a b c : SinkView) (text piece : List ℕ) → Takes a b text → WritesOnce {E = E} b c (Err e) piece → piece ≢ [] → Owes a c [] (text ++ piece)
+pub owes : {E : Type 0} (e : E) (a b c : SinkView) (text piece : List ℕ) → Takes a b text → WritesOnce {E = E} b c (Err e) piece → IsSomeBytes piece → Owes a c [] (text ++ piece)
 owes e a b c text piece t once some = record {
   pieces = t.pieces;
   more = text;
-  rest = piece;
+  next = piece;
+  later = [];
   some = t.some;
-  calls = once.calls ∙ ap (λ (l : List Call). l ++ Failed ∷ []) t.calls;
+  calls = once.calls ∙ ap (λ (l : List Call). l ++ Denied piece ∷ []) t.calls;
   taken = t.whole;
-  split = refl;
-  owed = some;
+  split = sym (append-nil (text ++ piece));
+  offered = some;
   told = subst (λ (o : Option (List ℕ)). Grows a.taken o text) (sym once.taken) t.told;
   faults = subst (λ (k : ℕ). Rose k c.faults) t.faults once.faults.failed;
 }
@@ -71,7 +72,7 @@ pub owes_rest : {E : Type 0} (e : E) (a b c : SinkView) (text : List ℕ) (i : �
 owes_rest {E = E} e a b c text i t more before =
     let once : WritesOnce {E = E} b c (Err e) (drop i text) = subst (λ (l : List ℕ). WritesOnce {E = E} b c (Err e) l) (take_rest text i) more in
     subst (λ (l : List ℕ). Owes a c [] l) (take-append-drop i text) (owes e a b c (take i text) (drop i text) t once
-    (λ none. absurd (omega (arith, length-drop i text, ap length none, before))))
+    (is_some (drop i text) (omega (arith, length-drop i text, before))))
 
 -- what holds, holds at an error
 pub on_err : {T E : Type 0} (r : Result T E) (P : Type 0) → P → OnErr r P

@@ -10,17 +10,17 @@ use Rattle.gcx_io.specs.declared.fault.AttachFault.TheVariants as attach
 use Rattle.gcx_io.specs.Bytes.{WriteGrows}
 use Rattle.gcx_io.specs.Causes.{Rose, HasCause}
 use Rattle.gcx_io.specs.Shelf.{content_of, IsMissing}
-use Rattle.gcx_io.specs.Views.{Call, Gave, Took, Failed, missed, SourceView, SinkView, HandleView, ShelfView, calls_of}
+use Rattle.gcx_io.specs.Views.{Call, Gave, Took, Denied, Failed, missed, SourceView, SinkView, HandleView, ShelfView, calls_of}
 
--- what a read of this result did
+-- what a read of this result did, which asked for as many bytes as the buffer holds
 abbrev pub read_call : {E : Type 0} → Result ℕ E → List ℕ → Call
-read_call (Ok n) buf = Gave (take n buf)
+read_call (Ok n) buf = Gave (length buf) (take n buf)
 read_call (Err e) buf = Failed
 
--- what a write of this result did
+-- what a write of this result did, which was offered the piece
 abbrev pub write_call : {E : Type 0} → Result ℕ E → List ℕ → Call
 write_call (Ok n) piece = Took (take n piece)
-write_call (Err e) piece = Failed
+write_call (Err e) piece = Denied piece
 
 -- one read of a source
 pub record ReadsSource {E : Type 0} (a b : SourceView) (result : Result ℕ E) (buf : List ℕ) : Type 0 where

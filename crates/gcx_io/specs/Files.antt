@@ -117,9 +117,9 @@ after_put name bytes room s = record s { files = mapped name bytes room s.files 
 abbrev pub after_attach : List ℕ → OpenFiles → OpenFiles
 after_attach name s = record s { openings = opened name (held_or_none s.files name) s.openings }
 
--- n bytes more were read of this handle
-abbrev pub after_read : (handle n : ℕ) → OpenFiles → OpenFiles
-after_read handle n s = record s { openings = read_at s.openings handle n }
+-- n bytes more were read of this handle, by a read that asked for so many
+abbrev pub after_read : (handle asked n : ℕ) → OpenFiles → OpenFiles
+after_read handle asked n s = record s { openings = read_at s.openings handle asked n }
 
 -- one call more of this handle, which read nothing
 abbrev pub after_call : (handle : ℕ) → Call → OpenFiles → OpenFiles

@@ -62,19 +62,20 @@ name_at [] handle = []
 name_at (o ∷ os) zero = o.name
 name_at (o ∷ os) (suc handle) = name_at os handle
 
--- n bytes more were read of the handle
-abbrev pub read_opening : ℕ → OpenHandle → OpenHandle
-read_opening n o = record { name = o.name; rest = drop n o.rest; calls = o.calls ++ Gave (take n o.rest) ∷ [] }
+-- n bytes more were read of the handle, by a read that asked for so many
+abbrev pub read_opening : (asked n : ℕ) → OpenHandle → OpenHandle
+read_opening asked n o =
+    record { name = o.name; rest = drop n o.rest; calls = o.calls ++ Gave asked (take n o.rest) ∷ [] }
 
 -- one call more of the handle, which read nothing
 abbrev pub noted_opening : Call → OpenHandle → OpenHandle
 noted_opening call o = record { name = o.name; rest = o.rest; calls = o.calls ++ call ∷ [] }
 
--- n bytes more were read of the handle of this number
-abbrev pub read_at : List OpenHandle → ℕ → (n : ℕ) → List OpenHandle
-read_at [] handle n = []
-read_at (o ∷ os) zero n = read_opening n o ∷ os
-read_at (o ∷ os) (suc handle) n = o ∷ read_at os handle n
+-- the same of the handle of this number
+abbrev pub read_at : List OpenHandle → ℕ → (asked n : ℕ) → List OpenHandle
+read_at [] handle asked n = []
+read_at (o ∷ os) zero asked n = read_opening asked n o ∷ os
+read_at (o ∷ os) (suc handle) asked n = o ∷ read_at os handle asked n
 
 -- one call more of the handle of this number, which read nothing
 abbrev pub noted_at : List OpenHandle → ℕ → Call → List OpenHandle

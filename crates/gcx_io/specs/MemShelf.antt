@@ -12,7 +12,7 @@ use Rattle.gcx_io.specs.Tallies.{Tally, IsToFail, no_calls, passed, failed}
 use Rattle.gcx_io.specs.Files.{OpenFiles, held_names, rests, owners, handle_count, files_seen, Makes, TakesPiece}
 use Rattle.gcx_io.specs.Files.{no_files, after_put, after_attach, after_miss, after_read, after_call}
 use Rattle.gcx_io.specs.Shelf.{Names, AddsName, WriteExtends, OthersStay}
-use Rattle.gcx_io.specs.Views.{ShelfView, Failed as FailedCall}
+use Rattle.gcx_io.specs.Views.{ShelfView, Denied, Failed as FailedCall}
 
 -- the files and handles, the room of a file that is made, the most bytes that one call moves, the calls with the faults
 -- of `attach` and `read`, and how often `create` or `write` failed
@@ -88,7 +88,7 @@ abbrev pub ReadLeaves : {E : Type 0} → (handle : ℕ) → ShelfState → Shelf
 ReadLeaves handle a b (Ok n) before after =
     (n ≡ min (min (length (rest_at a.kept.openings handle)) (length before)) a.most)
     × (after ≡ take n (rest_at a.kept.openings handle) ++ drop n before)
-    × (b ≡ record a { kept = after_read handle n a.kept; calls = passed a.calls })
+    × (b ≡ record a { kept = after_read handle (length after) n a.kept; calls = passed a.calls })
 ReadLeaves handle a b (Err e) before after = (after ≡ before)
     × (b ≡ record a { kept = after_call handle FailedCall a.kept; calls = failed a.calls })
 
@@ -106,7 +106,7 @@ CreateLeaves name a b (Err attach.Memory) = CountsWrite a b × (b.kept ≡ a.kep
 abbrev pub WriteLeaves : {E : Type 0} → (handle : ℕ) → ShelfState → ShelfState → Result ℕ E → (piece : List ℕ) → Type 0
 WriteLeaves handle a b (Ok n) piece = CountsWrite a b × (n ≡ min (length piece) a.most)
     × TakesPiece handle (take n piece) a.kept b.kept
-WriteLeaves handle a b (Err e) piece = CountsWrite a b × (b.kept ≡ after_call handle FailedCall a.kept)
+WriteLeaves handle a b (Err e) piece = CountsWrite a b × (b.kept ≡ after_call handle (Denied piece) a.kept)
 
 abbrev pub shelf_seen : ShelfState → ShelfView
 shelf_seen s = files_seen (shelf_names s) (shelf_faults s) s.write_faults s.kept

@@ -69,7 +69,7 @@ abbrev pub WriteExtends : {E : Type 0} → (before after : Names) → (owner : O
 WriteExtends before after owner result piece =
     MatchResult result (λ n. Appends before after owner (take n piece)) (λ _. after ≡ before)
 
--- The same, where nothing changed if there are no bytes.
+-- The bytes stand behind what the name of a handle held, and nothing changed where there are none.
 abbrev pub AppendsAll : (before after : Names) → (owner : Option (List ℕ)) → (bytes : List ℕ) → Type 0
 AppendsAll before after owner [] = after ≡ before
 AppendsAll before after owner (x ∷ xs) = Appends before after owner (x ∷ xs)

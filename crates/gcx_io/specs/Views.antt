@@ -2,7 +2,7 @@
 use Rattle.std.specs.Prelude.{ℕ, List, slice_get, []}
 use Rattle.std.specs.declared.option.Option.{Option}
 use Rattle.std.specs.declared.option.Option.TheVariants.{Some, None}
-pub use Rattle.call_history.specs.Calls.{Call, Gave, Took, Failed, HandleCalls, Miss, missed}
+pub use Rattle.call_history.specs.Calls.{Call, Gave, Took, Denied, Failed, HandleCalls, Miss, missed}
 use Rattle.gcx_io.specs.Shelf.{Names}
 
 -- a source: its calls, what it has left where that is told, and its faults

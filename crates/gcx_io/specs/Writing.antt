@@ -1,8 +1,8 @@
 -- How the writing of a text stands (this project's).
-use Rattle.std.specs.Prelude.{◌≡◌, ◌≢◌, ℕ, List, [], ◌∷◌, ◌++◌, map, slice_get, slice_set, Some, All, ⊤}
+use Rattle.std.specs.Prelude.{◌≡◌, ℕ, List, [], ◌∷◌, ◌++◌, map, slice_get, slice_set, Some, All, ⊤}
 use Rattle.gcx_io.specs.Bytes.{Grows}
 use Rattle.gcx_io.specs.Causes.{Rose}
-use Rattle.gcx_io.specs.Views.{Call, Took, Failed, SinkView, HandleView, ShelfView, calls_of}
+use Rattle.gcx_io.specs.Views.{Call, Took, Denied, SinkView, HandleView, ShelfView, calls_of}
 
 abbrev pub IsSomeBytes : List ℕ → Type 0
 IsSomeBytes [] = ⊥
@@ -22,16 +22,18 @@ pub record Takes (a b : SinkView) (text : List ℕ) : Type 0 where
   pub told : Grows a.taken b.taken text
   pub faults : b.faults ≡ a.faults
 
--- a front of the text was taken, `sure` at least; something is still to come, and the last call failed
+-- A prefix of the text was taken, `sure` at least, and the last call failed. It was offered what comes next, some bytes of the
+-- rest.
 pub record Owes (a b : SinkView) (sure text : List ℕ) : Type 0 where
   pub pieces : List (List ℕ)
   pub more : List ℕ
-  pub rest : List ℕ
+  pub next : List ℕ
+  pub later : List ℕ
   pub some : All IsSomeBytes pieces
-  pub calls : b.calls ≡ a.calls ++ map Took pieces ++ Failed ∷ []
+  pub calls : b.calls ≡ a.calls ++ map Took pieces ++ Denied next ∷ []
   pub taken : joined pieces ≡ sure ++ more
-  pub split : text ≡ sure ++ more ++ rest
-  pub owed : rest ≢ []
+  pub split : text ≡ sure ++ more ++ next ++ later
+  pub offered : IsSomeBytes next
   pub told : Grows a.taken b.taken (sure ++ more)
   pub faults : Rose a.faults b.faults
 
@@ -52,12 +54,13 @@ pub record TakesInto (h : ℕ) (a b : ShelfView) (text : List ℕ) : Type 0 wher
   pub whole : joined pieces ≡ text
   pub write_faults : b.write_faults ≡ a.write_faults
 
--- the handle took a front of the text; something is still to come, and the last call failed
+-- The handle took a prefix of the text, and the last call failed. It was offered what comes next, some bytes of the rest.
 pub record OwesInto (h : ℕ) (a b : ShelfView) (text : List ℕ) : Type 0 where
   pub pieces : List (List ℕ)
-  pub rest : List ℕ
+  pub next : List ℕ
+  pub later : List ℕ
   pub some : All IsSomeBytes pieces
-  pub answers : Answers h a b (map Took pieces ++ Failed ∷ [])
-  pub split : text ≡ joined pieces ++ rest
-  pub owed : rest ≢ []
+  pub answers : Answers h a b (map Took pieces ++ Denied next ∷ [])
+  pub split : text ≡ joined pieces ++ next ++ later
+  pub offered : IsSomeBytes next
   pub write_faults : Rose a.write_faults b.write_faults

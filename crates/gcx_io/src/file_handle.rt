@@ -38,6 +38,7 @@ impl<T: Read + Write> FileHandle<T> {
         }
     }
 
+    /// Puts the next n bytes of the stream at the front of the buffer, and answers n. 0 is the end.
     pub fn read(&mut self, buf: &mut [u8]) -> Result<usize, Failed>
         ensures bound { ReadsAtMost result buf.new }
         ensures notes { self.new ≡ record self.old { calls = self.old.calls ++ read_call result buf.new ∷ [] } }
@@ -45,6 +46,7 @@ impl<T: Read + Write> FileHandle<T> {
         self.stream.read(buf)
     }
 
+    /// Takes the first n bytes of the piece, at least one, and answers n.
     pub fn write(&mut self, piece: &[u8]) -> Result<usize, Failed>
         requires { 0 < length piece.now }
         ensures bound { Moves result piece.now }

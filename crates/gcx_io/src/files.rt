@@ -2,7 +2,7 @@ ghost use Rattle.std.specs.Prelude.{◌≡◌, ◌<◌, ◌++◌, [], true, fals
 ghost use Rattle.gcx_io.specs.Held.{held, with_file, rest_at, noted_at, Grows, HasOneMore};
 ghost use Rattle.gcx_io.specs.Files.{opened, Sets, Keeps, KeepsPiece, IsPlaceOf, IsNewTo};
 ghost use Rattle.gcx_io.specs.Files.{after_miss, after_put, after_attach, after_read, after_call};
-ghost use Rattle.gcx_io.specs.Views.{Took, Failed};
+ghost use Rattle.gcx_io.specs.Views.{Took, Denied, Failed};
 
 use crate::Handle;
 use crate::opening::Opening;
@@ -204,7 +204,7 @@ impl Files {
         requires given { handle.0 < length self.old.openings }
         ensures count { result ≡ min (min (length (rest_at self.old.openings handle.0)) (length buf.old)) most }
         ensures moved { buf.new ≡ take result (rest_at self.old.openings handle.0) ++ drop result buf.old }
-        ensures rest { self.new ≡ after_read handle.0 result self.old }
+        ensures rest { self.new ≡ after_read handle.0 (length buf.new) result self.old }
     {
         self.openings[handle.0].read(buf, most)
     }
@@ -224,7 +224,7 @@ impl Files {
         }
     }
 
-    /// The same, as a call of the handle.
+    /// Takes the piece by a call of the handle, and keeps it where nothing was lost yet and memory is found for it.
     pub fn write(&mut self, handle: Handle, piece: &[u8])
         requires given { handle.0 < length self.old.openings }
         requires some { 0 < length piece.now }
@@ -245,12 +245,20 @@ impl Files {
         self.openings[handle.0].took(piece);
     }
 
-    /// A call of a handle that failed.
+    /// A read of a handle that failed.
     pub fn fail(&mut self, handle: Handle, buf: &[u8])
         requires { handle.0 < length self.old.openings }
         ensures { self.new ≡ after_call handle.0 Failed self.old }
     {
         self.openings[handle.0].fail(buf);
+    }
+
+    /// A write of the piece into a handle that failed.
+    pub fn deny(&mut self, handle: Handle, piece: &[u8])
+        requires { handle.0 < length self.old.openings }
+        ensures { self.new ≡ after_call handle.0 (Denied piece.now) self.old }
+    {
+        self.openings[handle.0].deny(piece);
     }
 
     /// An `attach` or a `create` of this name that failed.

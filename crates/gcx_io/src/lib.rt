@@ -19,6 +19,7 @@ mod sink;
 mod source;
 mod std_err;
 mod std_out;
+mod std_sink;
 mod stream;
 mod sure_shelf;
 mod sure_sink;

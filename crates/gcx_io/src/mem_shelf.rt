@@ -216,7 +216,7 @@ impl Shelf for MemShelf {
         ensures takes { WritesHandle handle.0 (shelf_seen self.old) (shelf_seen self.new) result piece.now }
     {
         if self.is_failing_write() {
-            self.files.fail(handle, piece);
+            self.files.deny(handle, piece);
             return Err(Failed);
         }
         let count = piece.len().min(self.most);

@@ -95,7 +95,7 @@ impl Sink for MemSink {
         ensures writes { WritesOnce (sink_seen self.old) (sink_seen self.new) result piece.now }
     {
         if self.calls.is_failing() {
-            self.history.failed(piece);
+            self.history.denied(piece);
             return Err(Failed);
         }
         let count = piece.len().min(self.most);

@@ -86,7 +86,7 @@ impl Source for MemSource {
         }
         let count = move_front(&self.bytes[self.at..], buf, self.most);
         self.at += count;
-        self.history.gave(&buf[..count]);
+        self.history.gave(buf, count);
         Ok(count)
     }
 }

@@ -3,7 +3,7 @@ ghost use Rattle.std.specs.Io.{ReadsAtMost};
 ghost use Rattle.std.specs.Io.KnownBytes.{ReadConsumes, WriteAppends};
 ghost use Rattle.gcx_io.specs.Bytes.{Moves};
 ghost use Rattle.gcx_io.specs.Calls.{read_call, write_call};
-ghost use Rattle.gcx_io.specs.Views.{Failed as failed};
+ghost use Rattle.gcx_io.specs.Views.{Denied as denied, Failed as failed};
 
 use crate::Failed;
 use call_history::History;
@@ -28,12 +28,20 @@ impl<T> Noting<T> {
         }
     }
 
-    /// A call that the stream doesn't serve.
+    /// A read, which the stream doesn't serve.
     pub fn fail(&mut self, buf: &[u8])
         ensures inner { self.new.inner ≡ self.old.inner }
         ensures history { self.new.history.calls ≡ self.old.history.calls ++ failed ∷ [] }
     {
         self.history.failed(buf);
+    }
+
+    /// A write of the piece, which the stream doesn't serve.
+    pub fn deny(&mut self, piece: &[u8])
+        ensures inner { self.new.inner ≡ self.old.inner }
+        ensures history { self.new.history.calls ≡ self.old.history.calls ++ denied piece.now ∷ [] }
+    {
+        self.history.denied(piece);
     }
 }
 
@@ -46,7 +54,7 @@ impl<R: Read> Noting<R> {
     {
         match self.inner.read(buf) {
             Ok(count) => {
-                self.history.gave(&buf[..count]);
+                self.history.gave(buf, count);
                 Ok(count)
             }
             Err(_) => {
@@ -71,7 +79,7 @@ impl<W: Write> Noting<W> {
                 Ok(count)
             }
             _ => {
-                self.history.failed(piece);
+                self.history.denied(piece);
                 Err(Failed)
             }
         }

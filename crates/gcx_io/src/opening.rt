@@ -1,6 +1,6 @@
 ghost use Rattle.std.specs.Prelude.{◌≡◌, ◌++◌, [], length, take, drop, min};
 ghost use Rattle.gcx_io.specs.Held.{read_opening, noted_opening};
-ghost use Rattle.gcx_io.specs.Views.{Took, Failed};
+ghost use Rattle.gcx_io.specs.Views.{Took, Denied, Failed};
 
 use crate::moving::move_front;
 use call_history::History;
@@ -41,6 +41,7 @@ impl Opening {
         }
     }
 
+    /// The name that the handle was given for.
     pub fn name(&self) -> &Text
         ensures { result.now ≡ self.now.name }
     {
@@ -51,19 +52,26 @@ impl Opening {
     pub fn read(&mut self, buf: &mut [u8], most: usize) -> usize
         ensures count { result ≡ min (min (length self.old.rest) (length buf.old)) most }
         ensures moved { buf.new ≡ take result self.old.rest ++ drop result buf.old }
-        ensures rest { self.new ≡ read_opening result self.old }
+        ensures rest { self.new ≡ read_opening (length buf.new) result self.old }
     {
         let count = move_front(&self.bytes[self.at..], buf, most);
         self.at += count;
-        self.history.gave(&buf[..count]);
+        self.history.gave(buf, count);
         count
     }
 
-    /// A call that failed.
+    /// A read that failed.
     pub fn fail(&mut self, buf: &[u8])
         ensures { self.new ≡ noted_opening Failed self.old }
     {
         self.history.failed(buf);
+    }
+
+    /// A write of the piece that failed.
+    pub fn deny(&mut self, piece: &[u8])
+        ensures { self.new ≡ noted_opening (Denied piece.now) self.old }
+    {
+        self.history.denied(piece);
     }
 
     /// A write took these bytes.

@@ -1,6 +1,6 @@
 ghost use Rattle.std.specs.Prelude.{◌≡◌, []};
 
-use crate::noting::Noting;
+use crate::std_sink::StdSink;
 use crate::{Failed, Sink};
 use std::io::Stderr;
 use std::marker::Model;
@@ -8,8 +8,7 @@ use std::marker::Model;
 /// Standard error. It tells nothing of what it took but by its calls.
 #[derive(Drop)]
 pub struct StdErr {
-    stream: Noting<Stderr>,
-    faults: u64,
+    sink: StdSink<Stderr>,
 }
 
 impl Model for StdErr {
@@ -17,7 +16,7 @@ impl Model for StdErr {
 
     ghost Value = { StreamState };
 
-    ghost view = { λ s. record { calls = s.stream.history.calls; faults = s.faults } };
+    ghost view = { λ s. s.sink };
 }
 
 impl StdErr {
@@ -26,8 +25,7 @@ impl StdErr {
         ensures { result ≡ record { calls = []; faults = 0 } }
     {
         StdErr {
-            stream: Noting::new(rt.stderr()),
-            faults: 0,
+            sink: StdSink::new(rt.stderr()),
         }
     }
 }
@@ -55,12 +53,6 @@ impl Sink for StdErr {
         ensures faults { CountsFault self.old.faults self.new.faults result }
         ensures writes { WritesOnce (stream_seen self.old) (stream_seen self.new) result piece.now }
     {
-        match self.stream.write(piece) {
-            Ok(count) => Ok(count),
-            Err(Failed) => {
-                self.faults = self.faults.saturating_add(1);
-                Err(Failed)
-            }
-        }
+        self.sink.write(piece)
     }
 }

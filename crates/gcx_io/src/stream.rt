@@ -17,24 +17,28 @@ pub(crate) enum Stream<T> {
 }
 
 impl<T: Read + Write> Stream<T> {
+    /// A file that was opened for reading.
     pub fn file(file: T) -> Stream<T>
         ensures { stream_calls result ≡ [] }
     {
         Stream::Reading(Noting::new(Either::Left(file)))
     }
 
+    /// Standard input, for reading.
     pub fn standard(input: Stdin) -> Stream<T>
         ensures { stream_calls result ≡ [] }
     {
         Stream::Reading(Noting::new(Either::Right(input)))
     }
 
+    /// A file that was made, for writing.
     pub fn made(file: T) -> Stream<T>
         ensures { stream_calls result ≡ [] }
     {
         Stream::Writing(Noting::new(file))
     }
 
+    /// Puts the next n bytes at the front of the buffer, and answers n. 0 is the end. A file that was made fails.
     pub fn read(&mut self, buf: &mut [u8]) -> Result<usize, Failed>
         ensures bound { ReadsAtMost result buf.new }
         ensures notes { stream_calls self.new ≡ stream_calls self.old ++ read_call result buf.new ∷ [] }
@@ -48,6 +52,7 @@ impl<T: Read + Write> Stream<T> {
         }
     }
 
+    /// Takes the first n bytes of the piece, at least one, and answers n. What is read from fails.
     pub fn write(&mut self, piece: &[u8]) -> Result<usize, Failed>
         requires { 0 < length piece.now }
         ensures bound { Moves result piece.now }
@@ -56,7 +61,7 @@ impl<T: Read + Write> Stream<T> {
         match self {
             Stream::Writing(stream) => stream.write(piece),
             Stream::Reading(stream) => {
-                stream.fail(piece);
+                stream.deny(piece);
                 Err(Failed)
             }
         }

@@ -126,7 +126,7 @@ impl Shelf for SureShelf {
         ensures moved { IfOk result (λ n. buf.new ≡ take n (rest_at self.old.kept.openings handle.0)
             ++ drop n buf.old) }
         ensures ok { IfOk result
-            (λ n. self.new ≡ record self.old { kept = after_read handle.0 n self.old.kept }) }
+            (λ n. self.new ≡ record self.old { kept = after_read handle.0 (length buf.new) n self.old.kept }) }
         ensures reads { ReadsOnce handle.0 (sure_shelf_seen self.old) (sure_shelf_seen self.new) result buf.new }
     {
         Ok(self.files.read(handle, buf, usize::MAX))

@@ -68,7 +68,7 @@ impl Source for SureSource {
     {
         let count = move_front(&self.bytes[self.at..], buf, usize::MAX);
         self.at += count;
-        self.history.gave(&buf[..count]);
+        self.history.gave(buf, count);
         Ok(count)
     }
 }

@@ -7,7 +7,7 @@ use Rattle.gcx_io.specs.Bytes.{Grows, WriteGrows}
 use Rattle.gcx_io.specs.Calls.{WritesHandle, WritesOnce, write_call}
 use Rattle.gcx_io.specs.Causes.{HasCause}
 use Rattle.gcx_io.specs.Shelf.{Appends, IsTelling, Names, OthersStay, Stays, WriteExtends}
-use Rattle.gcx_io.specs.Views.{Call, Failed, Gave, HandleCalls, HandleView, ShelfView, Took, calls_at, calls_of}
+use Rattle.gcx_io.specs.Views.{Call, Denied, Failed, Gave, HandleCalls, HandleView, ShelfView, Took, calls_at, calls_of}
 use Rattle.many_run.specs.Files.{NamesStay, bytes_in, failures, name_of_handle, sink_at}
 use Rattle.many_run.specs.Runs.{WritesOnly}
 use Rattle.many_run.proofs.Walking.{get_set, not_there, set_elsewhere, set_length, some_is, there}
@@ -73,19 +73,21 @@ set_name (x ∷ l) (suc h) (suc k) z v at same = set_name l h k z v at same
 
 no_failure : (xs : List Call) (p : List ℕ) → failures (xs ++ Took p ∷ []) ≡ failures xs
 no_failure [] p = refl
-no_failure (Gave q ∷ xs) p = no_failure xs p
+no_failure (Gave n q ∷ xs) p = no_failure xs p
 no_failure (Took q ∷ xs) p = no_failure xs p
-no_failure (Failed ∷ xs) p = ap suc (no_failure xs p)
+no_failure (Denied q ∷ xs) p = ap suc (no_failure xs p)
+no_failure (Failed ∷ xs) p = no_failure xs p
 
-one_failure : (xs : List Call) → failures (xs ++ Failed ∷ []) ≡ suc (failures xs)
-one_failure [] = refl
-one_failure (Gave q ∷ xs) = one_failure xs
-one_failure (Took q ∷ xs) = one_failure xs
-one_failure (Failed ∷ xs) = ap suc (one_failure xs)
+one_failure : (xs : List Call) (p : List ℕ) → failures (xs ++ Denied p ∷ []) ≡ suc (failures xs)
+one_failure [] p = refl
+one_failure (Gave n q ∷ xs) p = one_failure xs p
+one_failure (Took q ∷ xs) p = one_failure xs p
+one_failure (Denied q ∷ xs) p = ap suc (one_failure xs p)
+one_failure (Failed ∷ xs) p = one_failure xs p
 
 cause_here : {E : Type 0} (xs : List Call) (r : Result ℕ E) (piece : List ℕ) → HasCause (failures xs) (failures (xs ++ write_call r piece ∷ [])) r
 cause_here xs (Ok n) piece = record { later = omega (arith, no_failure xs (take n piece)); failed = tt }
-cause_here xs (Err e) piece = record { later = omega (arith, one_failure xs); failed = omega (arith, one_failure xs) }
+cause_here xs (Err e) piece = record { later = omega (arith, one_failure xs piece); failed = omega (arith, one_failure xs piece) }
 
 calm_here : {E : Type 0} (xs : List Call) (r : Result ℕ E) (piece : List ℕ) → OnOk r (failures (xs ++ write_call r piece ∷ []) ≡ failures xs)
 calm_here xs (Ok n) piece = no_failure xs (take n piece)

@@ -198,8 +198,8 @@ gave_written d outs a b c ps stop g f none apart faults =
     left_same : (u : HandleView) → slice_get c.given d ≡ Some u → IsTelling c.names → u.left ≡ g.new.left
     left_same u at telling = f.left telling d g.new u (λ no. no) g.is at (λ i o is same. apart (back telling) i o is (same ∙ sym (name_is b.given d g.new g.is)))
 
-calls_on : (a b c : List Call) (ps : List (List ℕ)) (x : Call) → b ≡ a ++ map Gave ps ++ [] → c ≡ b ++ x ∷ [] → c ≡ a ++ map Gave ps ++ x ∷ []
-calls_on a b c ps x first second = second ∙ ap (λ (l : List Call). l ++ x ∷ []) (first ∙ append-nil (a ++ map Gave ps))
+calls_on : (a b c : List Call) (ps : List (List ℕ)) (x : Call) → b ≡ a ++ map (Gave 65536) ps ++ [] → c ≡ b ++ x ∷ [] → c ≡ a ++ map (Gave 65536) ps ++ x ∷ []
+calls_on a b c ps x first second = second ∙ ap (λ (l : List Call). l ++ x ∷ []) (first ∙ append-nil (a ++ map (Gave 65536) ps))
 
 back_here : (b c : ShelfView) → IsTelling c.names → c.names ≡ b.names → IsTelling b.names
 back_here b c telling same = subst (λ (n : Names). IsTelling n) same telling
@@ -209,8 +209,8 @@ module _ {E : Type 0} (d : ℕ) (a b c : ShelfView) (ps : List (List ℕ)) (g : 
   same_there r buf once = some_is (slice_get b.given d) once.old g.new once.was g.is
 
   -- one piece more
-  pub gave_more : (n : ℕ) (buf : List ℕ) → ReadsOnce {E = E} d b c (Ok n) buf → 1 ≤ n → n ≤ length buf → HandleGave d a c (ps ++ take n buf ∷ []) More
-  gave_more n buf once some within =
+  pub gave_more : (n : ℕ) (buf : List ℕ) → ReadsOnce {E = E} d b c (Ok n) buf → 1 ≤ n → n ≤ length buf → length buf ≡ 65536 → HandleGave d a c (ps ++ take n buf ∷ []) More
+  gave_more n buf once some within size =
       let same = same_there (Ok n) buf once in
       record {
         old = g.old;
@@ -219,7 +219,8 @@ module _ {E : Type 0} (d : ℕ) (a b c : ShelfView) (ps : List (List ℕ)) (g : 
         is = read_here d b c (Ok n) buf once;
         name = once.name ∙ (ap (λ (v : HandleView). v.name) same ∙ g.name);
         some = All-push IsSomeBytes ps (take n buf) g.some (is_some (take n buf) (omega (arith, length-take-le n buf within)));
-        calls = calls_on g.old.calls g.new.calls once.new.calls ps (Gave (take n buf)) g.calls (once.calls ∙ ap (λ (v : HandleView). v.calls ++ Gave (take n buf) ∷ []) same)
+        calls = calls_on g.old.calls g.new.calls once.new.calls ps (Gave 65536 (take n buf)) g.calls
+            (once.calls ∙ ap (λ (k : ℕ). once.old.calls ++ Gave k (take n buf) ∷ []) size ∙ ap (λ (v : HandleView). v.calls ++ Gave 65536 (take n buf) ∷ []) same)
             ∙ pushed g.old.calls ps (take n buf);
         told = λ telling. subst (Consumes g.old.left once.new.left) (sym (joined_push ps (take n buf)))
             (Consumes-trans g.old.left g.new.left once.new.left (joined ps) (take n buf) (g.told (back_here b c telling once.names)) (subst (λ (v : HandleView). Consumes v.left once.new.left (take n buf)) same once.left.0));
@@ -227,13 +228,13 @@ module _ {E : Type 0} (d : ℕ) (a b c : ShelfView) (ps : List (List ℕ)) (g : 
         faults = once.calm ∙ g.faults;
       }
     where
-      pushed : (xs : List Call) (ps : List (List ℕ)) (p : List ℕ) → xs ++ map Gave ps ++ Gave p ∷ [] ≡ xs ++ map Gave (ps ++ p ∷ []) ++ []
-      pushed [] ps p = sym (map_push Gave ps p) ∙ sym (append-nil (map Gave (ps ++ p ∷ [])))
+      pushed : (xs : List Call) (ps : List (List ℕ)) (p : List ℕ) → xs ++ map (Gave 65536) ps ++ Gave 65536 p ∷ [] ≡ xs ++ map (Gave 65536) (ps ++ p ∷ []) ++ []
+      pushed [] ps p = sym (map_push (Gave 65536) ps p) ∙ sym (append-nil (map (Gave 65536) (ps ++ p ∷ [])))
       pushed (x ∷ xs) ps p = ap (λ (l : List Call). x ∷ l) (pushed xs ps p)
 
   -- the end
-  pub gave_end : (n : ℕ) (buf : List ℕ) → ReadsOnce {E = E} d b c (Ok n) buf → n ≡ 0 → 0 < length buf → HandleGave d a c ps End
-  gave_end n buf more none room =
+  pub gave_end : (n : ℕ) (buf : List ℕ) → ReadsOnce {E = E} d b c (Ok n) buf → n ≡ 0 → length buf ≡ 65536 → HandleGave d a c ps End
+  gave_end n buf more none size =
       let once : ReadsOnce {E = E} d b c (Ok 0) buf = subst (λ (k : ℕ). ReadsOnce {E = E} d b c (Ok k) buf) none more in
       let same = same_there (Ok 0) buf once in
       record {
@@ -243,10 +244,11 @@ module _ {E : Type 0} (d : ℕ) (a b c : ShelfView) (ps : List (List ℕ)) (g : 
         is = read_here d b c (Ok 0) buf once;
         name = once.name ∙ (ap (λ (v : HandleView). v.name) same ∙ g.name);
         some = g.some;
-        calls = calls_on g.old.calls g.new.calls once.new.calls ps (Gave []) g.calls (once.calls ∙ ap (λ (v : HandleView). v.calls ++ Gave [] ∷ []) same);
+        calls = calls_on g.old.calls g.new.calls once.new.calls ps (Gave 65536 []) g.calls
+            (once.calls ∙ ap (λ (k : ℕ). once.old.calls ++ Gave k [] ∷ []) size ∙ ap (λ (v : HandleView). v.calls ++ Gave 65536 [] ∷ []) same);
         told = λ telling. subst (Consumes g.old.left once.new.left) (append-nil (joined ps))
             (Consumes-trans g.old.left g.new.left once.new.left (joined ps) [] (g.told (back_here b c telling once.names)) (subst (λ (v : HandleView). Consumes v.left once.new.left []) same once.left.0));
-        at_end = λ telling e. once.left.1 refl room;
+        at_end = λ telling e. once.left.1 refl (omega (arith, size));
         faults = once.calm ∙ g.faults;
       }
 

@@ -2,7 +2,7 @@
 use Rattle.std.specs.Prelude.{◌≡◌, ◌≢◌, ◌<◌, ◌≤◌, ℕ, suc, List, [], ◌∷◌, ◌++◌, length, map, slice_get, unwrap_or, Option, Some, None, ⊤, All}
 use Rattle.std.specs.Io.KnownBytes.{Consumes, IsAtEnd}
 use Rattle.gcx_io.specs.Shelf.{IsTelling, Names}
-use Rattle.gcx_io.specs.Views.{Call, Gave, Took, Failed, HandleView, ShelfView, SinkView, calls_at}
+use Rattle.gcx_io.specs.Views.{Call, Gave, Took, Denied, Failed, HandleView, ShelfView, SinkView, calls_at}
 use Rattle.gcx_io.specs.Writing.{IsSomeBytes, joined}
 use Rattle.gcx_io.specs.declared.shelf.Handle.{Handle}
 use Rattle.run_words.specs.Reading.{CountsFault}
@@ -16,12 +16,13 @@ name_of_handle given h = name_in (slice_get given h)
     name_in None = None
     name_in (Some v) = Some v.name
 
--- how many of the calls failed
+-- how many of the calls are writes that failed
 abbrev pub failures : List Call → ℕ
 failures [] = 0
-failures (Gave bytes ∷ calls) = failures calls
+failures (Gave asked bytes ∷ calls) = failures calls
 failures (Took bytes ∷ calls) = failures calls
-failures (Failed ∷ calls) = suc (failures calls)
+failures (Denied bytes ∷ calls) = suc (failures calls)
+failures (Failed ∷ calls) = failures calls
 
 -- what the name of a handle holds where that is told, no bytes where it isn't there
 abbrev pub bytes_in : Names → Option (List ℕ) → Option (List ℕ)
@@ -29,7 +30,7 @@ bytes_in None name = None
 bytes_in (Some holds) None = None
 bytes_in (Some holds) (Some name) = Some (unwrap_or (holds name) [])
 
--- A handle that is written to, seen as a sink: its calls, what its name holds, and how many of its calls failed.
+-- A handle that is written to, seen as a sink: its calls, what its name holds, and how many of its writes failed.
 abbrev pub sink_at : ℕ → ShelfView → SinkView
 sink_at h s =
     record {
@@ -46,8 +47,8 @@ pub record HandlesApart (s : ShelfView) (doc : Handle) (outs : List Handle) : Ty
   pub from_others : (i j : ℕ) (o p : Handle) → slice_get outs i ≡ Some o → slice_get outs j ≡ Some p → i ≢ j
       → (o.0 ≢ p.0) × (IsTelling s.names → name_of_handle s.given o.0 ≢ name_of_handle s.given p.0)
 
--- The handle gave these pieces, none empty, and its reads stopped so. No call came behind the end or a fault. What it has left is known
--- while the shelf tells its names.
+-- The handle gave these pieces, none empty, to reads that asked for 65,536 bytes each, and its reads stopped so. No call came after
+-- the end or a fault. What it has left is known while the shelf tells its names.
 pub record HandleGave (h : ℕ) (a b : ShelfView) (pieces : List (List ℕ)) (stop : Stop) : Type 0 where
   pub old : HandleView
   pub new : HandleView
@@ -55,7 +56,7 @@ pub record HandleGave (h : ℕ) (a b : ShelfView) (pieces : List (List ℕ)) (st
   pub is : slice_get b.given h ≡ Some new
   pub name : new.name ≡ old.name
   pub some : All IsSomeBytes pieces
-  pub calls : new.calls ≡ old.calls ++ map Gave pieces ++ last_call stop
+  pub calls : new.calls ≡ old.calls ++ map (Gave 65536) pieces ++ last_call 65536 stop
   pub told : IsTelling b.names → Consumes old.left new.left (joined pieces)
   pub at_end : IsTelling b.names → stop ≡ End → IsAtEnd new.left
   pub faults : CountsFault stop a.faults b.faults

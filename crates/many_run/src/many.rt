@@ -141,7 +141,7 @@ impl<'p, N: NodeStore<Row>, C: Conds> Many<'p, N, C> {
         }
     }
 
-    /// The same, where nothing is refused yet.
+    /// Takes the next piece of the document, of which nothing is refused yet.
     fn feed_piece(&mut self, alloc: Global, piece: &[u8])
         requires stands { ManyStandSome C.stands self.old false }
         requires fresh { self.old.refused ≡ None }
@@ -209,7 +209,7 @@ impl<'p, N: NodeStore<Row>, C: Conds> Many<'p, N, C> {
         }
     }
 
-    /// The same, where nothing is refused yet.
+    /// Ends the document, of which nothing is refused yet.
     fn end_input(&mut self, alloc: Global)
         requires stands { (ended : Bool) × ManyStandSome C.stands self.old ended }
         requires fresh { self.old.refused ≡ None }

@@ -1,5 +1,5 @@
 -- What a source gave, over several reads.
-use Rattle.std.proofs.Common.{◌≡◌, ℕ, ◌+◌, ◌≤◌, ◌<◌, Bool, false, List, [], ◌∷◌, ◌++◌, length, map, take, All, Option, Some, None, Ok, Err, refl, sym, ap, subst, ◌∙◌, arith, append-nil, length-append}
+use Rattle.std.proofs.Common.{◌≡◌, ℕ, ◌+◌, ◌≤◌, Bool, false, List, [], ◌∷◌, ◌++◌, length, map, take, All, Option, Some, None, Ok, Err, refl, sym, ap, subst, ◌∙◌, arith, append-nil, length-append}
 use Rattle.std.proofs.KnownBytes.{Consumes-nil, Consumes-trans, Consumes-kept}
 use Rattle.std.proofs.lemmas.List.{map_push, length-take-le, same_from_push, length_push}
 use Rattle.std.proofs.lemmas.List.Elements.{All-push}
@@ -25,33 +25,33 @@ source_none a = record {
   faults = refl;
 }
 
-calls_on : (a b c : List Call) (ps : List (List ℕ)) (d : Call) → b ≡ a ++ map Gave ps ++ [] → c ≡ b ++ d ∷ [] → c ≡ a ++ map Gave ps ++ d ∷ []
-calls_on a b c ps d first second = second ∙ ap (λ (l : List Call). l ++ d ∷ []) (first ∙ append-nil (a ++ map Gave ps))
+calls_on : (a b c : List Call) (ps : List (List ℕ)) (d : Call) → b ≡ a ++ map (Gave 65536) ps ++ [] → c ≡ b ++ d ∷ [] → c ≡ a ++ map (Gave 65536) ps ++ d ∷ []
+calls_on a b c ps d first second = second ∙ ap (λ (l : List Call). l ++ d ∷ []) (first ∙ append-nil (a ++ map (Gave 65536) ps))
 
 pub source_more : {E : Type 0} (a b c : SourceView) (ps : List (List ℕ)) (n : ℕ) (buf : List ℕ) → SourceGave a b ps More
-    → ReadsSource {E = E} b c (Ok n) buf → 1 ≤ n → n ≤ length buf → SourceGave a c (ps ++ take n buf ∷ []) More
-source_more a b c ps n buf g once some within = record {
+    → ReadsSource {E = E} b c (Ok n) buf → 1 ≤ n → n ≤ length buf → length buf ≡ 65536 → SourceGave a c (ps ++ take n buf ∷ []) More
+source_more a b c ps n buf g once some within size = record {
   some = All-push IsSomeBytes ps (take n buf) g.some (is_some (take n buf) (omega (arith, length-take-le n buf within)));
-  calls = calls_on a.calls b.calls c.calls ps (Gave (take n buf)) g.calls once.calls ∙ pushed a.calls ps (take n buf);
+  calls = calls_on a.calls b.calls c.calls ps (Gave 65536 (take n buf)) g.calls (once.calls ∙ ap (λ (k : ℕ). b.calls ++ Gave k (take n buf) ∷ []) size) ∙ pushed a.calls ps (take n buf);
   told = subst (Consumes a.left c.left) (sym (joined_push ps (take n buf)))
       (Consumes-trans a.left b.left c.left (joined ps) (take n buf) g.told once.left.0);
   at_end = λ e. cc;
   faults = once.calm ∙ g.faults;
 }
   where
-    pushed : (xs : List Call) (ps : List (List ℕ)) (p : List ℕ) → xs ++ map Gave ps ++ Gave p ∷ [] ≡ xs ++ map Gave (ps ++ p ∷ []) ++ []
-    pushed [] ps p = sym (map_push Gave ps p) ∙ sym (append-nil (map Gave (ps ++ p ∷ [])))
+    pushed : (xs : List Call) (ps : List (List ℕ)) (p : List ℕ) → xs ++ map (Gave 65536) ps ++ Gave 65536 p ∷ [] ≡ xs ++ map (Gave 65536) (ps ++ p ∷ []) ++ []
+    pushed [] ps p = sym (map_push (Gave 65536) ps p) ∙ sym (append-nil (map (Gave 65536) (ps ++ p ∷ [])))
     pushed (x ∷ xs) ps p = ap (λ (l : List Call). x ∷ l) (pushed xs ps p)
 
 pub source_end : {E : Type 0} (a b c : SourceView) (ps : List (List ℕ)) (n : ℕ) (buf : List ℕ) → SourceGave a b ps More
-    → ReadsSource {E = E} b c (Ok n) buf → n ≡ 0 → 0 < length buf → SourceGave a c ps End
-source_end {E = E} a b c ps n buf g more none room =
+    → ReadsSource {E = E} b c (Ok n) buf → n ≡ 0 → length buf ≡ 65536 → SourceGave a c ps End
+source_end {E = E} a b c ps n buf g more none size =
     let once : ReadsSource {E = E} b c (Ok 0) buf = subst (λ (k : ℕ). ReadsSource {E = E} b c (Ok k) buf) none more in
     record {
       some = g.some;
-      calls = calls_on a.calls b.calls c.calls ps (Gave []) g.calls once.calls;
+      calls = calls_on a.calls b.calls c.calls ps (Gave 65536 []) g.calls (once.calls ∙ ap (λ (k : ℕ). b.calls ++ Gave k [] ∷ []) size);
       told = subst (Consumes a.left c.left) (append-nil (joined ps)) (Consumes-trans a.left b.left c.left (joined ps) [] g.told once.left.0);
-      at_end = λ e. once.left.1 refl room;
+      at_end = λ e. once.left.1 refl (omega (arith, size));
       faults = once.calm ∙ g.faults;
     }
 

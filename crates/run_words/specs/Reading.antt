@@ -14,10 +14,11 @@ CountsFault More before after = after ≡ before
 CountsFault End before after = after ≡ before
 CountsFault Fault before after = Rose before after
 
--- The source gave these pieces, none empty, and stopped so. No call came behind the end or a fault.
+-- The source gave these pieces, none empty, to reads that asked for 65,536 bytes each, and stopped so. No call came after the end
+-- or a fault.
 pub record SourceGave (a b : SourceView) (pieces : List (List ℕ)) (stop : Stop) : Type 0 where
   pub some : All IsSomeBytes pieces
-  pub calls : b.calls ≡ a.calls ++ map Gave pieces ++ last_call stop
+  pub calls : b.calls ≡ a.calls ++ map (Gave 65536) pieces ++ last_call 65536 stop
   pub told : Consumes a.left b.left (joined pieces)
   pub at_end : stop ≡ End → IsAtEnd b.left
   pub faults : CountsFault stop a.faults b.faults
@@ -26,7 +27,7 @@ pub record SourceGave (a b : SourceView) (pieces : List (List ℕ)) (stop : Stop
 abbrev pub IsShort : List ℕ → Type 0
 IsShort piece = length piece ≤ 65536
 
--- A document was read so far: no read came behind a fault of its bytes.
+-- A document was read so far: no read came after a fault of its bytes.
 pub record ReadsOn (lim : Limits) (pieces : List (List ℕ)) (stop : Stop) : Type 0 where
   pub short : All IsShort pieces
   pub earlier : (before : List (List ℕ)) (last : List ℕ) → pieces ≡ before ++ last ∷ [] → FaultIs lim (joined before) false None

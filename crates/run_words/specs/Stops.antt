@@ -8,11 +8,11 @@ pub data Stop : Type 0 where
   End : Stop
   Fault : Stop
 
--- the call that it stopped at
-abbrev pub last_call : Stop → List Call
-last_call More = []
-last_call End = Gave [] ∷ []
-last_call Fault = Failed ∷ []
+-- the call that it stopped at, where a read asks for so many bytes
+abbrev pub last_call : (asked : ℕ) → Stop → List Call
+last_call asked More = []
+last_call asked End = Gave asked [] ∷ []
+last_call asked Fault = Failed ∷ []
 
 -- the end was answered
 abbrev pub is_end : Stop → Bool

@@ -1,2 +1,2 @@
-//! Words for what a call does to a value that stands for a state.
+//! Words for what a run reads and writes, and how it ends.
 #![tactic(auto)]

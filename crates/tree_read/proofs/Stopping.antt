@@ -1,5 +1,5 @@
 -- What the source of a document gave, and where its reading stops.
-use Rattle.std.proofs.Common.{◌≡◌, ℕ, ◌+◌, ◌≤◌, ◌<◌, true, false, List, [], ◌∷◌, ◌++◌, length, take, None, Ok, Err, refl, sym, ap, subst, arith, length-append}
+use Rattle.std.proofs.Common.{◌≡◌, ℕ, ◌+◌, ◌≤◌, true, false, List, [], ◌∷◌, ◌++◌, length, take, None, Ok, Err, refl, sym, ap, subst, arith, length-append}
 use Rattle.std.proofs.lemmas.List.{length-take-le}
 use Rattle.gcx_base.specs.Limits.{full_limits}
 use Rattle.gcx_io.proofs.Written.{joined_push}
@@ -34,13 +34,13 @@ read_none H a h = record {
 
 pub read_on : {E : Type 0} (H K : List ℕ → Type 0) (a b c : SourceView) (count n : ℕ) (buf : List ℕ)
     → ((bytes : List ℕ) → K bytes → FaultIs full_limits bytes false None) → (h : HasRead H a b count)
-    → ReadsSource {E = E} b c (Ok n) buf → 1 ≤ n → n ≤ length buf → length buf ≤ 65536 → K (joined h.pieces ++ take n buf) → HasRead K a c (count + n)
-read_on H K a b c count n buf sound h once some within short more =
+    → ReadsSource {E = E} b c (Ok n) buf → 1 ≤ n → n ≤ length buf → length buf ≡ 65536 → K (joined h.pieces ++ take n buf) → HasRead K a c (count + n)
+read_on H K a b c count n buf sound h once some within size more =
     let long : length (take n buf) ≡ n = length-take-le n buf within in
     record {
       pieces = h.pieces ++ take n buf ∷ [];
-      gave = source_more a b c h.pieces n buf h.gave once some within;
-      clean = clean_more full_limits h.pieces (take n buf) h.clean (omega (arith, long, within, short)) (sound _ more);
+      gave = source_more a b c h.pieces n buf h.gave once some within size;
+      clean = clean_more full_limits h.pieces (take n buf) h.clean (omega (arith, long, within, size)) (sound _ more);
       holds = subst (λ (l : List ℕ). K l) (sym (joined_push h.pieces (take n buf))) more;
       counted = omega (arith, h.counted, ap length (joined_push h.pieces (take n buf)), length-append (joined h.pieces) (take n buf), long);
     }
@@ -87,36 +87,36 @@ found_in_piece Is T P end.Fault pieces h never = absurd (never refl)
 found_in_piece Is T P end.Memory pieces h never = tt
 
 pub stops_in_end : {E U : Type 0} (T P : Type 0) (Is : List ℕ → U → Type 0) (H : List ℕ → Type 0) (a b c : SourceView) (count n : ℕ) (buf : List ℕ) (e : DocumentEnd)
-    → (h : HasRead H a b count) → ReadsSource {E = E} b c (Ok n) buf → n ≡ 0 → 0 < length buf
+    → (h : HasRead H a b count) → ReadsSource {E = E} b c (Ok n) buf → n ≡ 0 → length buf ≡ 65536
     → EndsBy {T = T} true (joined h.pieces) (Err e) P → (e ≡ end.Fault → ⊥) → ReadsBy Is a c (Err e)
-stops_in_end T P Is H a b c count n buf e h once none room ends never = record {
+stops_in_end T P Is H a b c count n buf e h once none size ends never = record {
   pieces = h.pieces;
   stop = End;
-  gave = source_end a b c h.pieces n buf h.gave once none room;
+  gave = source_end a b c h.pieces n buf h.gave once none size;
   reads_on = on_clean full_limits h.pieces End h.clean;
   finds = found_at_end Is T P e h.pieces ends never;
 }
 
 pub ends_whole : {E U : Type 0} (Is : List ℕ → U → Type 0) (H : List ℕ → Type 0) (u : U) (a b c : SourceView) (count n : ℕ) (buf : List ℕ) → (h : HasRead H a b count)
-    → ReadsSource {E = E} b c (Ok n) buf → n ≡ 0 → 0 < length buf → Is (joined h.pieces) u → ReadsBy Is a c (Ok u)
-ends_whole Is H u a b c count n buf h once none room whole = record {
+    → ReadsSource {E = E} b c (Ok n) buf → n ≡ 0 → length buf ≡ 65536 → Is (joined h.pieces) u → ReadsBy Is a c (Ok u)
+ends_whole Is H u a b c count n buf h once none size whole = record {
   pieces = h.pieces;
   stop = End;
-  gave = source_end a b c h.pieces n buf h.gave once none room;
+  gave = source_end a b c h.pieces n buf h.gave once none size;
   reads_on = on_clean full_limits h.pieces End h.clean;
   finds = (refl, whole);
 }
 
 pub stops_in_piece : {E U : Type 0} (T P : Type 0) (Is : List ℕ → U → Type 0) (H : List ℕ → Type 0) (a b c : SourceView) (count n : ℕ) (buf : List ℕ) (e : DocumentEnd)
-    → (h : HasRead H a b count) → ReadsSource {E = E} b c (Ok n) buf → 1 ≤ n → n ≤ length buf → length buf ≤ 65536
+    → (h : HasRead H a b count) → ReadsSource {E = E} b c (Ok n) buf → 1 ≤ n → n ≤ length buf → length buf ≡ 65536
     → EndsBy {T = T} false (joined h.pieces ++ take n buf) (Err e) P → (e ≡ end.Fault → ⊥) → ReadsBy Is a c (Err e)
-stops_in_piece T P Is H a b c count n buf e h once some within short ends never =
+stops_in_piece T P Is H a b c count n buf e h once some within size ends never =
     let long : length (take n buf) ≡ n = length-take-le n buf within in
     record {
       pieces = h.pieces ++ take n buf ∷ [];
       stop = More;
-      gave = source_more a b c h.pieces n buf h.gave once some within;
-      reads_on = on_piece full_limits h.pieces (take n buf) h.clean (omega (arith, long, within, short));
+      gave = source_more a b c h.pieces n buf h.gave once some within size;
+      reads_on = on_piece full_limits h.pieces (take n buf) h.clean (omega (arith, long, within, size));
       finds = found_in_piece Is T P e (h.pieces ++ take n buf ∷ [])
           (subst (λ (l : List ℕ). EndsBy {T = T} false l (Err e) P) (sym (joined_push h.pieces (take n buf))) ends) never;
     }

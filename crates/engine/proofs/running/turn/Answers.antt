@@ -1,4 +1,4 @@
-use Rattle.std.proofs.Common.{◌≡◌, ◌≤◌, ◌<◌, ◌++◌, ℕ, List, true, false, [], ◌∷◌, None, length, take, rules, refl, sym, ◌∙◌, ap, subst, arith}
+use Rattle.std.proofs.Common.{◌≡◌, ◌≤◌, ◌++◌, ℕ, List, true, false, [], ◌∷◌, None, length, take, rules, refl, sym, ◌∙◌, ap, subst, arith}
 use Rattle.std.specs.Prelude.{is_err}
 use Rattle.std.specs.declared.result.Result.TheVariants.{Err}
 use Rattle.std.proofs.lemmas.List.{append-nil, length-append}
@@ -68,12 +68,12 @@ returns-then-n-eq0-clause-goes g c = λ lim t left before h.
     let fresh : d.refused ≡ None = ap (λ z. z.refused) rest ∙ h.fresh in
     let tells : TellsBy t d = tells_written t e d h.tells rest (λ silent. (c.write_waiting.ensures.silent silent).0) in
     let n : b ≡ b ++ [] = sym (append-nil b) in
-    let room : 0 < length c.read.new.buf = search rules in
+    let size : length c.read.new.buf ≡ 65536 = search rules in
     let silent : is_traced t ≡ false → IsSilent f = λ isnt. c.finish-answer.ensures.same.silent (tells_silent t d tells isnt) in
     call_ends g.C.Conds.stands lim t e d left _ before _ _ h rest wrote
     (λ isnt. ap g.E.Sink.seen (c.write_waiting.ensures.silent (tells_silent t e h.tells isnt)).1) empty
     (g.D.Source.seen c.read.new.self) _ f c.end_with.new.engine [] h.pieces End r c.end_with.result tt
-    (source_end _ _ _ h.pieces _ _ h.gave c.in-Ok.ensures.reads c.if-n-eq0.true room) (on_clean lim h.pieces End h.clean) n
+    (source_end _ _ _ h.pieces _ _ h.gave c.in-Ok.ensures.reads c.if-n-eq0.true size) (on_clean lim h.pieces End h.clean) n
     (λ S text is. AtEnd refl is)
     (subst (λ (z : List ℕ). OnAnswer r (Lost lim d f b false z true) (Kept g.C.Conds.stands lim d f b false z true)) n (c.finish-answer.ensures.ended lim b false s fresh))
     (λ is. subst (λ (z : List ℕ). OnAnswer r (TraceGrewWithin (plan_tree d.plan) lim b false (b ++ []) true z f.trace) (TraceGrewBy (plan_tree d.plan) lim b false (b ++ []) true z f.trace)) empty.1
@@ -117,6 +117,7 @@ returns-in-Ok-feed-clause-goes g c = λ lim t left before h.
     let some : 1 ≤ c.in-Ok.n = omega arith in
     let fits : c.in-Ok.n ≤ length c.read.new.buf = search rules in
     let short : length piece ≤ 65536 = search rules in
+    let size : length c.read.new.buf ≡ 65536 = search rules in
     let rest = c.write_waiting.ensures.rest in
     let wrote = ok_of c.write_waiting.result failed c.write_waiting.ensures.wrote in
     let empty : (d.out ≡ []) × (d.trace ≡ []) = ok_of c.write_waiting.result failed c.write_waiting.ensures.empty in
@@ -126,7 +127,7 @@ returns-in-Ok-feed-clause-goes g c = λ lim t left before h.
     let none : f.refused ≡ None = ok_none f.refused c.in-Ok-feed.ensures.answer in
     call_goes g.C.Conds.stands lim t e d left _ before _ _ h rest wrote
     (λ isnt. ap g.E.Sink.seen (c.write_waiting.ensures.silent (tells_silent t e h.tells isnt)).1) empty
-    (g.D.Source.seen c.read.new.self) f piece (source_more _ _ _ h.pieces _ _ h.gave c.in-Ok.ensures.reads some fits) short c.feed.ensures.same.plan none
+    (g.D.Source.seen c.read.new.self) f piece (source_more _ _ _ h.pieces _ _ h.gave c.in-Ok.ensures.reads some fits size) short c.feed.ensures.same.plan none
     (tells_on t d f tells c.feed.ensures.same.tracing c.feed.ensures.same.ahead c.feed.ensures.same.silent) (c.in-Ok-feed.ensures.fed lim b s fresh)
     (λ is. subst (λ (z : List ℕ). TraceGrewBy (plan_tree d.plan) lim b false (b ++ piece) false z f.trace) empty.1
     (c.in-Ok-feed.ensures.traced lim b s fresh (tells_told t d tells is)))
@@ -152,6 +153,7 @@ returns-in-Err-clause-goes g c = λ lim t left before h.
     let some : 1 ≤ c.in-Ok.n = omega arith in
     let fits : c.in-Ok.n ≤ length c.read.new.buf = search rules in
     let short : length piece ≤ 65536 = search rules in
+    let size : length c.read.new.buf ≡ 65536 = search rules in
     let rest = c.write_waiting.ensures.rest in
     let wrote = ok_of c.write_waiting.result failed c.write_waiting.ensures.wrote in
     let empty : (d.out ≡ []) × (d.trace ≡ []) = ok_of c.write_waiting.result failed c.write_waiting.ensures.empty in
@@ -164,7 +166,7 @@ returns-in-Err-clause-goes g c = λ lim t left before h.
     call_ends g.C.Conds.stands lim t e d left _ before _ _ h rest wrote
     (λ isnt. ap g.E.Sink.seen (c.write_waiting.ensures.silent (tells_silent t e h.tells isnt)).1) empty
     (g.D.Source.seen c.read.new.self) _ f c.end_with-in-Err.new.engine piece (h.pieces ++ piece ∷ []) More r c.end_with-in-Err.result tt
-    (source_more _ _ _ h.pieces _ _ h.gave c.in-Ok.ensures.reads some fits) (on_piece lim h.pieces piece h.clean short) (joined_push h.pieces piece)
+    (source_more _ _ _ h.pieces _ _ h.gave c.in-Ok.ensures.reads some fits size) (on_piece lim h.pieces piece h.clean short) (joined_push h.pieces piece)
     (λ S text is. LastPiece h.pieces piece refl refl is)
     (c.in-Err.ensures.fed lim b s fresh)
     (λ is. subst (λ (z : List ℕ). OnAnswer r (TraceGrewWithin (plan_tree d.plan) lim b false (b ++ piece) false z f.trace) (TraceGrewBy (plan_tree d.plan) lim b false (b ++ piece) false z f.trace)) empty.1

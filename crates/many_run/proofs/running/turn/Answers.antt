@@ -1,4 +1,4 @@
-use Rattle.std.proofs.Common.{◌≡◌, ◌∙◌, ◌<◌, ◌≤◌, ◌++◌, ℕ, List, false, true, [], ◌∷◌, None, length, take, rules, refl, sym, ap, subst, arith}
+use Rattle.std.proofs.Common.{◌≡◌, ◌∙◌, ◌≤◌, ◌++◌, ℕ, List, false, true, [], ◌∷◌, None, length, take, rules, refl, sym, ap, subst, arith}
 use Rattle.std.specs.Prelude.{is_err}
 use Rattle.std.specs.declared.result.Result.TheVariants.{Err, Ok}
 use Rattle.std.proofs.lemmas.List.{append-nil, length-append, length-take-le}
@@ -290,12 +290,12 @@ returns-then-n-eq0-clause-goes g c = λ lim begun h.
     let z = g.F.Shelf.seen c.end_with.new.files in
     let res = c.finish-answer.result in
     let n : b ≡ b ++ [] = sym (append-nil b) in
-    let room : 0 < length c.read.new.buf = search rules in
+    let size : length c.read.new.buf ≡ 65536 = search rules in
     let call : OnAnswer res (ManyLost lim d f b false b true) (ManyKept g.C.Conds.stands lim d f b false b true) = c.finish-answer.ensures.ended lim b false stand fresh in
     let plans = plans_of_same f u (written_same f u c.end_with.ensures.only) ∙ (plans_of_same d f (called_same g.C.Conds.stands lim d f b false b true res call) ∙ plans_of_same e d (written_same e d only)) in
     subst (λ (y : List Plan). RanMany y lim c.end_with.result u.bytes doc outs begun z) (sym plans)
     (call_ends g.C.Conds.stands lim doc outs e d begun s k c.requires.may h only rest still wrote r (λ o other. read_sink doc.0 k r _ _ once o other) (read_rest doc.0 k r _ _ once outs) once.write_faults empty
-    z f u [] h.pieces End res c.end_with.result tt (gave_end doc.0 begun k r h.pieces gave _ _ once c.if-n-eq0.true room) (on_clean lim h.pieces End h.clean) n (λ S text is. AtEnd refl is)
+    z f u [] h.pieces End res c.end_with.result tt (gave_end doc.0 begun k r h.pieces gave _ _ once c.if-n-eq0.true size) (on_clean lim h.pieces End h.clean) n (λ S text is. AtEnd refl is)
     (subst (λ (y : List ℕ). OnAnswer res (ManyLost lim d f b false y true) (ManyKept g.C.Conds.stands lim d f b false y true)) n call)
     (subst (λ (y : List ℕ). Answers res lim y true) n (c.finish-answer.ensures.exact lim b false stand fresh)) (λ ok. refl) c.end_with.ensures.only
     (c.finish-answer.ensures.bytes ∙ (stand.bytes ∙ ap length n)) c.end_with.ensures.ends c.end_with.ensures.others c.end_with.ensures.reads apart)
@@ -326,9 +326,10 @@ returns-in-Ok-feed-clause-goes g c = λ lim begun h.
     let some : 1 ≤ c.in-Ok.n = omega arith in
     let fits : c.in-Ok.n ≤ length c.read.new.buf = search rules in
     let short : length piece ≤ 65536 = search rules in
+    let size : length c.read.new.buf ≡ 65536 = search rules in
     let none : f.refused ≡ None = ok_none f.refused c.in-Ok-feed.ensures.answer in
     call_goes g.C.Conds.stands lim doc outs e d begun s k c.requires.may h only rest still wrote r (λ o other. read_sink doc.0 k r _ _ once o other) (read_rest doc.0 k r _ _ once outs) once.write_faults empty
-    f piece (gave_more doc.0 begun k r h.pieces gave _ _ once some fits) short none (c.in-Ok-feed.ensures.fed lim b stand fresh)
+    f piece (gave_more doc.0 begun k r h.pieces gave _ _ once some fits size) short none (c.in-Ok-feed.ensures.fed lim b stand fresh)
 
 pub returns-in-Err-clause-goes : goal.returns-in-Err-clause-goes
 returns-in-Err-clause-goes g c = λ lim begun h.
@@ -359,12 +360,13 @@ returns-in-Err-clause-goes g c = λ lim begun h.
     let some : 1 ≤ c.in-Ok.n = omega arith in
     let fits : c.in-Ok.n ≤ length c.read.new.buf = search rules in
     let short : length piece ≤ 65536 = search rules in
+    let size : length c.read.new.buf ≡ 65536 = search rules in
     let bytes : f.bytes ≡ length (b ++ piece) = let n = c.feed.ensures.bytes fresh in let y = stand.bytes in let l = length-append b piece in omega arith in
     let call : OnAnswer res (ManyLost lim d f b false (b ++ piece) false) (ManyKept g.C.Conds.stands lim d f b false (b ++ piece) false) = c.in-Err.ensures.fed lim b stand fresh in
     let plans = plans_of_same f u (written_same f u c.end_with-in-Err.ensures.only) ∙ (plans_of_same d f (called_same g.C.Conds.stands lim d f b false (b ++ piece) false res call) ∙ plans_of_same e d (written_same e d only)) in
     subst (λ (y : List Plan). RanMany y lim c.end_with-in-Err.result u.bytes doc outs begun z) (sym plans)
     (call_ends g.C.Conds.stands lim doc outs e d begun s k c.requires.may h only rest still wrote r (λ o other. read_sink doc.0 k r _ _ once o other) (read_rest doc.0 k r _ _ once outs) once.write_faults empty
-    z f u piece (h.pieces ++ piece ∷ []) More res c.end_with-in-Err.result tt (gave_more doc.0 begun k r h.pieces gave _ _ once some fits) (on_piece lim h.pieces piece h.clean short) (joined_push h.pieces piece)
+    z f u piece (h.pieces ++ piece ∷ []) More res c.end_with-in-Err.result tt (gave_more doc.0 begun k r h.pieces gave _ _ once some fits size) (on_piece lim h.pieces piece h.clean short) (joined_push h.pieces piece)
     (λ S text is. LastPiece h.pieces piece refl refl is) call (c.in-Err.ensures.exact lim b stand fresh) (λ ok. absurd (err_not_ok c.in-Err.fault res refl ok)) c.end_with-in-Err.ensures.only
     bytes c.end_with-in-Err.ensures.ends c.end_with-in-Err.ensures.others c.end_with-in-Err.ensures.reads apart)
 

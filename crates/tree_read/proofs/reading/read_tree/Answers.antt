@@ -1,4 +1,4 @@
-use Rattle.std.proofs.Common.{rules, ◌≤◌, ◌<◌, false, [], length, sym, ap, subst, arith}
+use Rattle.std.proofs.Common.{◌≡◌, rules, ◌≤◌, false, [], length, sym, ap, subst, arith}
 use Rattle.std.proofs.lemmas.Result.{err_from_is_err_and}
 use Rattle.std.specs.declared.result.Result.TheVariants.{Err}
 use Rattle.gcx_base.specs.declared.limits.Limits.{Limits}
@@ -41,9 +41,9 @@ pub returns-in_err-take_end-clause-reads : goal.returns-in_err-take_end-clause-r
 returns-in_err-take_end-clause-reads g c =
     let h = c.reading.invariant.so_far in
     let e = c.in_err-take_end.field-0.0 in
-    let room : 0 < length c.read_piece.new.buf = search rules in
+    let size : length c.read_piece.new.buf ≡ 65536 = search rules in
     let reads : ReadsDocument (g.S.Source.seen c.args.source.now) (g.S.Source.seen c.read_piece.new.source) (Err e) =
-    stops_in_end (Unit {0}) _ _ _ _ _ _ _ _ _ e h c.in_ok-n.ensures.reads c.if-n-eq0.true room (c.in_err-take_end.ensures.whole _ h.holds)
+    stops_in_end (Unit {0}) _ _ _ _ _ _ _ _ _ e h c.in_ok-n.ensures.reads c.if-n-eq0.true size (c.in_err-take_end.ensures.whole _ h.holds)
     (λ is. c.in_err-take_end.ensures.read (ap Err is)) in
     let p = err_from_is_err_and c.from_residual-in_err-take_end.result c.from_residual-in_err-take_end.ensures.1 in
     rw (p.1, p.2) reads
@@ -51,8 +51,8 @@ returns-in_err-take_end-clause-reads g c =
 pub returns-then-n-eq0-clause-reads : goal.returns-then-n-eq0-clause-reads
 returns-then-n-eq0-clause-reads g c =
     let h = c.reading.invariant.so_far in
-    let room : 0 < length c.read_piece.new.buf = search rules in
-    ends_whole _ _ _ _ _ _ _ _ _ h c.in_ok-n.ensures.reads c.if-n-eq0.true room (c.in_ok-take_end.ensures.whole _ h.holds)
+    let size : length c.read_piece.new.buf ≡ 65536 = search rules in
+    ends_whole _ _ _ _ _ _ _ _ _ h c.in_ok-n.ensures.reads c.if-n-eq0.true size (c.in_ok-take_end.ensures.whole _ h.holds)
 
 pub returns-in_err-take_piece-clause-reads : goal.returns-in_err-take_piece-clause-reads
 returns-in_err-take_piece-clause-reads g c =
@@ -60,9 +60,9 @@ returns-in_err-take_piece-clause-reads g c =
     let e = c.in_err-take_piece.field-0.0 in
     let some : 1 ≤ c.in_ok-n.n = omega arith in
     let fits : c.in_ok-n.n ≤ length c.read_piece.new.buf = search rules in
-    let short : length c.read_piece.new.buf ≤ 65536 = search rules in
+    let size : length c.read_piece.new.buf ≡ 65536 = search rules in
     let reads : ReadsDocument (g.S.Source.seen c.args.source.now) (g.S.Source.seen c.read_piece.new.source) (Err e) =
-    stops_in_piece (Unit {0}) _ _ _ _ _ _ _ _ _ e h c.in_ok-n.ensures.reads some fits short (c.in_err-take_piece.ensures.grown _ h.holds)
+    stops_in_piece (Unit {0}) _ _ _ _ _ _ _ _ _ e h c.in_ok-n.ensures.reads some fits size (c.in_err-take_piece.ensures.grown _ h.holds)
     (λ is. c.in_err-take_piece.ensures.read (ap Err is)) in
     let p = err_from_is_err_and c.from_residual-in_err-take_piece.result c.from_residual-in_err-take_piece.ensures.1 in
     rw (p.1, p.2) reads
@@ -72,9 +72,9 @@ reading-preserved g c =
     let h = c.reading.invariant.so_far in
     let some : 1 ≤ c.in_ok-n.n = omega arith in
     let fits : c.in_ok-n.n ≤ length c.read_piece.new.buf = search rules in
-    let short : length c.read_piece.new.buf ≤ 65536 = search rules in
+    let size : length c.read_piece.new.buf ≡ 65536 = search rules in
     record {
-      so_far = read_on _ _ _ _ _ _ _ _ (λ bytes k. k.no_fault) h c.in_ok-n.ensures.reads some fits short (c.in_ok-take_piece.ensures.grown _ h.holds);
+      so_far = read_on _ _ _ _ _ _ _ _ (λ bytes k. k.no_fault) h c.in_ok-n.ensures.reads some fits size (c.in_ok-take_piece.ensures.grown _ h.holds);
       is_open = c.in_ok-take_piece.ensures.open;
       kept = g.met.S.Source.keeps_on _ _ _ c.reading.invariant.kept c.in_ok-n.ensures.kept;
       later = omega (arith, c.reading.invariant.later, c.in_ok-n.ensures.later);

@@ -24,7 +24,7 @@ pub returns-clause-rest : goal.returns-clause-rest
 returns-clause-rest c =
     let os : c.args.self.now.openings ≡ c.self.inside.openings.items = ap (λ (f : OpenFiles). f.openings) (sym c.self.view_is) in
     let given : c.args.handle.0 < length c.self.inside.openings.items = subst (λ (l : List OpenHandle). c.args.handle.0 < length l) os c.requires.given in
-    let set : slice_set c.self.inside.openings.items c.args.handle.0 c.read.new.self ≡ read_at c.self.inside.openings.items c.args.handle.0 c.read.result =
+    let set : slice_set c.self.inside.openings.items c.args.handle.0 c.read.new.self ≡ read_at c.self.inside.openings.items c.args.handle.0 (length c.read.new.buf) c.read.result =
     ap (λ (o : OpenHandle). slice_set c.self.inside.openings.items c.args.handle.0 o) c.read.ensures.rest
-    ∙ read_set c.self.inside.openings.items c.args.handle.0 c.read.result c.index_mut.result.now given c.index_mut.ensures.value in
+    ∙ read_set c.self.inside.openings.items c.args.handle.0 (length c.read.new.buf) c.read.result c.index_mut.result.now given c.index_mut.ensures.value in
     rw (← c.self.view_is) (ap (λ (l : List OpenHandle). record { files = c.self.inside.entries.items; openings = l; whole = c.self.inside.whole; refused = c.self.inside.misses.list }) set)

@@ -1,5 +1,5 @@
 use Rattle.std.proofs.Common.{◌≡◌, ◌<◌, false, take, Ok, Err, sym, ◌∙◌, ap, subst, rules, arith}
-use Rattle.gcx_io.specs.Views.{Took, Failed}
+use Rattle.gcx_io.specs.Views.{Took, Denied}
 use Rattle.gcx_io.specs.Calls.{WritesHandle}
 use Rattle.gcx_io.specs.Files.{OpenFiles, held_names, handle_count, owners, rests, files_seen}
 use Rattle.gcx_io.specs.MemShelf.{ShelfState}
@@ -46,30 +46,30 @@ returns-clause-takes c =
 pub returns-then-is_failing_write-clause-unmoved : goal.returns-then-is_failing_write-clause-unmoved
 returns-then-is_failing_write-clause-unmoved c =
     let same : c.self.inside.files ≡ c.args.self.now.kept = ap (λ (s : ShelfState). s.kept) (c.self.view_is ∙ c.is_failing_write.ensures.calls) in
-    noted_left c.self.inside.files c.fail.new.self c.args.handle.0 Failed c.fail.ensures ∙ ap (λ (f : OpenFiles). rests f) same
+    noted_left c.self.inside.files c.deny.new.self c.args.handle.0 (Denied c.args.piece.now) c.deny.ensures ∙ ap (λ (f : OpenFiles). rests f) same
 
 pub returns-then-is_failing_write-clause-others : goal.returns-then-is_failing_write-clause-others
 returns-then-is_failing_write-clause-others c =
     let same : c.self.inside.files ≡ c.args.self.now.kept = ap (λ (s : ShelfState). s.kept) (c.self.view_is ∙ c.is_failing_write.ensures.calls) in
-    subst (λ (f : OpenFiles). OthersStay (owners f) (rests f) (rests c.fail.new.self) (handle_count f) c.args.handle.0) same
-    (write_others c.self.inside.files c.fail.new.self c.args.handle.0 Failed _ _ (λ e. ap (λ (s : OpenFiles). s.whole) c.fail.ensures ∙ e) (ap (λ (s : OpenFiles). s.openings) c.fail.ensures))
+    subst (λ (f : OpenFiles). OthersStay (owners f) (rests f) (rests c.deny.new.self) (handle_count f) c.args.handle.0) same
+    (write_others c.self.inside.files c.deny.new.self c.args.handle.0 (Denied c.args.piece.now) _ _ (λ e. ap (λ (s : OpenFiles). s.whole) c.deny.ensures ∙ e) (ap (λ (s : OpenFiles). s.openings) c.deny.ensures))
 
 pub returns-then-is_failing_write-clause-handles : goal.returns-then-is_failing_write-clause-handles
 returns-then-is_failing_write-clause-handles c =
     let same : c.self.inside.files ≡ c.args.self.now.kept = ap (λ (s : ShelfState). s.kept) (c.self.view_is ∙ c.is_failing_write.ensures.calls) in
-    noted_count c.self.inside.files c.fail.new.self c.args.handle.0 Failed (ap (λ (s : OpenFiles). s.openings) c.fail.ensures) ∙ ap (λ (f : OpenFiles). handle_count f) same
+    noted_count c.self.inside.files c.deny.new.self c.args.handle.0 (Denied c.args.piece.now) (ap (λ (s : OpenFiles). s.openings) c.deny.ensures) ∙ ap (λ (f : OpenFiles). handle_count f) same
 
 pub returns-then-is_failing_write-clause-named : goal.returns-then-is_failing_write-clause-named
 returns-then-is_failing_write-clause-named c =
     let same : c.self.inside.files ≡ c.args.self.now.kept = ap (λ (s : ShelfState). s.kept) (c.self.view_is ∙ c.is_failing_write.ensures.calls) in
-    noted_names c.self.inside.files c.fail.new.self c.args.handle.0 Failed (ap (λ (s : OpenFiles). s.openings) c.fail.ensures) ∙ ap (λ (f : OpenFiles). owners f) same
+    noted_names c.self.inside.files c.deny.new.self c.args.handle.0 (Denied c.args.piece.now) (ap (λ (s : OpenFiles). s.openings) c.deny.ensures) ∙ ap (λ (f : OpenFiles). owners f) same
 
 pub returns-then-is_failing_write-clause-takes : goal.returns-then-is_failing_write-clause-takes
 returns-then-is_failing_write-clause-takes c =
     let same : c.self.inside.files ≡ c.args.self.now.kept = ap (λ (s : ShelfState). s.kept) (c.self.view_is ∙ c.is_failing_write.ensures.calls) in
     let faults : c.self.inside.calls.faults ≡ c.args.self.now.calls.faults = ap (λ (s : ShelfState). s.calls.faults) (c.self.view_is ∙ c.is_failing_write.ensures.calls) in
     subst (λ (f : OpenFiles). WritesHandle c.args.handle.0 (files_seen (held_names f) c.args.self.now.calls.faults c.args.self.now.write_faults f)
-    (files_seen (held_names c.fail.new.self) c.self.inside.calls.faults c.self.inside.write_faults c.fail.new.self) (Err _) c.args.piece.now) same
-    (shelf_writes _ _ _ _ _ _ c.self.inside.files c.fail.new.self c.args.handle.0 (Err _) c.args.piece.now faults
-    (search rules) tt (ap (λ (s : OpenFiles). s.openings) c.fail.ensures) (ap (λ (s : OpenFiles). s.refused) c.fail.ensures)
+    (files_seen (held_names c.deny.new.self) c.self.inside.calls.faults c.self.inside.write_faults c.deny.new.self) (Err _) c.args.piece.now) same
+    (shelf_writes _ _ _ _ _ _ c.self.inside.files c.deny.new.self c.args.handle.0 (Err _) c.args.piece.now faults
+    (search rules) tt (ap (λ (s : OpenFiles). s.openings) c.deny.ensures) (ap (λ (s : OpenFiles). s.refused) c.deny.ensures)
     (subst (λ (f : OpenFiles). c.args.handle.0 < handle_count f) (sym same) c.requires.given))
