@@ -1,5 +1,5 @@
 -- Lists of names in one list of bytes.
-use Rattle.std.proofs.Common.{ℕ, zero, suc, ◌≡◌, ◌+◌, ◌-◌, ◌<◌, ◌≤◌, min, Bool, true, false, not, ◌&&◌, List, [], ◌∷◌, ◌++◌, length, take, drop, get_or, reverse, refl, sym, ap, ◌∙◌, inl, inr, arith, length-take}
+use Rattle.std.proofs.Common.{ℕ, zero, suc, ◌≡◌, ◌+◌, ◌-◌, ◌<◌, ◌≤◌, min, Bool, true, false, not, ◌&&◌, List, [], ◌∷◌, ◌++◌, length, take, drop, get_or, reverse, refl, sym, ap, subst, ◌∙◌, inl, inr, arith, length-take}
 use Rattle.std.specs.Prelude.{nat_lt, slice_range, bytes_eq}
 use Rattle.std.specs.Bool.{Decides}
 use Rattle.std.proofs.lemmas.List.{length-reverse, reverse-append, take-take, drop-take, drop_all, take_all, take_more}
@@ -7,7 +7,7 @@ use Rattle.std.proofs.lemmas.Bool.{cases_lt}
 use Rattle.std.proofs.lemmas.Slice.Eq.{bytes_eq-Decides}
 use Rattle.gcx_model.specs.Attributes.{is_fresh}
 use Rattle.gcx_model.specs.Fronts.{is_inside}
-use Rattle.doc_tokens.specs.OpenNames.{names_of}
+use Rattle.doc_tokens.specs.OpenNames.{names_of, AreNamesOnly}
 
 as_many : (starts bytes : List ℕ) → length (names_of starts bytes) ≡ length starts
 as_many [] bytes = refl
@@ -57,6 +57,19 @@ last_name starts bytes k e d l h =
     ∙ ap (λ t. names_of t (take e bytes)) (reverse-append (take k starts) (s ∷ []))
     ∙ ap (λ n. n ∷ names_of (reverse (take k starts)) (take s (take e bytes))) (name_at bytes s e h)
     ∙ ap (λ b. slice_range bytes (min s e) e ∷ names_of (reverse (take k starts)) b) (before_name bytes s e h)
+
+-- ---- no bytes but those of names
+
+pub only_none : (starts bytes : List ℕ) → starts ≡ [] → bytes ≡ [] → AreNamesOnly starts bytes
+only_none starts bytes s b = subst (λ ss. AreNamesOnly ss bytes) (sym s) b
+
+pub only_more : (starts bytes new : List ℕ) (n : ℕ) → AreNamesOnly starts bytes → n ≡ length bytes → AreNamesOnly (starts ++ (n ∷ [])) new
+only_more [] bytes new n h e = e ∙ ap length h
+only_more (s ∷ starts) bytes new n h e = h
+
+pub only_fewer : (starts : List ℕ) (s : ℕ) (bytes : List ℕ) → AreNamesOnly (starts ++ (s ∷ [])) bytes → AreNamesOnly starts (take s bytes)
+only_fewer [] s bytes h = ap (λ k. take k bytes) h
+only_fewer (x ∷ starts) s bytes h = h
 
 -- whether two names are the same
 pub same_decides : (m n : List ℕ) → Decides (bytes_eq m n) (m ≡ n)

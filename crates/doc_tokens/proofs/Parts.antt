@@ -1,15 +1,16 @@
 -- Parts of a list of bytes, while bytes behind them come and go, and bytes before them go.
-use Rattle.std.proofs.Common.{ℕ, zero, suc, ◌≡◌, ◌+◌, ◌-◌, ◌<◌, ◌≤◌, List, [], ◌∷◌, ◌++◌, length, take, drop, map, set, get_or, refl, sym, ap, ◌∙◌, subst, append-nil, arith, length-append, length-drop}
-use Rattle.std.specs.Prelude.{slice_range, IsUtf8}
+use Rattle.std.proofs.Common.{ℕ, zero, suc, ◌≡◌, ◌+◌, ◌-◌, ◌<◌, ◌≤◌, List, [], ◌∷◌, ◌++◌, length, take, drop, map, set, get_or, refl, sym, ap, ◌∙◌, subst, append-nil, arith, length-append, take-append-drop}
+use Rattle.std.specs.Prelude.{slice_range, sum_by, IsUtf8}
 use lib.Seq.{paste}
-use Rattle.std.proofs.lemmas.List.{map-append, take-take, drop-take, drop-drop, take-append-le, drop-append-le, drop_all, take_all}
+use Rattle.std.proofs.lemmas.List.{map-append, take-take, drop-take, drop-drop, drop_at, take-append-le, drop-append-le, drop_all, take_all, length-take-le}
 use Rattle.std.proofs.lemmas.List.Edits.{take-paste}
+use Rattle.std.proofs.lemmas.List.Sums.{sum_by-cons, sum_by-append}
 use Rattle.gcx_base.specs.Name.{IsNameBytes}
 use Rattle.gcx_model.specs.Tree.{Start, Chars}
 use Rattle.doc_tokens.specs.declared.lent.Lent.{Lent}
 use Rattle.doc_tokens.specs.declared.lent.Lent.TheVariants as lents
 use Rattle.doc_tokens.specs.Parts.{lent_token, LiesWithin, AllLieWithin, moved_by}
-use Rattle.doc_tokens.specs.Kept.{lent_queue, AreKept}
+use Rattle.doc_tokens.specs.Kept.{lent_queue, part_len, AreKept}
 
 -- ---- parts of lists with the same front
 
@@ -55,11 +56,6 @@ pub parts_append : (low high : ℕ) (bytes : List ℕ) (xs ys : List Lent) → A
 parts_append low high bytes [] ys p q = q
 parts_append low high bytes (x ∷ xs) ys p q = (p.0, parts_append low high bytes xs ys p.1 q)
 
-pub parts_take : (low high : ℕ) (bytes : List ℕ) (n : ℕ) (xs : List Lent) → AllLieWithin low high bytes xs → AllLieWithin low high bytes (take n xs)
-parts_take low high bytes zero xs p = tt
-parts_take low high bytes (suc n) [] p = tt
-parts_take low high bytes (suc n) (x ∷ xs) p = (p.0, parts_take low high bytes n xs p.1)
-
 pub parts_drop : (low high : ℕ) (bytes : List ℕ) (n : ℕ) (xs : List Lent) → AllLieWithin low high bytes xs → AllLieWithin low high bytes (drop n xs)
 parts_drop low high bytes zero xs p = p
 parts_drop low high bytes (suc n) [] p = tt
@@ -92,12 +88,40 @@ pub tokens_moved : (k high : ℕ) (bytes : List ℕ) (lent : List Lent) → AllL
 tokens_moved k high bytes [] p = refl
 tokens_moved k high bytes (x ∷ lent) p = (λ i. (is_part_moved k high bytes x p.0).1 i ∷ tokens_moved k high bytes lent p.1 i)
 
--- the others, moved down over the first ones
-pub moved_down : {X : Type 0} (xs : List X) (count left : ℕ) → left ≡ length (drop count xs) → count ≤ length xs → take left (paste xs 0 (drop count xs) left) ≡ drop count xs
-moved_down xs count left e l =
-    let same : left ≡ 0 + left = omega arith in
-    let few : left ≤ length xs = omega (arith, length-drop count xs) in
-    ap (λ k. take k (paste xs 0 (drop count xs) left)) same ∙ take-paste xs 0 (drop count xs) left (omega arith) (omega arith) ∙ take_all left (drop count xs) (omega arith)
+part_long : (k high : ℕ) (bytes : List ℕ) (x : Lent) → LiesWithin k high bytes x → part_len (moved_by k x) ≡ part_len x
+part_long k high bytes (lents.Start a b) p =
+    let from = p.0 in
+    let order = p.1 in
+    let same : (b - k) - (a - k) ≡ b - a = omega arith in same
+part_long k high bytes (lents.Text a b) p =
+    let from = p.0 in
+    let order = p.1 in
+    let same : (b - k) - (a - k) ≡ b - a = omega arith in same
+part_long k high bytes lents.End p = refl
+
+-- they are as long as before
+pub parts_long : (k high : ℕ) (bytes : List ℕ) (lent : List Lent) → AllLieWithin k high bytes lent → sum_by part_len (map (moved_by k) lent) ≡ sum_by part_len lent
+parts_long k high bytes [] p = refl
+parts_long k high bytes (x ∷ lent) p =
+    sum_by-cons part_len (moved_by k x) (map (moved_by k) lent)
+    ∙ (λ i. part_long k high bytes x p.0 i + parts_long k high bytes lent p.1 i)
+    ∙ sym (sum_by-cons part_len x lent)
+
+-- the last m, moved down over those from a place on
+pub moved_down : {X : Type 0} (xs : List X) (from to m left : ℕ) → m ≡ length (drop to xs) → left ≡ from + m → from ≤ to → to ≤ length xs → take left (paste xs from (drop to xs) m) ≡ take from xs ++ drop to xs
+moved_down xs from to m left e l o w =
+    ap (λ k. take k (paste xs from (drop to xs) m)) l
+    ∙ take-paste xs from (drop to xs) m (omega arith) (omega arith)
+    ∙ ap (λ ys. take from xs ++ ys) (take_all m (drop to xs) (omega arith))
+
+-- what stands before and after places between which all is gone
+pub before_cut : {X : Type 0} (xs : List X) (a b : ℕ) → a ≤ length xs → take a (take a xs ++ drop b xs) ≡ take a xs
+before_cut xs a b l =
+    let long = length-take-le a xs l in
+    take-append-le a (take a xs) (drop b xs) (omega arith) ∙ take-take a a xs (omega arith)
+
+pub after_cut : {X : Type 0} (xs : List X) (a b : ℕ) → a ≤ length xs → drop a (take a xs ++ drop b xs) ≡ drop b xs
+after_cut xs a b l = drop_at (take a xs) (drop b xs) a (length-take-le a xs l)
 
 -- one token more, in a list that is changed where it stands
 pub moved_more : (f : Lent → Lent) (xs : List Lent) (i : ℕ) (d : Lent) → i < length xs → set (map f (take i xs) ++ drop i xs) i (f (get_or (map f (take i xs) ++ drop i xs) i d)) ≡ map f (take (suc i) xs) ++ drop (suc i) xs
@@ -110,6 +134,16 @@ moved_all f xs ys i l e = e ∙ (λ j. map f (take_all i xs l j) ++ drop_all i x
 
 -- ---- the queue with more behind
 
+front_same : (bytes new : List ℕ) (base start : ℕ) → base ≤ start → take start new ≡ take start bytes → take base bytes ≡ take base new
+front_same bytes new base start l e = sym (take-take base start bytes l) ∙ ap (take base) (sym e) ∙ take-take base start new l
+
+-- all parts lie before the text at hand
+pub kept_parts : (bytes : List ℕ) (lent : List Lent) (base start taken whole : ℕ) → AreKept bytes lent base start taken whole → AllLieWithin 0 start bytes lent
+kept_parts bytes lent base start taken whole k =
+    let based = k.based in
+    subst (AllLieWithin 0 start bytes) (take-append-drop whole lent)
+    (parts_append 0 start bytes (take whole lent) (drop whole lent) (parts_wider 0 0 base start bytes (take whole lent) (omega arith) based k.parts) (parts_wider base 0 start start bytes (drop whole lent) (omega arith) (omega arith) k.behind))
+
 -- bytes and tokens that may come behind these
 pub record MayCome (bytes : List ℕ) (start : ℕ) (new : List ℕ) (more : List Lent) (next : ℕ) : Type 0 where
   pub same : take start new ≡ take start bytes
@@ -117,30 +151,35 @@ pub record MayCome (bytes : List ℕ) (start : ℕ) (new : List ℕ) (more : Lis
   pub within : next ≤ length new
   pub utf8 : IsUtf8 (drop next new)
   pub parts : AllLieWithin start next new more
+  pub long : next ≡ start + sum_by part_len more
 
 pub kept_more : (bytes new : List ℕ) (lent more : List Lent) (base start next taken whole : ℕ) → AreKept bytes lent base start taken whole → MayCome bytes start new more next → AreKept new (lent ++ more) base next taken whole
 kept_more bytes new lent more base start next taken whole k c =
     let based = k.based in
     let on = c.on in
     let enough = k.enough in
+    let front : take whole (lent ++ more) ≡ take whole lent = take-append-le whole lent more enough in
     record {
       based = omega arith;
       within = c.within;
       utf8 = c.utf8;
       few = k.few;
       enough = omega (arith, length-append lent more);
-      parts = parts_append 0 next new lent more (parts_wider 0 0 start next new lent (omega arith) on (parts_same 0 start bytes new lent (sym c.same) k.parts)) (parts_wider start 0 next next new more (omega arith) (omega arith) c.parts);
+      parts = subst (AllLieWithin 0 base new) (sym front) (parts_same 0 base bytes new (take whole lent) (front_same bytes new base start based c.same) k.parts);
       behind = subst (AllLieWithin base next new) (sym (drop-append-le whole lent more enough))
           (parts_append base next new (drop whole lent) more (parts_wider base base start next new (drop whole lent) (omega arith) on (parts_same base start bytes new (drop whole lent) (sym c.same) k.behind)) (parts_wider start base next next new more based (omega arith) c.parts));
+      full_whole = k.full_whole ∙ ap (sum_by part_len) (sym front);
+      full = c.long ∙ ap (λ n. n + sum_by part_len more) k.full ∙ sym (sum_by-append part_len lent more);
+      settled = k.settled;
     }
 
 pub queue_more : (bytes new : List ℕ) (lent more : List Lent) (base start next taken whole : ℕ) → AreKept bytes lent base start taken whole → MayCome bytes start new more next
     → lent_queue new (lent ++ more) next taken whole ≡ record { run = drop next new; tokens = map (lent_token bytes) (drop taken (take whole lent)); pending = map (lent_token bytes) (drop whole lent) ++ map (lent_token new) more }
 queue_more bytes new lent more base start next taken whole k c =
-    let first = parts_drop 0 start bytes taken (take whole lent) (parts_take 0 start bytes whole lent k.parts) in
+    let first = parts_drop 0 base bytes taken (take whole lent) k.parts in
     let tokens : map (lent_token new) (drop taken (take whole (lent ++ more))) ≡ map (lent_token bytes) (drop taken (take whole lent)) =
     ap (λ l. map (lent_token new) (drop taken l)) (take-append-le whole lent more k.enough)
-    ∙ tokens_same 0 start bytes new (drop taken (take whole lent)) (sym c.same) first in
+    ∙ tokens_same 0 base bytes new (drop taken (take whole lent)) (front_same bytes new base start k.based c.same) first in
     let pending : map (lent_token new) (drop whole (lent ++ more)) ≡ map (lent_token bytes) (drop whole lent) ++ map (lent_token new) more =
     ap (map (lent_token new)) (drop-append-le whole lent more k.enough)
     ∙ map-append (lent_token new) (drop whole lent) more

@@ -11,3 +11,8 @@ names_of (s ∷ starts) bytes = drop s bytes ∷ names_of starts (take s bytes)
 abbrev pub WithoutFirst : List (List ℕ) → List (List ℕ) → Type 0
 WithoutFirst [] new = new ≡ []
 WithoutFirst (n ∷ rest) new = new ≡ rest
+
+-- No bytes lie there but those of names: the first name begins at 0, and without names there are no bytes.
+abbrev pub AreNamesOnly : (starts : List ℕ) → (bytes : List ℕ) → Type 0
+AreNamesOnly [] bytes = bytes ≡ []
+AreNamesOnly (s ∷ starts) bytes = s ≡ 0

@@ -19,7 +19,7 @@ pub struct AttrNames {
     few: OpenNames,
     /// Those behind them, in their order.
     late: OpenNames,
-    /// The same, to be looked up.
+    /// Those of `late`, to be looked up.
     set: BTreeSet<Vec<u8>>,
 }
 

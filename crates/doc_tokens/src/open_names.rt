@@ -20,11 +20,13 @@ pub struct OpenNames {
 
 impl Model for OpenNames {
     ghost use Rattle.std.specs.Prelude.{List, ℕ, reverse};
-    ghost use Rattle.doc_tokens.specs.OpenNames.{names_of};
+    ghost use Rattle.doc_tokens.specs.OpenNames.{names_of, AreNamesOnly};
 
     ghost Value = { List (List ℕ) };
 
     ghost view = { λ n. names_of (reverse n.starts.items) n.bytes.items };
+
+    ghost invariant = { λ n. AreNamesOnly n.starts.items n.bytes.items };
 }
 
 /// The bytes from a place on.

@@ -5,7 +5,7 @@ ghost use Rattle.gcx_base.specs.Name.{IsNameBytes};
 ghost use Rattle.gcx_model.specs.Document.{is_blank};
 ghost use Rattle.gcx_model.specs.Fronts.{text_of};
 ghost use Rattle.gcx_model.specs.Tree.{Start as start_of, End as end_of};
-ghost use Rattle.doc_tokens.specs.Kept.{text_part};
+ghost use Rattle.doc_tokens.specs.Kept.{text_part, unless_blank};
 ghost use Rattle.doc_tokens.specs.Parts.{AreLent, moved_by};
 
 use crate::bytes::push_front;
@@ -86,14 +86,15 @@ fn move_each(lent: &mut [Lent], by: usize)
     }
 }
 
-/// Forgets the first `count`, and moves the others down.
-fn cut_front<T: Copy>(xs: &mut Vec<T>, count: usize)
-    requires { count ≤ vec_len xs.old }
-    ensures { xs.new.items ≡ drop count xs.old.items }
+/// Forgets what stands from one place to another, and moves the others down.
+fn cut<T: Copy>(xs: &mut Vec<T>, from: usize, to: usize)
+    requires order { from ≤ to }
+    requires within { to ≤ vec_len xs.old }
+    ensures { xs.new.items ≡ take from xs.old.items ++ drop to xs.old.items }
 {
     let len = xs.len();
-    xs.as_mut_slice().copy_within(count..len, 0);
-    xs.truncate(len - count);
+    xs.as_mut_slice().copy_within(to..len, from);
+    xs.truncate(len - (to - from));
 }
 
 /// Forgets the first `count` tokens, and so many bytes before the others.
@@ -101,7 +102,7 @@ fn move_down(lent: &mut Vec<Lent>, count: usize, by: usize)
     requires { count ≤ vec_len lent.old }
     ensures { lent.new.items ≡ map (moved_by by) (drop count lent.old.items) }
 {
-    cut_front(lent, count);
+    cut(lent, 0, count);
     move_each(lent.as_mut_slice(), by);
 }
 
@@ -181,18 +182,21 @@ impl Tokens {
         ensures { self.new ≡ record self.old { tokens = drop count self.old.tokens } }
     {
         let taken = self.taken + count;
-        self.taken = taken;
-        self.settle();
+        if taken < self.whole {
+            self.taken = taken;
+        } else {
+            self.settle();
+        }
     }
 
-    /// Forgets the tokens that were taken, and their bytes, where none of the whole tags is left.
+    /// Forgets the tokens of the whole tags, and their bytes.
     fn settle(&mut self)
-        ensures { self.new ≡ self.old }
+        ensures { self.new ≡ record self.old { tokens = [] } }
     {
-        if self.whole == 0 || self.taken < self.whole {
+        if self.whole == 0 {
             return;
         }
-        cut_front(&mut self.bytes, self.base);
+        cut(&mut self.bytes, 0, self.base);
         move_down(&mut self.lent, self.whole, self.base);
         self.start -= self.base;
         self.base = 0;
@@ -200,12 +204,36 @@ impl Tokens {
         self.whole = 0;
     }
 
-    /// Forgets the tokens of the tag that is being read.
+    /// Forgets the tokens of the tag that is being read, and their bytes.
     #[inline(always)]
     pub fn forget_pending(&mut self)
         ensures { self.new ≡ record self.old { pending = [] } }
     {
+        if self.whole < self.lent.len() {
+            self.cut_pending();
+        }
+    }
+
+    /// Cuts the tokens of the tag that is being read off, and their bytes out.
+    fn cut_pending(&mut self)
+        ensures { self.new ≡ record self.old { pending = [] } }
+    {
+        cut(&mut self.bytes, self.base, self.start);
         self.lent.truncate(self.whole);
+        self.start = self.base;
+    }
+
+    /// Cuts the text at hand off where it is only white space, and says whether it isn't.
+    #[inline(always)]
+    fn cut_blank(&mut self) -> bool
+        ensures text { result ≡ not (is_blank self.old.run) }
+        ensures run { self.new ≡ record self.old { run = unless_blank self.old.run } }
+    {
+        let text = has_text(&self.bytes, self.start);
+        if !text {
+            self.bytes.truncate(self.start);
+        }
+        text
     }
 
     /// A tag begins, behind the text at hand: the name is whole.
@@ -219,7 +247,7 @@ impl Tokens {
         self.begin_front(name, name.len())
     }
 
-    /// The same, where the name is the first `n` of these bytes.
+    /// A tag begins, behind the text at hand: the name is the first `n` of these bytes.
     #[inline(always)]
     pub fn begin_front(&mut self, bytes: &[u8], n: usize) -> Result<(), Memory>
         requires name { IsNameBytes (take n bytes.now) }
@@ -229,8 +257,8 @@ impl Tokens {
         ensures tokens { self.new.tokens ≡ self.old.tokens }
     {
         self.forget_pending();
+        let text = self.cut_blank();
         self.lent.reserve(2)?;
-        let text = has_text(&self.bytes, self.start);
         let first = self.bytes.len();
         push_front(&mut self.bytes, bytes, n)?;
         let end = self.bytes.len();
@@ -250,8 +278,8 @@ impl Tokens {
         }) }
         ensures tokens { self.new.tokens ≡ self.old.tokens }
     {
+        let text = self.cut_blank();
         self.lent.reserve(3)?;
-        let text = has_text(&self.bytes, self.start);
         let first = self.bytes.len();
         self.bytes.extend_from_slice(name)?;
         let end = self.bytes.len();
@@ -272,8 +300,8 @@ impl Tokens {
         }) }
         ensures tokens { self.new.tokens ≡ self.old.tokens }
     {
+        let text = self.cut_blank();
         self.lent.reserve(2)?;
-        let text = has_text(&self.bytes, self.start);
         let end = self.bytes.len();
         put_text(&mut self.lent, self.start, end, text);
         self.lent.push_reserved(Lent::End);

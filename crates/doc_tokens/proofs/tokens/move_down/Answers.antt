@@ -5,6 +5,6 @@ use Rattle.doc_tokens.proofs.tokens.move_down.Goals as goal
 
 pub returns : goal.returns
 returns c =
-    with_items_is c.cut_front.new.xs c.move_each.new.lent (search (rules, places))
+    with_items_is c.cut.new.xs c.move_each.new.lent (search (rules, places))
     ∙ c.move_each.ensures
-    ∙ ap (map (moved_by c.args.by)) (c.as_mut_slice.ensures.value ∙ c.cut_front.ensures)
+    ∙ ap (map (moved_by c.args.by)) (c.as_mut_slice.ensures.value ∙ c.cut.ensures)
