@@ -125,7 +125,7 @@ module _ (m : MatcherView) (kind : Kind) (node : IsNode kind) (text : Bool) (fla
 -- ---- below a node that has a frame
 
 abbrev view_with : StatesView → List FrameView → ℕ → Bool → List Sign → MatcherView
-view_with v frames idle text signs = record { tree = v.tree; names = v.names; frames = frames; idle = idle; text = text; signs = signs }
+view_with v frames idle text signs = record { tree = v.tree; names = v.names; frames = frames; idle = idle; text = text; signs = signs; most_bytes = v.most_bytes }
 
 module _ (v : StatesView) (ms : List NodeMarks) (idle : ℕ) (was : Bool) (signs : List Sign) (go : GoTogether v ms) (number : ℕ) (text : Bool) where
   abbrev old : MatcherView

@@ -1,21 +1,11 @@
 -- Lists that stay the same up to their old ends.
-use Rattle.std.proofs.Common.{◌≡◌, ℕ, ◌≤◌, List, [], ◌∷◌, ◌++◌, length, take, drop, refl, sym, ◌∙◌, ap, arith}
-use Rattle.std.proofs.lemmas.List.{append-nil, length-append, take-append-le, take_all}
-use Rattle.matcher.specs.Stacks.{Extends}
+use Rattle.std.proofs.Common.{◌≡◌, ℕ, ◌≤◌, List, [], ◌∷◌, ◌++◌, length, take, drop, refl, ◌∙◌, ap, arith}
+use Rattle.std.proofs.lemmas.List.{take-append-le, take_all}
 
 module _ {X : Type 0} where
-  pub extends_none : (xs : List X) → Extends xs xs
-  extends_none xs = record { rest = []; is = sym (append-nil xs) }
-
-  pub extends_by : (xs ys us : List X) → ys ≡ xs ++ us → Extends xs ys
-  extends_by xs ys us e = record { rest = us; is = e }
-
-  pub extends_longer : (xs ys : List X) → Extends xs ys → length xs ≤ length ys
-  extends_longer xs ys e = let f = ap length e.is in let g = length-append xs e.rest in omega arith
-
   -- the first ones stay
-  pub extends_first : (xs ys : List X) (n : ℕ) → Extends xs ys → n ≤ length xs → take n ys ≡ take n xs
-  extends_first xs ys n e l = ap (take n) e.is ∙ take-append-le n xs e.rest l
+  pub extends_first : (xs ys us : List X) (n : ℕ) → ys ≡ xs ++ us → n ≤ length xs → take n ys ≡ take n xs
+  extends_first xs ys us n e l = ap (take n) e ∙ take-append-le n xs us l
 
   drop_front : (xs us : List X) → drop (length xs) (xs ++ us) ≡ us
   drop_front [] us = refl

@@ -1,6 +1,7 @@
 pub mod Leading
 pub mod Extending
 pub mod Places
+pub mod Ranges
 pub mod Stacking
 pub mod Bare
 pub mod Matching

@@ -1,15 +1,16 @@
 -- What becomes of the marks of frames where first matches are found, and where a statement is signed.
-use Rattle.std.proofs.Common.{◌≡◌, ℕ, zero, suc, ◌<◌, List, take, refl, sym, ◌∙◌, ap, subst, inl, inr, ◌⊎◌, arith, Some}
+use Rattle.std.proofs.Common.{◌≡◌, ℕ, zero, suc, ◌<◌, ◌≤◌, List, length, take, refl, sym, ◌∙◌, ap, subst, inl, inr, ◌⊎◌, arith, Some}
 use Rattle.std.specs.Prelude.{slice_get}
 use Rattle.tree_laws.proofs.Lists.{In}
 use Rattle.path_states.specs.Lists.{From}
 use Rattle.path_states.proofs.Looking.{in_at}
 use Rattle.matcher.specs.Parts.{IsUnmatched, NodeMarks, at_level, marks_at, marks_of, slice_of}
-use Rattle.matcher.specs.Stacks.{AreMatched, AreStacked, Finds, FoundNoted, IsIn, IsMatched, IsNoted, IsSigned, OpenAt}
+use Rattle.matcher.specs.Stacks.{AreMatched, AreStacked, Finds, FoundNoted, IsIn, IsMatched, IsNoted, IsSigned, OpenAt, contexts_in}
 use Rattle.matcher.specs.declared.frames.Context.{Context}
 use Rattle.matcher.specs.declared.frames.Found.{Found}
 use Rattle.matcher.specs.declared.frames.Frame.{Frame}
 use Rattle.matcher.specs.declared.frames.Range.{Range}
+use Rattle.matcher.proofs.Ranges.{apart_on}
 use Rattle.matcher.proofs.Places.{at_drop, at_map, at_take, drop_at, map_at, map_length, take_at}
 
 -- ---- members of a part, by their places
@@ -44,8 +45,8 @@ module _ (cs cs2 : List Context) (fs found : List Found) (frames : List Frame) (
     one_part f other i e p q = elim (apart_cases f.level l) [
       | inl same ↦ same
       | inr s ↦ elim s [
-        | inl lt ↦ (let a = (stacked.apart f.level l other frame lt e at).contexts in let b = p.1 in let d = q.0 in absurd (omega arith))
-        | inr lt ↦ (let a = (stacked.apart l f.level frame other lt at e).contexts in let b = q.1 in let d = p.0 in absurd (omega arith))
+        | inl lt ↦ (let a : other.contexts.to ≤ frame.contexts.from = apart_on contexts_in (length cs) frames stacked.contexts f.level l other frame lt e at in let b = p.1 in let d = q.0 in absurd (omega arith))
+        | inr lt ↦ (let a : frame.contexts.to ≤ other.contexts.from = apart_on contexts_in (length cs) frames stacked.contexts l f.level frame other lt at e in let b = q.1 in let d = p.0 in absurd (omega arith))
       ]
     ]
 

@@ -1,5 +1,5 @@
 -- How the ranges of frames lie on the stacks (this project's). This follows the code: private functions and the model of `Frames` alone speak of it.
-use Rattle.std.specs.Prelude.{◌≡◌, ◌<◌, ◌≤◌, ◌-◌, ◌↔◌, ◌++◌, max, ℕ, true, List, [], length, take, Option, Some, None, slice_get}
+use Rattle.std.specs.Prelude.{◌≡◌, ◌<◌, ◌≤◌, ◌-◌, ◌↔◌, max, ℕ, true, List, [], ◌∷◌, length, map, take, Option, Some, None, slice_get}
 use Rattle.gcx_model.specs.Members.{In}
 use Rattle.path_states.specs.Lists.{From}
 use Rattle.matcher.specs.Parts.{NodeMarks, IsOpen, IsUnmatched, at_level}
@@ -8,29 +8,21 @@ use Rattle.matcher.specs.declared.frames.Found.{Found}
 use Rattle.matcher.specs.declared.frames.Frame.{Frame}
 use Rattle.matcher.specs.declared.frames.Range.{Range}
 
--- the range ends within so many
-abbrev pub EndsIn : ℕ → Range → Type 0
-EndsIn n p = (p.from ≤ p.to) × (p.to ≤ n)
+-- each range begins where the one before ends, the first at this place, and the last ends at n
+abbrev pub FollowOn : (place : ℕ) → List Range → (n : ℕ) → Type 0
+FollowOn place [] n = place ≡ n
+FollowOn place (p ∷ ps) n = (p.from ≡ place) × (place ≤ p.to) × FollowOn p.to ps n
 
--- the frame's ranges end within the stacks
-pub record LiesOn (cs : List Context) (fs : List Found) (frame : Frame) : Type 0 where
-  pub contexts : EndsIn (length cs) frame.contexts
-  pub found : EndsIn (length fs) frame.found
+abbrev pub contexts_in : Frame → Range
+contexts_in frame = frame.contexts
 
--- the ranges of the one frame end where those of the other begin, or before
-pub record IsBefore (one other : Frame) : Type 0 where
-  pub contexts : one.contexts.to ≤ other.contexts.from
-  pub found : one.found.to ≤ other.found.from
+abbrev pub firsts_in : Frame → Range
+firsts_in frame = frame.found
 
--- the ranges of frames lie on the stacks, apart and in order
+-- The ranges of the frames follow each other on either stack, from its beginning to its end: nothing lies there that is of no frame.
 pub record AreStacked (cs : List Context) (fs : List Found) (frames : List Frame) : Type 0 where
-  pub within : (i : ℕ) (frame : Frame) → slice_get frames i ≡ Some frame → LiesOn cs fs frame
-  pub apart : (i j : ℕ) (one other : Frame) → i < j → slice_get frames i ≡ Some one → slice_get frames j ≡ Some other → IsBefore one other
-
--- the list is the same up to its old end
-pub record Extends {X : Type 0} (before now : List X) : Type 0 where
-  pub rest : List X
-  pub is : now ≡ before ++ rest
+  pub contexts : FollowOn 0 (map contexts_in frames) (length cs)
+  pub found : FollowOn 0 (map firsts_in frames) (length fs)
 
 -- a context of the role without a match stands at the place i
 pub record OpenAt (contexts : List Context) (i r : ℕ) : Type 0 where

@@ -20,7 +20,7 @@ pub record FrameView : Type 0 where
   pub signed : Bool
 
 -- What it sees of a matcher: the path tree of the plan, and the names in order; the frames of the open nodes, that of the document node first, but for the innermost ones where no path leads;
--- the number of those; whether the innermost node is a text; and the statements that are signed.
+-- the number of those; whether the innermost node is a text; the statements that are signed; and how many bytes of states and moves are remembered at most.
 pub record MatcherView : Type 0 where
   pub tree : PathTree
   pub names : List (List ℕ)
@@ -28,6 +28,7 @@ pub record MatcherView : Type 0 where
   pub idle : ℕ
   pub text : Bool
   pub signs : List Sign
+  pub most_bytes : ℕ
 
 abbrev pub frame_code : Coded FrameView
 frame_code =
@@ -44,10 +45,10 @@ code_of_sign = code_by (ℕ × (ℕ × ℕ)) (coded× coded_ℕ (coded× coded_�
 abbrev pub matcher_code : Coded PathTree → Coded MatcherView
 matcher_code tree =
     code_by
-    (PathTree × (List (List ℕ) × (List FrameView × (ℕ × (Bool × List Sign)))))
-    (coded× tree (coded× (coded_list (coded_list coded_ℕ)) (coded× (coded_list frame_code) (coded× coded_ℕ (coded× coded_bool (coded_list code_of_sign))))))
-    (λ m. (m.tree, (m.names, (m.frames, (m.idle, (m.text, m.signs))))))
-    (λ p. record { tree = p.0; names = p.1.0; frames = p.1.1.0; idle = p.1.1.1.0; text = p.1.1.1.1.0; signs = p.1.1.1.1.1 })
+    (PathTree × (List (List ℕ) × (List FrameView × (ℕ × (Bool × (List Sign × ℕ))))))
+    (coded× tree (coded× (coded_list (coded_list coded_ℕ)) (coded× (coded_list frame_code) (coded× coded_ℕ (coded× coded_bool (coded× (coded_list code_of_sign) coded_ℕ))))))
+    (λ m. (m.tree, (m.names, (m.frames, (m.idle, (m.text, (m.signs, m.most_bytes)))))))
+    (λ p. record { tree = p.0; names = p.1.0; frames = p.1.1.0; idle = p.1.1.1.0; text = p.1.1.1.1.0; signs = p.1.1.1.1.1.0; most_bytes = p.1.1.1.1.1.1 })
     (λ _. refl)
 
 -- the frame of a node with this state and these marks
@@ -69,7 +70,7 @@ GoTogether v marks = (length v.states ≡ length marks) × (0 < length marks)
 
 -- what is seen of these parts
 abbrev pub matcher_view : StatesView → List NodeMarks → ℕ → Bool → List Sign → MatcherView
-matcher_view v marks idle text signs = record { tree = v.tree; names = v.names; frames = frames_of v marks; idle = idle; text = text; signs = signs }
+matcher_view v marks idle text signs = record { tree = v.tree; names = v.names; frames = frames_of v marks; idle = idle; text = text; signs = signs; most_bytes = v.most_bytes }
 
 -- the frame of the innermost node that has one
 abbrev pub innermost_frame : List FrameView → Option FrameView

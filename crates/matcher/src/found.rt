@@ -81,7 +81,7 @@ fn find_role(
     Ok(())
 }
 
-/// The same for each of the roles.
+/// Adds the contexts of each of these roles whose first match a new node of the level is, to which the roles' paths lead.
 fn find_roles(
     alloc: Global,
     found: &mut FoundList,
@@ -98,7 +98,7 @@ fn find_roles(
     Ok(())
 }
 
-/// The same for the roles that end at this path state, whose path leads to the new node.
+/// Adds those of the roles that end at this path state, whose path leads to the new node.
 fn find_state(
     alloc: Global,
     found: &mut FoundList,

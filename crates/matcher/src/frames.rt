@@ -1,8 +1,8 @@
 //! What is kept of open nodes beside their states: a frame for each, whose ranges lie on two stacks.
-ghost use Rattle.std.specs.Prelude.{◌≡◌, ◌<◌, ◌-◌, ◌↔◌, ◌++◌, ◌∷◌, ℕ, List, [], false, true, length, map, take, drop, option_map, Some, slice_get, OnErr, OnOk};
+ghost use Rattle.std.specs.Prelude.{◌≡◌, ◌+◌, ◌<◌, ◌≤◌, ◌-◌, ◌↔◌, ◌++◌, ◌∷◌, ℕ, List, [], false, true, length, vec_len, vec_capacity, map, take, drop, option_map, Some, slice_get, OnErr, OnOk};
 ghost use Rattle.gcx_model.specs.Members.{In};
 ghost use Rattle.matcher.specs.Parts.{IsOpen, IsUnmatched, NodeMarks, new_marks, open_context, slice_of};
-ghost use Rattle.matcher.specs.Stacks.{AreMatched, Extends, Finds, FoundNoted, IsIn, IsNoted, IsSigned, Noted, found_in, last_marks, outer_marks};
+ghost use Rattle.matcher.specs.Stacks.{AreMatched, Finds, FoundNoted, IsIn, IsNoted, IsSigned, Noted, found_in, last_marks, outer_marks};
 
 use gcx_base::Memory;
 use std::alloc::Global;
@@ -95,17 +95,16 @@ fn part_of<T>(list: &[T], range: Range) -> &[T]
 }
 
 /// Adds the roles, as ones without a match.
-fn put_contexts(contexts: &mut Vec<Context>, roles: &[u32]) -> Result<(), Memory>
-    ensures items { OnOk result (contexts.new.items ≡ contexts.old.items ++ map open_context roles.now) }
-    ensures extends { Extends contexts.old.items contexts.new.items }
+fn put_contexts(contexts: &mut Vec<Context>, roles: &[u32])
+    requires room { vec_len contexts.old + length roles.now ≤ vec_capacity contexts.old }
+    ensures { contexts.new.items ≡ contexts.old.items ++ map open_context roles.now }
 {
     for role in roles {
-        contexts.push(Context {
+        contexts.push_reserved(Context {
             role: *role,
             unmatched: true,
-        })?;
+        });
     }
-    Ok(())
 }
 
 fn is_unmatched(context: &Context, role: u32) -> bool
@@ -223,15 +222,18 @@ impl Frames {
         Ok(())
     }
 
-    /// The same of a node that is a context of these roles, and the first match of these.
+    /// Adds the frame of a node that is a context of these roles, and the first match of these. There is room for all of it
+    /// before any is put there, so that after `Memory` nothing more lies on the stacks.
     pub(crate) fn add_marked(&mut self, roles: &[u32], found: &[Found]) -> Result<(), Memory>
         ensures added { OnOk result (self.new ≡ self.old ++ new_marks roles.now found.now ∷ []) }
         ensures err { OnErr result (self.new ≡ self.old) }
     {
         let contexts_from = self.contexts.len();
         let found_from = self.found.len();
-        put_contexts(&mut self.contexts, roles)?;
+        self.nodes.reserve(1)?;
+        self.contexts.reserve(roles.len())?;
         self.found.extend_from_slice(found)?;
+        put_contexts(&mut self.contexts, roles);
         let frame = Frame {
             contexts: Range {
                 from: contexts_from,
@@ -243,7 +245,7 @@ impl Frames {
             },
             signed: false,
         };
-        self.nodes.push(frame)?;
+        self.nodes.push_reserved(frame);
         Ok(())
     }
 

@@ -71,14 +71,16 @@ fn is_of(role: Option<u32>, other: u32) -> bool
 impl Matcher {
     /// A matcher for the plan, at the open document node.
     pub fn new(alloc: Global, plan: &Plan) -> Result<Matcher, Memory>
-        ensures { IfOk result (λ m. StandsAtStart m (plan_tree plan.now)) }
+        ensures stands { IfOk result (λ m. StandsAtStart m (plan_tree plan.now)) }
+        ensures most { IfOk result (λ m. m.most_bytes ≡ 262144) }
     {
         Matcher::bounded(alloc, plan, Bound::usual())
     }
 
-    /// The same, where no more of its states and moves is remembered than the bound says.
+    /// A matcher for the plan, which remembers no more of its states and moves than the bound says.
     pub fn bounded(alloc: Global, plan: &Plan, bound: Bound) -> Result<Matcher, Memory>
-        ensures { IfOk result (λ m. StandsAtStart m (plan_tree plan.now)) }
+        ensures stands { IfOk result (λ m. StandsAtStart m (plan_tree plan.now)) }
+        ensures most { IfOk result (λ m. m.most_bytes ≡ bound.bytes) }
     {
         let states = PathStates::new(alloc, plan, bound)?;
         let mut frames = OpenFrames::new(alloc);
@@ -195,7 +197,7 @@ impl Matcher {
         self.go_next(alloc, number, text)
     }
 
-    /// The same to an element of this name.
+    /// Goes to a new element of this name as `enter` does, without a list of its roles.
     #[inline(always)]
     pub fn go_name(&mut self, alloc: Global, name: &[u8]) -> Result<(), Memory>
         ensures stands { OnOk result (StandsBehind self.old self.new (Element name.now)) }
@@ -209,7 +211,7 @@ impl Matcher {
         self.go_next(alloc, number, false)
     }
 
-    /// The same to a text, whatever its bytes are.
+    /// Goes to a new text, whatever its bytes are, as `enter` does, without a list of its roles.
     #[inline(always)]
     pub fn go_text(&mut self, alloc: Global) -> Result<(), Memory>
         ensures stands { OnOk result ((bytes : List ℕ) → StandsBehind self.old self.new (Text bytes)) }
@@ -259,7 +261,7 @@ impl Matcher {
         self.roles_here()
     }
 
-    /// The same, whatever is signed.
+    /// The sets and the number that `plain` answers, whatever is signed. None where first matches are among the roles.
     #[inline(always)]
     fn roles_here(&self) -> Option<(&RoleSet, &RoleSet, usize)>
         ensures { IfSome result (λ x. GivesSets self.now x.0.now x.1.now x.2) }
@@ -332,7 +334,7 @@ impl Matcher {
         Ok(given)
     }
 
-    /// The same, sign by sign.
+    /// The roles that `ahead` answers, sign by sign.
     #[inline(never)]
     fn all_ahead(&self, alloc: Global) -> Result<Given, Memory>
         ensures { IfOk result (TakenHere self.now self.now.signs) }

@@ -101,7 +101,8 @@ impl OpenFrames {
         Ok(())
     }
 
-    /// The same as `add`, whatever they are.
+    /// Adds a node that is a context of these roles, and the first match of these, by a frame. After `Memory` nothing is
+    /// changed.
     #[inline(never)]
     fn add_marked(&mut self, roles: &[u32], found: &[Found]) -> Result<(), Memory>
         ensures added { OnOk result (self.new ≡ self.old ++ new_marks roles.now found.now ∷ []) }

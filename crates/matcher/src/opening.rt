@@ -50,7 +50,8 @@ fn put_frame(states: &PathStates, frames: &mut OpenFrames, firsts: &[Found]) -> 
     Ok(())
 }
 
-/// The same, where first matches are looked for.
+/// Adds the frame of the node with the innermost state, whose first matches are looked for. After `Memory` there are the
+/// same frames.
 #[inline(never)]
 fn add_found(alloc: Global, states: &PathStates, frames: &mut OpenFrames) -> Result<(), Memory>
     ensures added { OnOk result (AddsSome states.now frames.old frames.new) }
@@ -62,7 +63,7 @@ fn add_found(alloc: Global, states: &PathStates, frames: &mut OpenFrames) -> Res
     Ok(())
 }
 
-/// The same: they are looked for where the state may give any.
+/// Adds the frame of the node with the innermost state. Its first matches are looked for where the state may give any.
 #[inline(always)]
 fn add_frame(alloc: Global, states: &PathStates, frames: &mut OpenFrames) -> Result<(), Memory>
     ensures added { OnOk result (AddsSome states.now frames.old frames.new) }
@@ -75,7 +76,7 @@ fn add_frame(alloc: Global, states: &PathStates, frames: &mut OpenFrames) -> Res
     add_found(alloc, states, frames)
 }
 
-/// The same with the roles of the node.
+/// Adds the frame of the node with the innermost state, and answers the roles of the node.
 fn add_given(alloc: Global, states: &PathStates, frames: &mut OpenFrames) -> Result<Given, Memory>
     ensures added { IfOk result (AddsGiven states.now frames.old frames.new) }
     ensures err { OnErr result (frames.new ≡ frames.old) }
@@ -114,7 +115,7 @@ pub(crate) fn advance(
     }
 }
 
-/// The same without its roles: false, where no path leads to it, nor to any below it.
+/// Goes to a new node as `advance` does, without its roles: false, where no path leads to it, nor to any below it.
 #[inline(always)]
 pub(crate) fn step(
     alloc: Global,

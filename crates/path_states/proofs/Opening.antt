@@ -1,12 +1,15 @@
 -- The states of the open nodes, where one is entered or left.
-use Rattle.std.proofs.Common.{◌≡◌, ℕ, zero, suc, ◌-◌, ◌<◌, ◌≤◌, max, List, [], ◌∷◌, ◌++◌, length, take, get_or, refl, sym, ◌∙◌, ap, subst, inl, inr, ◌⊎◌, arith, Some}
-use Rattle.std.specs.Prelude.{slice_get}
+use Rattle.std.proofs.Common.{◌≡◌, ℕ, zero, suc, ◌+◌, ◌-◌, ◌<◌, ◌≤◌, max, Bool, cond, List, [], ◌∷◌, ◌++◌, length, take, get_or, refl, sym, ◌∙◌, ap, subst, inl, inr, ◌⊎◌, arith, Some}
+use Rattle.std.specs.Prelude.{leb, slice_get}
 use Rattle.std.proofs.lemmas.List.{length-append, length-take-le, take-append-le, take-take, take_all}
+use Rattle.std.proofs.lemmas.List.Elements.{filter-append}
+use Rattle.std.proofs.lemmas.Bool.{le-leb, lt-leb}
 use Rattle.std.proofs.lemmas.Option.{slice_get-get_or}
 use Rattle.gcx_base.specs.declared.kind.Kind.{Kind}
 use Rattle.tree_laws.proofs.Lists.{In, In-left, In-right, In-append}
 use Rattle.path_states.specs.Moves.{AreKnown, AreRight, AreSame, Forgets, LeadsOn}
 use Rattle.path_states.specs.Names.{IsNameNumber}
+use Rattle.path_states.specs.Open.{unkept}
 use Rattle.path_states.specs.State.{StateView, IsMade, MovesBelow}
 use Rattle.path_states.specs.States.{ForgetInOrder, last_state, no_state, outer_states, states_at}
 use Rattle.path_states.specs.declared.branches.StepIndex.{StepIndex}
@@ -83,6 +86,17 @@ known_same tree steps before now s a = record {
   index = a.index;
 }
 
+-- how many of the numbers aren't those of kept states
+
+unkept_push : (kept : ℕ) (numbers : List ℕ) (n : ℕ) → length (unkept kept (numbers ++ n ∷ [])) ≡ length (unkept kept numbers) + length (unkept kept (n ∷ []))
+unkept_push kept numbers n = ap length (filter-append (λ m. leb kept m) numbers (n ∷ [])) ∙ length-append (unkept kept numbers) (unkept kept (n ∷ []))
+
+unkept_one : (kept n : ℕ) → kept ≤ n → length (unkept kept (n ∷ [])) ≡ 1
+unkept_one kept n l = ap (λ (b : Bool). length (cond b (n ∷ []) [])) (le-leb kept n l)
+
+unkept_none : (kept n : ℕ) → n < kept → length (unkept kept (n ∷ [])) ≡ 0
+unkept_none kept n l = ap (λ (b : Bool). length (cond b (n ∷ []) [])) (lt-leb kept n l)
+
 -- one node is entered
 
 order_more : (before now : ℕ) (numbers : List ℕ) (to : ℕ) → before ≤ now → ((n : ℕ) → In n numbers → (to < now) ⊎ (n < to)) → ForgetInOrder before numbers → ForgetInOrder now (numbers ++ to ∷ [])
@@ -101,24 +115,34 @@ module _ (tree : List PathState) (names : List (List ℕ)) (before now : Remembe
   numbers = outer ++ here ∷ []
 
   -- the states of the nodes that were open stay
-  pub stay : states_at now.states.items numbers ≡ states_at before.states.items numbers
+  stay : states_at now.states.items numbers ≡ states_at before.states.items numbers
   stay = states_same before.states.items now.states.items numbers (λ n i. ap (λ (z : List StateView). state_at z n) l.states ∙ front_same before.states.items l.more n (there n i))
 
-  pub there_now : (n : ℕ) → In n numbers → n < length now.states.items
+  there_now : (n : ℕ) → In n numbers → n < length now.states.items
   there_now n i = let a = there n i in let e = ap length l.states in let f = length-append before.states.items l.more in omega arith
-
-  order_same : (kept : ℕ) (ns : List ℕ) → before.kept ≤ kept → ForgetInOrder before.kept ns → ForgetInOrder kept ns
-  order_same kept [] k o = tt
-  order_same kept (n ∷ ns) k o = ((λ m i. elim (o.0 m i) [ inl a ↦ (let b : m < kept = omega arith in inl b) | inr a ↦ inr a ]), order_same kept ns k o.1)
-
-  pub order_stays : ForgetInOrder now.kept numbers
-  order_stays = order_same now.kept numbers l.kept order
 
   pub there_more : (n : ℕ) → In n (numbers ++ to ∷ []) → n < length now.states.items
   there_more n i = elim (In-append n numbers (to ∷ []) i) [ inl j ↦ there_now n j | inr j ↦ elim j [ inl e ↦ subst (λ (z : ℕ). z < length now.states.items) e l.there | inr b ↦ absurd b ] ]
 
   pub order_now : ForgetInOrder now.kept (numbers ++ to ∷ [])
   order_now = order_more before.kept now.kept numbers to l.kept (λ n i. elim l.place [ inl a ↦ inl a | inr e ↦ (let a = there n i in let b : n < to = omega arith in inr b) ]) order
+
+  -- a state that isn't kept is that of an open node
+  pub few_more : before.kept ≤ length before.states.items → length before.states.items ≤ before.kept + length (unkept before.kept numbers) → length now.states.items ≤ now.kept + length (unkept now.kept (numbers ++ to ∷ []))
+  few_more low few = elim l.all [
+    | inl same ↦ subst (λ (k : ℕ). length now.states.items ≤ k + length (unkept k (numbers ++ to ∷ []))) (sym same) as_many
+    | inr m ↦ omega arith
+  ]
+    where
+      as_many : length now.states.items ≤ before.kept + length (unkept before.kept (numbers ++ to ∷ []))
+      as_many =
+          let e = ap length l.states in
+          let f = length-append before.states.items l.more in
+          let p = unkept_push before.kept numbers to in
+          elim l.one [
+            | inl none ↦ (let n = ap length none in omega arith)
+            | inr last ↦ (let n = last.0 in let at = last.1 in let k : before.kept ≤ to = omega arith in let u = unkept_one before.kept to k in omega arith)
+          ]
 
   at_to : slice_get now.states.items to ≡ Some (state_at now.states.items to)
   at_to = slice_get-get_or now.states.items to no_state l.there
@@ -216,6 +240,15 @@ module _ (tree : List PathState) (names : List (List ℕ)) (before now : Remembe
 
   pub order_left : ForgetInOrder now.kept numbers
   order_left = subst (λ (z : ℕ). ForgetInOrder z numbers) (sym kept) (order_front numbers order)
+
+  pub few_left : length before.states.items ≤ before.kept + length (unkept before.kept (numbers ++ here ∷ [])) → length now.states.items ≤ now.kept + length (unkept now.kept numbers)
+  few_left few =
+      let p = unkept_push before.kept numbers here in
+      let h = here_there in
+      subst (λ (k : ℕ). length now.states.items ≤ k + length (unkept k numbers)) (sym kept) (elim f [
+        | inl q ↦ (let u = unkept_none before.kept here q.0 in let e = ap length q.1 in omega arith)
+        | inr q ↦ (let u = unkept_one before.kept here q.0 in let e = ap length q.1 in let g = length-take-le here before.states.items (omega arith) in omega arith)
+      ])
 
   -- the others' states are what is left of all
   pub outer_left : 0 < length numbers → outer_states (states_at before.states.items (numbers ++ here ∷ [])) ≡ states_at before.states.items numbers

@@ -124,7 +124,9 @@ module _ (before now : Remembered) (state : StateView) (from number to : ℕ) (s
       record {
         more = state ∷ [];
         states = states;
+        one = inr (refl, is_to);
         kept = omega arith;
+        all = inl kept;
         bound = bound;
         right = right_more tree names before now (state ∷ []) states (room_same before now front kept moves bytes bound a.right.room) a.right made_more (omega arith) (omega arith) (λ m j. inl (subst (λ z. In (Some m) z.slots.items) moves j));
         there = omega arith;
@@ -143,7 +145,9 @@ module _ (before now : Remembered) (state : StateView) (from number to : ℕ) (s
       record {
         more = state ∷ [];
         states = states;
+        one = inr (refl, is_to);
         kept = omega arith;
+        all = inr (omega arith);
         bound = bound;
         right = right_more tree names before now (state ∷ []) states room a.right made_more (omega arith) (omega arith) (λ m j. elim (moves m j) [
           | inl i ↦ inl i
@@ -171,7 +175,9 @@ leads_same before now state from number to room bound same_states kept all t par
     record {
       more = [];
       states = more;
+      one = inl refl;
       kept = omega arith;
+      all = inl kept;
       bound = bound;
       right = right_more tree names before now [] more (room a.right.room) a.right (λ s j. absurd j) (omega arith) (omega arith) (λ m j. elim (moves m j) [
         | inl i ↦ inl i
@@ -201,7 +207,9 @@ leads_known known from number to r tree steps a =
     record {
       more = [];
       states = sym (append-nil known.states.items);
+      one = inl refl;
       kept = omega arith;
+      all = inl refl;
       bound = refl;
       right = a.right;
       there = omega arith;

@@ -1,5 +1,5 @@
 -- Remembered states and moves (this project's). This follows the code: private functions and the model of `PathStates` alone speak of it.
-use Rattle.std.specs.Prelude.{◌≡◌, ◌<◌, ◌≤◌, ◌⊎◌, ◌*◌, ℕ, Bool, true, List, ◌++◌, length, take, Option, Some, slice_get}
+use Rattle.std.specs.Prelude.{◌≡◌, ◌<◌, ◌≤◌, ◌⊎◌, ◌*◌, ℕ, Bool, true, List, [], ◌++◌, length, take, Option, Some, slice_get}
 use Rattle.gcx_base.specs.declared.kind.Kind.{Kind}
 use Rattle.gcx_model.specs.Members.{In}
 use Rattle.path_states.specs.Branches.{IsStepIndex}
@@ -79,11 +79,13 @@ pub record AreSame (before now : Remembered) : Type 0 where
   pub bytes : now.bytes ≡ before.bytes
   pub bound : now.bound ≡ before.bound
 
--- The number leads from the state `from` to this one: a kept one, or a new one at the end. There may be more states now, and no fewer of them are kept.
+-- The number leads from the state `from` to this one: a kept one, or a new one at the end. No other state is new, and as many are kept as before, or all.
 pub record LeadsOn (tree : List PathState) (names : List (List ℕ)) (before now : Remembered) (from number to : ℕ) : Type 0 where
   pub more : List StateView
   pub states : now.states.items ≡ before.states.items ++ more
+  pub one : (more ≡ []) ⊎ ((length more ≡ 1) × (to ≡ length before.states.items))
   pub kept : before.kept ≤ now.kept
+  pub all : (now.kept ≡ before.kept) ⊎ (length now.states.items ≤ now.kept)
   pub bound : now.bound ≡ before.bound
   pub right : AreRight tree names now
   pub there : to < length now.states.items

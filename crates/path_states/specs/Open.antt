@@ -1,5 +1,6 @@
 -- What holds of the fields of `PathStates` (this project's).
-use Rattle.std.specs.Prelude.{◌<◌, ℕ, List, [], ◌∷◌, ◌++◌, length}
+use Rattle.std.specs.Prelude.{◌+◌, ◌<◌, ◌≤◌, ℕ, nat_le, List, [], ◌∷◌, ◌++◌, length}
+use Rattle.std.specs.List.{filter}
 use Rattle.gcx_model.specs.Members.{In}
 use Rattle.path_states.specs.Moves.{AreKnown}
 use Rattle.path_states.specs.State.{StateView}
@@ -18,8 +19,13 @@ seen_with tree names states bound = record { tree = tree; names = names; states 
 abbrev pub seen_states : Inside → StatesView
 seen_states s = seen_with s.tree s.steps.names.items (states_at s.known.states.items (open_numbers s)) s.known.bound
 
--- All states are right, and those of the open nodes are there, in the order in which they are forgotten.
+-- those of the numbers that aren't below the number of kept states
+abbrev pub unkept : (kept : ℕ) → List ℕ → List ℕ
+unkept kept numbers = filter (λ n. nat_le kept n) numbers
+
+-- All states are right, and those of the open nodes are there, in the order in which they are forgotten. Each one is kept, or is that of an open node.
 pub record AreOpen (s : Inside) : Type 0 where
   pub known : AreKnown s.tree.states.items s.steps s.known
   pub there : (n : ℕ) → In n (open_numbers s) → n < length s.known.states.items
   pub order : ForgetInOrder s.known.kept (open_numbers s)
+  pub few : length s.known.states.items ≤ s.known.kept + length (unkept s.known.kept (open_numbers s))

@@ -51,7 +51,8 @@ fn try_all(
     Ok(())
 }
 
-/// The same, where those alone are looked at that ask for the node's name, or for none.
+/// Adds those of the branches' path states whose tests the node passes. Only those are looked at that ask for the node's
+/// name, or for none.
 fn try_asking(
     active: &mut Vec<u32>,
     tree: &[PathState],

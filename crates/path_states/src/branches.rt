@@ -93,7 +93,7 @@ fn all_branches(
     Ok(branches)
 }
 
-/// The same in the order of their names.
+/// The branches to these path states, in the order of their names.
 fn sorted_branches(
     alloc: Global,
     tree: &[PathState],

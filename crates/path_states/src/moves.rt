@@ -153,7 +153,7 @@ impl Moves {
         }
     }
 
-    /// The same for the slot's move, if it has one.
+    /// Puts the slot's move, if it has one, into an empty slot, if there is one for it.
     fn place_slot(&mut self, slot: &Option<Move>)
         ensures count { length self.new.slots.items ≡ length self.old.slots.items }
         ensures adds { (m : Move) → In (Some m) self.new.slots.items →

@@ -12,7 +12,7 @@ use gcx_base::{Memory, Role};
 use role_set::RoleSet;
 use std::alloc::Global;
 
-/// The same numbers once more.
+/// A list of these numbers.
 pub(crate) fn copy_of(alloc: Global, numbers: &[u32]) -> Result<Vec<u32>, Memory>
     ensures { IfOk result (λ copied. copied.items ≡ numbers.now) }
 {

@@ -31,7 +31,9 @@ pub struct Bound {
 
 impl Bound {
     /// The usual bound.
-    pub fn usual() -> Bound {
+    pub fn usual() -> Bound
+        ensures { result.bytes ≡ 262144 }
+    {
         Bound {
             states: usize::MAX,
             bytes: 262_144,
@@ -271,7 +273,8 @@ impl Remembered {
         }
     }
 
-    /// The same as `child`, made anew.
+    /// Makes the state of a node whose name has the number, below one of the state `from`, and answers its number: that of
+    /// a kept one with the same parts, where it is found.
     #[inline(never)]
     fn make_child(
         &mut self,

@@ -139,7 +139,7 @@ impl State {
         &self.given
     }
 
-    /// The same roles as a set.
+    /// The roles of `given` as a set.
     #[inline(always)]
     pub fn roles(&self) -> &RoleSet
         ensures { result.now ≡ self.now.roles }

@@ -117,10 +117,11 @@ impl PathStates {
         ensures entered { OnOk result (Enters self.old self.new number) }
         ensures err { OnErr result (self.new ≡ self.old) }
     {
+        self.outer.reserve(1)?;
         let to = self
             .known
             .child(alloc, &self.tree.states, &self.steps, self.here, number)?;
-        self.outer.push(self.here)?;
+        self.outer.push_reserved(self.here);
         self.here = to;
         Ok(())
     }

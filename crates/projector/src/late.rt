@@ -85,7 +85,10 @@ impl Projector {
         Ok(Some(Tally::Opened(count)))
     }
 
-    /// The same of a text.
+    /// One token more, a text that is the part of these bytes from one place to another. Where it is given no role it is
+    /// passed, and None is answered. Otherwise the rows of all passed elements are made first.
+    ///
+    /// After `Memory` some of these may be made, and no further token may be fed.
     #[inline(always)]
     pub fn text_late<N: NodeStore<Row>>(
         &mut self,
@@ -201,7 +204,8 @@ impl Projector {
         self.open_below_rows(alloc, buffer, bytes, Kind::Element(name))
     }
 
-    /// The same of a text.
+    /// Opens the matcher's innermost node, this text, below the rows of the passed elements. Out of line, so that where a
+    /// text is passed none is made.
     #[inline(never)]
     fn open_text<N: NodeStore<Row>>(
         &mut self,

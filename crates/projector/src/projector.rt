@@ -47,7 +47,7 @@ pub enum Tally {
 }
 
 impl Fed {
-    /// The same with the number of the roles alone.
+    /// What the token did, with the number of the roles alone.
     #[inline(always)]
     pub fn tally(&self) -> Tally
         ensures { result ≡ tally_of self.now }
@@ -127,7 +127,8 @@ impl Projector {
         }
     }
 
-    /// The same, where the number of the roles is wanted alone: no list of them is made as a rule.
+    /// One token more, as `feed_token` takes it, where the number of the roles is wanted alone: no list of them is made as a
+    /// rule.
     ///
     /// After `Memory` the buffer is unchanged, and no further token may be fed.
     #[inline(always)]
@@ -180,7 +181,7 @@ impl Projector {
         Ok(Tally::Opened(count))
     }
 
-    /// The same with the list of its roles.
+    /// Opens a node and answers its roles, where the matcher has heard of all statements.
     fn feed_node<N: NodeStore<Row>>(
         &mut self,
         alloc: Global,
@@ -283,7 +284,8 @@ fn open_below<N: NodeStore<Row>>(
     Ok((place, given))
 }
 
-/// The same, but of the roles it answers the number.
+/// Opens the node in the matcher and below this place in the buffer, where nothing waits then. Answers its place, if it
+/// is held, and how many roles it is given.
 #[inline(always)]
 fn open_tallied<N: NodeStore<Row>>(
     matcher: &mut Matcher,
@@ -337,7 +339,8 @@ pub(crate) fn open_entered<N: NodeStore<Row>>(
     }
 }
 
-/// The same by a list of its roles, and of those that are taken back already.
+/// Opens the matcher's innermost node below this place as `open_entered` does, by a list of its roles, and of those that
+/// are taken back already.
 #[inline(never)]
 fn open_listed<N: NodeStore<Row>>(
     matcher: &Matcher,

@@ -14,8 +14,11 @@ invariant_of-result c =
     let b = ap (λ (z : List NodeMarks). length z) (c.in_ok-add.ensures.added ∙ ap (λ (z : List NodeMarks). z ++ new_marks c.contexts.result.now [] ∷ []) c.new-frames.ensures) in
     (omega arith, omega arith)
 
-pub returns : goal.returns
-returns c = λ core good placed.
+pub returns-clause-most : goal.returns-clause-most
+returns-clause-most c = c.in_ok-states.ensures.most.1
+
+pub returns-clause-stands : goal.returns-clause-stands
+returns-clause-stands c = λ core good placed.
     let v = c.in_ok-states.states in
     let first = c.in_ok-states.ensures.first in
     let x = first.0 in

@@ -43,7 +43,7 @@ count v ms go = let a = go.0 in frames_length v.states ms (omega arith)
 
 -- what the outer states and marks tell, of these signs
 outer_stands : (v w : StatesView) (ms ns : List NodeMarks) (signs : List Sign) (past : Past) → w ≡ record v { states = outer_states v.states } → ns ≡ outer_marks ms
-    → ((frames : List FrameView) → frames ≡ take (max 1 (length (frames_of v ms) - 1)) (frames_of v ms) → Stands (record { tree = v.tree; names = v.names; frames = frames; idle = 0; text = false; signs = signs }) past false)
+    → ((frames : List FrameView) → frames ≡ take (max 1 (length (frames_of v ms) - 1)) (frames_of v ms) → Stands (record { tree = v.tree; names = v.names; frames = frames; idle = 0; text = false; signs = signs; most_bytes = v.most_bytes }) past false)
     → GoTogether v ms → Stands (matcher_view w ns 0 false signs) past false
 outer_stands v w ms ns signs past e f by go =
     let u : StatesView = record v { states = outer_states v.states } in
@@ -92,7 +92,7 @@ returns-then-leave-clause-text c = λ past s.
     inl (signed, subst (λ (z : ℕ). c.drop_level.new.signs.items ≡ filter (λ (s : Sign). not (eqb s.level (z - 1))) c.self.inside.signs.items) (sym n) kept) in
     subst (λ (z : ℕ). Stands (matcher_view c.leave.new.self c.leave-else-self-gt0.new.self z false c.drop_level.new.signs.items) past false) (sym none)
     (outer_stands v c.leave.new.self ms c.leave-else-self-gt0.new.self c.drop_level.new.signs.items past c.leave.ensures c.leave-else-self-gt0.ensures.left
-    (λ frames taken. subst (λ (z : ℕ). Stands (record { tree = v.tree; names = v.names; frames = frames; idle = z; text = false; signs = c.drop_level.new.signs.items }) past false) none
+    (λ frames taken. subst (λ (z : ℕ). Stands (record { tree = v.tree; names = v.names; frames = frames; idle = z; text = false; signs = c.drop_level.new.signs.items; most_bytes = v.most_bytes }) past false) none
     (frame_text m past S frames i.0 c.drop_level.new.signs.items none taken i.2 dropped)) go)
 
 pub returns-else-leave-clause-text : goal.returns-else-leave-clause-text
@@ -110,7 +110,7 @@ returns-else-leave-clause-text c = λ past s.
     let signed : i.0.signed ≡ false = i.4 ∙ (sym (c.leave-else-self-gt0.ensures.signed i.1 more i.3) ∙ c.if-leave.false) in
     subst (λ (z : ℕ). Stands (matcher_view c.leave.new.self c.leave-else-self-gt0.new.self z false c.self.inside.signs.items) past false) (sym none)
     (outer_stands v c.leave.new.self ms c.leave-else-self-gt0.new.self c.self.inside.signs.items past c.leave.ensures c.leave-else-self-gt0.ensures.left
-    (λ frames taken. subst (λ (z : ℕ). Stands (record { tree = v.tree; names = v.names; frames = frames; idle = z; text = false; signs = c.self.inside.signs.items }) past false) none
+    (λ frames taken. subst (λ (z : ℕ). Stands (record { tree = v.tree; names = v.names; frames = frames; idle = z; text = false; signs = c.self.inside.signs.items; most_bytes = v.most_bytes }) past false) none
     (frame_text m past S frames i.0 c.self.inside.signs.items none taken i.2 (inr (signed, refl)))) go)
 
 pub returns-then-leave-clause-element : goal.returns-then-leave-clause-element
@@ -131,7 +131,7 @@ returns-then-leave-clause-element c = λ past p d k s at.
     inl (signed, subst (λ (z : ℕ). c.drop_level.new.signs.items ≡ filter (λ (s : Sign). not (eqb s.level (z - 1))) c.self.inside.signs.items) (sym n) kept) in
     subst (λ (z : ℕ). Stands (matcher_view c.leave.new.self c.leave-else-self-gt0.new.self z false c.drop_level.new.signs.items) (past_grown End past) false) (sym none)
     (outer_stands v c.leave.new.self ms c.leave-else-self-gt0.new.self c.drop_level.new.signs.items (past_grown End past) c.leave.ensures c.leave-else-self-gt0.ensures.left
-    (λ frames taken. subst (λ (z : ℕ). Stands (record { tree = v.tree; names = v.names; frames = frames; idle = z; text = false; signs = c.drop_level.new.signs.items }) (past_grown End past) false) none
+    (λ frames taken. subst (λ (z : ℕ). Stands (record { tree = v.tree; names = v.names; frames = frames; idle = z; text = false; signs = c.drop_level.new.signs.items; most_bytes = v.most_bytes }) (past_grown End past) false) none
     (frame_element m past p d k S at frames i.0 c.drop_level.new.signs.items none taken i.2 dropped)) go)
 
 pub returns-else-leave-clause-element : goal.returns-else-leave-clause-element
@@ -149,5 +149,5 @@ returns-else-leave-clause-element c = λ past p d k s at.
     let signed : i.0.signed ≡ false = i.4 ∙ (sym (c.leave-else-self-gt0.ensures.signed i.1 more i.3) ∙ c.if-leave.false) in
     subst (λ (z : ℕ). Stands (matcher_view c.leave.new.self c.leave-else-self-gt0.new.self z false c.self.inside.signs.items) (past_grown End past) false) (sym none)
     (outer_stands v c.leave.new.self ms c.leave-else-self-gt0.new.self c.self.inside.signs.items (past_grown End past) c.leave.ensures c.leave-else-self-gt0.ensures.left
-    (λ frames taken. subst (λ (z : ℕ). Stands (record { tree = v.tree; names = v.names; frames = frames; idle = z; text = false; signs = c.self.inside.signs.items }) (past_grown End past) false) none
+    (λ frames taken. subst (λ (z : ℕ). Stands (record { tree = v.tree; names = v.names; frames = frames; idle = z; text = false; signs = c.self.inside.signs.items; most_bytes = v.most_bytes }) (past_grown End past) false) none
     (frame_element m past p d k S at frames i.0 c.self.inside.signs.items none taken i.2 (inr (signed, refl)))) go)

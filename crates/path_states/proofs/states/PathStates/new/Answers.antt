@@ -1,4 +1,4 @@
-use Rattle.std.proofs.Common.{◌≡◌, ◌++◌, ℕ, List, [], ◌∷◌, ◌∙◌, ap, subst}
+use Rattle.std.proofs.Common.{◌≡◌, ◌++◌, ℕ, length, List, [], ◌∷◌, ◌∙◌, ap, subst, arith}
 use Rattle.path_states.specs.Branches.{IsStepIndex}
 use Rattle.path_states.specs.State.{StateView, Gathers, IsMade}
 use Rattle.path_states.specs.States.{states_at}
@@ -12,10 +12,12 @@ invariant_of-result c =
     let names = c.in_ok-steps.steps.names.items in
     let made = subst (λ (z : List PathState). IsMade z c.in_ok-first.first) c.deref-2.ensures.value (c.in_ok-first.ensures.made tt) in
     let start = first_open c.in_ok-known.known c.in_ok-first.first c.new-2.result.items c.in_ok-known.ensures.first c.new-2.ensures.items in
+    let right = c.in_ok-known.ensures.right tree names made in
     record {
-      known = record { right = c.in_ok-known.ensures.right tree names made; index = subst (λ (z : List PathState). IsStepIndex z c.in_ok-steps.steps) c.deref.ensures.value c.in_ok-steps.ensures };
+      known = record { right = right; index = subst (λ (z : List PathState). IsStepIndex z c.in_ok-steps.steps) c.deref.ensures.value c.in_ok-steps.ensures };
       there = start.0;
       order = start.1;
+      few = (let e = ap length c.in_ok-known.ensures.first in let k = right.room.some in omega arith);
     }
 
 pub returns-clause-most : goal.returns-clause-most
