@@ -14,3 +14,5 @@ mod Alone
 mod Counts
 mod Nexts
 pub mod Stored
+pub mod Kept
+pub mod SameSteps

@@ -4,3 +4,4 @@ pub mod Literals
 pub mod Reads
 pub mod Comparing
 pub mod Searches
+pub mod Kept

@@ -36,7 +36,7 @@ pub trait Conds {
             env.now (core_cond_tree cond.now) t) }
         ensures last { IfOk result (λ _. asked_last self.new (core_cond_tree cond.now)) };
 
-    /// The same of the condition that was asked last. What is kept of it needn't be looked for.
+    /// The truth of the condition that was asked last. What is kept of it needn't be looked for.
     fn truth_again<N: NodeStore<Row>>(
         &mut self,
         alloc: Global,

@@ -17,6 +17,7 @@ pub struct Member {
 }
 
 impl Member {
+    /// The row at the place.
     pub fn new<N: NodeStore<Row>>(buffer: &Buffer<N>, place: Place) -> Member
         requires { InUse buffer.now.rows place.0 }
         ensures member { IsMember buffer.now.rows result }

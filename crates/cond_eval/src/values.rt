@@ -114,7 +114,7 @@ pub fn value<'a, N: NodeStore<Row>>(
     value_of_texts(buffer, place, room)
 }
 
-/// The same, where it may be put together of many texts.
+/// The string value, where it may be put together of many texts.
 #[inline(never)]
 fn value_of_texts<'a, N: NodeStore<Row>>(
     buffer: &'a Buffer<N>,

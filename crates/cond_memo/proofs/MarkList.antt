@@ -1,31 +1,44 @@
 -- The list of the marks: one is made or changed, and the others stay.
-use Rattle.std.proofs.Common.{◌≡◌, ℕ, zero, suc, ◌<◌, Bool, List, [], ◌∷◌, ◌++◌, length, Option, Some, None, sym, ◌∙◌, ap, subst, inl, inr, ◌⊎◌, arith}
+use Rattle.std.proofs.Common.{◌≡◌, ℕ, zero, suc, ◌<◌, Bool, List, [], ◌∷◌, ◌++◌, length, map, Option, Some, None, sym, ◌∙◌, ap, subst, inl, inr, ◌⊎◌, arith}
 use Rattle.std.specs.Prelude.{slice_index_or, slice_set}
 use Rattle.std.specs.FinMap.{get}
 use Rattle.gcx_base.specs.declared.ids.Serial.{Serial}
 use Rattle.gcx_base.specs.declared.ids.VarId.{VarId}
 use Rattle.gcx_base.specs.declared.steps.Step.{Step}
 use Rattle.gcx_model.specs.Tree.{Node, serial_of, Tree}
-use Rattle.gcx_model.specs.Members.{In}
+use Rattle.gcx_model.specs.Members.{In, Once}
 use Rattle.tree_laws.proofs.Lists.{In-append}
 use Rattle.buf_tree.specs.Shape.{Cell}
 use Rattle.cond_eval.specs.Bindings.{Bindings}
-use Rattle.cond_memo.specs.Marks.{AsksLiteral, answer, known, Fits, IsMark, AreMarks, Asks, AsksOf, MayTell, IsAbout, MayFind}
+use Rattle.cond_eval.proofs.Kept.{keys_set, once_push, same_entry}
+use Rattle.cond_memo.specs.Again.{IsAt}
+use Rattle.cond_memo.specs.Marks.{AsksLiteral, answer, known, Fits, IsMark, AreMarks, Asks, AsksOf, MayTell, IsAbout, MayFind, StandFor, subject, subject_of}
 use Rattle.cond_memo.specs.declared.mark.Ask.{Ask}
 use Rattle.cond_memo.specs.declared.mark.Mark.{Mark}
 use Rattle.cond_memo.specs.declared.marked.Marked.{Marked}
 use Rattle.gcx_model.specs.declared.truth.Truth.{Truth}
 
+-- ---- what they are about
+
+pub subject_is : (m : Mark) (x : VarId) (steps : List Step) (ask : Option Ask) → IsAbout m x steps ask → subject_of m ≡ subject x steps ask
+subject_is m x steps ask a =
+    ap (λ (v : VarId). subject v m.steps m.ask) a.var ∙ (ap (λ (z : List Step). subject x z m.ask) a.steps ∙ ap (λ (k : Option Ask). subject x steps k) a.ask)
+
+pub is_subject : (m : Mark) (x : VarId) (steps : List Step) (ask : Option Ask) → subject_of m ≡ subject x steps ask → IsAbout m x steps ask
+is_subject m x steps ask e = record { var = ap (λ (s : VarId × List Step × Option Ask). s.0) e; steps = ap (λ (s : VarId × List Step × Option Ask). s.1) e; ask = ap (λ (s : VarId × List Step × Option Ask). s.2) e }
+
+-- ---- one is made or changed
+
 pub new_mark : (m : Mark) → Fits m.steps m.last → AsksLiteral m.ask → m.of ≡ None → (P : Tree) → IsMark m P
 new_mark m f l o P = record { fits = f; literal = l; told = λ s e. let z : ◌≡◌ {A = Option Serial} None (Some s) = sym o ∙ e in absurd (cc) }
 
-pub push_all : (xs ys : List Mark) (m : Mark) (P : Tree) → ys ≡ xs ++ m ∷ [] → ((w : Mark) → In w xs → IsMark w P) → IsMark m P → (w : Mark) → In w ys → IsMark w P
-push_all xs ys m P e k is w i = go (In-append w xs (m ∷ []) (subst (λ (zs : List Mark). In w zs) e i))
+pub push_all : (xs ys : List Mark) (m : Mark) (P : Tree) → ys ≡ xs ++ m ∷ [] → (In (subject_of m) (map subject_of xs) → ⊥) → StandFor xs P → IsMark m P → StandFor ys P
+push_all xs ys m P e none k is = subst (λ (zs : List Mark). StandFor zs P) (sym e) (record { each = λ w i. go w (In-append w xs (m ∷ []) i); once = once_push subject_of xs m none k.once })
   where
-    go : In w xs ⊎ In w (m ∷ []) → IsMark w P
-    go (inl j) = k w j
-    go (inr (inl f)) = subst (λ (x : Mark). IsMark x P) f is
-    go (inr (inr f)) = absurd f
+    go : (w : Mark) → In w xs ⊎ In w (m ∷ []) → IsMark w P
+    go w (inl j) = k.each w j
+    go w (inr (inl f)) = subst (λ (x : Mark). IsMark x P) f is
+    go w (inr (inr f)) = absurd f
 
 pub at_in : (xs : List Mark) (i : ℕ) (m : Mark) → i < length xs → m ≡ slice_index_or xs i m → In m xs
 at_in [] i m l e = absurd (omega arith)
@@ -43,17 +56,13 @@ set_in (x ∷ xs) (suc i) w m (inr k) = go (set_in xs i w m k)
     go (inl e) = inl e
     go (inr j) = inr (inr j)
 
-pub set_marks : (xs : List Mark) (i : ℕ) (w : Mark) (P : Tree) → ((m : Mark) → In m xs → IsMark m P) → IsMark w P → (m : Mark) → In m (slice_set xs i w) → IsMark m P
-set_marks xs i w P k is m j = go (set_in xs i w m j)
+-- the mark that is changed is about what it was about
+pub set_marks : (xs : List Mark) (i : ℕ) (m w : Mark) (P : Tree) → IsAt xs i m → IsAbout w m.var m.steps m.ask → StandFor xs P → IsMark w P → StandFor (slice_set xs i w) P
+set_marks xs i n w P at same k is = record { each = λ m j. go m (set_in xs i w m j); once = subst Once (sym (keys_set subject_of xs i n w at (subject_is w n.var n.steps n.ask same))) k.once }
   where
-    go : (w ≡ m) ⊎ In m xs → IsMark m P
-    go (inl f) = subst (λ (x : Mark). IsMark x P) f is
-    go (inr h) = k m h
-
-pub same_at : (xs : List Mark) (i : ℕ) (a b : Mark) → i < length xs → a ≡ slice_index_or xs i a → b ≡ slice_index_or xs i b → a ≡ b
-same_at [] i a b l e f = absurd (omega arith)
-same_at (x ∷ xs) zero a b l e f = e ∙ sym f
-same_at (x ∷ xs) (suc i) a b l e f = same_at xs i a b (omega arith) e f
+    go : (m : Mark) → (w ≡ m) ⊎ In m xs → IsMark m P
+    go m (inl f) = subst (λ (x : Mark). IsMark x P) f is
+    go m (inr h) = k.each m h
 
 -- ---- the variable's node
 
@@ -73,18 +82,18 @@ module _ (rows : List Cell) (nodes : ℕ) (bound : Bindings) (x : ℕ) (p s : �
   pub may_tell : (k now : Marked) → MayFind k rows nodes bound x steps ask → ((P : Tree) → AreMarks k P → AreMarks now P) → In m now.marks.items → MayTell m rows nodes p s
   may_tell k now f stays i =
       let a = asks_mark f.tree f.keep f.node f.asks in
-      record { tree = f.tree; keep = f.keep; node = f.node; asks = a.0; serial = a.1; mark = stays f.tree f.marks m i }
+      record { tree = f.tree; keep = f.keep; node = f.node; asks = a.0; serial = a.1; mark = (stays f.tree f.marks).each m i }
 
 -- ---- what is told of the variable's node
 
-pub told_mark : (rows : List Cell) (nodes : ℕ) (bound : Bindings) (x : ℕ) (p s : ℕ) → Some (p, s) ≡ get bound x → (steps : List Step) (ask : Option Ask) (xs : List Mark) (i : ℕ) (m w : Mark) (v : VarId) → IsAbout m v steps ask → In m xs → (t : Option Bool)
+pub told_mark : (rows : List Cell) (nodes : ℕ) (bound : Bindings) (x : ℕ) (p s : ℕ) → Some (p, s) ≡ get bound x → (steps : List Step) (ask : Option Ask) (xs : List Mark) (i : ℕ) (m w : Mark) (v : VarId) → IsAbout m v steps ask → IsAt xs i m → IsAbout w m.var m.steps m.ask → (t : Option Bool)
     → ((P : Tree) (keep : Node → Bool) (n : Node) → Asks rows nodes m.steps m.ask p P keep n → serial_of n ≡ s → IsMark m P → (answer P m.steps m.ask n ≡ known t) × IsMark w P) → (truth : Truth) → truth ≡ known t
-    → (P : Tree) (keep : Node → Bool) (n : Node) → ((u : Mark) → In u xs → IsMark u P) → AsksOf rows nodes bound x steps ask P keep n → (truth ≡ answer P steps ask n) × ((u : Mark) → In u (slice_set xs i w) → IsMark u P)
-told_mark rows nodes bound x p s got steps ask xs i m w v about among t told truth is P keep n marks a =
+    → (P : Tree) (keep : Node → Bool) (n : Node) → StandFor xs P → AsksOf rows nodes bound x steps ask P keep n → (truth ≡ answer P steps ask n) × StandFor (slice_set xs i w) P
+told_mark rows nodes bound x p s got steps ask xs i m w v about at same t told truth is P keep n marks a =
     let q = asks_mark rows nodes bound x p s got steps ask m v about P keep n a in
-    let h = told P keep n q.0 q.1 (marks m among) in (
+    let h = told P keep n q.0 q.1 (marks.each m (at_in xs i m at.0 at.1)) in (
       is ∙ (sym h.0 ∙ (ap (λ (z : List Step). answer P z m.ask n) about.steps ∙ ap (λ (k : Option Ask). answer P steps k n) about.ask)),
-      set_marks xs i w P marks h.1,
+      set_marks xs i m w P at same marks h.1,
     )
 
 -- ---- the mark at an index
@@ -93,15 +102,15 @@ abbrev pub FoundAt : List Mark → ℕ → VarId → List Step → Option Ask �
 FoundAt xs i v steps ask = (m : Mark) × (m ≡ slice_index_or xs i m) × IsAbout m v steps ask
 
 pub about_at : (xs : List Mark) (i : ℕ) (m : Mark) (v : VarId) (steps : List Step) (ask : Option Ask) → i < length xs → FoundAt xs i v steps ask → m ≡ slice_index_or xs i m → IsAbout m v steps ask
-about_at xs i m v steps ask l f e = subst (λ (w : Mark). IsAbout w v steps ask) (same_at xs i f.0 m l f.1 e) f.2
+about_at xs i m v steps ask l f e = subst (λ (w : Mark). IsAbout w v steps ask) (same_entry xs i f.0 m (l, f.1) (l, e)) f.2
 
 module _ (rows : List Cell) (nodes : ℕ) (bound : Bindings) (v : VarId) (p s : ℕ) (got : Some (p, s) ≡ get bound v.0) (steps : List Step) (ask : Option Ask) (i : ℕ) (m : Mark) where
   pub may_tell_at : (k now : Marked) → MayFind k rows nodes bound v.0 steps ask → i < length now.marks.items → FoundAt now.marks.items i v steps ask → m ≡ slice_index_or now.marks.items i m → ((P : Tree) → AreMarks k P → AreMarks now P) → MayTell m rows nodes p s
   may_tell_at k now f l found e stays =
       may_tell rows nodes bound v.0 p s got steps ask m v (about_at now.marks.items i m v steps ask l found e) k now f stays (at_in now.marks.items i m l e)
 
-  pub told_at : (xs : List Mark) → i < length xs → FoundAt xs i v steps ask → m ≡ slice_index_or xs i m → (w : Mark) (t : Option Bool)
+  pub told_at : (xs : List Mark) → i < length xs → FoundAt xs i v steps ask → m ≡ slice_index_or xs i m → (w : Mark) → IsAbout w m.var m.steps m.ask → (t : Option Bool)
       → ((P : Tree) (keep : Node → Bool) (n : Node) → Asks rows nodes m.steps m.ask p P keep n → serial_of n ≡ s → IsMark m P → (answer P m.steps m.ask n ≡ known t) × IsMark w P) → (truth : Truth) → truth ≡ known t
-      → (P : Tree) (keep : Node → Bool) (n : Node) → ((u : Mark) → In u xs → IsMark u P) → AsksOf rows nodes bound v.0 steps ask P keep n → (truth ≡ answer P steps ask n) × ((u : Mark) → In u (slice_set xs i w) → IsMark u P)
-  told_at xs l found e w t told truth is P keep n marks a =
-      told_mark rows nodes bound v.0 p s got steps ask xs i m w v (about_at xs i m v steps ask l found e) (at_in xs i m l e) t told truth is P keep n marks a
+      → (P : Tree) (keep : Node → Bool) (n : Node) → StandFor xs P → AsksOf rows nodes bound v.0 steps ask P keep n → (truth ≡ answer P steps ask n) × StandFor (slice_set xs i w) P
+  told_at xs l found e w same t told truth is P keep n marks a =
+      told_mark rows nodes bound v.0 p s got steps ask xs i m w v (about_at xs i m v steps ask l found e) (l, e) same t told truth is P keep n marks a

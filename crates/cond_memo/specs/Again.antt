@@ -3,20 +3,15 @@ use Rattle.std.specs.Prelude.{◌≡◌, ◌<◌, ℕ, Bool, List, length, Optio
 use Rattle.gcx_base.specs.declared.ids.VarId.{VarId}
 use Rattle.gcx_base.specs.declared.steps.Step.{Step}
 use Rattle.gcx_model.specs.Tree.{Node, Tree}
-use Rattle.gcx_model.specs.Members.{In}
 use Rattle.gcx_model.specs.Core.{CondTree}
 use Rattle.gcx_model.specs.declared.truth.Truth.{Truth}
 use Rattle.buf_tree.specs.View.{View}
 use Rattle.cond_eval.specs.Bindings.{Bindings}
 use Rattle.cond_eval.specs.Asking.{Answers, AnswersOver, MayAskOver, Over}
-use Rattle.cond_memo.specs.Marks.{AreMarks, AsksOf, IsAbout, IsMark, MayFind, answer}
+use Rattle.cond_memo.specs.Marks.{AreMarks, AsksOf, IsAbout, MayFind, StandFor, answer}
 use Rattle.cond_memo.specs.declared.mark.Ask.{Ask}
 use Rattle.cond_memo.specs.declared.mark.Mark.{Mark}
 use Rattle.cond_memo.specs.declared.marked.Marked.{Marked}
-
--- each of the marks tells what is so of the tree
-abbrev pub StandFor : List Mark → Tree → Type 0
-StandFor ms P = (m : Mark) → In m ms → IsMark m P
 
 -- the question about the path is the condition: it may be asked where that may, and its answer is that of the condition
 pub record Serves (x : ℕ) (steps : List Step) (ask : Option Ask) (c : CondTree) : Type 0 where

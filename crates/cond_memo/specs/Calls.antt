@@ -1,6 +1,7 @@
 -- What each call tells of a mark and of the rows that it looks at. Private functions alone speak of it.
-use Rattle.std.specs.Prelude.{◌≡◌, ◌<◌, ℕ, Bool, true, List, [], Option}
+use Rattle.std.specs.Prelude.{◌≡◌, ◌<◌, ℕ, Bool, true, List, [], map, Option}
 use Rattle.gcx_base.specs.declared.ids.Serial.{Serial}
+use Rattle.gcx_base.specs.declared.ids.VarId.{VarId}
 use Rattle.gcx_base.specs.declared.steps.Step.{Step}
 use Rattle.gcx_model.specs.Tree.{Node, serial_of, above, Tree}
 use Rattle.gcx_model.specs.Paths.{hits, reach, matches}
@@ -12,7 +13,8 @@ use Rattle.buf_tree.specs.View.{View}
 use Rattle.cond_eval.specs.Reads.{NodeAt}
 use Rattle.cond_eval.specs.Searches.{Finds}
 use Rattle.cond_eval.specs.Bindings.{Bindings}
-use Rattle.cond_memo.specs.Marks.{AreMarks, AsksOf, answer, known, does, is_settled, Tried, IsOpenNow, IsMark, Asks, KeepsValue, Looked, Searched, Settles, Found, NextAbove}
+use Rattle.cond_eval.specs.Kept.{AddsOnce}
+use Rattle.cond_memo.specs.Marks.{AreMarks, AsksOf, answer, known, does, is_settled, Tried, IsOpenNow, IsMark, Asks, KeepsValue, Looked, Searched, Settles, Found, NextAbove, subject, subject_of}
 use Rattle.cond_memo.specs.declared.mark.Ask.{Ask}
 use Rattle.cond_memo.specs.declared.mark.Mark.{Mark}
 use Rattle.cond_memo.specs.declared.marked.Marked.{Marked}
@@ -70,3 +72,7 @@ TellsAnswer v k l p of t = (P : Tree) (keep : Node → Bool) (n : Node) → Asks
 -- the truth of a question about a path, and that the marks stand for the same trees
 abbrev pub AnswersAsked : View → (before after : Marked) → Bindings → (x : ℕ) → List Step → Option Ask → Truth → Type 0
 AnswersAsked v k l bound x steps ask t = (P : Tree) (keep : Node → Bool) (n : Node) → AreMarks k P → AsksOf v.rows v.nodes bound x steps ask P keep n → (t ≡ answer P steps ask n) × AreMarks l P
+
+-- a mark is about this question: one that was there, else one that comes last; no other comes
+abbrev pub AddsMark : (before after : List Mark) → VarId → List Step → Option Ask → Type 0
+AddsMark before after x path ask = AddsOnce (subject x path ask) (map subject_of before) (map subject_of after)

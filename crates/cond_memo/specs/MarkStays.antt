@@ -15,7 +15,7 @@ use Rattle.tree_laws.proofs.Lists.{In-left, In-append, In-filter}
 use Rattle.tree_laws.proofs.Matches.{Matches-in}
 use Rattle.move_laws.proofs.Keeping.{closed_stays}
 use Rattle.run_laws.proofs.Feeds.{nodes_grow, truth_stays}
-use Rattle.cond_memo.specs.Marks.{question, known, does, is_settled, WasOpen, Tried, Knows, IsMark}
+use Rattle.cond_memo.specs.Marks.{question, known, does, is_settled, WasOpen, Tried, Knows, IsMark, StandFor}
 use Rattle.cond_eval.specs.Literals.{literal_value}
 use Rattle.cond_memo.specs.declared.mark.Ask.{Ask}
 use Rattle.cond_memo.specs.declared.mark.Mark.{Mark}
@@ -71,10 +71,13 @@ module _ (P Q : Tree) (lo : Leads opening P) (l : Leads P Q) where
     tried = λ e some. tried_stays m.ask (serial_of n) m.steps m.waiting m.upto.0 k.most (k.tried e some);
   }
 
-  -- what a mark tells stays while tokens come
-  pub mark_stays : (m : Mark) → IsMark m P → IsMark m Q
+  mark_stays : (m : Mark) → IsMark m P → IsMark m Q
   mark_stays m k = record {
     fits = k.fits;
     literal = k.literal;
     told = λ s e. let t = k.told s e in (t.0, stays_in t.0 t.1, t.2, knows_stays m t.0 t.1 t.3);
   }
+
+  -- what marks tell stays while tokens come
+  pub marks_stay : (ms : List Mark) → StandFor ms P → StandFor ms Q
+  marks_stay ms k = record { each = λ m i. mark_stays m (k.each m i); once = k.once }

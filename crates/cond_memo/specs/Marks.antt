@@ -1,5 +1,5 @@
 -- What marks tell of an open tree (this project's).
-use Rattle.std.specs.Prelude.{◌≡◌, ◌<◌, ◌≤◌, ◌+◌, ◌⊎◌, ℕ, Bool, true, false, List, [], ◌∷◌, length, Option, Some, None}
+use Rattle.std.specs.Prelude.{◌≡◌, ◌<◌, ◌≤◌, ◌+◌, ◌⊎◌, ℕ, Bool, true, false, List, [], ◌∷◌, length, map, Option, Some, None}
 use Rattle.gcx_base.specs.declared.ids.Serial.{Serial}
 use Rattle.gcx_base.specs.declared.ids.VarId.{VarId}
 use Rattle.gcx_base.specs.declared.rel.Rel.{Rel}
@@ -7,7 +7,7 @@ use Rattle.gcx_base.specs.declared.steps.Axis.TheVariants.{Descendant}
 use Rattle.gcx_base.specs.declared.steps.Step.{Step}
 use Rattle.gcx_model.specs.Tree.{Node, serial_of, above, Tree, is_closed}
 use Rattle.gcx_model.specs.Paths.{head, hits, matches, value}
-use Rattle.gcx_model.specs.Members.{In}
+use Rattle.gcx_model.specs.Members.{In, Once}
 use Rattle.gcx_model.specs.Core.{CondTree, Exists, Compare, Path}
 use Rattle.gcx_model.specs.CondView.{operand_tree}
 use Rattle.gcx_model.specs.Values.{Bytes, compare}
@@ -116,8 +116,20 @@ pub record IsMark (m : Mark) (P : Tree) : Type 0 where
   pub literal : AsksLiteral m.ask
   pub told : (s : Serial) → m.of ≡ Some s → (n : Node) × In n P.nodes × (serial_of n ≡ s.0) × Knows m P n
 
+-- what a mark is about: the variable, the steps from it, and what is asked of their matches
+abbrev pub subject : VarId → List Step → Option Ask → VarId × List Step × Option Ask
+subject x path ask = (x, path, ask)
+
+abbrev pub subject_of : Mark → VarId × List Step × Option Ask
+subject_of m = subject m.var m.steps m.ask
+
+-- each of the marks tells what is so of the tree, and no two are about the same
+pub record StandFor (ms : List Mark) (P : Tree) : Type 0 where
+  pub each : (m : Mark) → In m ms → IsMark m P
+  pub once : Once (map subject_of ms)
+
 abbrev pub AreMarks : Marked → Tree → Type 0
-AreMarks k P = (m : Mark) → In m k.marks.items → IsMark m P
+AreMarks k P = StandFor k.marks.items P
 
 -- ---- what is asked. Private functions alone speak of it.
 

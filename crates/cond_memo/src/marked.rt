@@ -1,5 +1,5 @@
 //! A mark for each `exists` and each comparison with a literal.
-ghost use Rattle.std.specs.Prelude.{◌≡◌, ◌<◌, true, IfOk, option_map, vec_len, slice_index_or};
+ghost use Rattle.std.specs.Prelude.{◌≡◌, ◌↔◌, ◌<◌, true, IfOk, option_map, vec_len, slice_index_or};
 ghost use Rattle.gcx_model.specs.Core.{CondTree};
 ghost use Rattle.gcx_model.specs.CondView.{core_cond_tree};
 ghost use Rattle.gcx_base.specs.declared.steps.Step.{Step};
@@ -9,7 +9,7 @@ ghost use Rattle.cond_eval.specs.Asking.{MayAskOver, AnswersOver, IsLeaf};
 ghost use Rattle.cond_eval.specs.Comparing.{comparison};
 ghost use Rattle.cond_eval.specs.Literals.{IsLiteral};
 ghost use Rattle.cond_memo.specs.Marks.{AsksLiteral, known as told, ask_of, IsAbout, AreMarks, MayFind};
-ghost use Rattle.cond_memo.specs.Calls.{AnswersAsked};
+ghost use Rattle.cond_memo.specs.Calls.{AddsMark, AnswersAsked};
 ghost use Rattle.cond_memo.specs.Again.{AskedLast, LastIsAbout, TellsAgain};
 ghost use Rattle.cond_memo.specs.declared.mark.Mark.{Mark as KeptMark};
 
@@ -73,7 +73,7 @@ impl Marked {
         }
     }
 
-    /// The same by the mark of this number.
+    /// The truth of the condition that was asked last, by the mark of this number. None where there is none.
     #[inline(always)]
     fn mark_again<N: NodeStore<Row>>(
         &mut self,
@@ -111,6 +111,8 @@ impl Marked {
         ensures mark { IfOk result (λ i. (m : KeptMark) × (m ≡ slice_index_or self.new.marks.items i m)
             × IsAbout m var steps.now (option_map (λ q. ask_of q.0 q.1.now) ask.entry)) }
         ensures stays { IfOk result (λ _. (P : Tree) → AreMarks self.old P → AreMarks self.new P) }
+        ensures count { IfOk result (λ _. AddsMark self.old.marks.items self.new.marks.items var steps.now
+            (option_map (λ q. ask_of q.0 q.1.now) ask.entry)) }
     {
         let mut index = 0;
         'marks: while index < self.marks.len() {
@@ -177,7 +179,7 @@ impl Marked {
         }
     }
 
-    /// The same with a path on the left.
+    /// The truth of a comparison with a path on the left.
     #[inline(always)]
     fn compared_path<N: NodeStore<Row>>(
         &mut self,
@@ -202,7 +204,7 @@ impl Marked {
         }
     }
 
-    /// The same with a literal on the left.
+    /// The truth of a comparison with a literal on the left.
     fn compared_literal<N: NodeStore<Row>>(
         &mut self,
         alloc: Global,
@@ -226,7 +228,7 @@ impl Marked {
         }
     }
 
-    /// The same, and nothing is kept.
+    /// The truth of a comparison of which nothing is kept.
     fn compared_anew<N: NodeStore<Row>>(
         &mut self,
         alloc: Global,
@@ -300,14 +302,18 @@ fn truth_of_known(known: Option<bool>) -> Truth
 /// Whether the mark is that of this path and this question.
 #[inline(always)]
 fn is_of(mark: &Mark, var: VarId, steps: &Steps, ask: Option<(Rel, &Operand)>) -> bool
-    ensures { result ≡ true → IsAbout mark.now var steps.now (option_map (λ q. ask_of q.0 q.1.now) ask.entry) }
+    ensures is { result ≡ true → IsAbout mark.now var steps.now (option_map (λ q. ask_of q.0 q.1.now) ask.entry) }
+    ensures all { AsksLiteral (option_map (λ q. ask_of q.0 q.1.now) ask.entry)
+        → IsAbout mark.now var steps.now (option_map (λ q. ask_of q.0 q.1.now) ask.entry) → result ≡ true }
 {
     mark.var == var && is_asked(&mark.ask, ask) && are_same(mark.steps.items(), steps.items())
 }
 
 #[inline(always)]
 fn is_asked(kept: &Option<Ask>, ask: Option<(Rel, &Operand)>) -> bool
-    ensures { result ≡ true → kept.now ≡ option_map (λ q. ask_of q.0 q.1.now) ask.entry }
+    ensures is { result ≡ true → kept.now ≡ option_map (λ q. ask_of q.0 q.1.now) ask.entry }
+    ensures all { AsksLiteral (option_map (λ q. ask_of q.0 q.1.now) ask.entry)
+        → kept.now ≡ option_map (λ q. ask_of q.0 q.1.now) ask.entry → result ≡ true }
 {
     match (kept, ask) {
         (None, None) => true,
@@ -318,7 +324,8 @@ fn is_asked(kept: &Option<Ask>, ask: Option<(Rel, &Operand)>) -> bool
 
 #[inline(always)]
 fn is_literal(kept: &Operand, literal: &Operand) -> bool
-    ensures { result ≡ true → kept.now ≡ literal.now }
+    ensures is { result ≡ true → kept.now ≡ literal.now }
+    ensures all { IsLiteral literal.now → kept.now ≡ literal.now → result ≡ true }
 {
     match (kept, literal) {
         (Operand::Str(kept), Operand::Str(text)) => *kept == *text,
@@ -330,7 +337,7 @@ fn is_literal(kept: &Operand, literal: &Operand) -> bool
 // Step by step, which takes fewer instructions than the comparison of the two slices.
 #[inline(always)]
 fn are_same(kept: &[Step], steps: &[Step]) -> bool
-    ensures { result ≡ true → kept.now ≡ steps.now }
+    ensures { result ≡ true ↔ kept.now ≡ steps.now }
 {
     if kept.len() != steps.len() {
         return false;

@@ -1,5 +1,5 @@
 -- The pair of two paths among those that are kept, and what a condition asks of it.
-use Rattle.std.proofs.Common.{◌≡◌, ◌&&◌, ◌<◌, ◌++◌, ℕ, zero, suc, Bool, List, [], ◌∷◌, Option, Some, None, length, not, sym, ◌∙◌, ap, subst, inl, inr, arith}
+use Rattle.std.proofs.Common.{◌≡◌, ◌&&◌, ◌<◌, ◌++◌, ℕ, zero, suc, Bool, List, [], ◌∷◌, Option, Some, None, length, map, not, sym, ◌∙◌, ap, subst, inl, inr, arith}
 use Rattle.std.specs.Prelude.{option_map, slice_index_or, slice_set}
 use Rattle.std.specs.FinMap.{get}
 use Rattle.gcx_base.specs.declared.ids.VarId.{VarId}
@@ -9,7 +9,7 @@ use Rattle.gcx_base.specs.declared.steps.Step.{Step}
 use Rattle.gcx_model.specs.Core.{CondTree, Compare, Path}
 use Rattle.gcx_model.specs.declared.cond.Operand.{Operand}
 use Rattle.gcx_model.specs.declared.cond.Operand.TheVariants as operand
-use Rattle.gcx_model.specs.Members.{In}
+use Rattle.gcx_model.specs.Members.{In, Once}
 use Rattle.gcx_model.specs.Tree.{Node, serial_of, Tree}
 use Rattle.gcx_model.specs.Truth.{Env, settle, truth}
 use Rattle.gcx_model.specs.declared.truth.Truth.{Truth}
@@ -20,12 +20,13 @@ use Rattle.cond_eval.specs.Asking.{Asked, MayAskOver}
 use Rattle.cond_eval.specs.Comparing.{comparison}
 use Rattle.cond_eval.specs.Bindings.{Bindings}
 use Rattle.cond_eval.proofs.Comparisons.{shut_told}
+use Rattle.cond_eval.proofs.Kept.{Stands, keys_set, once_push, same_entry}
 use Rattle.cond_eval.proofs.Rows.{kept_at}
 use Rattle.cond_eval.proofs.Telling.{in_left, in_right, keeps_left, keeps_right, side_of}
 use Rattle.join_index.specs.declared.pair.Pair.{Pair}
 use Rattle.join_index.specs.Pairs.{AsksVariables, IsToldTruth, MayAskVariables, PairsAnswer, TellsByPairs, TellsEquality}
 use Rattle.join_index.specs.Sharing.{AsksBoth, IsPathOf, MayAskPair, TellsShared}
-use Rattle.join_index.specs.Sides.{ArePairs, PairStands}
+use Rattle.join_index.specs.Sides.{ArePairs, PairStands, paths_of}
 use Rattle.join_index.specs.Taking.{AsksPath}
 use Rattle.join_index.proofs.Leaf.{pair_is}
 use Rattle.join_index.proofs.Listing.{set_in}
@@ -33,20 +34,31 @@ use Rattle.join_index.proofs.Truths.{tells_equality}
 
 -- ---- the list
 
-pub pair_added : (qs ps : List Pair) (q : Pair) → ps ≡ qs ++ q ∷ [] → ((P : Tree) → PairStands q P) → (P : Tree) → ArePairs qs P → ArePairs ps P
-pair_added qs ps q e is P k w i = elim (In-append w qs (q ∷ []) (subst (λ (zs : List Pair). In w zs) e i)) [
-  | inl j ↦ k w j
-  | inr j ↦ elim j [
-    | inl f ↦ subst (λ (z : Pair). PairStands z P) f (is P)
-    | inr f ↦ absurd f
-  ]
-]
+pub at_here : (ps : List Pair) (i : ℕ) (q : Pair) → i < length ps → q ≡ slice_index_or ps i q → In q ps
+at_here [] i q l e = absurd (omega arith)
+at_here (y ∷ ps) zero q l e = inl (sym e)
+at_here (y ∷ ps) (suc i) q l e = inr (at_here ps i q (omega arith) e)
 
-pub pair_changed : (qs : List Pair) (i : ℕ) (r : Pair) (P : Tree) → ArePairs qs P → PairStands r P → ArePairs (slice_set qs i r) P
-pair_changed qs i r P k is w j = elim (set_in qs i r w j) [
-  | inl e ↦ subst (λ (z : Pair). PairStands z P) e is
-  | inr h ↦ k w h
-]
+pub pair_added : (qs ps : List Pair) (q : Pair) → ps ≡ qs ++ q ∷ [] → (In (paths_of q) (map paths_of qs) → ⊥) → ((P : Tree) → PairStands q P) → (P : Tree) → ArePairs qs P → ArePairs ps P
+pair_added qs ps q e none is P k = subst (λ (zs : List Pair). ArePairs zs P) (sym e) (record {
+  each = λ w i. elim (In-append w qs (q ∷ []) i) [
+    | inl j ↦ k.each w j
+    | inr j ↦ elim j [
+      | inl f ↦ subst (λ (z : Pair). PairStands z P) f (is P)
+      | inr f ↦ absurd f
+    ]
+  ];
+  once = once_push paths_of qs q none k.once;
+})
+
+pub pair_changed : (qs : List Pair) (i : ℕ) (q r : Pair) (P : Tree) → Stands qs i q → paths_of r ≡ paths_of q → ArePairs qs P → PairStands r P → ArePairs (slice_set qs i r) P
+pair_changed qs i q r P at same k is = record {
+  each = λ w j. elim (set_in qs i r w j) [
+    | inl e ↦ subst (λ (z : Pair). PairStands z P) e is
+    | inr h ↦ k.each w h
+  ];
+  once = subst Once (sym (keys_set paths_of qs i q r at same)) k.once;
+}
 
 -- ---- the nodes of the variables
 
@@ -86,21 +98,21 @@ module _ (v : View) (bound : Bindings) (x y : ℕ) (left right : List Step) (one
       asks = both_as m.tree m.keep m.left_node m.right_node (at_both m.tree m.keep m.left_node m.right_node m.asks);
       left_serial = left_serial m.tree m.keep m.left_node m.right_node m.asks;
       right_serial = right_serial m.tree m.keep m.left_node m.right_node m.asks;
-      pair = stays m.tree m.pairs q i;
+      pair = (stays m.tree m.pairs).each q i;
     }
 
-    pub answers : (qs ps : List Pair) → ((P : Tree) → ArePairs qs P → ArePairs ps P) → (i : ℕ) → In q ps → (r : Pair) (found : Option Bool)
+    pub answers : (qs ps : List Pair) → ((P : Tree) → ArePairs qs P → ArePairs ps P) → (i : ℕ) → Stands ps i q → (r : Pair) → paths_of r ≡ paths_of q → (found : Option Bool)
         → ((P : Tree) (keep : Node → Bool) (n m : Node) → AsksBoth v one two q.outer.seen.steps q.inner.seen.steps P keep n m → serial_of n ≡ one_of → serial_of m ≡ two_of → PairStands q P
         → TellsShared P n m q.outer.seen.steps q.inner.seen.steps found × PairStands r P)
         → (first second : Bool) → ((c : Cell) → In c v.rows → c.place ≡ one → first ≡ not c.row.is_open) → ((c : Cell) → In c v.rows → c.place ≡ two → second ≡ not c.row.is_open)
         → (t : Option Truth) → t ≡ option_map (λ (b : Bool). settle b (first && second)) found → PairsAnswer v bound x y left right qs (slice_set ps i r) t
-    answers qs ps stays i among r found asked first second is_first is_second t e P keep n m a k =
+    answers qs ps stays i at r same found asked first second is_first is_second t e P keep n m a k =
         let b = at_both P keep n m a in
-        let h = asked P keep n m (both_as P keep n m b) (left_serial P keep n m a) (right_serial P keep n m a) (stays P k q among) in
+        let h = asked P keep n m (both_as P keep n m b) (left_serial P keep n m a) (right_serial P keep n m a) ((stays P k).each q (at_here ps i q at.0 at.1)) in
         let s : TellsShared P n m left right found = subst (λ (z : List Step). TellsShared P n m z right found) outer (subst (λ (z : List Step). TellsShared P n m q.outer.seen.steps z found) inner h.0) in (
           subst (λ (z : Option Truth). TellsEquality P n m left right z) (sym e)
               (tells_equality P n m left right found s first second (shut_told v.rows one first is_first P keep n b.outer.at) (shut_told v.rows two second is_second P keep m b.inner.at)),
-          pair_changed ps i r P (stays P k) h.1,
+          pair_changed ps i q r P at same (stays P k) h.1,
         )
 
 -- ---- what a condition asks
@@ -192,22 +204,12 @@ answers_none v bound x y left right qs P keep n m a k = (tt, k)
 
 -- ---- the pair at a number
 
-pub at_here : (ps : List Pair) (i : ℕ) (q : Pair) → i < length ps → q ≡ slice_index_or ps i q → In q ps
-at_here [] i q l e = absurd (omega arith)
-at_here (y ∷ ps) zero q l e = inl (sym e)
-at_here (y ∷ ps) (suc i) q l e = inr (at_here ps i q (omega arith) e)
-
-same_here : (ps : List Pair) (i : ℕ) (p q : Pair) → i < length ps → p ≡ slice_index_or ps i p → q ≡ slice_index_or ps i q → p ≡ q
-same_here [] i p q l e f = absurd (omega arith)
-same_here (y ∷ ps) zero p q l e f = e ∙ sym f
-same_here (y ∷ ps) (suc i) p q l e f = same_here ps i p q (omega arith) e f
-
 abbrev pub PathsAt : List Pair → ℕ → (x y : VarId) → (left right : List Step) → Type 0
 PathsAt ps i x y left right = (q : Pair) × (q ≡ slice_index_or ps i q) × IsPathOf q.outer x left × IsPathOf q.inner y right
 
 module _ (ps : List Pair) (i : ℕ) (x y : VarId) (left right : List Step) (q : Pair) (low : i < length ps) (found : PathsAt ps i x y left right) (e : q ≡ slice_index_or ps i q) where
   pub outer_here : q.outer.seen.steps ≡ left
-  outer_here = ap (λ (z : Pair). z.outer.seen.steps) (sym (same_here ps i found.0 q low found.1 e)) ∙ found.2.steps
+  outer_here = ap (λ (z : Pair). z.outer.seen.steps) (sym (same_entry ps i found.0 q (low, found.1) (low, e))) ∙ found.2.steps
 
   pub inner_here : q.inner.seen.steps ≡ right
-  inner_here = ap (λ (z : Pair). z.inner.seen.steps) (sym (same_here ps i found.0 q low found.1 e)) ∙ found.3.steps
+  inner_here = ap (λ (z : Pair). z.inner.seen.steps) (sym (same_entry ps i found.0 q (low, found.1) (low, e))) ∙ found.3.steps

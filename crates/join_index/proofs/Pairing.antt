@@ -3,6 +3,7 @@ use Rattle.std.proofs.Common.{◌≡◌, ◌&&◌, ℕ, Bool, true, false, not, 
 use Rattle.std.specs.BTreeSet.{BTreeSet}
 use Rattle.std.specs.Global.{Vec}
 use Rattle.gcx_base.specs.declared.ids.Serial.{Serial}
+use Rattle.gcx_base.specs.declared.ids.VarId.{VarId}
 use Rattle.gcx_base.specs.declared.steps.Step.{Step}
 use Rattle.gcx_model.specs.Growth.{Leads}
 use Rattle.gcx_model.specs.Tree.{Node, serial_of, Tree, opening}
@@ -13,9 +14,35 @@ use Rattle.tree_laws.proofs.Matches.{Numbered-same}
 use Rattle.cond_memo.specs.Marks.{Fits}
 use Rattle.join_index.specs.declared.pair.Taken.{Taken}
 use Rattle.join_index.specs.declared.pair.Pair.{Pair}
-use Rattle.join_index.specs.Sharing.{HasShared, IsOfNode, IsTurned, IsPairAt, NoneClosed, TakesAll}
-use Rattle.join_index.specs.Sides.{ValuesApart, TookValues, PairStands, IsTaken, ShareValue, MeetIf}
+use Rattle.join_index.specs.Sharing.{HasShared, IsOfNode, IsOfPath, IsPathOf, IsTurned, IsPairAt, NoneClosed, TakesAll}
+use Rattle.join_index.specs.Sides.{ValuesApart, TookValues, PairStands, IsTaken, ShareValue, MeetIf, paths, paths_of}
 use Rattle.join_index.proofs.Keeping.{taken_none}
+
+-- ---- its paths
+
+pub are_paths : (q : Pair) (x y : VarId) (left right : List Step) → IsPathOf q.outer x left → IsPathOf q.inner y right → paths_of q ≡ paths x.0 left y.0 right
+are_paths q x y left right a b =
+    ap (λ (k : ℕ). paths k q.outer.seen.steps q.inner.var.0 q.inner.seen.steps) a.var ∙ (ap (λ (s : List Step). paths x.0 s q.inner.var.0 q.inner.seen.steps) a.steps
+    ∙ (ap (λ (k : ℕ). paths x.0 left k q.inner.seen.steps) b.var ∙ ap (λ (s : List Step). paths x.0 left y.0 s) b.steps))
+
+pub paths_are : (q : Pair) (x y : VarId) (left right : List Step) → paths_of q ≡ paths x.0 left y.0 right → IsPathOf q.outer x left × IsPathOf q.inner y right
+paths_are q x y left right e = (
+  record { var = ap (λ (s : ℕ × List Step × ℕ × List Step). s.0) e; steps = ap (λ (s : ℕ × List Step × ℕ × List Step). s.1) e },
+  record { var = ap (λ (s : ℕ × List Step × ℕ × List Step). s.2) e; steps = ap (λ (s : ℕ × List Step × ℕ × List Step). s.3) e },
+)
+
+-- a path that goes on is the same
+goes_as : (t u : Taken) → IsOfPath t u → IsPathOf u t.var t.seen.steps
+goes_as t u p = record { var = ap (λ (x : VarId). x.0) p.var; steps = p.steps }
+
+pub paths_stay : (q r : Pair) → IsOfPath q.outer r.outer → IsOfPath q.inner r.inner → paths_of r ≡ paths_of q
+paths_stay q r a b = are_paths r q.outer.var q.inner.var q.outer.seen.steps q.inner.seen.steps (goes_as q.outer r.outer a) (goes_as q.inner r.inner b)
+
+pub outer_paths : (q : Pair) (outer : Taken) (found : Bool) → IsOfPath q.outer outer → paths_of (record q { outer = outer; found = found }) ≡ paths_of q
+outer_paths q outer found a = paths_stay q (record q { outer = outer; found = found }) a (record { var = refl; steps = refl; last = refl })
+
+pub inner_paths : (q : Pair) (inner : Taken) (found : Bool) → IsOfPath q.inner inner → paths_of (record q { inner = inner; found = found }) ≡ paths_of q
+inner_paths q inner found b = paths_stay q (record q { inner = inner; found = found }) (record { var = refl; steps = refl; last = refl }) b
 
 -- ---- the two sets
 

@@ -1,5 +1,6 @@
 -- What an index tells of two paths by what is kept of their values. Private functions alone speak of it.
-use Rattle.std.specs.Prelude.{◌≡◌, ◌&&◌, ℕ, Bool, List, Option, Some, None}
+use Rattle.std.specs.Prelude.{◌≡◌, ◌&&◌, ℕ, Bool, List, map, Option, Some, None}
+use Rattle.gcx_base.specs.declared.ids.VarId.{VarId}
 use Rattle.gcx_base.specs.declared.rel.Rel.TheVariants.{Eq}
 use Rattle.gcx_base.specs.declared.steps.Step.{Step}
 use Rattle.gcx_model.specs.Answer.{some_pair}
@@ -12,9 +13,10 @@ use Rattle.buf_tree.specs.View.{View}
 use Rattle.cond_eval.specs.Asking.{Asked, IsBound, Over}
 use Rattle.cond_eval.specs.Bindings.{Bindings}
 use Rattle.cond_eval.specs.Comparing.{closed_values}
+use Rattle.cond_eval.specs.Kept.{AddsOnce}
 use Rattle.join_index.specs.declared.pair.Pair.{Pair}
 use Rattle.join_index.specs.Index.{IndexView}
-use Rattle.join_index.specs.Sides.{ArePairs}
+use Rattle.join_index.specs.Sides.{ArePairs, paths, paths_of}
 use Rattle.join_index.specs.Taking.{AsksPath}
 
 -- both paths are asked about, at the nodes of their variables
@@ -62,3 +64,7 @@ TellsByPairs v bound c qs ps t = (P : Tree) (env : Env) → Over v.nodes (ArePai
 pub record PairsTell (v : View) (bound : Bindings) (c : CondTree) (k l : IndexView) (t : Option Truth) : Type 0 where
   pub tells : TellsByPairs v bound c k.pairs l.pairs t
   pub rest : l ≡ record k { pairs = l.pairs }
+
+-- a pair is of these paths: one that was there, else one that comes last; no other comes
+abbrev pub AddsPair : (before now : List Pair) → (x : VarId) (left : List Step) (y : VarId) (right : List Step) → Type 0
+AddsPair before now x left y right = AddsOnce (paths x.0 left y.0 right) (map paths_of before) (map paths_of now)

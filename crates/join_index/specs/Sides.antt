@@ -6,7 +6,7 @@ use Rattle.gcx_base.specs.declared.ids.Serial.{Serial}
 use Rattle.gcx_base.specs.declared.steps.Step.{Step}
 use Rattle.gcx_model.specs.Tree.{Node, serial_of, Tree, is_closed}
 use Rattle.gcx_model.specs.Paths.{matches, value}
-use Rattle.gcx_model.specs.Members.{In}
+use Rattle.gcx_model.specs.Members.{In, Once}
 use Rattle.cond_memo.specs.Marks.{Fits}
 use Rattle.join_index.specs.declared.pair.Taken.{Taken}
 use Rattle.join_index.specs.declared.pair.Pair.{Pair}
@@ -54,5 +54,15 @@ pub record PairStands (q : Pair) (P : Tree) : Type 0 where
   pub inner : IsTaken q.inner P
   pub meets : MeetIf q.found q.outer.values q.inner.values
 
-abbrev pub ArePairs : List Pair → Tree → Type 0
-ArePairs qs P = (q : Pair) → In q qs → PairStands q P
+-- two paths: of each the variable and the steps
+abbrev pub paths : (x : ℕ) (left : List Step) (y : ℕ) (right : List Step) → ℕ × List Step × ℕ × List Step
+paths x left y right = (x, left, y, right)
+
+-- those of a pair
+abbrev pub paths_of : Pair → ℕ × List Step × ℕ × List Step
+paths_of q = paths q.outer.var.0 q.outer.seen.steps q.inner.var.0 q.inner.seen.steps
+
+-- each pair stands for the tree, and no two are of the same paths
+pub record ArePairs (qs : List Pair) (P : Tree) : Type 0 where
+  pub each : (q : Pair) → In q qs → PairStands q P
+  pub once : Once (map paths_of qs)

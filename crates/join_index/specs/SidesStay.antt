@@ -16,7 +16,7 @@ use Rattle.join_index.specs.declared.pair.Taken.{Taken}
 use Rattle.join_index.specs.declared.pair.Pair.{Pair}
 use Rattle.join_index.specs.declared.equality.Equality.{Equality}
 use Rattle.join_index.specs.Index.{AreLooked, HasLooked}
-use Rattle.join_index.specs.Sides.{ArePairs, AreTakenBelow, TookValues, IsTaken, IsValueBelow}
+use Rattle.join_index.specs.Sides.{ArePairs, AreTakenBelow, PairStands, TookValues, IsTaken, IsValueBelow}
 
 module _ (P Q : Tree) (lo : Leads opening P) (l : Leads P Q) where
   grows : (more : List Node) × (Q.nodes ≡ P.nodes ++ more) × ((m : Node) → In m more → length P.nodes ≤ serial_of m) × ((n : ℕ) (path : List Step) → matches Q n path ≡ matches P n path ++ filter (hits n path) more)
@@ -72,10 +72,11 @@ module _ (P Q : Tree) (lo : Leads opening P) (l : Leads P Q) where
     told = λ s e. let h = k.told s e in (h.0, stays_in h.0 h.1, h.2, taken_stays h.0 t.seen.steps t.seen.below t.values h.3);
   }
 
+  pair_stays : (q : Pair) → PairStands q P → PairStands q Q
+  pair_stays q p = record { outer = path_stays q.outer p.outer; inner = path_stays q.inner p.inner; meets = p.meets }
+
   pub pairs_stay : (qs : List Pair) → ArePairs qs P → ArePairs qs Q
-  pairs_stay qs k q i =
-      let p = k q i in
-      record { outer = path_stays q.outer p.outer; inner = path_stays q.inner p.inner; meets = p.meets }
+  pairs_stay qs k = record { each = λ q i. pair_stays q (k.each q i); once = k.once }
 
   looked_stays : (n : Node) (steps : List Step) (below : ℕ) (vs : List (List ℕ)) → HasLooked P n steps below vs → HasLooked Q n steps below vs
   looked_stays n steps below vs h = record {

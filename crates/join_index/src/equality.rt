@@ -220,7 +220,7 @@ fn look_up<N: NodeStore<Row>>(
     look_on(seen, buffer, node, values, room)
 }
 
-/// The same from where it was.
+/// Looks up the values as `look_up` does, of the matches behind those that were looked at.
 fn look_on<N: NodeStore<Row>>(
     seen: &mut Seen,
     buffer: &Buffer<N>,

@@ -5,7 +5,7 @@ ghost use Rattle.gcx_model.specs.Tree.{Tree, Node, opening, serial_of};
 ghost use Rattle.gcx_model.specs.Paths.{matches};
 ghost use Rattle.gcx_model.specs.Members.{In};
 ghost use Rattle.cond_memo.specs.Marks.{Fits};
-ghost use Rattle.join_index.specs.Sides.{ValuesApart, TookValues, PairStands, IsTaken, values_in};
+ghost use Rattle.join_index.specs.Sides.{ValuesApart, TookValues, PairStands, IsTaken, paths_of, values_in};
 ghost use Rattle.join_index.specs.Sharing.{AddsValue, IsOfNode, IsPathOf, IsTurned, AsksBoth, IsPairAt, MayAskPair, MayLook, MeetsAfter, NoneClosed, TakesAll, TellsOfPair, TellsShared, TellsWithAll};
 ghost use Rattle.join_index.specs.Taking.{AsksPath, MayTake};
 
@@ -80,7 +80,7 @@ impl Taken {
 
     /// Whether it is this path.
     fn is_path(&self, var: VarId, steps: &Steps) -> bool
-        ensures { result ≡ true → IsPathOf self.now var steps.now }
+        ensures { result ≡ true ↔ IsPathOf self.now var steps.now }
     {
         self.var == var && self.seen.steps.items() == steps.items()
     }
@@ -193,15 +193,16 @@ impl Pair {
 
     /// Whether it is that of these paths.
     pub(crate) fn is_of(&self, outer: VarId, steps: &Steps, inner: VarId, others: &Steps) -> bool
-        ensures { result ≡ true → IsPathOf self.now.outer outer steps.now × IsPathOf self.now.inner inner others.now }
+        ensures { result ≡ true ↔ (IsPathOf self.now.outer outer steps.now × IsPathOf self.now.inner inner others.now) }
     {
         self.outer.is_path(outer, steps) && self.inner.is_path(inner, others)
     }
 
     /// Turns to these nodes, and forgets what was taken of others.
     fn turn_to(&mut self, outer: Serial, inner: Serial)
-        ensures { (P : Tree) (n m : Node) → Leads opening P → In n P.nodes → In m P.nodes → serial_of n ≡ outer.0
-            → serial_of m ≡ inner.0 → PairStands self.old P
+        ensures paths { paths_of self.new ≡ paths_of self.old }
+        ensures turned { (P : Tree) (n m : Node) → Leads opening P → In n P.nodes → In m P.nodes
+            → serial_of n ≡ outer.0 → serial_of m ≡ inner.0 → PairStands self.old P
             → IsPairAt self.new self.old.outer.seen.steps self.old.inner.seen.steps P n m }
     {
         let one = self.outer.turn_to(outer);
@@ -222,7 +223,8 @@ impl Pair {
         room: &mut Room,
     ) -> Result<Option<bool>, Memory>
         requires { MayAskPair buffer.now self.old outer.0 outer_of.0 inner.0 inner_of.0 }
-        ensures { IfOk result (λ found. (P : Tree) (keep : Node → Bool) (n m : Node)
+        ensures paths { IfOk result (λ _. paths_of self.new ≡ paths_of self.old) }
+        ensures told { IfOk result (λ found. (P : Tree) (keep : Node → Bool) (n m : Node)
             → AsksBoth buffer.now outer.0 inner.0 self.old.outer.seen.steps self.old.inner.seen.steps P keep n m
             → serial_of n ≡ outer_of.0 → serial_of m ≡ inner_of.0 → PairStands self.old P
             → TellsShared P n m self.old.outer.seen.steps self.old.inner.seen.steps found × PairStands self.new P) }
@@ -231,7 +233,7 @@ impl Pair {
         self.look(alloc, buffer, outer, inner, room)
     }
 
-    /// The same of the nodes at which it is. Where one has no value none is read of the other.
+    /// Whether they share a value at the nodes to which it was turned. If one has no value none is read of the other.
     fn look<N: NodeStore<Row>>(
         &mut self,
         alloc: Global,
@@ -241,7 +243,8 @@ impl Pair {
         room: &mut Room,
     ) -> Result<Option<bool>, Memory>
         requires { MayLook buffer.now self.old outer.0 inner.0 self.old.outer.seen.steps self.old.inner.seen.steps }
-        ensures { IfOk result (λ found. TellsOfPair buffer.now self.old self.new outer.0 inner.0
+        ensures paths { IfOk result (λ _. paths_of self.new ≡ paths_of self.old) }
+        ensures told { IfOk result (λ found. TellsOfPair buffer.now self.old self.new outer.0 inner.0
             self.old.outer.seen.steps self.old.inner.seen.steps found) }
     {
         if self.found {
@@ -267,7 +270,8 @@ impl Pair {
     ) -> Result<Option<bool>, Memory>
         requires may { MayLook buffer.now self.old outer.0 inner.0 self.old.outer.seen.steps self.old.inner.seen.steps }
         requires apart { self.old.found ≡ false }
-        ensures { IfOk result (λ found. TellsOfPair buffer.now self.old self.new outer.0 inner.0
+        ensures paths { IfOk result (λ _. paths_of self.new ≡ paths_of self.old) }
+        ensures told { IfOk result (λ found. TellsOfPair buffer.now self.old self.new outer.0 inner.0
             self.old.outer.seen.steps self.old.inner.seen.steps found) }
     {
         let Some(found) = self
@@ -294,7 +298,8 @@ impl Pair {
         requires may { (outer : ℕ) × MayLook buffer.now self.old outer inner.0
             self.old.outer.seen.steps self.old.inner.seen.steps }
         requires apart { self.old.found ≡ false }
-        ensures { IfOk result (λ found. (outer : ℕ) → TellsWithAll buffer.now self.old self.new outer inner.0
+        ensures paths { IfOk result (λ _. paths_of self.new ≡ paths_of self.old) }
+        ensures told { IfOk result (λ found. (outer : ℕ) → TellsWithAll buffer.now self.old self.new outer inner.0
             self.old.outer.seen.steps self.old.inner.seen.steps found) }
     {
         let Some(found) = self

@@ -5,7 +5,7 @@ ghost use Rattle.gcx_model.specs.Truth.{settle};
 ghost use Rattle.cond_eval.specs.Asking.{MayAskOver};
 ghost use Rattle.cond_eval.specs.Comparing.{comparison};
 ghost use Rattle.join_index.specs.declared.pair.Pair.{Pair as KeptPair};
-ghost use Rattle.join_index.specs.Pairs.{MayAskVariables, PairsAnswer, TellsByPairs};
+ghost use Rattle.join_index.specs.Pairs.{AddsPair, MayAskVariables, PairsAnswer, TellsByPairs};
 ghost use Rattle.join_index.specs.Sharing.{IsPathOf};
 ghost use Rattle.join_index.specs.Sides.{ArePairs};
 
@@ -92,6 +92,7 @@ fn pair_of(
     ensures pair { IfOk result (λ i. (q : KeptPair) × (q ≡ slice_index_or pairs.new.items i q)
         × IsPathOf q.outer outer steps.now × IsPathOf q.inner inner others.now) }
     ensures stays { IfOk result (λ _. (P : Tree) → ArePairs pairs.old.items P → ArePairs pairs.new.items P) }
+    ensures count { IfOk result (λ _. AddsPair pairs.old.items pairs.new.items outer steps.now inner others.now) }
 {
     let mut index = 0;
     'pairs: while index < pairs.len() {

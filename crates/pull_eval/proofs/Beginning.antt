@@ -27,6 +27,7 @@ use Rattle.pull_eval.specs.Position.{items, AreFrames, none, alone, Copies, Stan
 use Rattle.pull_eval.specs.Acting.{Beside}
 use Rattle.pull_eval.specs.declared.block.Block.{Block}
 use Rattle.pull_eval.specs.declared.block.Copying.{Copying}
+use Rattle.pull_eval.specs.Turns.{TurnsStand}
 use Rattle.pull_eval.specs.declared.turns.Turns.{Turns}
 use Rattle.pull_eval.specs.declared.position.Position.{Position}
 use Rattle.cond_eval.proofs.Rows.{rows_rise, row_for}
@@ -61,7 +62,7 @@ stands_new plan w rows n = record {
   copies = subst (λ (z : Option Copying). Copies rows z []) (sym n.copying) refl;
   bound = λ e. absurd (true≢false (sym e ∙ n.begun));
   begins = λ _. (refl, refl);
-  turns = λ t i. absurd (subst (λ (z : List Turns). In t z) n.turns i);
+  turns = subst (λ (z : List Turns). TurnsStand rows opening z) (sym n.turns) (record { each = λ t i. absurd i; once = tt });
 }
 
 pub beside_new : (plan : PlanTree) (w : Position) (v : View) → IsNew w plan.body → StandsFor v (opening_past plan) → v.taken ≡ 0 → Beside w v (opening_past plan) 0

@@ -29,7 +29,6 @@ mod Choosing
 mod OpeningTaken
 mod Beginning
 mod Finding
-mod SameSteps
 mod MovesOn
 mod Tags
 mod TurnsListed

@@ -51,7 +51,7 @@ use Rattle.pull_eval.proofs.HeldRows.{holds, held_rows}
 use Rattle.pull_eval.proofs.Frames.{LooksOn, at_item, begins_anew, stands_plainly, turns_still}
 use Rattle.pull_eval.proofs.Needing.{used_in, used_bound, item_held}
 use Rattle.pull_eval.proofs.RoundLooks.{sought_looks}
-use Rattle.pull_eval.specs.TurnsStay.{turns_places}
+use Rattle.pull_eval.specs.TurnsStay.{all_placed}
 use Rattle.pull_eval.proofs.SignedRows.{bound_fewer, frames_fewer, roles_counted}
 
 -- where the loop has looked for its next match, it looks in time at all that is left
@@ -205,9 +205,7 @@ module _ (m : Position) (v : View) (past : Past) (k : ℕ) (b : Beside m v past 
           subst (λ (q : Bindings). IsBound w.rows q z j) (sym env_is) (bound_fewer v.rows w.rows g.places m.env z j (a.bound begun z j h))
 
       turns : TurnsStand w.rows Q n.turns.items
-      turns t i =
-          let old = turns_still m n v.rows past.plan Q k turns_are b.position t i in
-          turns_places v.rows w.rows Q t (λ z p h c j e. let d = g.places c j in sym d.2 ∙ h d.0 d.1 (d.3 ∙ e)) old
+      turns = all_placed v.rows w.rows Q n.turns.items (λ z p h c j e. let d = g.places c j in sym d.2 ∙ h d.0 d.1 (d.3 ∙ e)) (turns_still m n v.rows past.plan Q k turns_are b.position)
 
       beside : Beside n w then_past (suc k)
       beside = record {

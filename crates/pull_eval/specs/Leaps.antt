@@ -1,6 +1,7 @@
 -- With which match a loop begins and goes on, where its body does nothing at some. Private functions alone speak of it.
-use Rattle.std.specs.Prelude.{◌≡◌, ◌<◌, ◌⊎◌, ℕ, Bool, true, false, List, [], ◌∷◌, ◌++◌, Option, Some, None}
+use Rattle.std.specs.Prelude.{◌≡◌, ◌<◌, ◌⊎◌, ℕ, Bool, true, false, List, [], ◌∷◌, ◌++◌, map, slice_get, Option, Some, None}
 use Rattle.gcx_base.specs.declared.ids.Serial.{Serial}
+use Rattle.gcx_base.specs.declared.ids.VarId.{VarId}
 use Rattle.gcx_base.specs.declared.steps.Step.{Step}
 use Rattle.gcx_model.specs.Tree.{Node, serial_of, Tree, is_closed}
 use Rattle.gcx_model.specs.Paths.{matches}
@@ -18,8 +19,9 @@ use Rattle.buf_tree.specs.View.{View}
 use Rattle.cond_eval.specs.Asking.{PlacedAt}
 use Rattle.pull_eval.specs.Position.{items}
 use Rattle.cond_eval.specs.Comparing.{KeepsMatches}
+use Rattle.cond_eval.specs.Kept.{AddsOnce}
 use Rattle.cond_eval.specs.Reads.{NodeAt}
-use Rattle.pull_eval.specs.Turns.{Leaps, IsTurns, TurnsStand, KeepsTurns, Meets, turns_at}
+use Rattle.pull_eval.specs.Turns.{Leaps, IsTurns, TurnsStand, KeepsTurns, Meets, turns_at, loop_var}
 use Rattle.pull_eval.specs.Acting.{Beside, Moves}
 use Rattle.pull_eval.specs.Weight.{rows_behind, rounds_left}
 use Rattle.pull_eval.specs.declared.block.Round.{Round as CodeRound}
@@ -120,6 +122,22 @@ pub record GoesWith (t : Turns) (s : Step) (g : Guard) : Type 0 where
   pub step : t.step.now ≡ s
   pub own : t.own.now ≡ g.own.now
   pub other : t.other.now ≡ g.other.now
+
+-- this one of them is of the variable
+abbrev pub IsTurnsOf : List Turns → VarId → (index : ℕ) → Type 0
+IsTurnsOf ts x i = (t : Turns) × (slice_get ts i ≡ Some t) × (t.var ≡ x)
+
+-- none of them is
+abbrev pub HasNoTurns : List Turns → VarId → Type 0
+HasNoTurns ts x = In x (map loop_var ts) → ⊥
+
+-- where what stands at this number goes by these steps and paths nothing changes
+abbrev pub KeepsTheirs : (before after : List Turns) → (index : ℕ) → Step → Guard → Type 0
+KeepsTheirs before after i s g = (t : Turns) → slice_get before i ≡ Some t → GoesWith t s g → after ≡ before
+
+-- one is of this variable: one that was there, else one that comes last; no other comes
+abbrev pub AddsTurns : (before after : List Turns) → VarId → Type 0
+AddsTurns before after x = AddsOnce x (map loop_var before) (map loop_var after)
 
 -- the same was looked at of each, but for one of which nothing was
 abbrev pub StayTurns : (before after : List Turns) → Type 0

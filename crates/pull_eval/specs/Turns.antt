@@ -1,13 +1,14 @@
 -- What loops go by whose bodies do nothing where an equality is false. Private functions alone speak of it, but for the position.
-use Rattle.std.specs.Prelude.{◌≡◌, ◌<◌, ◌≤◌, ℕ, Bool, true, List, [], ◌∷◌, Option, Some, None}
+use Rattle.std.specs.Prelude.{◌≡◌, ◌<◌, ◌≤◌, ℕ, Bool, true, List, [], ◌∷◌, map, Option, Some, None}
 use Rattle.std.specs.Ordering.{nat_cmp, is_lt}
 use Rattle.std.specs.Cmp.Lexicographic.{slice_cmp}
 use Rattle.std.specs.List.Sorted.{IsSortedBy, IsNonDecreasingBy}
 use Rattle.gcx_base.specs.declared.ids.Serial.{Serial}
+use Rattle.gcx_base.specs.declared.ids.VarId.{VarId}
 use Rattle.gcx_base.specs.declared.steps.Step.{Step}
 use Rattle.gcx_model.specs.Tree.{Node, serial_of, Tree, opening, is_closed}
 use Rattle.gcx_model.specs.Paths.{matches}
-use Rattle.gcx_model.specs.Members.{In}
+use Rattle.gcx_model.specs.Members.{In, Once}
 use Rattle.gcx_model.specs.Growth.{Leads}
 use Rattle.buf_tree.specs.Shape.{Cell}
 use Rattle.pass_laws.specs.ValueLists.{IsValueAt}
@@ -83,9 +84,14 @@ pub record IsTurns (rows : List Cell) (P : Tree) (t : Turns) : Type 0 where
   pub lists : (s : Serial) → t.of ≡ Some s → (a : Node) × (serial_of a ≡ s.0) × Lists rows P t a
   pub chosen : (s o : Serial) → t.of ≡ Some s → t.outer ≡ Some o → (a b : Node) × (serial_of a ≡ s.0) × (serial_of b ≡ o.0) × Lists rows P t a × Chosen rows P t a b
 
--- each of these does
-abbrev pub TurnsStand : List Cell → Tree → List Turns → Type 0
-TurnsStand rows P ts = (t : Turns) → In t ts → IsTurns rows P t
+-- the loop's variable
+abbrev pub loop_var : Turns → VarId
+loop_var t = t.var
+
+-- each of these does, and no two are of one variable
+pub record TurnsStand (rows : List Cell) (P : Tree) (ts : List Turns) : Type 0 where
+  pub each : (t : Turns) → In t ts → IsTurns rows P t
+  pub once : Once (map loop_var ts)
 
 -- the matches of the loop's step are kept, each with the whole of its operand's matches
 abbrev pub KeepsTurns : Tree → (Node → Bool) → Turns → Node → Type 0

@@ -16,7 +16,7 @@ use Rattle.cond_eval.specs.Asking.{PlacedAt}
 use Rattle.cond_eval.specs.declared.sets.Member.{Member}
 use Rattle.pull_eval.specs.declared.turns.Entry.{Entry}
 use Rattle.pull_eval.specs.declared.turns.Turns.{Turns}
-use Rattle.pull_eval.specs.Turns.{AreListed, Chosen, IsFirstHit, IsHit, IsTurns, Lists, turns_at}
+use Rattle.pull_eval.specs.Turns.{AreListed, Chosen, IsFirstHit, IsHit, IsTurns, Lists, TurnsStand, turns_at}
 
 -- rows of the nodes that there are keep their places
 abbrev pub KeepPlaces : (rows now : List Cell) → Tree → Type 0
@@ -103,14 +103,17 @@ module _ (P Q : Tree) (lo : Leads opening P) (l : Leads P Q) where
       }
 
 -- what was looked at stays while tokens come,
-pub turns_grow : (P Q : Tree) → Leads opening P → Leads P Q → (rows now : List Cell) → KeepPlaces rows now P → (t : Turns) → IsTurns rows P t → IsTurns now Q t
+turns_grow : (P Q : Tree) → Leads opening P → Leads P Q → (rows now : List Cell) → KeepPlaces rows now P → (t : Turns) → IsTurns rows P t → IsTurns now Q t
 turns_grow P Q lo l rows now places t is = record {
   lists = λ s e. let k = is.lists s e in (k.0, k.1, lists_now P Q lo l rows now places t k.0 k.2);
   chosen = λ s o e f. let k = is.chosen s o e f in (k.0, k.1, k.2, k.3, lists_now P Q lo l rows now places t k.0 k.4, chosen_now P Q lo l rows now places t k.0 k.4 k.1 k.5);
 }
 
+pub all_grow : (P Q : Tree) → Leads opening P → Leads P Q → (rows now : List Cell) → KeepPlaces rows now P → (ts : List Turns) → TurnsStand rows P ts → TurnsStand now Q ts
+all_grow P Q lo l rows now places ts k = record { each = λ t i. turns_grow P Q lo l rows now places t (k.each t i); once = k.once }
+
 -- and while rows keep their places
-pub turns_places : (rows now : List Cell) (P : Tree) (t : Turns) → ((s p : ℕ) → PlacedAt rows s p → PlacedAt now s p) → IsTurns rows P t → IsTurns now P t
+turns_places : (rows now : List Cell) (P : Tree) (t : Turns) → ((s p : ℕ) → PlacedAt rows s p → PlacedAt now s p) → IsTurns rows P t → IsTurns now P t
 turns_places rows now P t places is = record {
   lists = λ s e. let k = is.lists s e in (k.0, k.1, lists_now P P k.2.grown stays rows now kept t k.0 k.2);
   chosen = λ s o e f. let k = is.chosen s o e f in (k.0, k.1, k.2, k.3, lists_now P P k.4.grown stays rows now kept t k.0 k.4, chosen_now P P k.4.grown stays rows now kept t k.0 k.4 k.1 k.5);
@@ -118,3 +121,6 @@ turns_places rows now P t places is = record {
   where
     kept : KeepPlaces rows now P
     kept n p i = places (serial_of n) p
+
+pub all_placed : (rows now : List Cell) (P : Tree) (ts : List Turns) → ((s p : ℕ) → PlacedAt rows s p → PlacedAt now s p) → TurnsStand rows P ts → TurnsStand now P ts
+all_placed rows now P ts places k = record { each = λ t i. turns_places rows now P t places (k.each t i); once = k.once }

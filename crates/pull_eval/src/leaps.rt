@@ -1,10 +1,10 @@
 //! Loops that pass the matches at which their body does nothing.
-ghost use Rattle.std.specs.Prelude.{◌≡◌, ◌<◌, true, length, Some, None, IfOk, IfSome, slice_get};
+ghost use Rattle.std.specs.Prelude.{◌≡◌, ◌↔◌, true, Some, None, IfOk, MatchOption, slice_get};
 ghost use Rattle.buf_tree.specs.View.{InUse};
 ghost use Rattle.cond_eval.specs.Comparing.{IsNodeRow};
 ghost use Rattle.pull_eval.specs.Position.{items};
 ghost use Rattle.pull_eval.specs.Guards.{IsGuardOf};
-ghost use Rattle.pull_eval.specs.Leaps.{HasLoop, LeapsTo, GoesWith, StayTurns, Looks, IsClosedAt};
+ghost use Rattle.pull_eval.specs.Leaps.{AddsTurns, HasLoop, HasNoTurns, IsTurnsOf, KeepsTheirs, LeapsTo, GoesWith, StayTurns, Looks, IsClosedAt};
 ghost use Rattle.pull_eval.specs.declared.turns.Turns.{Turns as ItsTurns};
 
 use crate::block::ends_with_off;
@@ -59,7 +59,7 @@ impl<'p> Position<'p> {
         buffer.is_closed(context)
     }
 
-    /// The same of a loop whose node is closed. Out of line, as it is rare.
+    /// Leaps in a loop whose node is closed. Out of line, as it is rare.
     #[inline(never)]
     fn leap_closed<N: NodeStore<Row>>(
         &mut self,
@@ -85,7 +85,7 @@ impl<'p> Position<'p> {
         }
     }
 
-    /// The same by the equality without which its body does nothing.
+    /// Leaps by the equality without which the loop's body does nothing.
     fn leap_by<N: NodeStore<Row>>(
         &mut self,
         alloc: Global,
@@ -132,7 +132,8 @@ impl<'p> Turns<'p> {
     ) -> Result<Leap, Memory>
         requires context { IsNodeRow buffer.now.rows context.0 }
         requires node { IsNodeRow buffer.now.rows node.0 }
-        ensures { IfOk result (Looks buffer.now.rows self.old self.new context.0 node.0 outer.0 from) }
+        ensures var { self.new.var ≡ self.old.var }
+        ensures looks { IfOk result (Looks buffer.now.rows self.old self.new context.0 node.0 outer.0 from) }
     {
         self.turn_to(alloc, buffer, context)?;
         match from {
@@ -147,7 +148,7 @@ impl<'p> Turns<'p> {
 
 /// The number of what the loop over the variable goes by, if there is any.
 fn find(all: &[Turns<'_>], var: VarId) -> Option<usize>
-    ensures { IfSome result (λ i. i < length all.now) }
+    ensures { MatchOption result (HasNoTurns all.now var) (λ i. IsTurnsOf all.now var i) }
 {
     let mut index = 0;
     'turns: while index < all.len() {
@@ -169,6 +170,8 @@ fn turns_of<'p>(
     ensures there { IfOk result (λ i. (t : ItsTurns) × (slice_get all.new.items i ≡ Some t)
         × GoesWith t step.now guard.now) }
     ensures stays { IfOk result (λ _. StayTurns all.old.items all.new.items) }
+    ensures count { IfOk result (λ _. AddsTurns all.old.items all.new.items guard.now.own_var) }
+    ensures kept { IfOk result (λ i. KeepsTheirs all.old.items all.new.items i step.now guard.now) }
 {
     match find(all, guard.own_var) {
         Some(index) => {
@@ -188,7 +191,7 @@ fn turns_of<'p>(
 
 /// Whether they are of this step and these paths.
 fn goes_by<'p>(turns: &Turns<'p>, step: &'p Step, guard: &Guard<'p>) -> bool
-    ensures { result ≡ true → GoesWith turns.now step.now guard.now }
+    ensures { result ≡ true ↔ GoesWith turns.now step.now guard.now }
 {
     turns.step == step && turns.own == guard.own && turns.other == guard.other
 }

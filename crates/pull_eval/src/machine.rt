@@ -114,8 +114,8 @@ impl<'p, C: Conds> Machine<'p, C> {
 }
 
 impl<'p, C: Conds> Runner<'p, C> {
-    /// The same. Where `again` is true the condition that comes next was asked last; so it is behind the call where
-    /// `asked` is.
+    /// Takes the next action. Where `again` is true the condition that comes next was asked last; so it is behind the
+    /// call where `asked` is.
     #[inline(always)]
     fn act<N: NodeStore<Row>>(
         &mut self,

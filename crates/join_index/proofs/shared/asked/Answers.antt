@@ -34,5 +34,5 @@ returns g c =
     answers c.args.buffer.now c.args.env.now c.args.outer.0 c.args.inner.0 c.args.steps.now c.args.others.now c.in-Some.one.0 c.in-Some.one_of.0 c.in-Some-get.two.0 c.in-Some-get.two_of.0 c.in-Some.ensures c.in-Some-get.ensures
     q (outer_here ps.items c.in_ok-index.index c.args.outer c.args.inner c.args.steps.now c.args.others.now q low c.in_ok-index.ensures.pair c.index_mut.ensures.value)
     (inner_here ps.items c.in_ok-index.index c.args.outer c.args.inner c.args.steps.now c.args.others.now q low c.in_ok-index.ensures.pair c.index_mut.ensures.value)
-    c.args.pairs.now.items ps.items c.in_ok-index.ensures.stays c.in_ok-index.index (at_here ps.items c.in_ok-index.index q low c.index_mut.ensures.value)
-    c.ask.new.self c.in_ok-found.found c.in_ok-found.ensures c.is_closed-first.result c.is_closed-second.result c.is_closed-first.ensures c.is_closed-second.ensures c.settled.result c.settled.ensures
+    c.args.pairs.now.items ps.items c.in_ok-index.ensures.stays c.in_ok-index.index (low, c.index_mut.ensures.value)
+    c.ask.new.self c.in_ok-found.ensures.paths c.in_ok-found.found c.in_ok-found.ensures.told c.is_closed-first.result c.is_closed-second.result c.is_closed-first.ensures c.is_closed-second.ensures c.settled.result c.settled.ensures

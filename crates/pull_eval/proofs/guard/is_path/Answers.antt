@@ -2,7 +2,7 @@ use Rattle.std.proofs.Common.{◌≡◌, sym, ◌∙◌}
 use Rattle.std.proofs.lemmas.Bool.{eqb-true}
 use Rattle.std.proofs.lemmas.Slice.Eq.{slice_eq-Decides}
 use Rattle.pull_eval.proofs.Guarding.{path_is}
-use Rattle.pull_eval.proofs.SameSteps.{step_decides}
+use Rattle.cond_eval.proofs.SameSteps.{step_decides}
 use Rattle.pull_eval.proofs.guard.is_path.Goals as goal
 
 pub returns-then-eq : goal.returns-then-eq

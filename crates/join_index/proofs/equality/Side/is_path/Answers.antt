@@ -1,7 +1,8 @@
 use Rattle.std.proofs.Common.{◌≡◌, sym, ◌∙◌}
 use Rattle.std.proofs.lemmas.Bool.{eqb-true}
 use Rattle.std.proofs.lemmas.Slice.Eq.{slice_eq-Decides}
-use Rattle.join_index.proofs.Paths.{path_steps, path_there, step_decides}
+use Rattle.cond_eval.proofs.SameSteps.{step_decides}
+use Rattle.join_index.proofs.Paths.{path_steps, path_there}
 use Rattle.join_index.proofs.equality.Side.is_path.Goals as goal
 
 pub returns-then-eq : goal.returns-then-eq

@@ -1,4 +1,4 @@
-use Rattle.std.proofs.Common.{List, inl, inr, refl, sym, subst, arith}
+use Rattle.std.proofs.Common.{List, inl, inr, refl, sym, ◌∙◌, ap, subst, arith}
 use Rattle.pull_eval.specs.Position.{items}
 use Rattle.pull_eval.specs.Leaps.{Looks}
 use Rattle.pull_eval.specs.declared.turns.Turns.{Turns}
@@ -38,12 +38,13 @@ returns-clause-leaps g c = λ past k b a.
     let ts : List Turns = c.turns_of.new.all.items in
     let t : Turns = there.0 in
     let u : Turns = c.look.new.self in
+    let same = same_get ts c.in_ok-index.index t c.index_mut.result.now there.1 c.index_mut.ensures.value in
     let looks : Looks v.rows t u c.args.context.0 c.in-Some.node.0 c.in-Some.outer.0 c.args.from c.in_ok-leap.leap =
-    subst (λ (z : Turns). Looks v.rows z u c.args.context.0 c.in-Some.node.0 c.in-Some.outer.0 c.args.from c.in_ok-leap.leap) (same_get ts c.in_ok-index.index t c.index_mut.result.now there.1 c.index_mut.ensures.value) c.in_ok-leap.ensures in
+    subst (λ (z : Turns). Looks v.rows z u c.args.context.0 c.in-Some.node.0 c.in-Some.outer.0 c.args.from c.in_ok-leap.leap) same c.in_ok-leap.ensures.looks in
     let all = c.in_ok-index.ensures.stays v.rows past.tree b.position.turns in
-    let stands = all t (get_in ts c.in_ok-index.index t there.1) in
+    let stands = all.each t (get_in ts c.in_ok-index.index t there.1) in
     let settled = c.is_settled.ensures c.if-not-is_settled.false in
     let leapt_to = leapt c.args.self.now c.args.buffer.now past k b c.requires.begun c.requires.no_copy c.args.guard.now c.args.var.0 c.args.step.now (items c.args.body.now) c.args.context.0 c.requires.guard a c.requires.closed settled t u there.2 c.in-Some.node.0 c.in-Some.outer.0 (sym c.in-Some.ensures) c.args.from c.in_ok-leap.leap looks stands in
     let on = stands_on c.args.self.now c.args.buffer.now past k b c.requires.begun c.requires.no_copy c.args.guard.now c.args.var.0 c.args.step.now (items c.args.body.now) c.args.context.0 c.requires.guard a c.requires.closed settled t u there.2 c.in-Some.node.0 c.in-Some.outer.0 (sym c.in-Some.ensures) c.args.from c.in_ok-leap.leap looks stands in
-    let h = turned w _ v past k b refl (are_set v.rows past.tree ts c.in_ok-index.index u all on) in
+    let h = turned w _ v past k b refl (are_set v.rows past.tree ts c.in_ok-index.index t u there.1 (c.look.ensures.var ∙ ap (λ (z : Turns). z.var) same) all on) in
     (h.0, h.1, leapt_to, inr (context_closed c.args.self.now c.args.buffer.now past k b c.requires.begun c.requires.no_copy c.args.guard.now c.args.var.0 c.args.step.now (items c.args.body.now) c.args.context.0 c.requires.guard a c.requires.closed settled)))

@@ -4,15 +4,15 @@ use Rattle.pull_eval.specs.Leaps.{Looks}
 use Rattle.pull_eval.proofs.Looking.{looks_first, looks_from}
 use Rattle.pull_eval.proofs.turns.Turns.look.Goals as goal
 
-pub returns-in-None : goal.returns-in-None
-returns-in-None g c =
+pub returns-in-None-clause-looks : goal.returns-in-None-clause-looks
+returns-in-None-clause-looks g c =
     subst (λ (z : Option Serial). Looks c.args.buffer.now.rows c.args.self.now c.turn_to.new.self c.args.context.0 c.args.node.0 c.args.outer.0 z c.first_of_all.result) (sym c.in-None.is)
     (looks_first c.args.buffer.now.rows c.args.self.now c.turn_to.new.self
     (record { step = ap (λ (z : _). z.now) c.turn_to.ensures.step; own = ap (λ (z : _). z.now) c.turn_to.ensures.own; other = ap (λ (z : _). z.now) c.turn_to.ensures.other })
     c.args.context.0 c.in_ok-turn_to.ensures.turned c.args.node.0 c.args.outer.0 c.first_of_all.result c.first_of_all.ensures)
 
-pub returns-in_ok-choose-in-Some : goal.returns-in_ok-choose-in-Some
-returns-in_ok-choose-in-Some g c =
+pub returns-in_ok-choose-in-Some-clause-looks : goal.returns-in_ok-choose-in-Some-clause-looks
+returns-in_ok-choose-in-Some-clause-looks g c =
     subst (λ (z : Option Serial). Looks c.args.buffer.now.rows c.args.self.now c.choose.new.self c.args.context.0 c.args.node.0 c.args.outer.0 z c.first_from.result) (sym c.in-Some.is)
     (looks_from c.args.buffer.now.rows c.args.self.now c.turn_to.new.self
     (record { step = ap (λ (z : _). z.now) c.turn_to.ensures.step; own = ap (λ (z : _). z.now) c.turn_to.ensures.own; other = ap (λ (z : _). z.now) c.turn_to.ensures.other })

@@ -1,5 +1,5 @@
--- What the comparison of steps tells.
-use Rattle.std.proofs.Common.{◌≡◌, true, refl, ap, subst, ◌∙◌}
+-- Steps that are compared.
+use Rattle.std.proofs.Common.{◌≡◌, true, refl, ◌∙◌, ap, subst}
 use Rattle.std.specs.Bool.{Decides}
 use Rattle.std.proofs.lemmas.Bool.{and_from, and_parts, false≢true}
 use Rattle.std.proofs.lemmas.Slice.Eq.{bytes_eq-Decides}

@@ -1,0 +1,7 @@
+use Rattle.std.proofs.Common.{List, sym, subst}
+use Rattle.cond_memo.specs.Marks.{StandFor}
+use Rattle.cond_memo.specs.declared.mark.Mark.{Mark}
+use Rattle.cond_memo.proofs.marked.Marked.new.Goals as goal
+
+pub returns : goal.returns
+returns c P = subst (λ (ms : List Mark). StandFor ms P) (sym c.new.ensures.items) (record { each = λ m i. absurd i; once = tt })
