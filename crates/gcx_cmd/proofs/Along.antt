@@ -13,7 +13,7 @@ use Rattle.gcx_io.specs.Views.{Call, Gave, Failed, HandleView, ShelfView, missed
 use Rattle.gcx_io.specs.Writing.{IsSomeBytes, joined}
 use Rattle.run_words.specs.Stops.{More, End, Fault}
 use Rattle.gcx_cmd.proofs.Lists.{slice_get_push, slice_get_set, slice_get_before, slice_get_other}
-use Rattle.gcx_cmd.specs.Reads.{Reads, Opens, Misses, KeepsShelf, Within, PassesIn, most_of_query}
+use Rattle.gcx_cmd.specs.Reads.{ReadsAsking, Opens, Misses, KeepsShelf, Within, PassesIn, most_of_query}
 
 -- ---- a handle that was given now
 
@@ -32,7 +32,7 @@ opens_on n h a b c r buf opens once = record {
 pub misses_none : (name : List ℕ) (a b : ShelfView) → MissesName name a b → Misses 0 name a b
 misses_none name a b m = record { count = omega (arith, ap length m.given); refused = m.refused ∙ ap (λ (k : ℕ). a.refused ++ missed name k ∷ []) (omega arith) }
 
-pub reads_none : (name : List ℕ) (a b : ShelfView) (h : ℕ) → GivesHandle name (content_of a.names name) a b h → Reads name h a b [] More
+pub reads_none : {asked : ℕ} (name : List ℕ) (a b : ShelfView) (h : ℕ) → GivesHandle name (content_of a.names name) a b h → ReadsAsking asked name h a b [] More
 reads_none name a b h o = record {
   handle = fresh name (content_of a.names name);
   at = ap (λ (l : List HandleView). slice_get l h) o.given
@@ -50,42 +50,44 @@ same_handle v h x y e f = cc
 
 -- ---- one read more
 
-pub reads_more : {E : Type 0} (name : List ℕ) (h n : ℕ) (a b c : ShelfView) (buf : List ℕ) (ps : List (List ℕ)) → Reads name h a b ps More
-    → ReadsOnce {E = E} h b c (Ok n) buf → 1 ≤ n → n ≤ length buf → Reads name h a c (ps ++ take n buf ∷ []) More
-reads_more name h n a b c buf ps r once some within =
+pub reads_more : {E : Type 0} (asked : ℕ) (name : List ℕ) (h n : ℕ) (a b c : ShelfView) (buf : List ℕ) (ps : List (List ℕ)) → ReadsAsking asked name h a b ps More
+    → ReadsOnce {E = E} h b c (Ok n) buf → 1 ≤ n → n ≤ length buf → length buf ≡ asked → ReadsAsking asked name h a c (ps ++ take n buf ∷ []) More
+reads_more asked name h n a b c buf ps r once some within size =
     let same : once.old ≡ r.handle = same_handle b h once.old r.handle once.was r.at in
     record {
       handle = once.new;
       at = ap (λ (l : List HandleView). slice_get l h) once.given ∙ slice_get_set b.given h once.old once.new once.was;
       named = once.name ∙ ap (λ (v : HandleView). v.name) same ∙ r.named;
       some = All-push IsSomeBytes ps (take n buf) r.some (is_some (take n buf) (omega (arith, length-take-le n buf within)));
-      calls = once.calls ∙ ap (λ (v : HandleView). v.calls ++ Gave (take n buf) ∷ []) same
-          ∙ ap (λ (l : List Call). l ++ Gave (take n buf) ∷ []) (r.calls ∙ append-nil (map Gave ps))
-          ∙ sym (map_push Gave ps (take n buf)) ∙ sym (append-nil (map Gave (ps ++ take n buf ∷ [])));
+      calls = once.calls ∙ ap (λ (k : ℕ). once.old.calls ++ Gave k (take n buf) ∷ []) size
+          ∙ ap (λ (v : HandleView). v.calls ++ Gave asked (take n buf) ∷ []) same
+          ∙ ap (λ (l : List Call). l ++ Gave asked (take n buf) ∷ []) (r.calls ∙ append-nil (map (Gave asked) ps))
+          ∙ sym (map_push (Gave asked) ps (take n buf)) ∙ sym (append-nil (map (Gave asked) (ps ++ take n buf ∷ [])));
       told = subst (Consumes (content_of a.names name) once.new.left) (sym (joined_push ps (take n buf)))
           (Consumes-trans (content_of a.names name) once.old.left once.new.left (joined ps) (take n buf) (rw same r.told) once.left.0);
       at_end = λ e. cc;
     }
 
-pub reads_end : {E : Type 0} (name : List ℕ) (h : ℕ) (a b c : ShelfView) (buf : List ℕ) (ps : List (List ℕ)) → Reads name h a b ps More
-    → ReadsOnce {E = E} h b c (Ok 0) buf → 0 < length buf → Reads name h a c ps End
-reads_end name h a b c buf ps r once room =
+pub reads_end : {E : Type 0} (asked : ℕ) (name : List ℕ) (h : ℕ) (a b c : ShelfView) (buf : List ℕ) (ps : List (List ℕ)) → ReadsAsking asked name h a b ps More
+    → ReadsOnce {E = E} h b c (Ok 0) buf → 0 < length buf → length buf ≡ asked → ReadsAsking asked name h a c ps End
+reads_end asked name h a b c buf ps r once room size =
     let same : once.old ≡ r.handle = same_handle b h once.old r.handle once.was r.at in
     record {
       handle = once.new;
       at = ap (λ (l : List HandleView). slice_get l h) once.given ∙ slice_get_set b.given h once.old once.new once.was;
       named = once.name ∙ ap (λ (v : HandleView). v.name) same ∙ r.named;
       some = r.some;
-      calls = once.calls ∙ ap (λ (v : HandleView). v.calls ++ Gave [] ∷ []) same
-          ∙ ap (λ (l : List Call). l ++ Gave [] ∷ []) (r.calls ∙ append-nil (map Gave ps));
+      calls = once.calls ∙ ap (λ (k : ℕ). once.old.calls ++ Gave k [] ∷ []) size
+          ∙ ap (λ (v : HandleView). v.calls ++ Gave asked [] ∷ []) same
+          ∙ ap (λ (l : List Call). l ++ Gave asked [] ∷ []) (r.calls ∙ append-nil (map (Gave asked) ps));
       told = subst (Consumes (content_of a.names name) once.new.left) (append-nil (joined ps))
           (Consumes-trans (content_of a.names name) once.old.left once.new.left (joined ps) [] (rw same r.told) once.left.0);
       at_end = λ e. once.left.1 refl room;
     }
 
-pub reads_fault : {E : Type 0} (name : List ℕ) (h : ℕ) (e : E) (a b c : ShelfView) (buf : List ℕ) (ps : List (List ℕ)) → Reads name h a b ps More
-    → ReadsOnce {E = E} h b c (Err e) buf → Reads name h a c ps Fault
-reads_fault name h e a b c buf ps r once =
+pub reads_fault : {E : Type 0} (asked : ℕ) (name : List ℕ) (h : ℕ) (e : E) (a b c : ShelfView) (buf : List ℕ) (ps : List (List ℕ)) → ReadsAsking asked name h a b ps More
+    → ReadsOnce {E = E} h b c (Err e) buf → ReadsAsking asked name h a c ps Fault
+reads_fault asked name h e a b c buf ps r once =
     let same : once.old ≡ r.handle = same_handle b h once.old r.handle once.was r.at in
     record {
       handle = once.new;
@@ -93,7 +95,7 @@ reads_fault name h e a b c buf ps r once =
       named = once.name ∙ ap (λ (v : HandleView). v.name) same ∙ r.named;
       some = r.some;
       calls = once.calls ∙ ap (λ (v : HandleView). v.calls ++ Failed ∷ []) same
-          ∙ ap (λ (l : List Call). l ++ Failed ∷ []) (r.calls ∙ append-nil (map Gave ps));
+          ∙ ap (λ (l : List Call). l ++ Failed ∷ []) (r.calls ∙ append-nil (map (Gave asked) ps));
       told = Consumes-kept (content_of a.names name) once.old.left once.new.left (joined ps) (rw same r.told) once.left;
       at_end = λ f. cc;
     }

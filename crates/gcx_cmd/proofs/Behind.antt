@@ -8,11 +8,11 @@ use Rattle.gcx_model.specs.Query.{ExprTree}
 use Rattle.run_words.specs.Stops.{Stop, End}
 use Rattle.gcx_cmd.proofs.Along.{keeps_on, rose_since}
 use Rattle.gcx_cmd.specs.QueryDoes.{AcceptsQuery}
-use Rattle.gcx_cmd.specs.Reads.{CausesFault, KeepsShelf, Misses, Opens, Reads}
+use Rattle.gcx_cmd.specs.Reads.{CausesFault, KeepsShelf, Misses, Opens, Reads, ReadsAsking}
 
 -- the handles that were given before stand as they did
-pub reads_kept : (name : List ℕ) (h : ℕ) (a m b : ShelfView) (ps : List (List ℕ)) (stop : Stop) → Reads name h a m ps stop → h < length m.given → KeepsShelf m b
-    → Reads name h a b ps stop
+pub reads_kept : {asked : ℕ} (name : List ℕ) (h : ℕ) (a m b : ShelfView) (ps : List (List ℕ)) (stop : Stop) → ReadsAsking asked name h a m ps stop → h < length m.given → KeepsShelf m b
+    → ReadsAsking asked name h a b ps stop
 reads_kept name h a m b ps stop r within k = record {
   handle = r.handle;
   at = k.given h within ∙ r.at;
@@ -24,7 +24,7 @@ reads_kept name h a m b ps stop r within k = record {
 }
 
 -- a file that was opened later in this call
-pub reads_later : (name : List ℕ) (h : ℕ) (a m b : ShelfView) (ps : List (List ℕ)) (stop : Stop) → KeepsShelf a m → Reads name h m b ps stop → Reads name h a b ps stop
+pub reads_later : {asked : ℕ} (name : List ℕ) (h : ℕ) (a m b : ShelfView) (ps : List (List ℕ)) (stop : Stop) → KeepsShelf a m → ReadsAsking asked name h m b ps stop → ReadsAsking asked name h a b ps stop
 reads_later name h a m b ps stop k r = record {
   handle = r.handle;
   at = r.at;

@@ -128,6 +128,7 @@ module _ (q d t : List ℕ) (a m b : ShelfView) (x : List ExprTree) (ts : List T
     reads_on = h.reads_on;
     tokens = h.tokens;
     trace = subst (λ (n : ℕ). Reads t n a b w.pieces w.stop) h.two.count (reads_later t (length m.given) a m b w.pieces w.stop h.keeps w.trace);
+    short = w.short;
     in_time = w.in_time;
   }
 

@@ -34,7 +34,7 @@ refused_not query f (inr h) good =
 some_one : (f g : QueryFault) → o.Some f ≡ o.Some g → f ≡ g
 some_one f g e = cc
 
-one_refusal : (query : List ℕ) (f g : QueryFault) → QueryFaultOf query f → QueryFaultOf query g → f ≡ g
+pub one_refusal : (query : List ℕ) (f g : QueryFault) → QueryFaultOf query f → QueryFaultOf query g → f ≡ g
 one_refusal query f g (inl h) (inl k) = k.1.once f h.0
 one_refusal query f g (inl h) (inr k) = absurd (h.1.no_query k.query k.spells k.sound)
 one_refusal query f g (inr h) (inl k) = absurd (k.1.no_query h.query h.spells h.sound)

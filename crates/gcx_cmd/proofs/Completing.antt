@@ -3,8 +3,9 @@ use Rattle.std.proofs.Common.{◌≡◌, ◌⊎◌, inl, inr, ℕ, suc, ◌+◌,
 use Rattle.std.proofs.lemmas.List.{same_from_push}
 use Rattle.gcx_base.specs.Limits.{full_limits}
 use Rattle.gcx_io.specs.Causes.{Rose}
-use Rattle.gcx_io.specs.Shelf.{IsTelling, content_of}
+use Rattle.gcx_io.specs.Shelf.{IsMissing, IsTelling, Names, content_of}
 use Rattle.gcx_io.specs.Views.{Miss, ShelfView, SinkView, missed}
+use Rattle.gcx_io.specs.Writing.{joined}
 use Rattle.gcx_model.specs.Faults.{FaultIs}
 use Rattle.gcx_model.specs.Members.{In}
 use Rattle.gcx_model.specs.Query.{ExprTree}
@@ -14,22 +15,23 @@ use Rattle.gcx_words.proofs.Within.{asked_within}
 use Rattle.gcx_words.specs.Pairs.{are_apart}
 use Rattle.gcx_words.specs.Within.{IsWithin}
 use Rattle.gcx_words.specs.declared.pairs.Pair.{Pair}
-use Rattle.run_words.specs.Ends.{Refused}
-use Rattle.gcx_cmd.proofs.ManyBytes.{doc_refused, out_holds, refused_one, stopped_there}
+use Rattle.run_words.specs.Ends.{Refused, Whole}
+use Rattle.gcx_cmd.proofs.Manies.{queries_keep, queries_refuse}
+use Rattle.gcx_cmd.proofs.ManyBytes.{accepted_there, at_split, doc_refused, doc_whole, out_holds, refused_one, stopped_there}
 use Rattle.gcx_words.specs.declared.command.Command.{Command}
 use Rattle.gcx_words.specs.declared.command.Command.TheVariants.{Run, Whole, Explain, Peak, Gen, Selfrun, Many, Check}
 use Rattle.doc_laws.proofs.Unique.{fault_one}
-use Rattle.gcx_cmd.proofs.Complete.{complete_from, document_refused_from, refused_from, refused_not, there}
+use Rattle.gcx_cmd.proofs.Complete.{complete_from, document_refused_from, one_refusal, refused_from, refused_not, there}
 use Rattle.gcx_cmd.proofs.Says.{DocIsClean, DocSays, QuerySays, check_doc_says, check_query_says, clean_document, explain_query_says, one_query, peak_doc_says, peak_query_says, run_doc_says, run_query_says, says_of_document, says_of_query, whole_doc_says, whole_query_says}
 use Rattle.gcx_cmd.specs.CheckDoes.{CheckDoes}
 use Rattle.gcx_cmd.specs.Commands.{LacksFile, document_of, queries_of, query_of, trace_of}
-use Rattle.gcx_cmd.specs.Completes.{Completes, CompletesFor, Ends, HoldsSuch, ReadsWell, WritesWell}
+use Rattle.gcx_cmd.specs.Completes.{AreQueries, Completes, CompletesFor, Ends, HoldsSuch, ReadsWell, WritesWell}
 use Rattle.gcx_cmd.specs.Does.{Diagnoses, Does, DoesIf, Obeys, Tells}
 use Rattle.gcx_cmd.specs.ExplainDoes.{ExplainDoes}
 use Rattle.gcx_cmd.specs.GenDoes.{GenDoes}
 use Rattle.gcx_cmd.specs.Keeps.{HasCauses, Keeps}
 use Rattle.gcx_cmd.specs.ManyAnswers.{AnswersMany}
-use Rattle.gcx_cmd.specs.ManyDoes.{ManyDoes}
+use Rattle.gcx_cmd.specs.ManyDoes.{AcceptsQueries, ManyDoes, ManyEnds, StopsAtQuery}
 use Rattle.gcx_cmd.specs.Main.{IsDocument, IsQuery, QueryFaultOf}
 use Rattle.gcx_cmd.specs.Outside.{Outside}
 use Rattle.gcx_cmd.specs.PeakDoes.{PeakDoes}
@@ -259,7 +261,7 @@ self_well seed count status.Memory a m r not_write = inr refl
 self_well seed count (status.TraceRefused n) a m r not_write = absurd r
 
 -- `many` ends well
-many_well : (d : List ℕ) (ps : List Pair) → are_apart d ps ≡ true → (s : Status) (a m : Outside) → ManyDoes d ps s a m → ((i : ℕ) (p : Pair) → slice_get ps i ≡ Some p → HoldsSuch a.shelf.names p.query IsQuery)
+many_well : (d : List ℕ) (ps : List Pair) → are_apart d ps ≡ true → (s : Status) (a m : Outside) → ManyDoes d ps s a m → AreQueries a.shelf.names ps
     → HoldsSuch a.shelf.names d IsDocument → IsTelling m.shelf.names → (s ≡ status.ReadFault → ⊥) → (s ≡ status.WriteFault → ⊥) → Ends status.Ok s
 many_well d ps apart status.Ok a m o hq hd telling not_read not_write = inl refl
 many_well d ps apart status.Usage a m o hq hd telling not_read not_write = absurd o.1
@@ -275,6 +277,107 @@ many_well d ps apart status.ReadFault a m o hq hd telling not_read not_write = a
 many_well d ps apart status.WriteFault a m o hq hd telling not_read not_write = absurd (not_write refl)
 many_well d ps apart status.Memory a m o hq hd telling not_read not_write = inr refl
 many_well d ps apart (status.TraceRefused n) a m o hq hd telling not_read not_write = absurd o.1
+
+-- ---- what of `many` is refused
+
+-- of two splits of a list, the second's element lies in the first part of the first, or is its element, or the first's lies so
+abbrev Place : {X : Type 0} → (before : List X) (x : X) (earlier : List X) (y : X) → Type 0
+Place before x earlier y = ((i : ℕ) × (slice_get before i ≡ Some y)) ⊎ ((y ≡ x) ⊎ ((i : ℕ) × (slice_get earlier i ≡ Some x)))
+
+place : {X : Type 0} (before : List X) (x : X) (behind earlier : List X) (y : X) (later : List X) → before ++ x ∷ behind ≡ earlier ++ y ∷ later → Place before x earlier y
+place [] x behind [] y later e = let same : y ≡ x = cc in inr (inl same)
+place [] x behind (z ∷ earlier) y later e = let same : z ≡ x = cc in inr (inr (0, ap Some same))
+place (z ∷ before) x behind [] y later e = let same : z ≡ y = cc in inl (0, ap Some same)
+place (z ∷ before) x behind (u ∷ earlier) y later e =
+    let rest : before ++ x ∷ behind ≡ earlier ++ y ∷ later = cc in
+    elim (place before x behind earlier y later rest) [
+      | inl b ↦ inl (suc b.0, b.1)
+      | inr others ↦ elim others [
+        | inl same ↦ inr (inl same)
+        | inr e ↦ inr (inr (suc e.0, e.1))
+      ]
+    ]
+
+-- a QUERY that is there doesn't fail for want of its file
+query_there : (c : Command) (ps : List Pair) (a b : ShelfView) (o : StopsAtQuery ps status.ReadFault a b) (bytes : List ℕ) → content_of a.names o.pair.query ≡ Some bytes → LacksFile c a b → ⊥
+query_there c ps a b o bytes told lacks =
+    let keeps = (queries_keep o.before o.xs a o.m o.accepted).0 in
+    let refused = queries_refuse o.before o.xs a o.m o.accepted in
+    let moved : LacksFile c o.m b = record {
+      name = lacks.name;
+      is_file = lacks.is_file;
+      missing = subst (λ (n : Names). IsMissing n lacks.name) (sym keeps.names) lacks.missing;
+      behind = lacks.behind;
+      listed = lacks.listed ∙ ap (λ (l : List Miss). l ++ missed lacks.name lacks.behind ∷ []) (sym refused);
+    } in
+    elim o.stops [
+      | inl gone ↦ missed_there c o.pair.query bytes 0 o.m b (ap (λ (n : Names). content_of n o.pair.query) keeps.names ∙ told) gone moved
+      | inr opened ↦ opened_all c 1 o.m b opened.0 moved
+    ]
+
+module _ (c : Command) (d : List ℕ) (ps before : List Pair) (p : Pair) (behind : List Pair) (f : QueryFault) (split : ps ≡ before ++ p ∷ behind) (a m : ShelfView)
+    (hq : AreQueries a.names before) (h : HoldsSuch a.names p.query (λ bytes. QueryFaultOf bytes f)) where
+  -- it isn't accepted
+  not_all : (xs : List (List ExprTree)) (v : ShelfView) → AcceptsQueries ps a v xs → ⊥
+  not_all xs v accepts =
+      refused_not h.0 f h.2 (accepted_there ps xs a v accepts (length before) p (subst (λ (l : List Pair). slice_get l (length before) ≡ Some p) (sym split) (at_split before p behind)) h.0 h.1)
+
+  not_before : (earlier : List Pair) (xs : List (List ExprTree)) (v : ShelfView) → AcceptsQueries earlier a v xs → (i : ℕ) × (slice_get earlier i ≡ Some p) → ⊥
+  not_before earlier xs v accepts (i, at) = refused_not h.0 f h.2 (accepted_there earlier xs a v accepts i p at h.0 h.1)
+
+  refused_there : (g : QueryFault) → StopsAtQuery ps (status.QueryRefused g) a m → g ≡ f
+  refused_there g o = elim (place before p behind o.before o.pair o.behind (sym split ∙ o.split)) [
+    | inl b ↦ (let q = hq b.0 o.pair b.1 in absurd (refused_not q.0 g (refused_one ps g a m o q.0 q.1) q.2))
+    | inr others ↦ elim others [
+      | inl same ↦ one_refusal h.0 g f (refused_one ps g a m o h.0 (ap (λ (q : Pair). content_of a.names q.query) same ∙ h.1)) h.2
+      | inr e ↦ absurd (not_before o.before o.xs o.m o.accepted e)
+    ]
+  ]
+
+  no_file_lacks : ManyEnds d ps status.ReadFault a m → LacksFile c a m → ⊥
+  no_file_lacks (inl (inl o)) lacks = elim (place before p behind o.before o.pair o.behind (sym split ∙ o.split)) [
+    | inl b ↦ (let q = hq b.0 o.pair b.1 in query_there c ps a m o q.0 q.1 lacks)
+    | inr others ↦ elim others [
+      | inl same ↦ query_there c ps a m o h.0 (ap (λ (q : Pair). content_of a.names q.query) same ∙ h.1) lacks
+      | inr e ↦ not_before o.before o.xs o.m o.accepted e
+    ]
+  ]
+  no_file_lacks (inl (inr o)) lacks = not_all o.made.xs o.made.m o.made.accepted
+  no_file_lacks (inr r) lacks = not_all r.xs r.accepted r.accepts
+
+  many_refuses : (s : Status) → ManyEnds d ps s a m → (s ≡ status.ReadFault → ⊥) → Ends (status.QueryRefused f) s
+  many_refuses status.Ok o not_read = absurd (not_all o.0.xs o.0.accepted o.0.accepts)
+  many_refuses status.Usage o not_read = absurd o
+  many_refuses (status.QueryRefused g) o not_read = inl (ap status.QueryRefused (refused_there g o))
+  many_refuses (status.DocumentRefused g) o not_read = absurd (not_all o.xs o.accepted o.accepts)
+  many_refuses status.ReadFault o not_read = absurd (not_read refl)
+  many_refuses status.WriteFault (inl o) not_read = absurd (not_all o.made.xs o.made.m o.made.accepted)
+  many_refuses status.WriteFault (inr r) not_read = absurd (not_all r.xs r.accepted r.accepts)
+  many_refuses status.Memory o not_read = inr refl
+  many_refuses (status.TraceRefused n) o not_read = absurd o
+
+-- DOC is refused, and no QUERY is
+many_refuses_doc : (d : List ℕ) (ps : List Pair) → are_apart d ps ≡ true → (f : DocFault) (s : Status) (a m : ShelfView) → ManyEnds d ps s a m → AreQueries a.names ps
+    → HoldsSuch a.names d (λ bytes. FaultIs full_limits bytes true (Some f)) → IsTelling m.names → (s ≡ status.ReadFault → ⊥) → (s ≡ status.WriteFault → ⊥) → Ends (status.DocumentRefused f) s
+many_refuses_doc d ps apart f status.Ok a m o hq hd telling not_read not_write =
+    let whole : hd.0 ≡ joined o.0.run.pieces = doc_whole d ps apart Whole a m o.0 telling hd.0 hd.1 o.0.run.stops.0 in
+    absurd (none_fault f (fault_one full_limits hd.0 true None (Some f) (subst (λ (l : List ℕ). FaultIs full_limits l true None) (sym whole) o.0.run.stops.1) hd.2))
+  where
+    none_fault : (g : DocFault) → None ≡ Some g → ⊥
+    none_fault g e = cc
+many_refuses_doc d ps apart f status.Usage a m o hq hd telling not_read not_write = absurd o
+many_refuses_doc d ps apart f (status.QueryRefused g) a m o hq hd telling not_read not_write =
+    let h = hq (length o.before) o.pair (stopped_there ps g a m o) in
+    absurd (refused_not h.0 g (refused_one ps g a m o h.0 h.1) h.2)
+many_refuses_doc d ps apart f (status.DocumentRefused g) a m o hq hd telling not_read not_write =
+    inl (ap status.DocumentRefused (same_fault g f (fault_one full_limits hd.0 true (Some g) (Some f) (doc_refused d ps apart (Refused g) a m o telling g o.run.stops hd.0 hd.1) hd.2)))
+  where
+    same_fault : (g f : DocFault) → Some g ≡ Some f → g ≡ f
+    same_fault g f e = cc
+many_refuses_doc d ps apart f status.ReadFault a m o hq hd telling not_read not_write = absurd (not_read refl)
+many_refuses_doc d ps apart f status.WriteFault a m o hq hd telling not_read not_write = absurd (not_write refl)
+many_refuses_doc d ps apart f status.Memory a m o hq hd telling not_read not_write = inr refl
+many_refuses_doc d ps apart f (status.TraceRefused n) a m o hq hd telling not_read not_write = absurd o
 
 -- ---- each command
 
@@ -300,6 +403,7 @@ completes_for (Run trace ahead q d) within s a m b keeps o diag =
           (never_usage (Run trace ahead q d) s a m o));
       refused_document = λ n k f query doc. refused_document_if (Run trace ahead q d) s a m b keeps diag n k query doc
           (subst (λ (l : List ℕ). QuerySays l s a.shelf m.shelf) (some_same q n query) says) (subst (λ (l : List ℕ). DocSays l s a.shelf m.shelf) (some_same d k doc) says_doc) refl not_judged f;
+      refused_many = tt;
     }
 completes_for (Whole q d) within s a m b keeps o diag =
     let not_judged : (n : ℕ) → s ≡ status.TraceRefused n → ⊥ = λ n is. subst (λ (t : Status). WholeDoes q d t a m) is o in
@@ -311,6 +415,7 @@ completes_for (Whole q d) within s a m b keeps o diag =
           (refused_if (Whole q d) s a m b keeps diag q f says (λ e. whole_stage q d a m (subst (λ (t : Status). WholeDoes q d t a m) e o)) (never_usage (Whole q d) s a m o));
       refused_document = λ n k f query doc. refused_document_if (Whole q d) s a m b keeps diag n k query doc
           (subst (λ (l : List ℕ). QuerySays l s a.shelf m.shelf) (some_same q n query) says) (subst (λ (l : List ℕ). DocSays l s a.shelf m.shelf) (some_same d k doc) says_doc) refl not_judged f;
+      refused_many = tt;
     }
 completes_for (Peak q d) within s a m b keeps o diag =
     let not_judged : (n : ℕ) → s ≡ status.TraceRefused n → ⊥ = λ n is. subst (λ (t : Status). PeakDoes q d t a m) is o in
@@ -322,6 +427,7 @@ completes_for (Peak q d) within s a m b keeps o diag =
           (refused_if (Peak q d) s a m b keeps diag q f says (λ e. peak_stage q d a m (subst (λ (t : Status). PeakDoes q d t a m) e o)) (never_usage (Peak q d) s a m o));
       refused_document = λ n k f query doc. refused_document_if (Peak q d) s a m b keeps diag n k query doc
           (subst (λ (l : List ℕ). QuerySays l s a.shelf m.shelf) (some_same q n query) says) (subst (λ (l : List ℕ). DocSays l s a.shelf m.shelf) (some_same d k doc) says_doc) refl not_judged f;
+      refused_many = tt;
     }
 completes_for (Explain q) within s a m b keeps o diag = record {
   well = λ holds reads writes. explain_well q holds.0 s a m o holds.1 holds.2
@@ -331,27 +437,37 @@ completes_for (Explain q) within s a m b keeps o diag = record {
       (refused_if (Explain q) s a m b keeps diag q f (explain_query_says q s a m o) (λ e. explain_stage q a m (subst (λ (t : Status). ExplainDoes q t a m) e o))
       (never_usage (Explain q) s a m o));
   refused_document = λ n k f query doc. absurd (none_some k doc);
+  refused_many = tt;
 }
 completes_for (Gen seed count) within s a m b keeps o diag = record {
   well = λ writes. gen_well seed count s a m o (no_write (Gen seed count) s a m b keeps diag writes);
   refused = λ n f is. absurd (none_some n is);
   refused_document = λ n k f query doc. absurd (none_some n query);
+  refused_many = tt;
 }
 completes_for (Selfrun seed count) within s a m b keeps o diag = record {
   well = λ writes. self_well seed count s a m o (no_write (Selfrun seed count) s a m b keeps diag writes);
   refused = λ n f is. absurd (none_some n is);
   refused_document = λ n k f query doc. absurd (none_some n query);
+  refused_many = tt;
 }
 completes_for (Many d ps) within s a m b keeps o diag = record {
   well = λ hq hd telling reads writes. many_well d ps within.1 s a m o hq hd (subst (λ (v : ShelfView). IsTelling v.names) diag.shelf telling)
-      (no_read (Many d ps) s a m b keeps diag reads (λ is. many_there hq hd)) (no_write (Many d ps) s a m b keeps diag writes);
+      (no_read (Many d ps) s a m b keeps diag reads (λ is. many_there IsDocument hq hd)) (no_write (Many d ps) s a m b keeps diag writes);
   refused = λ n f is. absurd (none_some n is);
   refused_document = λ n k f query doc. absurd (none_some n query);
+  refused_many = record {
+    query = λ before p behind f split hq h reads. many_refuses (Many d ps) d ps before p behind f split a.shelf m.shelf hq h s o.1
+        (no_read (Many d ps) s a m b keeps diag reads
+        (λ is. no_file_lacks (Many d ps) d ps before p behind f split a.shelf m.shelf hq h (subst (λ (t : Status). ManyEnds d ps t a.shelf m.shelf) is o.1)));
+    document = λ f hq hd telling reads writes. many_refuses_doc d ps within.1 f s a.shelf m.shelf o.1 hq hd (subst (λ (v : ShelfView). IsTelling v.names) diag.shelf telling)
+        (no_read (Many d ps) s a m b keeps diag reads (λ is. many_there (λ bytes. FaultIs full_limits bytes true (Some f)) hq hd)) (no_write (Many d ps) s a m b keeps diag writes);
+  };
 }
   where
     -- each file is there
-    many_there : ((i : ℕ) (p : Pair) → slice_get ps i ≡ Some p → HoldsSuch a.shelf.names p.query IsQuery) → HoldsSuch a.shelf.names d IsDocument → LacksFile (Many d ps) a.shelf m.shelf → ⊥
-    many_there hq hd lacks = elim lacks.is_file [
+    many_there : (P : List ℕ → Type 0) → AreQueries a.shelf.names ps → HoldsSuch a.shelf.names d P → LacksFile (Many d ps) a.shelf m.shelf → ⊥
+    many_there P hq hd lacks = elim lacks.is_file [
       | inl is ↦ none_some lacks.name is
       | inr others ↦ elim others [
         | inl is ↦ there a.shelf.names lacks.name hd.0 (ap (content_of a.shelf.names) (sym (some_same d lacks.name is)) ∙ hd.1) lacks.missing
@@ -362,7 +478,7 @@ completes_for (Many d ps) within s a m b keeps o diag = record {
       ]
     ]
       where
-        found : (xs : List Pair) → ((i : ℕ) (p : Pair) → slice_get xs i ≡ Some p → HoldsSuch a.shelf.names p.query IsQuery) → In lacks.name (map (λ p. p.query) xs) → (bytes : List ℕ) × (content_of a.shelf.names lacks.name ≡ Some bytes)
+        found : (xs : List Pair) → AreQueries a.shelf.names xs → In lacks.name (map (λ p. p.query) xs) → (bytes : List ℕ) × (content_of a.shelf.names lacks.name ≡ Some bytes)
         found [] each among = absurd among
         found (x ∷ xs) each (inl same) = let h = each 0 x refl in (h.0, ap (content_of a.shelf.names) (sym same) ∙ h.1)
         found (x ∷ xs) each (inr more) = found xs (λ i p is. each (suc i) p is) more
@@ -379,6 +495,7 @@ completes_for (Check q d t) within s a m b keeps o diag =
           (subst (λ (l : List ℕ). QuerySays l s a.shelf m.shelf) (some_same q n query) says) (subst (λ (l : List ℕ). DocSays l s a.shelf m.shelf) (some_same d k doc) says_doc) f hq hd
           (λ is. document_not (Check q d t) q d t hq.0 hd.0 f a m (ap (content_of a.shelf.names) (some_same q n query) ∙ hq.1)
           (ap (content_of a.shelf.names) (some_same d k doc) ∙ hd.1) hd.2 (subst (λ (z : Status). CheckDoes q d t z a m) is o));
+      refused_many = tt;
     }
 
 -- what a command line does says which status must come
@@ -394,4 +511,4 @@ answers_many words s a b does d ps asked ok telling i p query_bytes document_byt
     let r : ManyDoes d ps status.Ok a does.between = subst (λ (t : Status). ManyDoes d ps t a does.between) ok done.1 in
     let shelf = does.diagnosed.shelf in
     ap (λ (v : ShelfView). content_of v.names p.out) shelf
-    ∙ out_holds d ps (asked_within words (Many d ps) asked).1 a.shelf does.between.shelf r.1 (subst (λ (v : ShelfView). IsTelling v.names) shelf telling) i p query_bytes document_bytes is_p told_q told_d q doc accepted spelled
+    ∙ out_holds d ps (asked_within words (Many d ps) asked).1 a.shelf does.between.shelf r.1.0 r.1.1 (subst (λ (v : ShelfView). IsTelling v.names) shelf telling) i p query_bytes document_bytes is_p told_q told_d q doc accepted spelled

@@ -69,7 +69,7 @@ module _ (name : List ℕ) (a m b : ShelfView) (h : ℕ) (left_m left_b : ℕ �
         named = name_is b.given h v name handle.1 (others.name ∙ some_name m.given h opened at_opened);
         some = gave.some;
         calls = sym (calls_is b.given h v handle.1) ∙ sym calls_t ∙ gave.calls
-            ∙ ap (λ (l : List Call). l ++ map Gave pieces ++ last_call stop) (calls_s ∙ calls_is m.given h opened at_opened);
+            ∙ ap (λ (l : List Call). l ++ map (Gave 65536) pieces ++ last_call 65536 stop) (calls_s ∙ calls_is m.given h opened at_opened);
         told = subst (λ (o : Option (List ℕ)). Consumes (content_of a.names name) o (joined pieces)) left_now
             (subst (λ (o : Option (List ℕ)). Consumes o t.left (joined pieces)) left_then gave.told);
         at_end = λ e. subst IsAtEnd left_now (gave.at_end e);

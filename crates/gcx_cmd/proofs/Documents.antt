@@ -17,6 +17,7 @@ use Rattle.doc_laws.proofs.Pieces.{Stands as Kept}
 use Rattle.doc_laws.proofs.Theorems.{whole_spells, not_whole, spells_one}
 use Rattle.doc_laws.proofs.Unique.{clean_reads}
 use Rattle.tree_read.specs.Document.{BytesSpell}
+use Rattle.gcx_cmd.specs.DocumentDoes.{SpellsOneDocument}
 use Rattle.engine.proofs.Whole.{whole_of}
 
 -- ---- want of memory is no fault of bytes
@@ -78,3 +79,10 @@ pub one_spelled : (b : List ℕ) (d e : Nodes) → BytesSpell b d → BytesSpell
 one_spelled b d e h k =
     let same : h.chars ≡ k.chars = sym (chars-encodes h.chars h.characters) ∙ ap chars (sym h.encoded ∙ k.encoded) ∙ chars-encodes k.chars k.characters in
     spells_one k.chars d e (subst (λ (l : List ℕ). SpellsDocument l d) same h.spells) k.spells
+
+-- bytes without a fault spell one document
+pub one_document : (lim : Limits) (b : List ℕ) → FaultIs lim b true None → (d : Nodes) × SpellsOneDocument b d
+one_document lim b clean =
+    let w = whole_of lim b clean in
+    let s : BytesSpell b w.document = record { chars = w.cs; characters = w.decodes.chars; encoded = w.decodes.parts ∙ append-nil (encodes w.cs); spells = w.spells } in
+    (w.document, record { spells = s; only = λ d h. one_spelled b d w.document h s })

@@ -25,6 +25,7 @@ module _ (t text : List ℕ) (s u : SourceView) where
       stop = j.stop;
       one = f.opens;
       trace = f.reads j.pieces j.stop j.gave;
+      short = j.short;
       in_time = j.earlier;
       says = says;
     }

@@ -5,6 +5,7 @@ mod QueryRead
 mod DocRead
 mod FileRead
 mod Documents
+mod Answering
 mod Rows
 mod Queries
 mod Stops
@@ -22,6 +23,7 @@ mod Checks
 mod Says
 mod Complete
 mod Completing
+mod CheckEnds
 mod Measures
 mod Obeyed
 pub mod Refuted
@@ -33,3 +35,5 @@ mod ManyEnding
 mod ManyDone
 mod ManyTexts
 mod ManyBytes
+mod SelfQuery
+mod SelfDocument

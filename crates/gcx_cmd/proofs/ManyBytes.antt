@@ -14,7 +14,6 @@ use Rattle.gcx_model.specs.Document.{Nodes}
 use Rattle.gcx_model.specs.Faults.{FaultIs}
 use Rattle.gcx_model.specs.Members.{In}
 use Rattle.gcx_model.specs.Query.{ExprTree}
-use Rattle.gcx_model.specs.Sound.{is_sound}
 use Rattle.gcx_model.specs.declared.fault.DocFault.{DocFault}
 use Rattle.gcx_model.specs.declared.fault.QueryFault.{QueryFault}
 use Rattle.gcx_words.specs.Pairs.{are_apart}
@@ -29,10 +28,9 @@ use Rattle.many_run.specs.Files.{HaveOtherNames, NamesStay, bytes_in, name_of_ha
 use Rattle.many_run.proofs.Filing.{telling_back}
 use Rattle.many_run.proofs.Walking.{not_there, some_is, there}
 use Rattle.gcx_cmd.proofs.Manies.{MadeOuts, doc_is_none, doc_there, made_outs, outs_named, queries_count, queries_keep}
-use Rattle.gcx_cmd.proofs.Measures.{answer_of}
-use Rattle.gcx_cmd.proofs.Says.{given_all, given_part, read_all, refused_query}
-use Rattle.gcx_cmd.specs.Main.{Accepts, QueryFaultOf}
-use Rattle.gcx_cmd.specs.ManyDoes.{AcceptsQueries, MakesOuts, RunsMany, StopsAtQuery}
+use Rattle.gcx_cmd.proofs.Says.{given_all, given_part, one_query, read_all, refused_query}
+use Rattle.gcx_cmd.specs.Main.{Accepts, IsQuery, QueryFaultOf}
+use Rattle.gcx_cmd.specs.ManyDoes.{AcceptsQueries, MakesOuts, RunsMany, StopsAtQuery, TakeAnswers}
 use Rattle.gcx_cmd.specs.declared.status.Status.TheVariants as status
 
 -- a name that stays holds what it held
@@ -44,7 +42,7 @@ content_stays P (Some x) (Some y) n stay p telling = stay.1 n p
 
 -- ---- QUERYs
 
-at_split : {X : Type 0} (before : List X) (x : X) (behind : List X) → slice_get (before ++ x ∷ behind) (length before) ≡ Some x
+pub at_split : {X : Type 0} (before : List X) (x : X) (behind : List X) → slice_get (before ++ x ∷ behind) (length before) ≡ Some x
 at_split [] x behind = refl
 at_split (y ∷ before) x behind = at_split before x behind
 
@@ -62,6 +60,16 @@ one_pair x y same = cc
 
 one_of : (x y : List ExprTree) → Some x ≡ Some y → x ≡ y
 one_of x y same = cc
+
+-- the query of an accepted QUERY's bytes
+pub accepted_there : (ps : List Pair) (xs : List (List ExprTree)) (a b : ShelfView) → AcceptsQueries ps a b xs → (i : ℕ) (p : Pair) → slice_get ps i ≡ Some p
+    → (bytes : List ℕ) → content_of a.names p.query ≡ Some bytes → IsQuery bytes
+accepted_there [] xs a b h i p at bytes told = let no : ⊥ = cc in absurd no
+accepted_there (y ∷ ps) [] a b h i p at bytes told = absurd h
+accepted_there (y ∷ ps) (z ∷ xs) a b (m, one, accepted, k, rest) zero p at bytes told =
+    let w = one_query y.query bytes a m (ap (λ (r : Pair). content_of a.names r.query) (one_pair y p at) ∙ told) z accepted in (w.0, w.1)
+accepted_there (y ∷ ps) (z ∷ xs) a b (m, one, accepted, k, rest) (suc i) p at bytes told =
+    accepted_there ps xs m b rest i p at bytes (ap (λ (n : Names). content_of n p.query) k.names ∙ told)
 
 -- the query of a QUERY's bytes is the one that was read
 pub read_as : (ps : List Pair) (xs : List (List ExprTree)) (a b : ShelfView) → AcceptsQueries ps a b xs → (i : ℕ) (p : Pair) (x : List ExprTree) → slice_get ps i ≡ Some p → slice_get xs i ≡ Some x
@@ -161,7 +169,7 @@ holds_text (Some x) (Some y) n text P stay empty grew telling = go (y n) refl
         absurd no
     go (Some z) is = is ∙ ap Some (sym (ap (λ (o : Option (List ℕ)). unwrap_or o []) is) ∙ (grew ∙ ap (λ (l : List ℕ). l ++ text) nothing))
 
-module _ (d : List ℕ) (ps : List Pair) (apart : are_apart d ps ≡ true) (a b : ShelfView) (r : RunsMany d ps Whole a b) (telling : IsTelling b.names) where
+module _ (d : List ℕ) (ps : List Pair) (apart : are_apart d ps ≡ true) (a b : ShelfView) (r : RunsMany d ps Whole a b) (w : TakeAnswers r.xs r.outs r.run.pieces r.begun b) (telling : IsTelling b.names) where
   -- at Ok each OUT holds the answer of its QUERY
   pub out_holds : (i : ℕ) (p : Pair) (query_bytes document_bytes : List ℕ) → slice_get ps i ≡ Some p → content_of a.names p.query ≡ Some query_bytes → content_of a.names d ≡ Some document_bytes
       → (q : List ExprTree) (doc : Nodes) → Accepts query_bytes q → BytesSpell document_bytes doc → content_of b.names p.out ≡ Some (answer q doc)
@@ -172,16 +180,17 @@ module _ (d : List ℕ) (ps : List Pair) (apart : are_apart d ps ≡ true) (a b 
       let count = queries_count ps r.xs a r.accepted r.accepts in
       let o = there r.outs i (omega (arith, few, n)) in
       let x = there r.xs i (omega (arith, few, count)) in
-      let ends = r.run.each i o.0 o.1 x.0 x.1 in
+      let text = answer x.0 w.doc in
+      let took = w.each i o.0 x.0 o.1 x.1 in
       let same : q ≡ x.0 = read_as ps r.xs a r.accepted r.accepts i p x.0 is_p x.1 query_bytes told_q q accepted.spells in
-      let whole : document_bytes ≡ joined r.run.pieces = doc_whole d ps apart Whole a b r telling document_bytes told_d ends.0 in
-      let w = ends.2 in
-      let is = answer_of x.0 (joined r.run.pieces) w.settled doc (subst (λ (y : List ExprTree). is_sound y ≡ true) same accepted.sound) ends.1 w.is (subst (λ (l : List ℕ). BytesSpell l doc) whole spelled) in
+      let whole : document_bytes ≡ joined r.run.pieces = doc_whole d ps apart Whole a b r telling document_bytes told_d r.run.stops.0 in
+      let one : doc ≡ w.doc = w.spells.only doc (subst (λ (l : List ℕ). BytesSpell l doc) whole spelled) in
       let named = outs_named d ps apart r.outs r.accepted r.made r.begun r.makes r.doc r.opens.0 i o.0 o.1 in
       let name : name_of_handle r.begun.given o.0.0 ≡ Some p.out = named.2 ∙ ap (λ (y : Pair). Some y.out) (some_is (slice_get ps i) named.0 p named.1 is_p) in
       let empty : content_of r.begun.names p.out ≡ Some []
       = ap (λ (z : Names). content_of z p.out) r.opens.1 ∙ made_empty ps r.outs r.accepted r.made r.makes (λ j k y z is_y is_z other same. apart_others d ps apart j k y z is_y is_z other same) (telling_made d ps apart Whole a b r telling) i p is_p in
-      let grew : Grows (bytes_in r.begun.names (Some p.out)) (bytes_in b.names (Some p.out)) w.settled
-      = subst (λ (m : Option (List ℕ)). Grows (bytes_in r.begun.names (Some p.out)) (bytes_in b.names m) w.settled) (r.run.others.names_of o.0.0 ∙ name)
-      (subst (λ (m : Option (List ℕ)). Grows (bytes_in r.begun.names m) (bytes_in b.names (name_of_handle b.given o.0.0)) w.settled) name w.wrote.told) in
-      holds_text r.begun.names b.names p.out w.settled (HaveOtherNames r.begun r.outs) r.run.others.names empty grew telling ∙ ap Some (is ∙ ap (λ (y : List ExprTree). answer y doc) (sym same))
+      let grew : Grows (bytes_in r.begun.names (Some p.out)) (bytes_in b.names (Some p.out)) text
+      = subst (λ (m : Option (List ℕ)). Grows (bytes_in r.begun.names (Some p.out)) (bytes_in b.names m) text) (r.run.others.names_of o.0.0 ∙ name)
+      (subst (λ (m : Option (List ℕ)). Grows (bytes_in r.begun.names m) (bytes_in b.names (name_of_handle b.given o.0.0)) text) name took.told) in
+      holds_text r.begun.names b.names p.out text (HaveOtherNames r.begun r.outs) r.run.others.names empty grew telling
+      ∙ ap Some (ap (λ (y : List ExprTree). answer y w.doc) (sym same) ∙ ap (answer q) (sym one))

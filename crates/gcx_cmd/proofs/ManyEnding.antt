@@ -26,6 +26,7 @@ use Rattle.many_run.specs.Each.{AtEach}
 use Rattle.many_run.specs.Files.{NamesStay, sink_at}
 use Rattle.many_run.specs.Runs.{EachPlanEnds, EndsOne, RunsInto, alone}
 use Rattle.many_run.proofs.Walking.{not_there, there}
+use Rattle.gcx_cmd.proofs.Answering.{many_answers}
 use Rattle.gcx_cmd.proofs.Manies.{MadeOuts, made_outs}
 use Rattle.gcx_cmd.proofs.Runs.{settles_on, trace_on}
 use Rattle.gcx_cmd.specs.Reads.{CausesFault}
@@ -33,6 +34,7 @@ use Rattle.gcx_model.specs.declared.fault.DocFault.{DocFault}
 use Rattle.gcx_model.specs.declared.fault.DocFault.TheVariants.{Memory}
 use Rattle.gcx_cmd.specs.Main.{HasNoMemory}
 use Rattle.gcx_cmd.specs.ManyDoes.{AcceptsPlans, EachQueryEnds, FailsAtOut, HasMade, MakesOuts, ManyEnds, RunsMany, RunsPlans, StopsInOuts}
+use Rattle.gcx_cmd.specs.ReadEnd.{attach_status}
 use Rattle.gcx_cmd.specs.Running.{IsPlanOf, Settles}
 use Rattle.gcx_cmd.specs.Status.{ended_status}
 use Rattle.gcx_cmd.specs.Tracing.{IsTrace}
@@ -116,12 +118,10 @@ module _ (d : List ℕ) (ps : List Pair) (a m : ShelfView) (plans : List Plan) (
     has_made : HasMade ps ps a made
     has_made = record { xs = accepts.xs; m = m; outs = outs; accepted = accepts.accepts; makes = makes }
 
-    -- DOC isn't there
-    pub misses_doc : (b : ShelfView) → Attaches d made b (Err fault.Failed) → ManyEnds d ps status.ReadFault a b
-    misses_doc b gone = inl (inr (record { m = made; made = has_made; fails = gone }))
-
-    pub lacks_doc : (b : ShelfView) → Attaches d made b (Err fault.Memory) → ManyEnds d ps status.Memory a b
-    lacks_doc b gone = inl (inr (inr (inr (record { m = made; made = has_made; fails = gone }))))
+    -- DOC isn't there, or there is no memory to open it
+    pub without_doc : (b : ShelfView) (why : AttachFault) → Attaches d made b (Err why) → ManyEnds d ps (attach_status why) a b
+    without_doc b fault.Failed gone = inl (inr (record { m = made; made = has_made; fails = gone }))
+    without_doc b fault.Memory gone = inl (inr (inr (inr (record { m = made; made = has_made; fails = gone }))))
 
     -- it is read
     module _ (begun : ShelfView) (doc : Handle) (opens : Attaches d made begun (Ok doc)) (b : ShelfView) where
@@ -140,7 +140,7 @@ module _ (d : List ℕ) (ps : List Pair) (a m : ShelfView) (plans : List Plan) (
       }
 
       ends_by : (x : Ended) → RunsInto (EachPlanEnds plans full_limits (run_end x)) full_limits (run_end x) doc outs begun b → ManyEnds d ps (ended_status x) a b
-      ends_by ends.Ok r = runs Whole r
+      ends_by ends.Ok r = let m = runs Whole r in (m, many_answers d ps a b m)
       ends_by (ends.Refused f) r = runs (Refused f) r
       ends_by ends.ReadFault r = inr (runs ReadFailed r)
       ends_by ends.WriteFault r = inr (runs WriteFailed r)
@@ -150,9 +150,6 @@ module _ (d : List ℕ) (ps : List Pair) (a m : ShelfView) (plans : List Plan) (
       plans_end s (x, is, r) = subst (λ (t : Status). ManyEnds d ps t a b) (sym is) (ends_by x r)
 
 -- an attach that failed for this reason
-pub failed_so : (d : List ℕ) (a b : ShelfView) (f why : AttachFault) → f ≡ why → Attaches d a b (Err f) → Attaches d a b (Err why)
-failed_so d a b f why is gone = subst (λ (z : AttachFault). Attaches d a b (Err z)) is gone
-
 -- no refusal is want of memory
 pub lasts_by : (x : Ended) (s : Status) → s ≡ ended_status x → ((f : DocFault) → x ≡ ends.Refused f → f ≡ Memory → ⊥) → HasNoMemory s
 lasts_by ends.Ok s is lasts = subst (λ (t : Status). HasNoMemory t) (sym is) tt
@@ -208,9 +205,10 @@ module _ (d : List ℕ) (ps : List Pair) (os : List Handle) (a made : ShelfView)
   outs : MadeOuts ps a made os
   outs = made_outs ps os a made makes
 
-  pub doc_missing : (b : ShelfView) → Attaches d made b (Err fault.Failed) → CausesFault d a b
-  doc_missing b (gone, writes, inl rose) = inl (subst (λ (n : ℕ). Rose n b.faults) outs.faults rose)
-  doc_missing b (gone, writes, inr (missing, calm)) =
+  pub doc_missing : (b : ShelfView) (why : AttachFault) → Attaches d made b (Err why) → attach_status why ≡ status.ReadFault → CausesFault d a b
+  doc_missing b fault.Memory same is = absurd (cc)
+  doc_missing b fault.Failed (gone, writes, inl rose) is = inl (subst (λ (n : ℕ). Rose n b.faults) outs.faults rose)
+  doc_missing b fault.Failed (gone, writes, inr (missing, calm)) is =
       inr (missing_before a.names made.names outs.names missing, length made.given, gone.refused ∙ ap (λ (z : List Miss). z ++ missed d (length made.given) ∷ []) outs.refused)
     where
       missing_before : (x y : Names) → NamesStay (λ name. In name (map (λ p. p.out) ps) → ⊥) x y → IsMissing y d → IsMissing x d

@@ -10,22 +10,21 @@ use Rattle.gcx_io.specs.Shelf.{content_of}
 use Rattle.gcx_io.specs.Views.{ShelfView, SinkView, SourceView}
 use Rattle.gcx_io.specs.Writing.{Takes, joined}
 use Rattle.gcx_model.specs.Answer.{answer}
-use Rattle.gcx_model.specs.Document.{Nodes, tree_of}
+use Rattle.gcx_model.specs.Document.{Nodes}
 use Rattle.gcx_model.specs.Faults.{FaultIs}
-use Rattle.gcx_model.specs.Normal.{known}
 use Rattle.gcx_model.specs.Query.{ExprTree}
 use Rattle.gcx_model.specs.Seen.{SeenIs}
-use Rattle.gcx_model.specs.Sound.{is_sound}
-use Rattle.placed_laws.proofs.Meaning.{normal_law}
 use Rattle.run_words.specs.Ends.{StopsWriting}
 use Rattle.run_words.specs.Stops.{Stop}
 use Rattle.tree_read.specs.Document.{BytesSpell}
+use Rattle.xq_parse.specs.Faults.{HasOnlyQuery}
 use Rattle.xq_parse.specs.Spelling.{QuerySpells}
 use Rattle.engine.specs.Runs.{sinks}
 use Rattle.engine.specs.declared.report.Ended.{Ended}
 use Rattle.engine.specs.declared.report.Ended.TheVariants as end
 use Rattle.engine.specs.declared.report.Report.{Report}
-use Rattle.gcx_cmd.proofs.Documents.{SeenWhole, one_spelled, seen_document}
+use Rattle.gcx_cmd.proofs.Answering.{answer_of}
+use Rattle.gcx_cmd.proofs.Documents.{SeenWhole, seen_document}
 use Rattle.gcx_cmd.proofs.FileRead.{FileRead}
 use Rattle.gcx_cmd.proofs.Says.{given_all, read_all}
 use Rattle.gcx_cmd.specs.DocumentDoes.{OverDoc, IsClean}
@@ -42,26 +41,17 @@ use Rattle.gcx_cmd.specs.declared.status.Status.TheVariants as status
 
 -- ---- the answer
 
--- what the bytes of a document settle is its answer
-pub answer_of : (q : List ExprTree) (bytes settled : List ℕ) (d : Nodes) → is_sound q ≡ true → FaultIs full_limits bytes true None → Settles q bytes true settled
-    → BytesSpell bytes d → settled ≡ answer q d
-answer_of q bytes settled d sound clean (ts, seen, is) spelled =
-    let w = seen_document full_limits bytes ts clean seen in
-    let same : d ≡ w.document = one_spelled bytes d w.document spelled w.spells in
-    is ∙ ap (known q) (w.tree_is ∙ ap tree_of (sym same)) ∙ normal_law q sound d
-
 -- of `run`: at Ok the answer of each query and document that the bytes spell
 pub run_written : (tracing : Bool) (ahead : ℕ) (q d query_bytes document_bytes : List ℕ) (x : List ExprTree) (doc : Nodes) (a b : Outside)
     → content_of a.shelf.names q ≡ Some query_bytes → content_of a.shelf.names d ≡ Some document_bytes → Accepts query_bytes x → BytesSpell document_bytes doc
     → RunDoes tracing ahead q d status.Ok a b → Takes a.out b.out (answer x doc)
-run_written tracing ahead q d query_bytes document_bytes x doc a b told_q told_d accepted spelled (r, empty) =
+run_written tracing ahead q d query_bytes document_bytes x doc a b told_q told_d accepted spelled (r, empty, w) =
     let q_is : query_bytes ≡ joined r.over.query.pieces = read_all q query_bytes (length a.shelf.given) a.shelf b.shelf r.over.query.pieces told_q r.over.query.reads in
     let same : x ≡ r.x = r.over.query.only.once x (subst (λ (l : List ℕ). QuerySpells l x) q_is accepted.spells) in
     let d_is : document_bytes ≡ joined r.pieces = read_all d document_bytes (length a.shelf.given + 1) a.shelf b.shelf r.pieces told_d
     (subst (λ (z : Stop). Reads d (length a.shelf.given + 1) a.shelf b.shelf r.pieces z) r.ends.0 r.over.doc) in
-    let is = answer_of r.x (joined r.pieces) r.ends.2.settled doc (subst (λ (y : List ExprTree). is_sound y ≡ true) same accepted.sound) r.ends.1 r.ends.2.is
-    (subst (λ (l : List ℕ). BytesSpell l doc) d_is spelled) in
-    subst (λ (l : List ℕ). Takes a.out b.out l) (is ∙ ap (λ (y : List ExprTree). answer y doc) (sym same)) r.ends.2.wrote
+    let one : doc ≡ w.doc = w.spells.only doc (subst (λ (l : List ℕ). BytesSpell l doc) d_is spelled) in
+    subst (λ (l : List ℕ). Takes a.out b.out l) (ap (λ (y : List ExprTree). answer y w.doc) (sym same) ∙ ap (answer x) (sym one)) w.wrote
 
 -- ---- a report of DOC
 
@@ -119,9 +109,9 @@ module _ (q : List ExprTree) (d : List ℕ) (a b : ShelfView) (s t : SourceView)
 
 -- a run over the whole document whose answer was kept
 pub self_runs : (seed count : ℕ) (source : List ℕ) (q : List ExprTree) (report : Report) (s t : SourceView) (o p e g : SinkView) (store : StoreView) (written : List ℕ)
-    → Accepts self_query q → source ≡ document seed count → s.left ≡ Some source → o.taken ≡ Some [] → p.taken ≡ Some written → report.ended ≡ end.Ok
+    → Accepts self_query q → HasOnlyQuery self_query q → source ≡ document seed count → s.left ≡ Some source → o.taken ≡ Some [] → p.taken ≡ Some written → report.ended ≡ end.Ok
     → SourceRuns false 1 q report s t o p e g store → SelfRuns seed count (length written) report
-self_runs seed count source q report s t o p e g store written accepted made told none all ok w =
+self_runs seed count source q report s t o p e g store written accepted only made told none all ok w =
     let ends = subst (λ (z : Ended). EndsBy q false (ended_status z) w.pieces w.stop (sinks o e) (sinks p g)) ok w.ends in
     let whole : source ≡ joined w.pieces = given_all source (joined w.pieces) t.left (subst (λ (l : Option (List ℕ)). Consumes l t.left (joined w.pieces)) told w.gave.told) (w.gave.at_end ends.0) in
     let is : joined w.pieces ≡ document seed count = sym whole ∙ made in
@@ -134,6 +124,7 @@ self_runs seed count source q report s t o p e g store written accepted made tol
       record {
         query = q;
         accepted = accepted;
+        only = only;
         nodes = m.document;
         spelled = subst (λ (l : List ℕ). BytesSpell l m.document) is m.spells;
         tokens = n.tokens;

@@ -6,6 +6,7 @@ use Rattle.gcx_io.specs.Views.{ShelfView}
 use Rattle.gcx_model.specs.Query.{ExprTree}
 use Rattle.gcx_words.specs.declared.command.Command.TheVariants.{Run}
 use Rattle.run_words.specs.Stops.{End}
+use Rattle.gcx_cmd.proofs.Answering.{run_answers}
 use Rattle.gcx_cmd.proofs.Behind.{accepted_kept, both_keep, cause_later, doc_later, misses_later, opens_still, opens_two}
 use Rattle.gcx_cmd.proofs.Stops.{keeps_of, lacks}
 use Rattle.gcx_cmd.specs.Does.{DoesIf}
@@ -46,7 +47,7 @@ module _ (tracing : Bool) (ahead : ℕ) (q d : List ℕ) (a b : Outside) (m : Sh
   still u = record { out = u.out; err = u.err; store = u.store }
 
   pub run_does : (s : Status) → (s ≡ status.Ok → b.store.rows ≡ map.empty) → DocumentRuns tracing ahead x d s begun b → RunDoes tracing ahead q d s a b
-  run_does status.Ok empty o = (runs status.Ok o, empty refl)
+  run_does status.Ok empty o = let r = runs status.Ok o in (r, empty refl, run_answers tracing ahead q d a b r)
   run_does status.Usage empty o = absurd o
   run_does (status.QueryRefused f) empty o = absurd o
   run_does (status.DocumentRefused f) empty o = runs (status.DocumentRefused f) o

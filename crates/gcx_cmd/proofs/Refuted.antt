@@ -18,7 +18,7 @@ use Rattle.run_words.specs.Stops.{Stop, More, End, Fault, last_call, IsCalm}
 use Rattle.gcx_cmd.specs.Does.{DoesIf, Does}
 use Rattle.gcx_cmd.specs.Outside.{Outside}
 use Rattle.gcx_cmd.specs.QueryDoes.{RefusesText, FailsInText, RunsOutInText, MissesDocument}
-use Rattle.gcx_cmd.specs.Reads.{Reads, Opens, Misses, Within, PassesIn, most_of_query}
+use Rattle.gcx_cmd.specs.Reads.{Reads, ReadsAsking, ReadsQuery, Opens, Misses, Within, PassesIn, most_of_query}
 use Rattle.gcx_cmd.specs.RunDoes.{RunDoes, Runs}
 use Rattle.gcx_cmd.specs.declared.status.Status.{Status}
 use Rattle.gcx_cmd.specs.declared.status.Status.TheVariants as status
@@ -33,9 +33,9 @@ IsTold Fault s = s ≡ status.ReadFault
 pub data Shape (q d : List ℕ) (s : Status) (a b : ShelfView) : Type 0 where
   Nothing : s ≢ status.ReadFault → Opens 0 a b → Shape q d s a b
   NoQuery : s ≡ status.ReadFault → Misses 0 q a b → Shape q d s a b
-  Query : (ps : List (List ℕ)) (stop : Stop) → IsTold stop s → Opens 1 a b → Reads q (length a.given) a b ps stop → Within ps ⊎ ((stop ≡ More) × PassesIn ps) → Shape q d s a b
-  NoDoc : (ps : List (List ℕ)) → s ≡ status.ReadFault → Misses 1 d a b → Reads q (length a.given) a b ps End → Within ps → Shape q d s a b
-  Both : (qs ps : List (List ℕ)) (stop : Stop) → IsTold stop s → Opens 2 a b → Reads q (length a.given) a b qs End → Within qs → Reads d (length a.given + 1) a b ps stop → Shape q d s a b
+  Query : (ps : List (List ℕ)) (stop : Stop) → IsTold stop s → Opens 1 a b → ReadsQuery q (length a.given) a b ps stop → Within ps ⊎ ((stop ≡ More) × PassesIn ps) → Shape q d s a b
+  NoDoc : (ps : List (List ℕ)) → s ≡ status.ReadFault → Misses 1 d a b → ReadsQuery q (length a.given) a b ps End → Within ps → Shape q d s a b
+  Both : (qs ps : List (List ℕ)) (stop : Stop) → IsTold stop s → Opens 2 a b → ReadsQuery q (length a.given) a b qs End → Within qs → Reads d (length a.given + 1) a b ps stop → Shape q d s a b
 
 both_shape : (tracing : Bool) (ahead : ℕ) (q d : List ℕ) (s : Status) (a b : Outside) (r : Runs tracing ahead q d s a b) → IsTold r.stop s → Shape q d s a.shelf b.shelf
 both_shape tracing ahead q d s a b r told =
@@ -138,12 +138,13 @@ pub record IsRead (s : Status) (v : HandleView) : Type 0 where
   pub stop : Stop
   pub told : stop ≡ Fault → s ≡ status.ReadFault
   pub some : All IsSomeBytes pieces
-  pub calls : v.calls ≡ map Gave pieces ++ last_call stop
+  pub asked : ℕ
+  pub calls : v.calls ≡ map (Gave asked) pieces ++ last_call asked stop
 
-is_read : (s : Status) (name : List ℕ) (h : ℕ) (a b : ShelfView) (ps : List (List ℕ)) (stop : Stop) (v : HandleView) → (stop ≡ Fault → s ≡ status.ReadFault) → Reads name h a b ps stop → slice_get b.given h ≡ Some v → IsRead s v
-is_read s name h a b ps stop v told r at =
+is_read : {asked : ℕ} (s : Status) (name : List ℕ) (h : ℕ) (a b : ShelfView) (ps : List (List ℕ)) (stop : Stop) (v : HandleView) → (stop ≡ Fault → s ≡ status.ReadFault) → ReadsAsking asked name h a b ps stop → slice_get b.given h ≡ Some v → IsRead s v
+is_read {asked = asked} s name h a b ps stop v told r at =
     let same : r.handle ≡ v = cc (r.at, at) in
-    record { pieces = ps; stop = stop; told = told; some = r.some; calls = ap (λ (w : HandleView). w.calls) (sym same) ∙ r.calls }
+    record { pieces = ps; stop = stop; told = told; some = r.some; asked = asked; calls = ap (λ (w : HandleView). w.calls) (sym same) ∙ r.calls }
 
 handle_read : (q d : List ℕ) (s : Status) (a b : ShelfView) (k : ℕ) (v : HandleView) → Shape q d s a b → length a.given ≤ k → slice_get b.given k ≡ Some v → IsRead s v
 handle_read q d s a b k v (Nothing other none) new at = absurd (slice_get_past b.given k v (omega (arith, none.count, new)) at)
@@ -168,38 +169,38 @@ handle_read q d s a b k v (Both qs ps stop told two query within doc) new at = e
   ])
 ]
 
-ends_at_fault : (ps : List (List ℕ)) (stop : Stop) (pre : List Call) (c : Call) (rest : List Call) → map Gave ps ++ last_call stop ≡ pre ++ Failed ∷ c ∷ rest → ⊥
-ends_at_fault [] More [] c rest e = cc
-ends_at_fault [] More (x ∷ pre) c rest e = cc
-ends_at_fault [] End [] c rest e = cc
-ends_at_fault [] End (x ∷ pre) c rest e = absurd (omega (arith, ap length e, length-append pre (Failed ∷ c ∷ rest)))
-ends_at_fault [] Fault [] c rest e = cc
-ends_at_fault [] Fault (x ∷ pre) c rest e = absurd (omega (arith, ap length e, length-append pre (Failed ∷ c ∷ rest)))
-ends_at_fault (p ∷ ps) stop [] c rest e = cc
-ends_at_fault (p ∷ ps) stop (x ∷ pre) c rest e = (let f : map Gave ps ++ last_call stop ≡ pre ++ Failed ∷ c ∷ rest = cc in ends_at_fault ps stop pre c rest f)
+ends_at_fault : (asked : ℕ) (ps : List (List ℕ)) (stop : Stop) (pre : List Call) (c : Call) (rest : List Call) → map (Gave asked) ps ++ last_call asked stop ≡ pre ++ Failed ∷ c ∷ rest → ⊥
+ends_at_fault asked [] More [] c rest e = cc
+ends_at_fault asked [] More (x ∷ pre) c rest e = cc
+ends_at_fault asked [] End [] c rest e = cc
+ends_at_fault asked [] End (x ∷ pre) c rest e = absurd (omega (arith, ap length e, length-append pre (Failed ∷ c ∷ rest)))
+ends_at_fault asked [] Fault [] c rest e = cc
+ends_at_fault asked [] Fault (x ∷ pre) c rest e = absurd (omega (arith, ap length e, length-append pre (Failed ∷ c ∷ rest)))
+ends_at_fault asked (p ∷ ps) stop [] c rest e = cc
+ends_at_fault asked (p ∷ ps) stop (x ∷ pre) c rest e = (let f : map (Gave asked) ps ++ last_call asked stop ≡ pre ++ Failed ∷ c ∷ rest = cc in ends_at_fault asked ps stop pre c rest f)
 
 -- a read failed, and then a read of the same file came
 pub read_again : (q d : List ℕ) (s : Status) (a b : ShelfView) (k : ℕ) (v : HandleView) (pre rest : List Call) (c : Call) → Shape q d s a b → length a.given ≤ k → slice_get b.given k ≡ Some v
     → v.calls ≡ pre ++ Failed ∷ c ∷ rest → ⊥
-read_again q d s a b k v pre rest c sh new at e = let r = handle_read q d s a b k v sh new at in ends_at_fault r.pieces r.stop pre c rest (sym r.calls ∙ e)
+read_again q d s a b k v pre rest c sh new at e = let r = handle_read q d s a b k v sh new at in ends_at_fault r.asked r.pieces r.stop pre c rest (sym r.calls ∙ e)
 
-ends_at_end : (ps : List (List ℕ)) (stop : Stop) (pre : List Call) (c : Call) (rest : List Call) → All IsSomeBytes ps → map Gave ps ++ last_call stop ≡ pre ++ Gave [] ∷ c ∷ rest → ⊥
-ends_at_end [] More [] c rest some e = cc
-ends_at_end [] More (x ∷ pre) c rest some e = cc
-ends_at_end [] End [] c rest some e = cc
-ends_at_end [] End (x ∷ pre) c rest some e = absurd (omega (arith, ap length e, length-append pre (Gave [] ∷ c ∷ rest)))
-ends_at_end [] Fault [] c rest some e = cc
-ends_at_end [] Fault (x ∷ pre) c rest some e = absurd (omega (arith, ap length e, length-append pre (Gave [] ∷ c ∷ rest)))
-ends_at_end (p ∷ ps) stop [] c rest some e = (let empty : p ≡ [] = cc in subst IsSomeBytes empty (some 0 [] (omega arith)))
-ends_at_end (p ∷ ps) stop (x ∷ pre) c rest some e = (let f : map Gave ps ++ last_call stop ≡ pre ++ Gave [] ∷ c ∷ rest = cc in
-    ends_at_end ps stop pre c rest (λ k d within. some (suc k) d (omega (arith, within))) f)
+ends_at_end : (asked n : ℕ) (ps : List (List ℕ)) (stop : Stop) (pre : List Call) (c : Call) (rest : List Call) → All IsSomeBytes ps → map (Gave asked) ps ++ last_call asked stop ≡ pre ++ Gave n [] ∷ c ∷ rest → ⊥
+ends_at_end asked n [] More [] c rest some e = cc
+ends_at_end asked n [] More (x ∷ pre) c rest some e = cc
+ends_at_end asked n [] End [] c rest some e = cc
+ends_at_end asked n [] End (x ∷ pre) c rest some e = absurd (omega (arith, ap length e, length-append pre (Gave n [] ∷ c ∷ rest)))
+ends_at_end asked n [] Fault [] c rest some e = cc
+ends_at_end asked n [] Fault (x ∷ pre) c rest some e = absurd (omega (arith, ap length e, length-append pre (Gave n [] ∷ c ∷ rest)))
+ends_at_end asked n (p ∷ ps) stop [] c rest some e = (let empty : p ≡ [] = cc in subst IsSomeBytes empty (some 0 [] (omega arith)))
+ends_at_end asked n (p ∷ ps) stop (x ∷ pre) c rest some e = (let f : map (Gave asked) ps ++ last_call asked stop ≡ pre ++ Gave n [] ∷ c ∷ rest = cc in
+    ends_at_end asked n ps stop pre c rest (λ k d within. some (suc k) d (omega (arith, within))) f)
 
 -- the end was answered, and then a read of the same file came
-pub read_behind_the_end : (q d : List ℕ) (s : Status) (a b : ShelfView) (k : ℕ) (v : HandleView) (pre rest : List Call) (c : Call) → Shape q d s a b → length a.given ≤ k → slice_get b.given k ≡ Some v
-    → v.calls ≡ pre ++ Gave [] ∷ c ∷ rest → ⊥
-read_behind_the_end q d s a b k v pre rest c sh new at e = let r = handle_read q d s a b k v sh new at in ends_at_end r.pieces r.stop pre c rest r.some (sym r.calls ∙ e)
+pub read_behind_the_end : (q d : List ℕ) (s : Status) (a b : ShelfView) (k : ℕ) (v : HandleView) (pre rest : List Call) (n : ℕ) (c : Call) → Shape q d s a b → length a.given ≤ k → slice_get b.given k ≡ Some v
+    → v.calls ≡ pre ++ Gave n [] ∷ c ∷ rest → ⊥
+read_behind_the_end q d s a b k v pre rest n c sh new at e = let r = handle_read q d s a b k v sh new at in ends_at_end r.asked n r.pieces r.stop pre c rest r.some (sym r.calls ∙ e)
 
--- these pieces are a front of those
+-- these pieces are a prefix of those
 record Front (ps qs : List (List ℕ)) : Type 0 where
   pub more : List (List ℕ)
   pub is : qs ≡ ps ++ more
@@ -208,54 +209,54 @@ joined_both : (ps qs : List (List ℕ)) → joined (ps ++ qs) ≡ joined ps ++ j
 joined_both [] qs = refl
 joined_both (p ∷ ps) qs = ap (λ (l : List ℕ). p ++ l) (joined_both ps qs) ∙ sym (append_assoc p (joined ps) (joined qs))
 
-front : (qs : List (List ℕ)) (stop : Stop) (ps : List (List ℕ)) (c : Call) (rest : List Call) → map Gave qs ++ last_call stop ≡ map Gave ps ++ c ∷ rest → Front ps qs
-front qs stop [] c rest e = record { more = qs; is = refl }
-front [] More (p ∷ ps) c rest e = absurd (cc)
-front [] End (p ∷ ps) c rest e = absurd (omega (arith, ap length e, length-append (map Gave ps) (c ∷ rest)))
-front [] Fault (p ∷ ps) c rest e = absurd (cc)
-front (r ∷ qs) stop (p ∷ ps) c rest e =
-    let f : map Gave qs ++ last_call stop ≡ map Gave ps ++ c ∷ rest = cc in let same : r ≡ p = cc in let g = front qs stop ps c rest f in
+front : (asked : ℕ) (qs : List (List ℕ)) (stop : Stop) (ps : List (List ℕ)) (c : Call) (rest : List Call) → map (Gave asked) qs ++ last_call asked stop ≡ map (Gave asked) ps ++ c ∷ rest → Front ps qs
+front asked qs stop [] c rest e = record { more = qs; is = refl }
+front asked [] More (p ∷ ps) c rest e = absurd (cc)
+front asked [] End (p ∷ ps) c rest e = absurd (omega (arith, ap length e, length-append (map (Gave asked) ps) (c ∷ rest)))
+front asked [] Fault (p ∷ ps) c rest e = absurd (cc)
+front asked (r ∷ qs) stop (p ∷ ps) c rest e =
+    let f : map (Gave asked) qs ++ last_call asked stop ≡ map (Gave asked) ps ++ c ∷ rest = cc in let same : r ≡ p = cc in let g = front asked qs stop ps c rest f in
     record { more = g.more; is = ap (λ (l : List (List ℕ)). r ∷ l) g.is ∙ ap (λ (x : List ℕ). x ∷ ps ++ g.more) same }
 
 front_short : (ps qs : List (List ℕ)) → Front ps qs → length (joined ps) ≤ length (joined qs)
 front_short ps qs f = omega (arith, ap (λ (l : List (List ℕ)). length (joined l)) f.is, ap length (joined_both ps f.more), length-append (joined ps) (joined f.more))
 
-front_before : (ps before : List (List ℕ)) (last : List ℕ) (c : Call) (rest : List Call) → map Gave (before ++ last ∷ []) ≡ map Gave ps ++ c ∷ rest → Front ps before
-front_before [] before last c rest e = record { more = before; is = refl }
-front_before (p ∷ ps) [] last c rest e = absurd (omega (arith, ap length e, length-append (map Gave ps) (c ∷ rest)))
-front_before (p ∷ ps) (r ∷ before) last c rest e =
-    let f : map Gave (before ++ last ∷ []) ≡ map Gave ps ++ c ∷ rest = cc in let same : r ≡ p = cc in let g = front_before ps before last c rest f in
+front_before : (asked : ℕ) (ps before : List (List ℕ)) (last : List ℕ) (c : Call) (rest : List Call) → map (Gave asked) (before ++ last ∷ []) ≡ map (Gave asked) ps ++ c ∷ rest → Front ps before
+front_before asked [] before last c rest e = record { more = before; is = refl }
+front_before asked (p ∷ ps) [] last c rest e = absurd (omega (arith, ap length e, length-append (map (Gave asked) ps) (c ∷ rest)))
+front_before asked (p ∷ ps) (r ∷ before) last c rest e =
+    let f : map (Gave asked) (before ++ last ∷ []) ≡ map (Gave asked) ps ++ c ∷ rest = cc in let same : r ≡ p = cc in let g = front_before asked ps before last c rest f in
     record { more = g.more; is = ap (λ (l : List (List ℕ)). r ∷ l) g.is ∙ ap (λ (x : List ℕ). x ∷ ps ++ g.more) same }
 
 -- more than the limit was read of QUERY, and then a read came
 pub read_behind_the_limit : (q d : List ℕ) (s : Status) (a b : ShelfView) (v : HandleView) (ps : List (List ℕ)) (c : Call) (rest : List Call) → Shape q d s a b → slice_get b.given (length a.given) ≡ Some v
-    → v.calls ≡ map Gave ps ++ c ∷ rest → most_of_query < length (joined ps) → ⊥
+    → v.calls ≡ map (Gave 4096) ps ++ c ∷ rest → most_of_query < length (joined ps) → ⊥
 read_behind_the_limit q d s a b v ps c rest (Nothing other none) at e past = slice_get_past b.given (length a.given) v (omega (arith, none.count)) at
 read_behind_the_limit q d s a b v ps c rest (NoQuery fits gone) at e past = slice_get_past b.given (length a.given) v (omega (arith, gone.count)) at
 read_behind_the_limit q d s a b v ps c rest (Query qs stop told one reads (inl within)) at e past =
     let same : v ≡ reads.handle = cc (reads.at, at) in
-    absurd (omega (arith, front_short ps qs (front qs stop ps c rest (sym reads.calls ∙ ap (λ (w : HandleView). w.calls) (sym same) ∙ e)), within, past))
+    absurd (omega (arith, front_short ps qs (front 4096 qs stop ps c rest (sym reads.calls ∙ ap (λ (w : HandleView). w.calls) (sym same) ∙ e)), within, past))
 read_behind_the_limit q d s a b v ps c rest (Query qs stop told one reads (inr (more, passes))) at e past =
     let same : v ≡ reads.handle = cc (reads.at, at) in
-    let calls : map Gave qs ++ [] ≡ map Gave ps ++ c ∷ rest =
-    subst (λ (t : Stop). map Gave qs ++ last_call t ≡ map Gave ps ++ c ∷ rest) more (sym reads.calls ∙ ap (λ (w : HandleView). w.calls) (sym same) ∙ e) in
-    let calls' : map Gave (passes.before ++ passes.last ∷ []) ≡ map Gave ps ++ c ∷ rest = ap (map Gave) (sym passes.split) ∙ sym (append-nil (map Gave qs)) ∙ calls in
-    absurd (omega (arith, front_short ps passes.before (front_before ps passes.before passes.last c rest calls'), passes.within, past))
+    let calls : map (Gave 4096) qs ++ [] ≡ map (Gave 4096) ps ++ c ∷ rest =
+    subst (λ (t : Stop). map (Gave 4096) qs ++ last_call 4096 t ≡ map (Gave 4096) ps ++ c ∷ rest) more (sym reads.calls ∙ ap (λ (w : HandleView). w.calls) (sym same) ∙ e) in
+    let calls' : map (Gave 4096) (passes.before ++ passes.last ∷ []) ≡ map (Gave 4096) ps ++ c ∷ rest = ap (map (Gave 4096)) (sym passes.split) ∙ sym (append-nil (map (Gave 4096) qs)) ∙ calls in
+    absurd (omega (arith, front_short ps passes.before (front_before 4096 ps passes.before passes.last c rest calls'), passes.within, past))
 read_behind_the_limit q d s a b v ps c rest (NoDoc qs fits gone reads within) at e past =
     let same : v ≡ reads.handle = cc (reads.at, at) in
-    absurd (omega (arith, front_short ps qs (front qs End ps c rest (sym reads.calls ∙ ap (λ (w : HandleView). w.calls) (sym same) ∙ e)), within, past))
+    absurd (omega (arith, front_short ps qs (front 4096 qs End ps c rest (sym reads.calls ∙ ap (λ (w : HandleView). w.calls) (sym same) ∙ e)), within, past))
 read_behind_the_limit q d s a b v ps c rest (Both qs ds stop told two reads within doc) at e past =
     let same : v ≡ reads.handle = cc (reads.at, at) in
-    absurd (omega (arith, front_short ps qs (front qs End ps c rest (sym reads.calls ∙ ap (λ (w : HandleView). w.calls) (sym same) ∙ e)), within, past))
+    absurd (omega (arith, front_short ps qs (front 4096 qs End ps c rest (sym reads.calls ∙ ap (λ (w : HandleView). w.calls) (sym same) ∙ e)), within, past))
 
-fault_last : (ps : List (List ℕ)) (stop : Stop) (pre : List Call) → map Gave ps ++ last_call stop ≡ pre ++ Failed ∷ [] → stop ≡ Fault
-fault_last [] More [] e = absurd (cc)
-fault_last [] More (x ∷ pre) e = absurd (cc)
-fault_last [] End [] e = absurd (cc)
-fault_last [] End (x ∷ pre) e = absurd (omega (arith, ap length e, length-append pre (Failed ∷ [])))
-fault_last [] Fault pre e = refl
-fault_last (p ∷ ps) stop [] e = absurd (cc)
-fault_last (p ∷ ps) stop (x ∷ pre) e = (let f : map Gave ps ++ last_call stop ≡ pre ++ Failed ∷ [] = cc in fault_last ps stop pre f)
+fault_last : (asked : ℕ) (ps : List (List ℕ)) (stop : Stop) (pre : List Call) → map (Gave asked) ps ++ last_call asked stop ≡ pre ++ Failed ∷ [] → stop ≡ Fault
+fault_last asked [] More [] e = absurd (cc)
+fault_last asked [] More (x ∷ pre) e = absurd (cc)
+fault_last asked [] End [] e = absurd (cc)
+fault_last asked [] End (x ∷ pre) e = absurd (omega (arith, ap length e, length-append pre (Failed ∷ [])))
+fault_last asked [] Fault pre e = refl
+fault_last asked (p ∷ ps) stop [] e = absurd (cc)
+fault_last asked (p ∷ ps) stop (x ∷ pre) e = (let f : map (Gave asked) ps ++ last_call asked stop ≡ pre ++ Failed ∷ [] = cc in fault_last asked ps stop pre f)
 
 -- the last call of a handle that was given failed, or an attach did
 pub data Fails (a b : ShelfView) : Type 0 where
@@ -270,12 +271,12 @@ fault_is_told q d s a b (Query ps stop told one reads in_limit) (InAttach more) 
 fault_is_told q d s a b (NoDoc ps fits gone reads within) (InAttach more) = fits
 fault_is_told q d s a b (Both qs ps stop told two query within doc) (InAttach more) = absurd (omega (arith, more, ap length two.refused))
 fault_is_told q d s a b sh (InRead k v pre new at e) =
-    let r = handle_read q d s a b k v sh new at in r.told (fault_last r.pieces r.stop pre (sym r.calls ∙ e))
+    let r = handle_read q d s a b k v sh new at in r.told (fault_last r.asked r.pieces r.stop pre (sym r.calls ∙ e))
 
-stopped : (name : List ℕ) (h : ℕ) (s : Status) (a b : ShelfView) (ps : List (List ℕ)) (stop : Stop) → IsTold stop s → s ≡ status.ReadFault → length a.given ≤ h → Reads name h a b ps stop → Fails a b
+stopped : {asked : ℕ} (name : List ℕ) (h : ℕ) (s : Status) (a b : ShelfView) (ps : List (List ℕ)) (stop : Stop) → IsTold stop s → s ≡ status.ReadFault → length a.given ≤ h → ReadsAsking asked name h a b ps stop → Fails a b
 stopped name h s a b ps More told fault new r = absurd (told fault)
 stopped name h s a b ps End told fault new r = absurd (told fault)
-stopped name h s a b ps Fault told fault new r = InRead h r.handle (map Gave ps) new r.at r.calls
+stopped {asked = asked} name h s a b ps Fault told fault new r = InRead h r.handle (map (Gave asked) ps) new r.at r.calls
 
 -- and nothing else does
 pub told_is_fault : (q d : List ℕ) (s : Status) (a b : ShelfView) → Shape q d s a b → s ≡ status.ReadFault → Fails a b
@@ -303,21 +304,38 @@ no_clean ps qs f w fault clean =
     let same : None ≡ Some f = fault_one full_limits (joined ps ++ joined w.more) false None (Some f) none on in
     cc
 
-behind_fault : (qs ps : List (List ℕ)) (stop : Stop) (c : Call) (rest : List Call) (f : DocFault) → ReadsOn full_limits qs stop
-    → map Gave qs ++ last_call stop ≡ map Gave ps ++ c ∷ rest → FaultIs full_limits (joined ps) false (Some f) → ⊥
-behind_fault qs ps More c rest f on e fault = elim (some_split qs) [
-  | inl none ↦ (let empty : map Gave [] ++ [] ≡ map Gave ps ++ c ∷ rest = subst (λ (l : List (List ℕ)). map Gave l ++ [] ≡ map Gave ps ++ c ∷ rest) none e in
-      absurd (omega (arith, ap length empty, length-append (map Gave ps) (c ∷ rest))))
-  | inr more ↦ (let calls : map Gave (more.0 ++ more.1 ∷ []) ≡ map Gave ps ++ c ∷ rest = ap (map Gave) (sym more.2) ∙ sym (append-nil (map Gave qs)) ∙ e in
-      no_clean ps more.0 f (front_before ps more.0 more.1 c rest calls) fault (on.earlier more.0 more.1 more.2))
+behind_fault : (asked : ℕ) (qs ps : List (List ℕ)) (stop : Stop) (c : Call) (rest : List Call) (f : DocFault) → ReadsOn full_limits qs stop
+    → map (Gave asked) qs ++ last_call asked stop ≡ map (Gave asked) ps ++ c ∷ rest → FaultIs full_limits (joined ps) false (Some f) → ⊥
+behind_fault asked qs ps More c rest f on e fault = elim (some_split qs) [
+  | inl none ↦ (let empty : map (Gave asked) [] ++ [] ≡ map (Gave asked) ps ++ c ∷ rest = subst (λ (l : List (List ℕ)). map (Gave asked) l ++ [] ≡ map (Gave asked) ps ++ c ∷ rest) none e in
+      absurd (omega (arith, ap length empty, length-append (map (Gave asked) ps) (c ∷ rest))))
+  | inr more ↦ (let calls : map (Gave asked) (more.0 ++ more.1 ∷ []) ≡ map (Gave asked) ps ++ c ∷ rest = ap (map (Gave asked)) (sym more.2) ∙ sym (append-nil (map (Gave asked) qs)) ∙ e in
+      no_clean ps more.0 f (front_before asked ps more.0 more.1 c rest calls) fault (on.earlier more.0 more.1 more.2))
 ]
-behind_fault qs ps End c rest f on e fault = no_clean ps qs f (front qs End ps c rest e) fault (on.unfaulted (λ is. cc))
-behind_fault qs ps Fault c rest f on e fault = no_clean ps qs f (front qs Fault ps c rest e) fault (on.unfaulted (λ is. cc))
+behind_fault asked qs ps End c rest f on e fault = no_clean ps qs f (front asked qs End ps c rest e) fault (on.unfaulted (λ is. cc))
+behind_fault asked qs ps Fault c rest f on e fault = no_clean ps qs f (front asked qs Fault ps c rest e) fault (on.unfaulted (λ is. cc))
 
 -- bytes of DOC that have a fault, or pass a limit, were read, and then a call came
 pub read_behind_the_document : (tracing : Bool) (ahead : ℕ) (q d : List ℕ) (s : Status) (a b : Outside) (v : HandleView) (ps : List (List ℕ)) (c : Call) (rest : List Call) (f : DocFault)
-    → Runs tracing ahead q d s a b → slice_get b.shelf.given (length a.shelf.given + 1) ≡ Some v → v.calls ≡ map Gave ps ++ c ∷ rest
+    → Runs tracing ahead q d s a b → slice_get b.shelf.given (length a.shelf.given + 1) ≡ Some v → v.calls ≡ map (Gave 65536) ps ++ c ∷ rest
     → FaultIs full_limits (joined ps) false (Some f) → ⊥
 read_behind_the_document tracing ahead q d s a b v ps c rest f r at calls fault =
     let same : v ≡ r.over.doc.handle = cc (r.over.doc.at, at) in
-    behind_fault r.pieces ps r.stop c rest f r.over.reads_on (sym r.over.doc.calls ∙ ap (λ (w : HandleView). w.calls) (sym same) ∙ calls) fault
+    behind_fault 65536 r.pieces ps r.stop c rest f r.over.reads_on (sym r.over.doc.calls ∙ ap (λ (w : HandleView). w.calls) (sym same) ∙ calls) fault
+
+asked_alike : (asked n : ℕ) (ps : List (List ℕ)) (stop : Stop) (pre : List Call) (p : List ℕ) (rest : List Call) → map (Gave asked) ps ++ last_call asked stop ≡ pre ++ Gave n p ∷ rest → n ≡ asked
+asked_alike asked n [] More [] p rest e = absurd (cc)
+asked_alike asked n [] More (x ∷ pre) p rest e = absurd (cc)
+asked_alike asked n [] End [] p rest e = cc
+asked_alike asked n [] End (x ∷ pre) p rest e = absurd (omega (arith, ap length e, length-append pre (Gave n p ∷ rest)))
+asked_alike asked n [] Fault [] p rest e = absurd (cc)
+asked_alike asked n [] Fault (x ∷ pre) p rest e = absurd (omega (arith, ap length e, length-append pre (Gave n p ∷ rest)))
+asked_alike asked n (q ∷ ps) stop [] p rest e = cc
+asked_alike asked n (q ∷ ps) stop (x ∷ pre) p rest e = (let f : map (Gave asked) ps ++ last_call asked stop ≡ pre ++ Gave n p ∷ rest = cc in asked_alike asked n ps stop pre p rest f)
+
+-- each read of DOC asks for 65,536 bytes
+pub read_of_another_size : (tracing : Bool) (ahead : ℕ) (q d : List ℕ) (s : Status) (a b : Outside) (v : HandleView) (n : ℕ) (p : List ℕ) (pre rest : List Call) → Runs tracing ahead q d s a b
+    → slice_get b.shelf.given (length a.shelf.given + 1) ≡ Some v → v.calls ≡ pre ++ Gave n p ∷ rest → n ≡ 65536
+read_of_another_size tracing ahead q d s a b v n p pre rest r at calls =
+    let same : r.over.doc.handle ≡ v = cc (r.over.doc.at, at) in
+    asked_alike 65536 n r.pieces r.stop pre p rest (sym r.over.doc.calls ∙ ap (λ (w : HandleView). w.calls) same ∙ calls)

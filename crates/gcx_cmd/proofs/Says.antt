@@ -23,7 +23,7 @@ use Rattle.gcx_cmd.specs.Main.{Accepts, IsDocument, IsOneQuery, QueryFaultOf, Sa
 use Rattle.gcx_cmd.specs.Outside.{Outside}
 use Rattle.gcx_cmd.specs.PeakDoes.{PeakDoes}
 use Rattle.gcx_cmd.specs.QueryDoes.{AcceptsQuery, RefusesText}
-use Rattle.gcx_cmd.specs.Reads.{Reads, most_of_query}
+use Rattle.gcx_cmd.specs.Reads.{Reads, ReadsAsking, most_of_query}
 use Rattle.gcx_cmd.specs.RunDoes.{RunDoes}
 use Rattle.gcx_cmd.specs.WholeDoes.{WholeDoes}
 use Rattle.gcx_cmd.specs.declared.status.Status.{Status}
@@ -40,10 +40,10 @@ given_part bytes b None m = absurd m
 given_part bytes b (Some rest) m = (rest, m)
 
 module _ (name bytes : List ℕ) (h : ℕ) (a b : ShelfView) (ps : List (List ℕ)) (told : content_of a.names name ≡ Some bytes) where
-  pub read_all : Reads name h a b ps End → bytes ≡ joined ps
+  pub read_all : {asked : ℕ} → ReadsAsking asked name h a b ps End → bytes ≡ joined ps
   read_all r = given_all bytes (joined ps) r.handle.left (subst (λ (o : Option (List ℕ)). Consumes o r.handle.left (joined ps)) told r.told) (r.at_end refl)
 
-  read_part : (stop : Stop) → Reads name h a b ps stop → (rest : List ℕ) × (bytes ≡ joined ps ++ rest)
+  pub read_part : {asked : ℕ} (stop : Stop) → ReadsAsking asked name h a b ps stop → (rest : List ℕ) × (bytes ≡ joined ps ++ rest)
   read_part stop r = given_part bytes (joined ps) r.handle.left (subst (λ (o : Option (List ℕ)). Consumes o r.handle.left (joined ps)) told r.told)
 
 -- ---- too many bytes

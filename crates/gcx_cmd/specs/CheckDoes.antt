@@ -1,5 +1,5 @@
 -- How `check` ends, and what each end says (this project's).
-use Rattle.std.specs.Prelude.{◌≡◌, ◌⊎◌, ◌+◌, ℕ, true, false, List, [], ◌∷◌, ◌++◌, length, Some}
+use Rattle.std.specs.Prelude.{◌≡◌, ◌⊎◌, ◌+◌, ℕ, true, false, List, [], ◌∷◌, ◌++◌, length, All, Some}
 use Rattle.std.specs.declared.result.Result.{Result}
 use Rattle.std.specs.declared.result.Result.TheVariants as result
 use Rattle.gcx_base.specs.Limits.{full_limits}
@@ -7,7 +7,7 @@ use Rattle.gcx_io.specs.Views.{ShelfView, SinkView}
 use Rattle.gcx_io.specs.Writing.{Takes, Owes, joined}
 use Rattle.gcx_model.specs.Query.{ExprTree}
 use Rattle.gcx_model.specs.Tree.{Token}
-use Rattle.run_words.specs.Reading.{ReadsOn}
+use Rattle.run_words.specs.Reading.{IsShort, ReadsOn}
 use Rattle.run_words.specs.Stops.{Stop, More, End, Fault, IsCalm, is_end}
 use Rattle.time_laws.specs.Checking.{Yes, No, ReadFault as Cut, IsFront, Judges, fitted, line_ends}
 use Rattle.gcx_cmd.specs.DocumentDoes.{Over, HasFault, IsClean, IsCut, ReadsTokens}
@@ -23,7 +23,8 @@ use Rattle.gcx_cmd.specs.declared.status.Status.TheVariants as status
 abbrev pub StopsInTime : (text : List ℕ) → (pieces : List (List ℕ)) → Type 0
 StopsInTime text pieces = (before : List (List ℕ)) (last : List ℕ) → pieces ≡ before ++ last ∷ [] → IsFront (joined before) text
 
--- QUERY is accepted, DOC is whole and has these tokens, and TRACE was opened behind it and its reads stand so.
+-- QUERY is accepted, DOC is whole and has these tokens, and TRACE was opened behind it and its reads stand so, none longer than a
+-- read asks for.
 pub record OverTrace (q d t : List ℕ) (a b : Outside) (x : List ExprTree) (ts : List Token) (pieces : List (List ℕ)) (stop : Stop) : Type 0 where
   pub three : Opens 3 a.shelf b.shelf
   pub query : AcceptsQuery q a.shelf b.shelf x
@@ -32,6 +33,7 @@ pub record OverTrace (q d t : List ℕ) (a b : Outside) (x : List ExprTree) (ts 
   pub reads_on : ReadsOn full_limits doc_pieces End
   pub tokens : ReadsTokens doc_pieces End ts
   pub trace : Reads t (length a.shelf.given + 2) a.shelf b.shelf pieces stop
+  pub short : All IsShort pieces
   pub in_time : StopsInTime (trace_text x ts) pieces
 
 -- All of TRACE was read, and it is this text.
@@ -104,6 +106,7 @@ pub record OverText (t text : List ℕ) (Says : List (List ℕ) → Stop → Typ
   pub stop : Stop
   pub one : Opens 1 a b
   pub trace : Reads t (length a.given) a b pieces stop
+  pub short : All IsShort pieces
   pub in_time : StopsInTime text pieces
   pub says : Says pieces stop
 

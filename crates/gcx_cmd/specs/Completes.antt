@@ -1,5 +1,5 @@
 -- Which status must come, where the shelf tells what its names hold and no count rose (this project's).
-use Rattle.std.specs.Prelude.{◌≡◌, ◌⊎◌, ℕ, List, true, slice_get, Some, ⊤}
+use Rattle.std.specs.Prelude.{◌≡◌, ◌⊎◌, ℕ, List, ◌∷◌, ◌++◌, true, slice_get, Some, ⊤}
 use Rattle.gcx_base.specs.Limits.{full_limits}
 use Rattle.gcx_io.specs.Causes.{Rose}
 use Rattle.gcx_io.specs.Shelf.{IsTelling, Names, content_of}
@@ -45,9 +45,13 @@ CompletesCheck query document trace s a b =
     HoldsSuch a.shelf.names query IsQuery → HoldsSuch a.shelf.names document IsDocument → HoldsSuch a.shelf.names trace (λ bytes. ⊤)
     → ReadsWell a b → WritesWell (Check query document trace) a b → ((n : ℕ) × (s ≡ status.TraceRefused n)) ⊎ Ends status.Ok s
 
+-- the QUERY of each of these pairs is accepted
+abbrev pub AreQueries : Names → List Pair → Type 0
+AreQueries names pairs = (i : ℕ) (p : Pair) → slice_get pairs i ≡ Some p → HoldsSuch names p.query IsQuery
+
 -- Where each QUERY is accepted, DOC has no fault and the shelf still tells its names, it ends well.
 abbrev pub CompletesMany : (document : List ℕ) → List Pair → Status → Outside → Outside → Type 0
-CompletesMany document pairs s a b = ((i : ℕ) (p : Pair) → slice_get pairs i ≡ Some p → HoldsSuch a.shelf.names p.query IsQuery)
+CompletesMany document pairs s a b = AreQueries a.shelf.names pairs
     → HoldsSuch a.shelf.names document IsDocument → IsTelling b.shelf.names → ReadsWell a b → WritesWell (Many document pairs) a b → Ends status.Ok s
 
 abbrev pub CompletesWell : Command → Status → Outside → Outside → Type 0
@@ -60,7 +64,19 @@ CompletesWell (Selfrun seed count) s a b = WritesWell (Selfrun seed count) a b �
 CompletesWell (Many document pairs) s a b = CompletesMany document pairs s a b
 CompletesWell (Check query document trace) s a b = CompletesCheck query document trace s a b
 
--- Of a command: it ends well where nothing is wrong, and so where QUERY is refused, or QUERY is accepted and DOC is refused.
+-- Of `many`: the first QUERY that is refused is told. Where each is accepted, DOC is refused and the shelf still tells its names,
+-- DOC is.
+pub record RefusesIn (d : List ℕ) (ps : List Pair) (s : Status) (a b : Outside) : Type 0 where
+  pub query : (before : List Pair) (p : Pair) (behind : List Pair) (f : QueryFault) → ps ≡ before ++ p ∷ behind → AreQueries a.shelf.names before
+      → HoldsSuch a.shelf.names p.query (λ bytes. QueryFaultOf bytes f) → ReadsWell a b → Ends (status.QueryRefused f) s
+  pub document : (f : DocFault) → AreQueries a.shelf.names ps → HoldsSuch a.shelf.names d (λ bytes. FaultIs full_limits bytes true (Some f))
+      → IsTelling b.shelf.names → ReadsWell a b → WritesWell (Many d ps) a b → Ends (status.DocumentRefused f) s
+
+abbrev pub RefusesMany : Command → Status → Outside → Outside → Type 0
+RefusesMany (Many document pairs) s a b = RefusesIn document pairs s a b
+RefusesMany command s a b = ⊤
+
+-- Of a command: it ends well where nothing is wrong, and a QUERY that is refused is told, or, where QUERY is accepted, a DOC.
 pub record CompletesFor (c : Command) (s : Status) (a b : Outside) : Type 0 where
   pub well : CompletesWell c s a b
   pub refused : (q : List ℕ) (f : QueryFault) → query_of c ≡ Some q → HoldsSuch a.shelf.names q (λ bytes. QueryFaultOf bytes f) → ReadsWell a b
@@ -68,6 +84,7 @@ pub record CompletesFor (c : Command) (s : Status) (a b : Outside) : Type 0 wher
   pub refused_document : (q d : List ℕ) (f : DocFault) → query_of c ≡ Some q → document_of c ≡ Some d → HoldsSuch a.shelf.names q IsQuery
       → HoldsSuch a.shelf.names d (λ bytes. FaultIs full_limits bytes true (Some f)) → ReadsWell a b → WritesWell c a b
       → Ends (status.DocumentRefused f) s
+  pub refused_many : RefusesMany c s a b
 
 abbrev pub Completes : List (List ℕ) → Status → Outside → Outside → Type 0
 Completes words s a b = (c : Command) → command_of words ≡ Some c → CompletesFor c s a b

@@ -37,7 +37,8 @@ abbrev pub DoesIf : Option Command → Status → Outside → Outside → Type 0
 DoesIf None s a b = ((s ≡ status.Usage) ⊎ (s ≡ status.Memory)) × (b ≡ a)
 DoesIf (Some c) s a b = Keeps c s a b × Obeys c s a b
 
--- The line of a status was taken, or a front of it and then a write failed. At Ok there is none, and no call.
+-- The line of a status was taken, or a prefix of it, and then a write of what comes next of it failed. At Ok there is none, and no
+-- call.
 abbrev pub Tells : Status → (a b : SinkView) → Type 0
 Tells status.Ok a b = b ≡ a
 Tells status.Usage a b = Takes a b (line_of status.Usage) ⊎ Owes a b [] (line_of status.Usage)

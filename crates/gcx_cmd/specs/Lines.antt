@@ -16,5 +16,5 @@ line_bytes None = []
 line_bytes (Some line) = bytes_of line
 
 -- its words are few bytes
-abbrev pub IsShort : Line → Type 0
-IsShort line = length line.words.now ≤ 38
+abbrev pub HasShortWords : Line → Type 0
+HasShortWords line = length line.words.now ≤ 38

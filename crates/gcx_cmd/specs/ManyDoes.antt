@@ -5,9 +5,12 @@ use Rattle.gcx_base.specs.Limits.{full_limits}
 use Rattle.gcx_io.specs.Calls.{Attaches, Creates}
 use Rattle.gcx_io.specs.Shelf.{Maps}
 use Rattle.gcx_io.specs.Views.{ShelfView, SinkView}
+use Rattle.gcx_io.specs.Writing.{Takes, joined}
 use Rattle.gcx_io.specs.declared.fault.AttachFault.{AttachFault}
 use Rattle.gcx_io.specs.declared.fault.AttachFault.TheVariants as fault
 use Rattle.gcx_io.specs.declared.shelf.Handle.{Handle}
+use Rattle.gcx_model.specs.Answer.{answer}
+use Rattle.gcx_model.specs.Document.{Nodes}
 use Rattle.gcx_model.specs.Members.{In}
 use Rattle.gcx_model.specs.PlanView.{plan_tree}
 use Rattle.gcx_model.specs.Query.{ExprTree}
@@ -18,8 +21,9 @@ use Rattle.run_words.specs.Stops.{Stop}
 use Rattle.engine.specs.Runs.{run_end}
 use Rattle.engine.specs.declared.report.Ended.{Ended}
 use Rattle.many_run.specs.Each.{AtEach}
-use Rattle.many_run.specs.Files.{name_of_handle}
+use Rattle.many_run.specs.Files.{name_of_handle, sink_at}
 use Rattle.many_run.specs.Runs.{EachPlanEnds, EndsOne, RunsInto}
+use Rattle.gcx_cmd.specs.DocumentDoes.{SpellsOneDocument}
 use Rattle.gcx_cmd.specs.Keeps.{KeepsFiles}
 use Rattle.gcx_cmd.specs.Outside.{Outside, Untouched}
 use Rattle.gcx_cmd.specs.QueryDoes.{AcceptsQuery, StopsInQuery}
@@ -40,7 +44,8 @@ AcceptsQueries (p ∷ ps) a b [] = ⊥
 AcceptsQueries (p ∷ ps) a b (x ∷ xs) =
     (m : ShelfView) × Opens 1 a m × AcceptsQuery p.query a m x × KeepsShelf a m × AcceptsQueries ps m b xs
 
--- OUT was made with this handle, behind those that were given: it holds no bytes, and every other name holds what it held.
+-- OUT was made with this handle, behind those that were given. If the shelf tells what names hold, OUT holds no bytes, and every other
+-- name what it held.
 abbrev pub MakesOut : List ℕ → (a b : ShelfView) → Handle → Type 0
 MakesOut name a b out = Creates name a b (result.Ok out) × Maps a.names b.names name []
 
@@ -111,7 +116,7 @@ abbrev pub EachQueryEnds : List (List ExprTree) → RunEnd → List (List ℕ) �
 EachQueryEnds xs end pieces stop at i a b = (x : List ExprTree) → slice_get xs i ≡ Some x
     → EndsOne (Settles x) (IsTrace x) full_limits end pieces stop at i a b
 
--- All QUERYs were read, then all OUTs made, then DOC was opened and read, once, and each OUT took what its query settles.
+-- All QUERYs were read, then all OUTs made, then DOC was opened and read, once, and each OUT took what this end says of its query.
 pub record RunsMany (d : List ℕ) (ps : List Pair) (end : RunEnd) (a b : ShelfView) : Type 0 where
   pub xs : List (List ExprTree)
   pub outs : List Handle
@@ -124,9 +129,16 @@ pub record RunsMany (d : List ℕ) (ps : List Pair) (end : RunEnd) (a b : ShelfV
   pub opens : Attaches d made begun (result.Ok doc)
   pub run : RunsInto (EachQueryEnds xs end) full_limits end doc outs begun b
 
+-- Each OUT took the answer of its query over the one document that these pieces spell.
+pub record TakeAnswers (xs : List (List ExprTree)) (outs : List Handle) (pieces : List (List ℕ)) (a b : ShelfView) : Type 0 where
+  pub doc : Nodes
+  pub spells : SpellsOneDocument (joined pieces) doc
+  pub each : (i : ℕ) (o : Handle) (x : List ExprTree) → slice_get outs i ≡ Some o → slice_get xs i ≡ Some x
+      → Takes (sink_at o.0 a) (sink_at o.0 b) (answer x doc)
+
 -- how it ends with each status, of the files alone
 abbrev pub ManyEnds : (d : List ℕ) → List Pair → Status → (a b : ShelfView) → Type 0
-ManyEnds d ps status.Ok a b = RunsMany d ps Whole a b
+ManyEnds d ps status.Ok a b = (r : RunsMany d ps Whole a b) × TakeAnswers r.xs r.outs r.run.pieces r.begun b
 ManyEnds d ps status.Usage a b = ⊥
 ManyEnds d ps (status.QueryRefused f) a b = NoneBegun d ps (status.QueryRefused f) a b
 ManyEnds d ps (status.DocumentRefused f) a b = RunsMany d ps (Refused f) a b

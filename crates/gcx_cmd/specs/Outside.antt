@@ -19,7 +19,7 @@ pub record Outside : Type 0 where
 abbrev pub outside : ShelfView → (out err : SinkView) → Rows Row → (most : ℕ) → Outside
 outside s o e rows most = record { shelf = s; out = o; err = e; store = record { rows = rows; most = most } }
 
--- the same with a store that isn't looked at
+-- what is seen outside, where the store isn't looked at
 abbrev pub beside : ShelfView → (out err : SinkView) → StoreView → Outside
 beside s o e store = record { shelf = s; out = o; err = e; store = store }
 

@@ -1,7 +1,10 @@
--- The status of a query that isn't accepted, of a document that isn't read, and of a trace that is judged (this project's).
+-- The status of a file that can't be attached, of a query that isn't accepted, of a document that isn't read, and of a trace that
+-- is judged (this project's).
 use Rattle.std.specs.Prelude.{ℕ}
 use Rattle.std.specs.declared.result.Result.{Result}
 use Rattle.std.specs.declared.result.Result.TheVariants.{Ok, Err}
+use Rattle.gcx_io.specs.declared.fault.AttachFault.{AttachFault}
+use Rattle.gcx_io.specs.declared.fault.AttachFault.TheVariants as attach
 use Rattle.gcx_model.specs.declared.fault.QueryFault.{QueryFault}
 use Rattle.gcx_model.specs.declared.fault.QueryFault.TheVariants as query
 use Rattle.tree_read.specs.declared.reading.DocumentEnd.{DocumentEnd}
@@ -10,6 +13,11 @@ use Rattle.trace_check.specs.declared.checked.Checked.{Checked}
 use Rattle.trace_check.specs.declared.checked.Checked.TheVariants as checked
 use Rattle.gcx_cmd.specs.declared.status.Status.{Status}
 use Rattle.gcx_cmd.specs.declared.status.Status.TheVariants as status
+
+-- why a file isn't read that can't be attached
+abbrev pub attach_status : AttachFault → Status
+attach_status attach.Failed = status.ReadFault
+attach_status attach.Memory = status.Memory
 
 abbrev pub document_status : DocumentEnd → Status
 document_status (document.Refused f) = status.DocumentRefused f

@@ -7,16 +7,24 @@ use Rattle.gcx_io.specs.Views.{Gave, HandleView, ShelfView, missed}
 use Rattle.gcx_io.specs.Writing.{IsSomeBytes, joined}
 use Rattle.run_words.specs.Stops.{Stop, More, End, last_call, IsCalm}
 
--- The handle was opened by the name in this call; its reads gave these pieces, none empty, and stopped so. No call came behind
--- the end or a fault.
-pub record Reads (name : List ℕ) (h : ℕ) (a b : ShelfView) (pieces : List (List ℕ)) (stop : Stop) : Type 0 where
+-- The handle was opened by the name; its reads, which asked for so many bytes each, gave these pieces, none empty, and
+-- stopped so. No call came after the end or a fault.
+pub record ReadsAsking (asked : ℕ) (name : List ℕ) (h : ℕ) (a b : ShelfView) (pieces : List (List ℕ)) (stop : Stop) : Type 0 where
   pub handle : HandleView
   pub at : slice_get b.given h ≡ Some handle
   pub named : handle.name ≡ name
   pub some : All IsSomeBytes pieces
-  pub calls : handle.calls ≡ map Gave pieces ++ last_call stop
+  pub calls : handle.calls ≡ map (Gave asked) pieces ++ last_call asked stop
   pub told : Consumes (content_of a.names name) handle.left (joined pieces)
   pub at_end : stop ≡ End → IsAtEnd handle.left
+
+-- so DOC and TRACE are read,
+abbrev pub Reads : (name : List ℕ) → (h : ℕ) → (a b : ShelfView) → (pieces : List (List ℕ)) → Stop → Type 0
+Reads name h a b pieces stop = ReadsAsking 65536 name h a b pieces stop
+
+-- and so QUERY
+abbrev pub ReadsQuery : (name : List ℕ) → (h : ℕ) → (a b : ShelfView) → (pieces : List (List ℕ)) → Stop → Type 0
+ReadsQuery name h a b pieces stop = ReadsAsking 4096 name h a b pieces stop
 
 -- n handles were given in this call, and no attach failed
 pub record Opens (n : ℕ) (a b : ShelfView) : Type 0 where
@@ -36,7 +44,7 @@ most_of_query = 1048576
 abbrev pub Within : List (List ℕ) → Type 0
 Within pieces = length (joined pieces) ≤ most_of_query
 
--- The last piece alone goes past what a query may have.
+-- Only the last piece goes past what a query may have.
 pub record PassesIn (pieces : List (List ℕ)) : Type 0 where
   pub before : List (List ℕ)
   pub last : List ℕ
@@ -45,7 +53,7 @@ pub record PassesIn (pieces : List (List ℕ)) : Type 0 where
   pub past : most_of_query < length (joined pieces)
   pub short : length last ≤ 4096
 
--- no read failed, and none came behind what a query may have
+-- no read failed, and none came after what a query may have
 abbrev pub Calmly : List (List ℕ) → Stop → Type 0
 Calmly pieces stop = (IsCalm stop × Within pieces) ⊎ ((stop ≡ More) × PassesIn pieces)
 

@@ -2,14 +2,17 @@
 use Rattle.std.specs.Prelude.{◌≡◌, ◌⊎◌, ℕ, Bool, List, Some}
 use Rattle.std.specs.FinMap as map
 use Rattle.gcx_base.specs.Limits.{full_limits}
-use Rattle.gcx_io.specs.Writing.{joined}
+use Rattle.gcx_io.specs.Views.{SinkView}
+use Rattle.gcx_io.specs.Writing.{Takes, joined}
+use Rattle.gcx_model.specs.Answer.{answer}
+use Rattle.gcx_model.specs.Document.{Nodes}
 use Rattle.gcx_model.specs.Query.{ExprTree}
 use Rattle.gcx_model.specs.Seen.{SeenIs}
 use Rattle.gcx_model.specs.Tree.{Token}
 use Rattle.run_words.specs.Ends.{EndsRun, Whole, Refused, ReadFailed, WriteFailed, NoMemory}
 use Rattle.run_words.specs.Stops.{Stop, is_end}
 use Rattle.run_words.specs.Writing.{Sinks}
-use Rattle.gcx_cmd.specs.DocumentDoes.{Over}
+use Rattle.gcx_cmd.specs.DocumentDoes.{Over, SpellsOneDocument}
 use Rattle.gcx_cmd.specs.Outside.{Outside, StoreView, sinks_of}
 use Rattle.gcx_cmd.specs.QueryDoes.{RefusesQuery, NotBegun}
 use Rattle.gcx_cmd.specs.Running.{Settles, Holds, UnlessMemory}
@@ -43,8 +46,14 @@ pub record Runs (tracing : Bool) (ahead : ℕ) (q d : List ℕ) (s : Status) (a 
   pub ends : EndsBy x tracing s pieces stop (sinks_of a) (sinks_of b)
   pub holds : UnlessMemory s (HoldsSeen x ahead pieces stop b.store)
 
+-- What was written is the answer of the query over the one document that these pieces spell.
+pub record WritesAnswer (x : List ExprTree) (pieces : List (List ℕ)) (a b : SinkView) : Type 0 where
+  pub doc : Nodes
+  pub spells : SpellsOneDocument (joined pieces) doc
+  pub wrote : Takes a b (answer x doc)
+
 abbrev pub RunDoes : Bool → (ahead : ℕ) → (q d : List ℕ) → Status → Outside → Outside → Type 0
-RunDoes tracing ahead q d status.Ok a b = Runs tracing ahead q d status.Ok a b × (b.store.rows ≡ map.empty)
+RunDoes tracing ahead q d status.Ok a b = (r : Runs tracing ahead q d status.Ok a b) × (b.store.rows ≡ map.empty) × WritesAnswer r.x r.pieces a.out b.out
 RunDoes tracing ahead q d status.Usage a b = ⊥
 RunDoes tracing ahead q d (status.QueryRefused f) a b = RefusesQuery q f a b
 RunDoes tracing ahead q d (status.DocumentRefused f) a b = Runs tracing ahead q d (status.DocumentRefused f) a b

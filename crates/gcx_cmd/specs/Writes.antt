@@ -15,7 +15,7 @@ WritesText status.WriteFault a b text = Owes a b [] text
 WritesText status.Memory a b text = ⊥
 WritesText (status.TraceRefused n) a b text = ⊥
 
--- the same of a text for which memory may be wanting
+-- What the writing of a text ends with for which memory may be wanting.
 abbrev pub PrintsText : Status → (a b : SinkView) → (text : List ℕ) → Type 0
 PrintsText status.Ok a b text = Takes a b text
 PrintsText status.Usage a b text = ⊥

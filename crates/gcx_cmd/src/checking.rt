@@ -24,7 +24,7 @@ use crate::query::read_query;
 use crate::writing::write_text;
 use doc_reader::Token;
 use gcx_base::{Memory, Text};
-use gcx_io::{AttachFault, Opened, Shelf, Sink};
+use gcx_io::{Opened, Shelf, Sink};
 use gcx_model::Plan;
 use std::alloc::Global;
 use std::collections::VecDeque;
@@ -59,11 +59,7 @@ fn judge<F: Shelf>(
     ensures cause { IsErrOf result Status.ReadFault → CausesFault name.now (F.seen files.old) (F.seen files.new) }
     ensures memory { IfErr result HasNoMemory }
 {
-    let handle = match files.attach(name) {
-        Ok(handle) => handle,
-        Err(AttachFault::Failed) => return Err(Status::ReadFault),
-        Err(AttachFault::Memory) => return Err(Status::Memory),
-    };
+    let handle = files.attach(name)?;
     let mut source = Opened::new(files, handle);
     judged(check_run(alloc, plan, tokens, &mut source))
 }

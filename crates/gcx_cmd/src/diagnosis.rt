@@ -4,7 +4,7 @@ ghost use Rattle.arrayvec.specs.ArrayVec.{array_vec_len};
 ghost use Rattle.gcx_cmd.specs.declared.status.Status.TheVariants.{Ok as well};
 ghost use Rattle.gcx_cmd.specs.Diagnosis.{limit_words, query_line, document_line, line_of};
 ghost use Rattle.gcx_cmd.specs.Does.{Tells};
-ghost use Rattle.gcx_cmd.specs.Lines.{IsShort, bytes_of, line_bytes};
+ghost use Rattle.gcx_cmd.specs.Lines.{HasShortWords, bytes_of, line_bytes};
 
 use crate::Status;
 use arrayvec::ArrayVec;
@@ -63,7 +63,7 @@ impl Line {
 
     fn of_query(fault: QueryFault) -> Line
         ensures line { bytes_of result ≡ query_line fault }
-        ensures short { IsShort result }
+        ensures short { HasShortWords result }
     {
         match fault {
             QueryFault::Utf8(at) => Line::numbered(b"gcx: query Utf8 ", at),
@@ -83,7 +83,7 @@ impl Line {
 
     fn of_document(fault: DocFault) -> Line
         ensures line { bytes_of result ≡ document_line fault }
-        ensures short { IsShort result }
+        ensures short { HasShortWords result }
     {
         match fault {
             DocFault::Utf8(at) => Line::numbered(b"gcx: document Utf8 ", at),
@@ -100,7 +100,7 @@ impl Line {
     /// The line of a status. None at Ok.
     fn of(status: Status) -> Option<Line>
         ensures line { line_bytes result ≡ line_of status }
-        ensures short { IfSome result IsShort }
+        ensures short { IfSome result HasShortWords }
         ensures silent { status ≡ well → result ≡ None }
     {
         match status {
@@ -126,7 +126,7 @@ fn put(line: &mut ArrayVec<u8, ROOM>, bytes: &[u8])
 
 /// A line with its end.
 fn text_of(line: Line) -> ArrayVec<u8, ROOM>
-    requires { IsShort line }
+    requires { HasShortWords line }
     ensures { result.items ≡ bytes_of line }
 {
     let mut text = ArrayVec::new();

@@ -8,7 +8,7 @@ use crate::Status;
 use doc_reader::Token;
 use doc_tree::Tree;
 use gcx_base::Text;
-use gcx_io::{AttachFault, Opened, Shelf};
+use gcx_io::{Opened, Shelf};
 use std::alloc::Global;
 use std::collections::VecDeque;
 use tree_read::{DocumentEnd, read_tokens, read_tree};
@@ -39,11 +39,7 @@ pub(crate) fn read_document<F: Shelf>(
     ensures cause { IsErrOf result Status.ReadFault → CausesFault name.now (F.seen files.old) (F.seen files.new) }
     ensures memory { IfErr result HasNoMemory }
 {
-    let handle = match files.attach(name) {
-        Ok(handle) => handle,
-        Err(AttachFault::Failed) => return Err(Status::ReadFault),
-        Err(AttachFault::Memory) => return Err(Status::Memory),
-    };
+    let handle = files.attach(name)?;
     let mut source = Opened::new(files, handle);
     match read_tree(alloc, &mut source) {
         Ok(tree) => Ok(tree),
@@ -62,11 +58,7 @@ pub(crate) fn read_document_tokens<F: Shelf>(
     ensures cause { IsErrOf result Status.ReadFault → CausesFault name.now (F.seen files.old) (F.seen files.new) }
     ensures memory { IfErr result HasNoMemory }
 {
-    let handle = match files.attach(name) {
-        Ok(handle) => handle,
-        Err(AttachFault::Failed) => return Err(Status::ReadFault),
-        Err(AttachFault::Memory) => return Err(Status::Memory),
-    };
+    let handle = files.attach(name)?;
     let mut source = Opened::new(files, handle);
     match read_tokens(alloc, &mut source) {
         Ok(tokens) => Ok(tokens),

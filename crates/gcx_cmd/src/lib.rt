@@ -22,6 +22,6 @@ mod writing;
 
 pub use command::gcx_main;
 pub use diagnosis::diagnose;
-pub use laws::{many_write_as_one, runs_are_accepted};
+pub use laws::{checks_end_well, many_write_as_one, runs_are_accepted, selfrun_is_accepted};
 pub use real::gcx_files;
 pub use status::Status;

@@ -39,7 +39,7 @@ pub(crate) fn put_peak_line(line: &mut Vec<u8>, report: &Report) -> Result<(), M
     Ok(())
 }
 
-/// The same behind the number of the answer's bytes.
+/// Appends the line of a run's numbers, which the number of the answer's bytes begins.
 pub(crate) fn put_answer_line(
     line: &mut Vec<u8>,
     answer: u64,

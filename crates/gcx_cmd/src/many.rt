@@ -160,8 +160,7 @@ fn run_into<F: Shelf>(
     };
     let doc = match files.attach(document) {
         Ok(handle) => handle,
-        Err(AttachFault::Failed) => return Status::ReadFault,
-        Err(AttachFault::Memory) => return Status::Memory,
+        Err(fault) => return Status::from(fault),
     };
     run_plans(alloc, plans, files, doc, &outs)
 }

@@ -22,7 +22,7 @@ use crate::writing::write_text;
 use buf_tree::Row;
 use engine::{Ended, Report};
 use gcx_base::{Memory, Text};
-use gcx_io::{AttachFault, NullSink, Opened, Shelf, Sink};
+use gcx_io::{NullSink, Opened, Shelf, Sink};
 use gcx_model::Plan;
 use node_store::NodeStore;
 use std::alloc::Global;
@@ -45,11 +45,7 @@ fn measure_document<F: Shelf, N: NodeStore<Row> + Drop>(
     ensures cause { IsErrOf result Status.ReadFault → CausesFault name.now (F.seen files.old) (F.seen files.new) }
     ensures memory { IfErr result HasNoMemory }
 {
-    let handle = match files.attach(name) {
-        Ok(handle) => handle,
-        Err(AttachFault::Failed) => return Err(Status::ReadFault),
-        Err(AttachFault::Memory) => return Err(Status::Memory),
-    };
+    let handle = files.attach(name)?;
     let mut source = Opened::new(files, handle);
     let mut out = NullSink::new();
     let mut err = NullSink::new();

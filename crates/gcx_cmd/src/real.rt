@@ -15,8 +15,8 @@ use raw_nodes::RawNodes;
 use std::alloc::Global;
 
 /// Runs one command line over the files of the system and the standard streams. What is seen of them is the calls that
-/// they answered: so what standard output took is exactly what the bytes that QUERY's reads gave settle from those that
-/// DOC's gave.
+/// they answered. So, unless a write failed or memory ran out, what standard output took is exactly what the bytes that
+/// QUERY's reads gave settle from those that DOC's gave.
 pub fn gcx_files(
     alloc: Global,
     words: &[Text],

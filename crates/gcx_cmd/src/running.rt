@@ -18,7 +18,7 @@ use crate::query::read_query;
 use buf_tree::Row;
 use engine::{Ended, Engine, Report, run_query};
 use gcx_base::{Limits, Text};
-use gcx_io::{AttachFault, Opened, Shelf, Sink, Source};
+use gcx_io::{Opened, Shelf, Sink, Source};
 use gcx_model::Plan;
 use join_index::Indexed;
 use node_store::NodeStore;
@@ -117,8 +117,7 @@ fn run_document<F: Shelf, O: Sink, E: Sink, N: NodeStore<Row> + Drop>(
 {
     let handle = match files.attach(name) {
         Ok(handle) => handle,
-        Err(AttachFault::Failed) => return Status::ReadFault,
-        Err(AttachFault::Memory) => return Status::Memory,
+        Err(fault) => return Status::from(fault),
     };
     let mut source = Opened::new(files, handle);
     let report = run_plan(alloc, plan, tracing, ahead, &mut source, out, err, nodes);

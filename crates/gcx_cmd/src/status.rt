@@ -1,3 +1,4 @@
+use gcx_io::AttachFault;
 use gcx_model::{DocFault, QueryFault};
 
 /// How a call of the program ends.
@@ -37,6 +38,21 @@ impl Status {
             Status::WriteFault => 6,
             Status::Memory => 7,
             Status::TraceRefused(_) => 8,
+        }
+    }
+}
+
+/// A file that was to be read can't be attached.
+impl From<AttachFault> for Status {
+    ghost use Rattle.std.specs.Prelude.{◌≡◌};
+    ghost use Rattle.gcx_cmd.specs.ReadEnd.{attach_status};
+
+    ghost from_gives = { λ fault e. e ≡ attach_status fault };
+
+    fn from(fault: AttachFault) -> Status {
+        match fault {
+            AttachFault::Failed => Status::ReadFault,
+            AttachFault::Memory => Status::Memory,
         }
     }
 }

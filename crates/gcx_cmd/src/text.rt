@@ -6,7 +6,7 @@ ghost use Rattle.gcx_cmd.specs.Reads.{CausesFault, KeepsShelf, Opens};
 
 use crate::Status;
 use gcx_base::Text;
-use gcx_io::{AttachFault, Shelf};
+use gcx_io::Shelf;
 use gcx_model::{QueryFault, What};
 use std::alloc::Global;
 
@@ -30,11 +30,7 @@ pub(crate) fn read_text<F: Shelf>(
     ensures cause { IsErrOf result Status.ReadFault → CausesFault name.now (F.seen files.old) (F.seen files.new) }
     ensures memory { IfErr result HasNoMemory }
 {
-    let handle = match files.attach(name) {
-        Ok(handle) => handle,
-        Err(AttachFault::Failed) => return Err(Status::ReadFault),
-        Err(AttachFault::Memory) => return Err(Status::Memory),
-    };
+    let handle = files.attach(name)?;
     let mut text = Vec::new(alloc);
     let mut buf = [0u8; PIECE];
     'reading: while text.len() <= LIMIT {

@@ -1,7 +1,8 @@
 -- A trace beside a text, piece by piece.
-use Rattle.std.proofs.Common.{◌≡◌, ℕ, suc, ◌+◌, ◌-◌, ◌<◌, ◌≤◌, true, false, List, [], ◌∷◌, ◌++◌, length, take, drop, get_or, Ok, Err, refl, sym, ◌∙◌, ap, subst, inl, inr, arith, length-append, append_assoc, append-nil}
+use Rattle.std.proofs.Common.{◌≡◌, ℕ, suc, All, ◌+◌, ◌-◌, ◌<◌, ◌≤◌, true, false, List, [], ◌∷◌, ◌++◌, length, take, drop, get_or, Ok, Err, refl, sym, ◌∙◌, ap, subst, inl, inr, arith, length-append, append_assoc, append-nil}
 use Rattle.std.specs.Prelude.{◌≢◌}
 use Rattle.std.proofs.lemmas.Bool.{cases_lt}
+use Rattle.std.proofs.lemmas.List.Elements.{All-push}
 use Rattle.std.proofs.lemmas.List.{get_or_append_left, get_or-append-add, get_or-drop, length-take-le, length-drop, take-append-drop, take_all, same_from_push}
 use Rattle.std.proofs.Math.Seq.{take-add}
 use Rattle.gcx_model.specs.Demand.{Line}
@@ -10,7 +11,7 @@ use Rattle.gcx_io.specs.Calls.{ReadsSource}
 use Rattle.gcx_io.specs.Views.{SourceView}
 use Rattle.gcx_io.specs.Writing.{joined}
 use Rattle.run_words.proofs.Sourcing.{source_more, source_end, source_fault}
-use Rattle.run_words.specs.Reading.{SourceGave}
+use Rattle.run_words.specs.Reading.{IsShort, SourceGave}
 use Rattle.run_words.specs.Stops.{More, End, Fault, is_end}
 use Rattle.time_laws.specs.Checking.{Yes, No, IsFront, Judges, LineEnds, fitted, line_ends}
 use Rattle.trace_check.specs.Judging.{IsInCommon, JudgesSource, StopsBy, answer_in}
@@ -68,6 +69,7 @@ ends_yes text at e = (refl, take_all at text (omega (arith, e)), refl)
 pub record HasCompared (text : List ℕ) (a b : SourceView) (at : ℕ) : Type 0 where
   pub pieces : List (List ℕ)
   pub gave : SourceGave a b pieces More
+  pub short : All IsShort pieces
   pub given : joined pieces ≡ take at text
   pub within : at ≤ length text
   pub earlier : (before : List (List ℕ)) (last : List ℕ) → pieces ≡ before ++ last ∷ [] → IsFront (joined before) text
@@ -79,13 +81,14 @@ fronts_on text at ps p given before last e =
     subst (λ (l : List (List ℕ)). IsFront (joined l) text) (same_from_push ps before p last e).0 (subst (λ (l : List ℕ). IsFront l text) (sym given) (front_take at text))
 
 pub compared_on : {E : Type 0} (text : List ℕ) (a b c : SourceView) (at n : ℕ) (buf : List ℕ) → (h : HasCompared text a b at) → ReadsSource {E = E} b c (Ok n) buf
-    → 1 ≤ n → n ≤ length buf → (i : IsInCommon (drop at text) (take n buf) n) → HasCompared text a c (at + n)
-compared_on text a b c at n buf h once some within i =
+    → 1 ≤ n → n ≤ length buf → length buf ≡ 65536 → (i : IsInCommon (drop at text) (take n buf) n) → HasCompared text a c (at + n)
+compared_on text a b c at n buf h once some within size i =
     let long : length (take n buf) ≡ n = length-take-le n buf within in
     let rest : length (drop at text) ≡ length text - at = length-drop at text in
     record {
       pieces = h.pieces ++ take n buf ∷ [];
-      gave = source_more a b c h.pieces n buf h.gave once some within;
+      gave = source_more a b c h.pieces n buf h.gave once some within size;
+      short = All-push IsShort h.pieces (take n buf) h.short (omega (arith, long, within, size));
       given = joined_push h.pieces (take n buf) ∙ (ap (λ (l : List ℕ). l ++ take n buf) h.given
           ∙ (ap (λ (l : List ℕ). take at text ++ l) (sym (i.same ∙ take_all n (take n buf) (omega (arith, long)))) ∙ sym (take-add at n text)));
       within = omega (arith, i.within_left, rest, h.within);
@@ -94,9 +97,9 @@ compared_on text a b c at n buf h once some within i =
 
 -- ---- the ends of the reading
 
-pub differs_here : {E : Type 0} (text : List ℕ) (a b c : SourceView) (at n same : ℕ) (buf : List ℕ) → HasCompared text a b at → ReadsSource {E = E} b c (Ok n) buf → 1 ≤ n → n ≤ length buf
+pub differs_here : {E : Type 0} (text : List ℕ) (a b c : SourceView) (at n same : ℕ) (buf : List ℕ) → HasCompared text a b at → ReadsSource {E = E} b c (Ok n) buf → 1 ≤ n → n ≤ length buf → length buf ≡ 65536
     → IsInCommon (drop at text) (take n buf) same → same < n → JudgesSource text (checked.No (fitted (suc (line_ends (take (at + same) text))))) a c
-differs_here text a b c at n same buf h once some within i less =
+differs_here text a b c at n same buf h once some within size i less =
     let piece : List ℕ = take n buf in
     let given : List ℕ = take at text ++ piece in
     let long : length (take at text) ≡ at = length-take-le at text h.within in
@@ -116,7 +119,8 @@ differs_here text a b c at n same buf h once some within i less =
     record {
       pieces = h.pieces ++ piece ∷ [];
       stop = More;
-      gave = source_more a b c h.pieces n buf h.gave once some within;
+      gave = source_more a b c h.pieces n buf h.gave once some within size;
+      short = All-push IsShort h.pieces piece h.short (omega (arith, length-take-le n buf within, within, size));
       earlier = fronts_on text at h.pieces piece h.given;
       stops = tt;
       judged = subst (λ (l : List ℕ). Judges text (No (fitted (suc (line_ends (take (at + same) text))))) l false) (sym given_is) (
@@ -143,11 +147,12 @@ stops_so checked.ReadFault ps s = s
 stops_so checked.Memory ps s = absurd (no_more s.1)
 
 pub ends_here : {E : Type 0} (text : List ℕ) (a b c : SourceView) (at n : ℕ) (buf : List ℕ) (r : Checked) → HasCompared text a b at → ReadsSource {E = E} b c (Ok n) buf
-    → n ≡ 0 → 0 < length buf → StopsBy r [] End → Judges text (answer_in r) (take at text) true → JudgesSource text r a c
-ends_here text a b c at n buf r h once none room stops judged = record {
+    → n ≡ 0 → length buf ≡ 65536 → StopsBy r [] End → Judges text (answer_in r) (take at text) true → JudgesSource text r a c
+ends_here text a b c at n buf r h once none size stops judged = record {
   pieces = h.pieces;
   stop = End;
-  gave = source_end a b c h.pieces n buf h.gave once none room;
+  gave = source_end a b c h.pieces n buf h.gave once none size;
+  short = h.short;
   earlier = h.earlier;
   stops = stops_so r h.pieces stops;
   judged = subst (λ (l : List ℕ). Judges text (answer_in r) l true) (sym h.given) judged;
@@ -158,6 +163,7 @@ fails_here text a b c at e buf h once = record {
   pieces = h.pieces;
   stop = Fault;
   gave = source_fault a b c h.pieces e buf h.gave once;
+  short = h.short;
   earlier = h.earlier;
   stops = refl;
   judged = (refl, subst (λ (l : List ℕ). IsFront l text) (sym h.given) (front_take at text));

@@ -13,7 +13,7 @@ use Rattle.tree_laws.proofs.Matches.{Grown, Numbered, Numbered-low}
 use Rattle.doc_tree.proofs.Steps.{hits-push}
 use Rattle.doc_tree.specs.Sets.{stepped}
 use Rattle.trace_check.specs.Reaching.{numbers_of}
-use Rattle.trace_check.specs.Wanting.{matches_by, path_in, paths_of}
+use Rattle.trace_check.specs.Wanting.{matches_by, path_in, row_paths}
 use Rattle.trace_check.proofs.Stepped.{rises}
 
 -- a variable more
@@ -47,9 +47,9 @@ matches_of_var C w some [] x = sym (root_alone C w some)
 matches_of_var C w some (p ∷ paths) zero = refl
 matches_of_var C w some (p ∷ paths) (suc x) = matches_of_var C w some paths x
 
-pub matches_push : (C : Tree) → Grown C → (rows : List VarRowTree) (r : VarRowTree) (lists : List (List ℕ)) (found : List ℕ) → lists ≡ matches_by C (paths_of rows)
-    → found ≡ numbers_of C (stepped r.step (hits 0 (path_in (paths_of rows) r.parent))) → lists ++ found ∷ [] ≡ matches_by C (paths_of (rows ++ r ∷ []))
+pub matches_push : (C : Tree) → Grown C → (rows : List VarRowTree) (r : VarRowTree) (lists : List (List ℕ)) (found : List ℕ) → lists ≡ matches_by C (row_paths rows)
+    → found ≡ numbers_of C (stepped r.step (hits 0 (path_in (row_paths rows) r.parent))) → lists ++ found ∷ [] ≡ matches_by C (row_paths (rows ++ r ∷ []))
 matches_push C w rows r lists found e f =
     ap (λ (l : List (List ℕ)). l ++ found ∷ []) e
-    ∙ (ap (λ (n : List ℕ). matches_by C (paths_of rows) ++ n ∷ []) (f ∙ one_step C w (path_in (paths_of rows) r.parent) r.step)
-    ∙ sym (ap (matches_by C) (paths_push ([] ∷ []) rows r) ∙ map_push (λ (p : List Step). numbers_of C (hits 0 p)) (paths_of rows) (path_in (paths_of rows) r.parent ++ r.step ∷ [])))
+    ∙ (ap (λ (n : List ℕ). matches_by C (row_paths rows) ++ n ∷ []) (f ∙ one_step C w (path_in (row_paths rows) r.parent) r.step)
+    ∙ sym (ap (matches_by C) (paths_push ([] ∷ []) rows r) ∙ map_push (λ (p : List Step). numbers_of C (hits 0 p)) (row_paths rows) (path_in (row_paths rows) r.parent ++ r.step ∷ [])))

@@ -1,11 +1,11 @@
 -- What is answered of a trace by the calls of its source (this project's).
-use Rattle.std.specs.Prelude.{◌≡◌, ◌≤◌, ◌<◌, ◌≢◌, ℕ, List, [], ◌∷◌, ◌++◌, length, take, get_or}
+use Rattle.std.specs.Prelude.{◌≡◌, ◌≤◌, ◌<◌, ◌≢◌, ℕ, List, [], ◌∷◌, ◌++◌, length, take, get_or, All}
 use Rattle.gcx_io.specs.Views.{SourceView}
 use Rattle.gcx_io.specs.Writing.{joined}
 use Rattle.gcx_model.specs.Core.{PlanTree}
 use Rattle.gcx_model.specs.Demand.{text_of_lines, trace_lines}
 use Rattle.gcx_model.specs.Tree.{Token}
-use Rattle.run_words.specs.Reading.{SourceGave}
+use Rattle.run_words.specs.Reading.{IsShort, SourceGave}
 use Rattle.run_words.specs.Stops.{Stop, More, End, Fault, IsCalm, is_end}
 use Rattle.time_laws.specs.Checking.{Answer, Yes, No, ReadFault, Memory, IsFront, Judges}
 use Rattle.trace_check.specs.declared.checked.Checked.{Checked}
@@ -26,12 +26,13 @@ StopsBy (checked.No line) pieces stop = IsCalm stop
 StopsBy checked.ReadFault pieces stop = stop ≡ Fault
 StopsBy checked.Memory pieces stop = (pieces ≡ []) × (stop ≡ More)
 
--- The source gave these pieces in this call, and the answer is right of them. No read came behind the end, behind one that
+-- The source gave these pieces in this call, none longer than a read asks for, and the answer is right of them. No read came behind the end, behind one that
 -- failed or behind the first byte that differs from the text.
 pub record JudgesSource (text : List ℕ) (result : Checked) (a b : SourceView) : Type 0 where
   pub pieces : List (List ℕ)
   pub stop : Stop
   pub gave : SourceGave a b pieces stop
+  pub short : All IsShort pieces
   pub earlier : (before : List (List ℕ)) (last : List ℕ) → pieces ≡ before ++ last ∷ [] → IsFront (joined before) text
   pub stops : StopsBy result pieces stop
   pub judged : Judges text (answer_in result) (joined pieces) (is_end stop)

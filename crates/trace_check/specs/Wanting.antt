@@ -20,8 +20,8 @@ abbrev pub matches_by : Tree → List (List Step) → List (List ℕ)
 matches_by C paths = map (λ p. numbers_of C (hits 0 p)) paths
 
 -- the paths of these variables
-abbrev pub paths_of : List VarRowTree → List (List Step)
-paths_of vars = paths_from ([] ∷ []) vars
+abbrev pub row_paths : List VarRowTree → List (List Step)
+row_paths vars = paths_from ([] ∷ []) vars
 
 -- the path of the variable among these
 abbrev pub path_in : List (List Step) → ℕ → List Step

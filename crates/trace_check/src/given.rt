@@ -5,7 +5,7 @@ ghost use Rattle.gcx_model.specs.Held.{given_row};
 ghost use Rattle.gcx_model.specs.Nodes.{Grown};
 ghost use Rattle.gcx_model.specs.PlanView.{plan_tree, role_row_tree, var_row_tree};
 ghost use Rattle.trace_check.specs.Reaching.{in_range, covers, Covers};
-ghost use Rattle.trace_check.specs.Wanting.{AreBelow, IsGivenTo, given_all, is_last, lists_in, matches_by, numbers_in, path_in, paths_of, with_role};
+ghost use Rattle.trace_check.specs.Wanting.{AreBelow, IsGivenTo, given_all, is_last, lists_in, matches_by, numbers_in, path_in, row_paths, with_role};
 
 use crate::reach::{Range, reach};
 use doc_tree::Tree;
@@ -37,7 +37,7 @@ fn matches_of(alloc: Global, tree: &Tree, vars: &[VarRow]) -> Result<Vec<Vec<usi
     requires grown { Grown tree.now }
     requires some { 0 < length tree.now.nodes }
     ensures { IfOk result (λ matches. lists_in matches.items
-        ≡ matches_by tree.now (paths_of (map var_row_tree vars.now))) }
+        ≡ matches_by tree.now (row_paths (map var_row_tree vars.now))) }
 {
     let mut matches = Vec::new(alloc);
     matches.push(root(alloc)?)?;

@@ -168,8 +168,11 @@ fn another_trace_is_refused_at_its_first_line(rt: HostRuntime) -> Result<(), Fai
     let alloc = rt.alloc();
     let longer = joined(alloc, &[TRACE_BS, b"x 0\n"])?;
     let shorter = &TRACE_BS[..TRACE_BS.len().saturating_sub(1)];
+    // the lines up to the one that is refused
+    let front = &TAKEN_TWICE[..TAKEN_TWICE.len().min(70)];
     let rows: &[(&[u8], u64, &[u8])] = &[
         (TAKEN_TWICE, 12, b"gcx: trace 12\n"),
+        (front, 12, b"gcx: trace 12\n"),
         (shorter, 33, b"gcx: trace 33\n"),
         (longer.as_slice(), 34, b"gcx: trace 34\n"),
         (b"", 1, b"gcx: trace 1\n"),

@@ -1,26 +1,17 @@
 use Rattle.std.proofs.Common.{◌∙◌, ◌≤◌, List, ℕ, length, map, sym, ap, subst, arith}
 use Rattle.gcx_io.specs.Views.{ShelfView}
-use Rattle.gcx_io.specs.declared.fault.AttachFault.TheVariants as fault
 use Rattle.gcx_io.specs.declared.shelf.Handle.{Handle}
 use Rattle.gcx_words.specs.declared.pairs.Pair.{Pair}
+use Rattle.gcx_cmd.proofs.Attached.{unattached_memory, unattached_reads}
 use Rattle.gcx_cmd.proofs.Manies.{handles_apart, made_outs, outs_named}
-use Rattle.gcx_cmd.proofs.ManyEnding.{doc_missing, failed_so, lacks_doc, misses_doc, outs_memory, outs_read, outs_write, plans_end, read_rose, run_cause, run_write, stops_in_outs, write_rose}
+use Rattle.gcx_cmd.proofs.ManyEnding.{doc_missing, outs_memory, outs_read, outs_write, plans_end, read_rose, run_cause, run_write, stops_in_outs, without_doc, write_rose}
 use Rattle.gcx_cmd.proofs.ManyKept.{kept_attached, kept_on, kept_run, kept_unattached, other_names}
-use Rattle.gcx_cmd.specs.ManyDoes.{MakesOuts}
+use Rattle.gcx_cmd.specs.ManyDoes.{MakesOuts, ManyEnds}
+use Rattle.gcx_cmd.specs.ReadEnd.{attach_status}
 use Rattle.gcx_cmd.proofs.many.run_into.Goals as goal
 
 pub returns-in-Err-clause-ends : goal.returns-in-Err-clause-ends
 returns-in-Err-clause-ends g c = λ begin accepts. stops_in_outs c.args.document.now c.args.pairs.now begin (g.F.Shelf.seen c.args.files.now) c.args.plans.now accepts c.in-Err.stopped (g.F.Shelf.seen c.create_outs.new.files) c.in-Err.ensures.stops
-
-pub returns-in-Err-Failed-clause-ends : goal.returns-in-Err-Failed-clause-ends
-returns-in-Err-Failed-clause-ends g c = λ begin accepts.
-    misses_doc c.args.document.now c.args.pairs.now begin (g.F.Shelf.seen c.args.files.now) c.args.plans.now accepts (g.F.Shelf.seen c.create_outs.new.files) c.in-Ok.outs.items c.in-Ok.ensures.made
-    (g.F.Shelf.seen c.attach.new.self) (failed_so c.args.document.now (g.F.Shelf.seen c.create_outs.new.files) (g.F.Shelf.seen c.attach.new.self) c.in-Err-Failed.field-0 fault.Failed c.in-Err-Failed.field-0-is c.in-Err-Failed.ensures.attaches)
-
-pub returns-in-Err-Memory-clause-ends : goal.returns-in-Err-Memory-clause-ends
-returns-in-Err-Memory-clause-ends g c = λ begin accepts.
-    lacks_doc c.args.document.now c.args.pairs.now begin (g.F.Shelf.seen c.args.files.now) c.args.plans.now accepts (g.F.Shelf.seen c.create_outs.new.files) c.in-Ok.outs.items c.in-Ok.ensures.made
-    (g.F.Shelf.seen c.attach.new.self) (failed_so c.args.document.now (g.F.Shelf.seen c.create_outs.new.files) (g.F.Shelf.seen c.attach.new.self) c.in-Err-Memory.field-0 fault.Memory c.in-Err-Memory.field-0-is c.in-Err-Memory.ensures.attaches)
 
 pub returns-in-Err-clause-cause : goal.returns-in-Err-clause-cause
 returns-in-Err-clause-cause g c = λ is. absurd (outs_read c.args.pairs.now (g.F.Shelf.seen c.args.files.now) (g.F.Shelf.seen c.create_outs.new.files) c.in-Err.stopped c.in-Err.ensures.stops is)
@@ -34,28 +25,34 @@ returns-in-Err-clause-memory g c = outs_memory c.args.pairs.now (g.F.Shelf.seen 
 pub returns-in-Err-clause-keeps : goal.returns-in-Err-clause-keeps
 returns-in-Err-clause-keeps g c = c.create_outs.ensures.keeps
 
-pub returns-in-Err-Failed-clause-cause : goal.returns-in-Err-Failed-clause-cause
-returns-in-Err-Failed-clause-cause g c = λ is.
+pub returns-in-Err-attach-clause-ends : goal.returns-in-Err-attach-clause-ends
+returns-in-Err-attach-clause-ends g c = λ begin accepts.
+    let made = g.F.Shelf.seen c.create_outs.new.files in
+    let b = g.F.Shelf.seen c.attach.new.self in
+    let ends : ManyEnds c.args.document.now c.args.pairs.now (attach_status c.in-Err-attach.fault) begin b =
+    without_doc c.args.document.now c.args.pairs.now begin (g.F.Shelf.seen c.args.files.now) c.args.plans.now accepts made c.in-Ok.outs.items c.in-Ok.ensures.made
+    b c.in-Err-attach.fault c.in-Err-attach.ensures.attaches in
+    rw c.from.ensures ends
+
+pub returns-in-Err-attach-clause-cause : goal.returns-in-Err-attach-clause-cause
+returns-in-Err-attach-clause-cause g c = λ is.
     doc_missing c.args.document.now c.args.pairs.now c.in-Ok.outs.items (g.F.Shelf.seen c.args.files.now) (g.F.Shelf.seen c.create_outs.new.files) c.in-Ok.ensures.made (g.F.Shelf.seen c.attach.new.self)
-    (failed_so c.args.document.now (g.F.Shelf.seen c.create_outs.new.files) (g.F.Shelf.seen c.attach.new.self) c.in-Err-Failed.field-0 fault.Failed c.in-Err-Failed.field-0-is c.in-Err-Failed.ensures.attaches)
+    c.in-Err-attach.fault c.in-Err-attach.ensures.attaches (sym c.from.ensures ∙ is)
 
-pub returns-in-Err-Failed-clause-keeps : goal.returns-in-Err-Failed-clause-keeps
-returns-in-Err-Failed-clause-keeps g c =
+pub returns-in-Err-attach-clause-write_cause : goal.returns-in-Err-attach-clause-write_cause
+returns-in-Err-attach-clause-write_cause g c = λ is. absurd (unattached_reads c.in-Err-attach.fault (sym c.from.ensures ∙ is))
+
+pub returns-in-Err-attach-clause-memory : goal.returns-in-Err-attach-clause-memory
+returns-in-Err-attach-clause-memory g c = rw c.from.ensures (unattached_memory c.in-Err-attach.fault)
+
+pub returns-in-Err-attach-clause-keeps : goal.returns-in-Err-attach-clause-keeps
+returns-in-Err-attach-clause-keeps g c =
     let outs : List (List ℕ) = map (λ (p : Pair). p.out) c.args.pairs.now in
     let before = ap (λ (v : ShelfView). v.faults) (g.met.F.Shelf.sees c.create_outs.new.files) in
     let after = ap (λ (v : ShelfView). v.faults) (g.met.F.Shelf.sees c.attach.new.self) in
     let later : (g.F.Shelf.seen c.create_outs.new.files).faults ≤ (g.F.Shelf.seen c.attach.new.self).faults = omega (arith, c.attach.ensures.later, before, after) in
     kept_on outs (g.F.Shelf.seen c.args.files.now) (g.F.Shelf.seen c.create_outs.new.files) (g.F.Shelf.seen c.attach.new.self) c.create_outs.ensures.keeps
-    (kept_unattached outs c.args.document.now (g.F.Shelf.seen c.create_outs.new.files) (g.F.Shelf.seen c.attach.new.self) c.in-Err-Failed.field-0 c.in-Err-Failed.ensures.attaches later)
-
-pub returns-in-Err-Memory-clause-keeps : goal.returns-in-Err-Memory-clause-keeps
-returns-in-Err-Memory-clause-keeps g c =
-    let outs : List (List ℕ) = map (λ (p : Pair). p.out) c.args.pairs.now in
-    let before = ap (λ (v : ShelfView). v.faults) (g.met.F.Shelf.sees c.create_outs.new.files) in
-    let after = ap (λ (v : ShelfView). v.faults) (g.met.F.Shelf.sees c.attach.new.self) in
-    let later : (g.F.Shelf.seen c.create_outs.new.files).faults ≤ (g.F.Shelf.seen c.attach.new.self).faults = omega (arith, c.attach.ensures.later, before, after) in
-    kept_on outs (g.F.Shelf.seen c.args.files.now) (g.F.Shelf.seen c.create_outs.new.files) (g.F.Shelf.seen c.attach.new.self) c.create_outs.ensures.keeps
-    (kept_unattached outs c.args.document.now (g.F.Shelf.seen c.create_outs.new.files) (g.F.Shelf.seen c.attach.new.self) c.in-Err-Memory.field-0 c.in-Err-Memory.ensures.attaches later)
+    (kept_unattached outs c.args.document.now (g.F.Shelf.seen c.create_outs.new.files) (g.F.Shelf.seen c.attach.new.self) c.in-Err-attach.fault c.in-Err-attach.ensures.attaches later)
 
 -- ---- the run, over the OUTs as a slice
 

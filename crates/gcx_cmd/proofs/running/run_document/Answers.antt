@@ -2,35 +2,37 @@ use Rattle.std.proofs.Common.{rules, ◌≡◌, ◌≤◌, inl, refl, ap, arith}
 use Rattle.engine.specs.declared.report.Ended.TheVariants as end
 use Rattle.gcx_io.specs.Causes.{Rose}
 use Rattle.gcx_io.specs.Views.{ShelfView}
-use Rattle.gcx_cmd.proofs.Attached.{missed_cause, missed_keeps, missed_one, opened_none, unopened_keeps}
+use Rattle.gcx_cmd.proofs.Attached.{unattached, unattached_cause, unattached_keeps, unattached_memory}
 use Rattle.gcx_cmd.proofs.DocRuns.{document_runs, ended_fault}
 use Rattle.gcx_cmd.proofs.FileRead.{faults_seen, file_read}
 use Rattle.gcx_cmd.specs.Outside.{outside}
+use Rattle.gcx_cmd.specs.ReadEnd.{attach_status}
 use Rattle.gcx_cmd.specs.Reads.{KeepsShelf}
 use Rattle.gcx_cmd.specs.Runs.{DocumentRuns}
 use Rattle.gcx_cmd.specs.Status.{ended_status}
 use Rattle.gcx_cmd.proofs.running.run_document.Goals as goal
 
-pub returns-in-Err-Failed-clause-runs : goal.returns-in-Err-Failed-clause-runs
-returns-in-Err-Failed-clause-runs g c = λ q is.
-    inl (record { out = refl; err = refl; store = refl }, missed_one _ _ _ _ c.in-Err-Failed.ensures.attaches c.in-Err-Failed.field-0-is)
+pub returns-in-Err-clause-runs : goal.returns-in-Err-clause-runs
+returns-in-Err-clause-runs g c = λ q is.
+    let runs : DocumentRuns c.args.tracing c.args.ahead q c.args.name.now (attach_status c.in-Err.fault)
+    (outside (g.F.Shelf.seen c.args.files.now) (g.O.Sink.seen c.args.out.now) (g.E.Sink.seen c.args.err.now) (g.N.NodeStore.rows c.args.nodes.now) (g.N.NodeStore.most_held c.args.nodes.now)) (outside (g.F.Shelf.seen c.attach.new.self) (g.O.Sink.seen c.args.out.now) (g.E.Sink.seen c.args.err.now) (g.N.NodeStore.rows c.args.nodes.now) (g.N.NodeStore.most_held c.args.nodes.now)) =
+    unattached _ _ _ (λ s. DocumentRuns c.args.tracing c.args.ahead q c.args.name.now s
+    (outside (g.F.Shelf.seen c.args.files.now) (g.O.Sink.seen c.args.out.now) (g.E.Sink.seen c.args.err.now) (g.N.NodeStore.rows c.args.nodes.now) (g.N.NodeStore.most_held c.args.nodes.now)) (outside (g.F.Shelf.seen c.attach.new.self) (g.O.Sink.seen c.args.out.now) (g.E.Sink.seen c.args.err.now) (g.N.NodeStore.rows c.args.nodes.now) (g.N.NodeStore.most_held c.args.nodes.now))) c.in-Err.fault c.in-Err.ensures.attaches
+    (λ gone. inl (record { out = refl; err = refl; store = refl }, gone)) (λ none. inl (record { out = refl; err = refl; store = refl }, none)) in
+    rw c.from.ensures runs
 
-pub returns-in-Err-Failed-clause-keeps : goal.returns-in-Err-Failed-clause-keeps
-returns-in-Err-Failed-clause-keeps g c =
+pub returns-in-Err-clause-keeps : goal.returns-in-Err-clause-keeps
+returns-in-Err-clause-keeps g c =
     let before = ap (λ (v : ShelfView). v.faults) (g.met.F.Shelf.sees c.args.files.now) in
     let after = ap (λ (v : ShelfView). v.faults) (g.met.F.Shelf.sees c.attach.new.self) in
     let later : (g.F.Shelf.seen c.args.files.now).faults ≤ (g.F.Shelf.seen c.attach.new.self).faults = omega (arith, c.attach.ensures.later, before, after) in
-    missed_keeps _ _ _ _ c.in-Err-Failed.ensures.attaches c.in-Err-Failed.field-0-is later
+    unattached_keeps _ _ _ c.in-Err.fault c.in-Err.ensures.attaches later
 
-pub returns-in-Err-Failed-clause-cause : goal.returns-in-Err-Failed-clause-cause
-returns-in-Err-Failed-clause-cause g c = λ is. missed_cause _ _ _ _ c.in-Err-Failed.ensures.attaches c.in-Err-Failed.field-0-is
+pub returns-in-Err-clause-cause : goal.returns-in-Err-clause-cause
+returns-in-Err-clause-cause g c = λ is. unattached_cause _ _ _ c.in-Err.fault c.in-Err.ensures.attaches (search (rules, is))
 
-pub returns-in-Err-Memory-clause-runs : goal.returns-in-Err-Memory-clause-runs
-returns-in-Err-Memory-clause-runs g c = λ q is.
-    inl (record { out = refl; err = refl; store = refl }, opened_none _ _ _ _ c.in-Err-Memory.ensures.attaches c.in-Err-Memory.field-0-is)
-
-pub returns-in-Err-Memory-clause-keeps : goal.returns-in-Err-Memory-clause-keeps
-returns-in-Err-Memory-clause-keeps g c = unopened_keeps _ _ _ _ c.in-Err-Memory.ensures.attaches c.in-Err-Memory.field-0-is
+pub returns-in-Err-clause-memory : goal.returns-in-Err-clause-memory
+returns-in-Err-clause-memory g c = rw c.from.ensures (unattached_memory c.in-Err.fault)
 
 pub returns-clause-runs : goal.returns-clause-runs
 returns-clause-runs g c = λ q is.

@@ -19,6 +19,6 @@ returns c =
       | in-Ok-matches w ↦ w.in-Ok-matches.is
       | in_default-matches w ↦ let no : ⊥ = let a = c.if-not-matches.false in let b = w.matches-is in cc in absurd no
     ] in
-    self_runs c.args.seed c.args.count c.new-source.result.left q report _ _ _ _ _ _ _ c.bytes.result.now told.accepts
+    self_runs c.args.seed c.args.count c.new-source.result.left q report _ _ _ _ _ _ _ c.bytes.result.now told.accepts told.only
     (ap (λ (s : SureSourceState). s.left) c.new-source.ensures ∙ c.in_ok-bytes.ensures) refl c.in_ok-answer.ensures.empty c.bytes.ensures ok
     (c.run_plan-report.ensures.runs q told.plan_is)

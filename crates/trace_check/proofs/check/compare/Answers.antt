@@ -14,8 +14,8 @@ returns-in_default-clause-kept g c = g.met.D.Source.keeps_on _ _ _ c.reading.inv
 
 pub returns-then-count-eq0-clause-judged : goal.returns-then-count-eq0-clause-judged
 returns-then-count-eq0-clause-judged g c =
-    let room : 0 < length c.read.new.buf = search rules in
-    ends_here c.args.text.now _ _ _ _ _ _ _ c.reading.invariant.so_far c.in-Ok.ensures.reads c.if-count-eq0.true room c.ended.ensures.stops c.ended.ensures.judged
+    let size : length c.read.new.buf ≡ 65536 = search rules in
+    ends_here c.args.text.now _ _ _ _ _ _ _ c.reading.invariant.so_far c.in-Ok.ensures.reads c.if-count-eq0.true size c.ended.ensures.stops c.ended.ensures.judged
 
 pub returns-then-count-eq0-clause-kept : goal.returns-then-count-eq0-clause-kept
 returns-then-count-eq0-clause-kept g c = g.met.D.Source.keeps_on _ _ _ c.reading.invariant.kept c.in-Ok.ensures.kept
@@ -24,11 +24,12 @@ pub returns-then-same-count-clause-judged : goal.returns-then-same-count-clause-
 returns-then-same-count-clause-judged g c =
     let some : 1 ≤ c.in-Ok.count = omega (arith, c.if-count-eq0.false) in
     let fits : c.in-Ok.count ≤ length c.read.new.buf = search rules in
+    let size : length c.read.new.buf ≡ 65536 = search rules in
     let rest : take (length c.args.text.now - c.reading.at) (drop c.reading.at c.args.text.now) ≡ drop c.reading.at c.args.text.now = behind c.reading.at c.args.text.now in
     let common : IsInCommon (drop c.reading.at c.args.text.now) (take c.in-Ok.count c.read.new.buf) c.common-same.result
     = subst (λ (l : List ℕ). IsInCommon l (take c.in-Ok.count c.read.new.buf) c.common-same.result) rest c.common-same.ensures in
     subst (λ (n : ℕ). JudgesSource c.args.text.now (checked.No n) (g.D.Source.seen c.args.trace.now) (g.D.Source.seen c.read.new.self)) (sym c.next_line.ensures)
-    (differs_here c.args.text.now _ _ _ _ _ _ _ c.reading.invariant.so_far c.in-Ok.ensures.reads some fits common c.if-same-count.true)
+    (differs_here c.args.text.now _ _ _ _ _ _ _ c.reading.invariant.so_far c.in-Ok.ensures.reads some fits size common c.if-same-count.true)
 
 pub returns-then-same-count-clause-kept : goal.returns-then-same-count-clause-kept
 returns-then-same-count-clause-kept g c = g.met.D.Source.keeps_on _ _ _ c.reading.invariant.kept c.in-Ok.ensures.kept
@@ -37,6 +38,7 @@ pub reading-preserved : goal.reading-preserved
 reading-preserved g c =
     let some : 1 ≤ c.in-Ok.count = omega (arith, c.if-count-eq0.false) in
     let fits : c.in-Ok.count ≤ length c.read.new.buf = search rules in
+    let size : length c.read.new.buf ≡ 65536 = search rules in
     let rest : take (length c.args.text.now - c.reading.at) (drop c.reading.at c.args.text.now) ≡ drop c.reading.at c.args.text.now = behind c.reading.at c.args.text.now in
     let common : IsInCommon (drop c.reading.at c.args.text.now) (take c.in-Ok.count c.read.new.buf) c.common-same.result
     = subst (λ (l : List ℕ). IsInCommon l (take c.in-Ok.count c.read.new.buf) c.common-same.result) rest c.common-same.ensures in
@@ -45,7 +47,7 @@ reading-preserved g c =
     record {
       so_far = compared_on c.args.text.now _ _ _ _ _ _ c.reading.invariant.so_far
           (subst (λ (n : ℕ). ReadsSource (g.D.Source.seen c.reading.trace) (g.D.Source.seen c.read.new.self) (Ok n) c.read.new.buf) (sym all) c.in-Ok.ensures.reads)
-          (omega (arith, some, all)) (omega (arith, fits, all))
+          (omega (arith, some, all)) (omega (arith, fits, all)) size
           (subst (λ (n : ℕ). IsInCommon (drop c.reading.at c.args.text.now) (take n c.read.new.buf) c.common-same.result) (sym all) common);
       kept = g.met.D.Source.keeps_on _ _ _ c.reading.invariant.kept c.in-Ok.ensures.kept;
       later = search rules;

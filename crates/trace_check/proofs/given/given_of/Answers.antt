@@ -8,7 +8,7 @@ use Rattle.gcx_model.specs.Members.{In}
 use Rattle.gcx_model.specs.PlanView.{plan_tree, role_row_tree, var_row_tree}
 use Rattle.gcx_model.specs.Tree.{Node, serial_of, Tree}
 use Rattle.trace_check.specs.Reaching.{covers}
-use Rattle.trace_check.specs.Wanting.{AreBelow, lists_in, matches_by, paths_of}
+use Rattle.trace_check.specs.Wanting.{AreBelow, lists_in, matches_by, row_paths}
 use Rattle.trace_check.proofs.Giving.{HasGiven, given_at, given_below, given_end, given_more, given_start}
 use Rattle.trace_check.proofs.Numbers.{lent}
 use Rattle.trace_check.proofs.given.given_of.Goals as goal
@@ -33,9 +33,9 @@ loop-row-preserved c =
     let written : take c.loop-row.given.len (c.give.new.given ++ drop (length c.give.new.given) c.loop-row.given.items) ≡ c.give.new.given =
     lent c.loop-row.given.items c.give.new.given c.loop-row.given.len (c.in_ok-give.ensures.given.as_many ∙ c.deref_mut.ensures.len) in
     let before : HasGiven plan C i c.deref_mut.result.now = subst (λ (gs : List (List Role)). HasGiven plan C i gs) (sym c.deref_mut.ensures.value) c.loop-row.invariant.given in
-    let paths : List (List Step) = paths_of (map var_row_tree c.args.plan.now.vars) in
+    let paths : List (List Step) = row_paths (map var_row_tree c.args.plan.now.vars) in
     let found : lists_in c.deref.result.now ≡ matches_by C paths =
-    ap lists_in c.deref.ensures.value ∙ (c.in_ok-matches.ensures ∙ ap (λ vars. matches_by C (paths_of (map var_row_tree vars))) c.items.ensures) in
+    ap lists_in c.deref.ensures.value ∙ (c.in_ok-matches.ensures ∙ ap (λ vars. matches_by C (row_paths (map var_row_tree vars))) c.items.ensures) in
     let same : (n : Node) → In n C.nodes → covers c.deref-in-loop-row.result.now (serial_of n) ≡ given plan C n i =
     λ n k.
     ap (λ ranges. covers ranges (serial_of n)) c.deref-in-loop-row.ensures.value
