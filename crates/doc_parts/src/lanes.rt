@@ -1,5 +1,5 @@
 //! The bytes of one block, which are looked at in one go.
-ghost use Rattle.std.specs.Prelude.{◌≡◌, ◌+◌, ◌≤◌, length};
+ghost use Rattle.std.specs.Prelude.{◌≡◌, ◌≤◌, length};
 ghost use Rattle.memchr.specs.Find.{IsFirst, Passes, is_byte3};
 ghost use Rattle.doc_parts.specs.Blocks.{PassesBlock, first_set};
 ghost use Rattle.doc_parts.specs.Spans.{is_short_part};
@@ -21,22 +21,18 @@ fn first_set(mask: u64) -> usize
     }
 }
 
-/// The first byte of the block from `at` on that is one of these.
+/// The first byte of the first block that is one of these.
 #[inline(always)]
-pub(crate) fn first_in_block(a: u8, b: u8, c: u8, bytes: &[u8], at: usize) -> Option<usize>
-    requires { at + 16 ≤ length bytes.now }
-    ensures { IsFirst (Passes (is_byte3 a b c) bytes.now) at (at + 16) result }
+pub(crate) fn first_in_block(a: u8, b: u8, c: u8, bytes: &[u8]) -> Option<usize>
+    requires { 16 ≤ length bytes.now }
+    ensures { IsFirst (Passes (is_byte3 a b c) bytes.now) 0 16 result }
 {
-    let v = u8x16::from_slice(&bytes[at..]);
+    let v = u8x16::from_slice(bytes);
     let stops = v.simd_eq(u8x16::splat(a))
         | v.simd_eq(u8x16::splat(b))
         | v.simd_eq(u8x16::splat(c));
     let place = first_set(stops.to_bitmask());
-    if place < BLOCK {
-        Some(at + place)
-    } else {
-        None
-    }
+    if place < BLOCK { Some(place) } else { None }
 }
 
 /// How many bytes are small letters: it stops at other NameChars too.

@@ -41,7 +41,7 @@ fn boundary_within(text: &str, most: usize) -> usize
     end
 }
 
-/// The first place among those of two blocks that has one of these bytes: most texts end there.
+/// The first place of the first block that has one of these bytes: most texts end there.
 #[inline(always)]
 fn first_near(a: u8, b: u8, c: u8, bytes: &[u8]) -> Option<usize>
     ensures { IfSome result (λ k. IsFirstByte (is_byte3 a b c) bytes.now (Some k)) }
@@ -49,13 +49,7 @@ fn first_near(a: u8, b: u8, c: u8, bytes: &[u8]) -> Option<usize>
     if bytes.len() < BLOCK {
         return None;
     }
-    if let Some(place) = first_in_block(a, b, c, bytes, 0) {
-        return Some(place);
-    }
-    if bytes.len() < 2 * BLOCK {
-        return None;
-    }
-    first_in_block(a, b, c, bytes, BLOCK)
+    first_in_block(a, b, c, bytes)
 }
 
 /// The first place that has one of these two bytes.

@@ -11,9 +11,9 @@ returns-then-place-lt-BLOCK c =
     let y = c.args.b in
     let z = c.args.c in
     let bytes = c.args.bytes.now in
-    let v = chunk c.args.at 16 bytes in
-    let long = length-chunk c.args.at 16 bytes c.requires in
-    first_inside (is_byte3 x y z) bytes c.args.at 16 _ _ c.requires (omega arith) c.first_set-place.ensures _
+    let v = chunk 0 16 bytes in
+    let long = length-chunk 0 16 bytes c.requires in
+    first_inside (is_byte3 x y z) bytes 0 16 _ _ c.requires (omega arith) c.first_set-place.ensures _
     (joined _ _ _ v (joined _ _ _ v (zip2_splat {Y = ℕ} _ v 16 x long) (zip2_splat {Y = ℕ} _ v 16 y long)) (zip2_splat {Y = ℕ} _ v 16 z long)) (lane_tells x y z) c.if-place-lt-BLOCK.true
 
 pub returns-else-place-lt-BLOCK : goal.returns-else-place-lt-BLOCK
@@ -22,7 +22,7 @@ returns-else-place-lt-BLOCK c =
     let y = c.args.b in
     let z = c.args.c in
     let bytes = c.args.bytes.now in
-    let v = chunk c.args.at 16 bytes in
-    let long = length-chunk c.args.at 16 bytes c.requires in
-    none_inside (is_byte3 x y z) bytes c.args.at 16 _ _ c.requires (omega arith) c.first_set-place.ensures _
+    let v = chunk 0 16 bytes in
+    let long = length-chunk 0 16 bytes c.requires in
+    none_inside (is_byte3 x y z) bytes 0 16 _ _ c.requires (omega arith) c.first_set-place.ensures _
     (joined _ _ _ v (joined _ _ _ v (zip2_splat {Y = ℕ} _ v 16 x long) (zip2_splat {Y = ℕ} _ v 16 y long)) (zip2_splat {Y = ℕ} _ v 16 z long)) (lane_tells x y z) (omega (arith, c.if-place-lt-BLOCK.false))
