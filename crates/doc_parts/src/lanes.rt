@@ -35,13 +35,14 @@ pub(crate) fn first_in_block(a: u8, b: u8, c: u8, bytes: &[u8]) -> Option<usize>
     if place < BLOCK { Some(place) } else { None }
 }
 
-/// How many bytes are small letters: it stops at other NameChars too.
+/// How many bytes are small letters and digits: it stops at other NameChars too.
 #[inline(always)]
 pub(crate) fn letters_run(bytes: &[u8]) -> usize
     requires { 16 ≤ length bytes.now }
     ensures { PassesBlock is_short_part bytes.now 0 16 result }
 {
     let v = u8x16::from_slice(bytes);
-    let stops = (v - u8x16::splat(b'a')).simd_ge(u8x16::splat(26));
+    let stops = (v - u8x16::splat(b'a')).simd_ge(u8x16::splat(26))
+        & (v - u8x16::splat(b'0')).simd_ge(u8x16::splat(10));
     first_set(stops.to_bitmask())
 }

@@ -17,7 +17,7 @@ fn is_short_name_char(b: u8) -> bool
     matches!(b, b'a'..=b'z') || matches!(b, b'A'..=b'Z' | b'0'..=b'9' | b'-' | b'.' | b'_' | b':')
 }
 
-/// How many small letters stand at the front, as far as one block tells.
+/// How many small letters and digits stand at the front, as far as one block tells.
 #[inline(always)]
 fn letters_front(bytes: &[u8]) -> usize
     ensures within { result ≤ length bytes.now }
@@ -29,7 +29,7 @@ fn letters_front(bytes: &[u8]) -> usize
     letters_run(bytes)
 }
 
-/// How many ASCII bytes at the front are NameChars. Most are small letters.
+/// How many ASCII bytes at the front are NameChars. Most are small letters and digits.
 #[inline(always)]
 fn short_front(bytes: &[u8]) -> usize
     ensures within { result ≤ length bytes.now }
