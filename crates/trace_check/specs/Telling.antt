@@ -1,14 +1,14 @@
 -- A run of a plan over a document's tokens, as it is known by its times, and its lines (this project's).
-use Rattle.std.specs.Prelude.{◌≡◌, ℕ, suc, ◌≤◌, List, [], ◌∷◌, ◌++◌, length, map, take, get_or, nat_le, cond, ◌==◌, ◌&&◌}
+use Rattle.std.specs.Prelude.{◌≡◌, ℕ, suc, ◌≤◌, List, [], ◌∷◌, ◌++◌, length, map, take, drop, get_or, nat_le, cond, ◌==◌, ◌&&◌}
 use Rattle.gcx_model.specs.Core.{PlanTree}
 use Rattle.gcx_model.specs.Demand.{Line, Opened, Closed, Written, SignedOff, Left, line_kind, text_of_lines}
 use Rattle.gcx_model.specs.Members.{In}
 use Rattle.gcx_model.specs.Points.{actions}
 use Rattle.gcx_model.specs.Run.{Action}
-use Rattle.gcx_model.specs.Tree.{Tree, Token, kind_of}
+use Rattle.gcx_model.specs.Tree.{Tree, Token, kind_of, opening}
 use Rattle.tree_laws.specs.LineTexts.{IsPlain}
 use Rattle.doc_tree.specs.Rows.{node_at}
-use Rattle.time_laws.specs.Leaving.{count_offs, is_freed, left_where}
+use Rattle.time_laws.specs.Leaving.{acts_told, count_offs, is_freed, left_where, told_by_times, tokens_told}
 use Rattle.time_laws.specs.Times.{Clock, due, timed_acts}
 use Rattle.trace_check.specs.Acting.{Shown, Sized, Signed, shown, seen}
 use Rattle.trace_check.specs.Timing.{clock_in, IsTimed}
@@ -88,3 +88,30 @@ ArePlain lines = (l : Line) → In l lines → IsPlain l
 pub record Puts (old new : List ℕ) (lines : List Line) : Type 0 where
   pub text : new ≡ old ++ text_of_lines lines
   pub plain : ArePlain lines
+
+-- ---- What each call puts at the end of the text, whatever plan and tokens the course is of. Private functions alone speak of it.
+
+-- the lines of the nodes that the statement of this number frees, of those that are closed by the time
+abbrev pub PutsFreed : Course → (now number : ℕ) → (before after : List ℕ) → Type 0
+PutsFreed c now k before after = (plan : PlanTree) (ts : List Token) → IsCourse plan ts c → k ≤ count_offs (acts_in plan c)
+    → Puts before after (left_where c.timed.tree (is_freed (clock_in c.timed) c.timed.tree (acts_in plan c) now k))
+
+-- the lines of an action, behind which so much is told
+abbrev pub PutsAct : Course → (now : ℕ) → (old new : Told) → Shown → (before after : List ℕ) → Type 0
+PutsAct c now old new a before after = (plan : PlanTree) (ts : List Token) → IsCourse plan ts c → new.signed ≤ count_offs (acts_in plan c)
+    → Puts before after (shown_told (clock_in c.timed) c.timed.tree (acts_in plan c) now old.signed a)
+
+-- the lines of the actions that are possible at the time and aren't told
+abbrev pub PutsActs : Course → (now : ℕ) → Told → (before after : List ℕ) → Type 0
+PutsActs c now old before after = (plan : PlanTree) (ts : List Token) → IsCourse plan ts c → IsTelling plan c now old
+    → Puts before after (acts_told (clock_in c.timed) c.timed.tree (acts_in plan c) now old.signed (drop old.acts (due_in plan c now)))
+
+-- the lines of the tokens that are told, each with the actions behind it
+abbrev pub PutsTokens : Course → Told → (before after : List ℕ) → Type 0
+PutsTokens c old before after = (plan : PlanTree) (ts : List Token) → IsCourse plan ts c → IsToldTo plan c 0 old
+    → Puts before after (tokens_told plan (clock_in c.timed) c.timed.tree (timed_acts (clock_in c.timed) c.timed.tree plan) (acts_in plan c) ts opening 0)
+
+-- the text of the run's trace, told by times
+abbrev pub PutsRun : Course → (before after : List ℕ) → Type 0
+PutsRun c before after = (plan : PlanTree) (ts : List Token) → IsCourse plan ts c
+    → Puts before after (told_by_times plan (clock_in c.timed) c.timed.tree (timed_acts (clock_in c.timed) c.timed.tree plan) (acts_in plan c) ts)

@@ -4,8 +4,8 @@ use Rattle.std.specs.Prelude.{slice_index_or}
 use Rattle.std.specs.Global.{Vec}
 use Rattle.gcx_base.specs.declared.ids.Role.{Role}
 use Rattle.gcx_base.specs.declared.steps.Step.{Step}
-use Rattle.gcx_model.specs.Core.{OffTree, PlanTree, VarRowTree}
-use Rattle.gcx_model.specs.Held.{paths_from, roles_given}
+use Rattle.gcx_model.specs.Core.{OffTree, PlanTree, RoleRowTree, VarRowTree}
+use Rattle.gcx_model.specs.Held.{given_row, paths_from, roles_given}
 use Rattle.gcx_model.specs.Members.{In, count}
 use Rattle.gcx_model.specs.Paths.{hits}
 use Rattle.gcx_model.specs.Run.{Action}
@@ -13,7 +13,8 @@ use Rattle.gcx_model.specs.Tree.{Node, serial_of, within, Tree}
 use Rattle.time_laws.specs.Leaving.{count_offs, freed_of, greatest}
 use Rattle.trace_check.specs.declared.acts.TimedAct.{TimedAct}
 use Rattle.trace_check.specs.Acting.{Signed, what_shown}
-use Rattle.trace_check.specs.Reaching.{numbers_of}
+use Rattle.trace_check.specs.Reaching.{Covers, numbers_of}
+use Rattle.trace_check.specs.declared.reach.Range.{Range}
 
 -- the numbers of the matches of each path
 abbrev pub matches_by : Tree → List (List Step) → List (List ℕ)
@@ -52,6 +53,10 @@ pub record IsGivenTo (role : Role) (p : ℕ → Bool) (old new : List (List Role
   pub as_many : length new ≡ length old
   pub entries : (k : ℕ) → k < length old
       → get_or new k [] ≡ cond (p k) (with_role role (get_or old k [])) (get_or old k [])
+
+-- the ranges have the numbers of the nodes to which a role of the row is given, whatever the paths whose matches these are
+abbrev pub CoversGiven : Tree → (matches : List (List ℕ)) → RoleRowTree → List Range → Type 0
+CoversGiven C matches row ranges = (paths : List (List Step)) → matches ≡ matches_by C paths → Covers C ranges (λ n. given_row (path_in paths) C n row)
 
 -- the roles that are given to each node
 abbrev pub given_all : PlanTree → Tree → List (List ℕ)

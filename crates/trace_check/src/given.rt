@@ -1,11 +1,9 @@
 //! The roles given to the nodes, by their definition over the whole tree.
-ghost use Rattle.std.specs.Prelude.{◌≡◌, ◌<◌, ◌∷◌, [], ℕ, suc, List, All, length, map, replicate, slice_index_or, OnOk, IfOk};
-ghost use Rattle.gcx_base.specs.declared.steps.Step.{Step};
-ghost use Rattle.gcx_model.specs.Held.{given_row};
+ghost use Rattle.std.specs.Prelude.{◌≡◌, ◌<◌, ◌∷◌, [], suc, All, length, map, replicate, slice_index_or, OnOk, IfOk};
 ghost use Rattle.gcx_model.specs.Nodes.{Grown};
 ghost use Rattle.gcx_model.specs.PlanView.{plan_tree, role_row_tree, var_row_tree};
-ghost use Rattle.trace_check.specs.Reaching.{in_range, covers, Covers};
-ghost use Rattle.trace_check.specs.Wanting.{AreBelow, IsGivenTo, given_all, is_last, lists_in, matches_by, numbers_in, path_in, row_paths, with_role};
+ghost use Rattle.trace_check.specs.Reaching.{in_range, covers};
+ghost use Rattle.trace_check.specs.Wanting.{AreBelow, CoversGiven, IsGivenTo, given_all, is_last, lists_in, matches_by, numbers_in, row_paths, with_role};
 
 use crate::reach::{Range, reach};
 use doc_tree::Tree;
@@ -122,8 +120,7 @@ fn reached(
 ) -> Result<Vec<Range>, Memory>
     requires grown { Grown tree.now }
     requires some { 0 < length tree.now.nodes }
-    ensures { IfOk result (λ ranges. (paths : List (List Step)) → lists_in matches.now ≡ matches_by tree.now paths
-        → Covers tree.now ranges.items (λ n. given_row (path_in paths) tree.now n (role_row_tree row.now))) }
+    ensures { IfOk result (λ ranges. CoversGiven tree.now (lists_in matches.now) (role_row_tree row.now) ranges.items) }
 {
     let nodes = matches_at(alloc, matches, row.var)?;
     reach(alloc, tree, nodes, row.tail.items(), row.kind)

@@ -7,9 +7,9 @@ ghost use Rattle.gcx_model.specs.PlanView.{plan_tree};
 ghost use Rattle.gcx_model.specs.Tree.{serial_of};
 ghost use Rattle.doc_tree.specs.Rows.{node_at};
 ghost use Rattle.time_laws.specs.Times.{timed_acts, item_course, course};
-ghost use Rattle.trace_check.specs.Acting.{shown, seen, Adds, body_rounds};
+ghost use Rattle.trace_check.specs.Acting.{shown, seen, Adds};
 ghost use Rattle.trace_check.specs.Memoing.{IsMemo};
-ghost use Rattle.trace_check.specs.Scopes.{env_of, IsBound};
+ghost use Rattle.trace_check.specs.Scopes.{env_of, rounds_from, IsBound};
 ghost use Rattle.trace_check.specs.Timing.{clock_in};
 ghost use Rattle.trace_check.specs.Wanting.{OffsAreThere};
 ghost use Rattle.trace_check.specs.declared.timed.Timed.{Timed};
@@ -91,8 +91,7 @@ impl<'p> Acts<'p> {
         ensures scope { OnOk result (walk.new.scope.items ≡ walk.old.scope.items) }
         ensures memo { OnOk result (IsMemo timed.now walk.new.memo) }
         ensures acts { IfOk result (Adds self.old.acts.items self.new.acts.items
-            (body_rounds (clock_in timed.now) timed.now.tree var.0 (body_tree body.now)
-            (env_of timed.now.tree walk.old.scope.items) (map (node_at timed.now.tree.nodes) nodes.now) now)) }
+            (rounds_from timed.now walk.old.scope.items var.0 (body_tree body.now) nodes.now now)) }
     {
         let mut done = now;
         for node in nodes {

@@ -1,14 +1,12 @@
 //! The text of a run's trace, told by times.
-ghost use Rattle.std.specs.Prelude.{◌≡◌, ◌≤◌, ◌<◌, ◌+◌, ◌^◌, ◌∷◌, [], List, suc, drop, get_or, IfOk, OnOk};
+ghost use Rattle.std.specs.Prelude.{◌≡◌, ◌≤◌, ◌<◌, ◌+◌, ◌^◌, ◌∷◌, [], List, suc, get_or, IfOk, OnOk};
 ghost use Rattle.gcx_model.specs.Core.{PlanTree};
 ghost use Rattle.gcx_model.specs.Demand.{Left, line_kind};
-ghost use Rattle.gcx_model.specs.Tree.{Token as Said, kind_of, opening};
+ghost use Rattle.gcx_model.specs.Tree.{Token as Said, kind_of};
 ghost use Rattle.buf_trace.specs.Lines.{kind_tree};
 ghost use Rattle.doc_tree.specs.Rows.{node_at};
-ghost use Rattle.time_laws.specs.Leaving.{acts_told, count_offs, is_freed, left_where, told_by_times, tokens_told};
-ghost use Rattle.time_laws.specs.Times.{timed_acts};
 ghost use Rattle.trace_check.specs.Acting.{act_shown};
-ghost use Rattle.trace_check.specs.Telling.{IsCounted, IsCourse, IsTelling, IsToldTo, Puts, acts_in, due_in, fed_counted, fed_node, fed_told, line_in, over_line, shown_told};
+ghost use Rattle.trace_check.specs.Telling.{IsCounted, IsCourse, IsTelling, IsToldTo, Puts, PutsAct, PutsActs, PutsFreed, PutsRun, PutsTokens, fed_counted, fed_node, fed_told, line_in, over_line};
 ghost use Rattle.trace_check.specs.Timing.{clock_in};
 
 use crate::acts::Act;
@@ -85,10 +83,7 @@ fn put_freed(
     now: usize,
     number: usize,
 ) -> Result<(), Memory>
-    ensures { OnOk result ((plan : PlanTree) (ts : List Said) → IsCourse plan ts course.now
-        → number ≤ count_offs (acts_in plan course.now)
-        → Puts text.old.items text.new.items (left_where course.now.timed.tree
-        (is_freed (clock_in course.now.timed) course.now.timed.tree (acts_in plan course.now) now number))) }
+    ensures { OnOk result (PutsFreed course.now now number text.old.items text.new.items) }
 {
     if let Some(nodes) = course.leaving.freed.get(number) {
         for node in nodes {
@@ -110,10 +105,8 @@ fn put_act(
 ) -> Result<(), Memory>
     requires few { told.old.signed ≤ told.old.acts }
     requires room { told.old.acts + 1 < 2 ^ 64 }
-    ensures puts { OnOk result ((plan : PlanTree) (ts : List Said) → IsCourse plan ts course.now
-        → told.new.signed ≤ count_offs (acts_in plan course.now)
-        → Puts text.old.items text.new.items (shown_told (clock_in course.now.timed) course.now.timed.tree
-        (acts_in plan course.now) now told.old.signed (act_shown act.entry))) }
+    ensures puts { OnOk result (PutsAct course.now now told.old told.new (act_shown act.entry)
+        text.old.items text.new.items) }
     ensures counted { OnOk result (IsCounted told.old told.new (act_shown act.entry)) }
 {
     told.acts += 1;
@@ -139,10 +132,7 @@ fn put_acts(
     now: usize,
 ) -> Result<(), Memory>
     requires few { told.old.signed ≤ told.old.acts }
-    ensures puts { OnOk result ((plan : PlanTree) (ts : List Said) → IsCourse plan ts course.now
-        → IsTelling plan course.now now told.old
-        → Puts text.old.items text.new.items (acts_told (clock_in course.now.timed) course.now.timed.tree
-        (acts_in plan course.now) now told.old.signed (drop told.old.acts (due_in plan course.now now)))) }
+    ensures puts { OnOk result (PutsActs course.now now told.old text.old.items text.new.items) }
     ensures told { OnOk result ((plan : PlanTree) (ts : List Said) → IsCourse plan ts course.now
         → IsTelling plan course.now now told.old → IsToldTo plan course.now now told.new) }
     ensures few { OnOk result (told.new.signed ≤ told.new.acts) }
@@ -210,10 +200,7 @@ fn put_tokens(
 ) -> Result<(), Memory>
     requires first { told.old.opened ≡ 0 }
     requires few { told.old.signed ≤ told.old.acts }
-    ensures { OnOk result ((plan : PlanTree) (ts : List Said) → IsCourse plan ts course.now
-        → IsToldTo plan course.now 0 told.old
-        → Puts text.old.items text.new.items (tokens_told plan (clock_in course.now.timed) course.now.timed.tree
-        (timed_acts (clock_in course.now.timed) course.now.timed.tree plan) (acts_in plan course.now) ts opening 0)) }
+    ensures { OnOk result (PutsTokens course.now told.old text.old.items text.new.items) }
 {
     times_rise();
     for index in 0..course.timed.told.min(course.timed.fed.len()) {
@@ -228,9 +215,7 @@ fn put_tokens(
 
 /// The text of the run's trace.
 pub(crate) fn text_of(alloc: Global, course: &Course<'_>) -> Result<Vec<u8>, Memory>
-    ensures { IfOk result (λ text. (plan : PlanTree) (ts : List Said) → IsCourse plan ts course.now
-        → Puts [] text.items (told_by_times plan (clock_in course.now.timed) course.now.timed.tree
-        (timed_acts (clock_in course.now.timed) course.now.timed.tree plan) (acts_in plan course.now) ts)) }
+    ensures { IfOk result (λ text. PutsRun course.now [] text.items) }
 {
     let mut text = Vec::new(alloc);
     let mut told = Told {
