@@ -11,7 +11,7 @@ class Queries:
 
     def __init__(self, source):
         self.it = source
-        self.compares = False
+        self.compares = self.pairs = False
 
     def test(self):
         return self.it.choice(NAMES + ["*", "text()", "node()"])
@@ -54,6 +54,7 @@ class Queries:
         elif kind < 0.75 and len(scope) > 1:
             one, other = self.it.sample(scope, 2)
             left, right = one + self.steps(), other + self.steps()
+        self.pairs |= kind >= 0.4
         return f"{left} {self.it.choice(RELATIONS + ['=', '='])} {right}"
 
     def condition(self, scope, depth):
@@ -96,7 +97,7 @@ class Queries:
 
     def join(self):
         """Two loops over nodes of the document, and a comparison of a path from each."""
-        self.compares = True
+        self.compares = self.pairs = True
         outer, inner = (self.it.choice(["/r/*", "/*/*", "/r/a", "/r/*/*", "/r//a", "//b"]) for _ in range(2))
         left, right = (f"${var}" + self.it.choice(["/*", "/a", "/b", "/*/*", "//a", "//*", "/text()", "//text()"]) for var in "xy")
         if self.it.random() < 0.5:
@@ -108,7 +109,7 @@ class Queries:
         return f"for $x in {outer} return for $y in {inner} return if ({condition}) then ({then}, <c/>) else {other}"
 
     def query(self):
-        self.compares = False
+        self.compares = self.pairs = False
         return self.join() if self.it.random() < 0.3 else self.expression([], 4)
 
 

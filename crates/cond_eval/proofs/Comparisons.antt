@@ -98,7 +98,7 @@ In-last m y [] (inr i) = absurd i
 In-last m y (x ∷ xs) (inl e) = inl (inl e)
 In-last m y (x ∷ xs) (inr i) = elim (In-last m y xs i) [ inl k ↦ inl (inr k) | inr e ↦ inr e ]
 
-map-last : {X Y : Type 0} (f : X → Y) (xs : List X) (y : X) → map f (xs ++ y ∷ []) ≡ map f xs ++ f y ∷ []
+pub map-last : {X Y : Type 0} (f : X → Y) (xs : List X) (y : X) → map f (xs ++ y ∷ []) ≡ map f xs ++ f y ∷ []
 map-last f [] y = refl
 map-last f (x ∷ xs) y = ap (λ l. f x ∷ l) (map-last f xs y)
 
@@ -175,13 +175,9 @@ read_at rows P keep ms ns i d r h =
       whole = w.1;
     }
 
--- Whether some value passes is told by those from the index on. The test may rest on other nodes, of which X holds.
-abbrev pub PassesOn : List Cell → (X : Tree → (Node → Bool) → List Node → Type 0) → (r : Tree → List Node → Value → Bool) → List Member → (i : ℕ) → Type 0
-PassesOn rows X r ms i = (P : Tree) (keep : Node → Bool) (ns os : List Node) → Readable rows P keep ms ns → X P keep os → any (r P os) (map (node_value P) (drop i ns)) ≡ any (r P os) (map (node_value P) ns)
-
--- no other nodes
-abbrev pub Alone : Tree → (Node → Bool) → List Node → Type 0
-Alone P keep os = Unit {0}
+-- whether some value passes is told by those from the index on
+abbrev pub PassesOn : List Cell → (test : Value → Bool) → List Member → (i : ℕ) → Type 0
+PassesOn rows r ms i = (P : Tree) (keep : Node → Bool) (ns : List Node) → Readable rows P keep ms ns → any r (map (node_value P) (drop i ns)) ≡ any r (map (node_value P) ns)
 
 or_true : (b c : Bool) → b ≡ true → true ≡ b || c
 or_true b c e = ap (λ z. z || c) (sym e)
@@ -189,24 +185,24 @@ or_true b c e = ap (λ z. z || c) (sym e)
 or_false : (b c : Bool) → b ≡ false → c ≡ b || c
 or_false b c e = ap (λ z. z || c) (sym e)
 
-module _ (rows : List Cell) (X : Tree → (Node → Bool) → List Node → Type 0) (r : Tree → List Node → Value → Bool) (ms : List Member) where
-  pub passes_all : (i : ℕ) → length ms ≤ i → PassesOn rows X r ms i → (P : Tree) (keep : Node → Bool) (ns os : List Node) → Readable rows P keep ms ns → X P keep os → false ≡ any (r P os) (map (node_value P) ns)
-  passes_all i h on P keep ns os read x =
+module _ (rows : List Cell) (r : Value → Bool) (ms : List Member) where
+  pub passes_all : (i : ℕ) → length ms ≤ i → PassesOn rows r ms i → (P : Tree) (keep : Node → Bool) (ns : List Node) → Readable rows P keep ms ns → false ≡ any r (map (node_value P) ns)
+  passes_all i h on P keep ns read =
       let same = same_length ms ns read.nodes.serials in
-      ap (λ l. any (r P os) (map (node_value P) l)) (sym (drop_all i ns (omega arith))) ∙ on P keep ns os read x
+      ap (λ l. any r (map (node_value P) l)) (sym (drop_all i ns (omega arith))) ∙ on P keep ns read
 
-  module _ (i : ℕ) (d : Member) (h : i < length ms) (on : PassesOn rows X r ms i) (v : List ℕ) (is : IsValue rows (get_or ms i d).place v) (b : Bool) (told : (P : Tree) (keep : Node → Bool) (os : List Node) → X P keep os → b ≡ r P os (Bytes v)) where
-    here_told : (P : Tree) (keep : Node → Bool) (ns os : List Node) → Readable rows P keep ms ns → X P keep os → (r P os (Bytes v) || any (r P os) (map (node_value P) (drop (i + 1) ns))) ≡ any (r P os) (map (node_value P) ns)
-    here_told P keep ns os read x =
+  module _ (i : ℕ) (d : Member) (h : i < length ms) (on : PassesOn rows r ms i) (v : List ℕ) (is : IsValue rows (get_or ms i d).place v) (b : Bool) (told : b ≡ r (Bytes v)) where
+    here_told : (P : Tree) (keep : Node → Bool) (ns : List Node) → Readable rows P keep ms ns → (r (Bytes v) || any r (map (node_value P) (drop (i + 1) ns))) ≡ any r (map (node_value P) ns)
+    here_told P keep ns read =
         let t = read_at rows P keep ms ns i d read h in
-        ap (λ w. r P os (Bytes w) || any (r P os) (map (node_value P) (drop (i + 1) ns))) (is P keep t.turn.node t.at t.whole)
-        ∙ (ap (λ l. any (r P os) (map (node_value P) l)) (sym t.turn.dropped) ∙ on P keep ns os read x)
+        ap (λ w. r (Bytes w) || any r (map (node_value P) (drop (i + 1) ns))) (is P keep t.turn.node t.at t.whole)
+        ∙ (ap (λ l. any r (map (node_value P) l)) (sym t.turn.dropped) ∙ on P keep ns read)
 
-    pub passes_more : b ≡ false → PassesOn rows X r ms (i + 1)
-    passes_more e P keep ns os read x = or_false (r P os (Bytes v)) _ (sym (told P keep os x) ∙ e) ∙ here_told P keep ns os read x
+    pub passes_more : b ≡ false → PassesOn rows r ms (i + 1)
+    passes_more e P keep ns read = or_false (r (Bytes v)) _ (sym told ∙ e) ∙ here_told P keep ns read
 
-    pub passes_found : b ≡ true → (P : Tree) (keep : Node → Bool) (ns os : List Node) → Readable rows P keep ms ns → X P keep os → true ≡ any (r P os) (map (node_value P) ns)
-    passes_found e P keep ns os read x = or_true (r P os (Bytes v)) _ (sym (told P keep os x) ∙ e) ∙ here_told P keep ns os read x
+    pub passes_found : b ≡ true → (P : Tree) (keep : Node → Bool) (ns : List Node) → Readable rows P keep ms ns → true ≡ any r (map (node_value P) ns)
+    passes_found e P keep ns read = or_true (r (Bytes v)) _ (sym told ∙ e) ∙ here_told P keep ns read
 
 pub or_none : (b : Bool) → b ≡ b || false
 or_none true = refl

@@ -7,6 +7,7 @@ mod Variables
 pub mod Parts
 mod Flipping
 pub mod Comparisons
+pub mod Pairing
 pub mod Telling
 mod Searches
 mod Texts

@@ -1,9 +1,9 @@
 -- What an `exists` or a comparison reads of the rows, and what it tells (this project's).
-use Rattle.std.specs.Prelude.{◌≡◌, ◌&&◌, ℕ, Bool, true, List, [], ◌∷◌, filter, map, Some}
+use Rattle.std.specs.Prelude.{◌≡◌, ◌↔◌, ◌&&◌, ℕ, Bool, true, List, [], ◌∷◌, filter, map, Some}
 use Rattle.gcx_base.specs.declared.rel.Rel.{Rel}
 use Rattle.gcx_base.specs.declared.steps.Step.{Step}
 use Rattle.gcx_model.specs.Tree.{Node, serial_of, Tree, is_closed}
-use Rattle.gcx_model.specs.Paths.{any, matches, first}
+use Rattle.gcx_model.specs.Paths.{matches, first, value}
 use Rattle.gcx_model.specs.Members.{In}
 use Rattle.gcx_model.specs.Core.{CondTree, Compare}
 use Rattle.gcx_model.specs.CondView.{operand_tree}
@@ -12,6 +12,9 @@ use Rattle.gcx_model.specs.Answer.{is_any, some_pair}
 use Rattle.gcx_model.specs.Truth.{Env, node_value, settle, truth}
 use Rattle.gcx_model.specs.declared.cond.Operand.{Operand}
 use Rattle.move_laws.specs.Kept.{only}
+use Rattle.value_pairs.specs.Taken.{TookBy}
+use Rattle.value_pairs.specs.declared.hand.Hand.{Hand}
+use Rattle.value_pairs.specs.declared.compared.Compared.{Compared}
 use Rattle.buf_tree.specs.Shape.{Cell}
 use Rattle.buf_tree.specs.View.{InUse}
 use Rattle.cond_eval.specs.Bindings.{Bindings}
@@ -82,9 +85,10 @@ TellsPaths rows p left rel q right t = (P : Tree) (keep : Node → Bool) (n m : 
 abbrev pub TellsLiteral : List Cell → (p : ℕ) → List Step → Rel → Value → Truth → Type 0
 TellsLiteral rows p steps rel v t = (P : Tree) (keep : Node → Bool) (n : Node) → NodeAt rows P keep p n → KeepsMatches P keep n steps → t ≡ settle (some_pair (compare rel) (closed_values P n steps) (v ∷ [])) (is_closed P n)
 
--- whether the test holds of some member's value
-abbrev pub TellsSome : List Cell → List Member → (test : Value → Bool) → Bool → Type 0
-TellsSome rows ms test b = (P : Tree) (keep : Node → Bool) (ns : List Node) → Readable rows P keep ms ns → b ≡ any test (map (node_value P) ns)
+-- the values of the members' nodes were taken as those of one side, which had none
+abbrev pub TakesValues : List Cell → List Member → Hand → (before now : Compared) → Type 0
+TakesValues rows ms hand before now = (P : Tree) (keep : Node → Bool) (ns : List Node) (rel : Rel) (others : List (List ℕ)) → Readable rows P keep ms ns → TookBy hand before rel [] others
+    → (vs : List (List ℕ)) × TookBy hand now rel vs others × ((v : List ℕ) → In v vs ↔ In v (map (value P) ns))
 
 -- whether the relation holds of some pair's values
 abbrev pub TellsPair : List Cell → (lefts : List Member) → Rel → (rights : List Member) → Bool → Type 0

@@ -1,8 +1,7 @@
 //! Comparisons: of two sets of nodes, and of a set and a literal.
-ghost use Rattle.std.specs.Prelude.{IfOk};
-ghost use Rattle.gcx_model.specs.Values.{Bytes, compare};
+ghost use Rattle.std.specs.Prelude.{IfOk, OnOk};
 ghost use Rattle.cond_eval.specs.Literals.{literal_value, IsLiteral};
-ghost use Rattle.cond_eval.specs.Comparing.{IsNodeRow, AreInUse, AreClosed, TellsPaths, TellsLiteral, TellsSome, TellsPair, TellsWith};
+ghost use Rattle.cond_eval.specs.Comparing.{IsNodeRow, AreInUse, AreClosed, TakesValues, TellsPaths, TellsLiteral, TellsPair, TellsWith};
 
 use crate::sets::{Member, reached};
 use crate::truth::settle;
@@ -12,7 +11,7 @@ use gcx_base::{Memory, Rel, Step};
 use gcx_model::{Operand, Truth};
 use node_store::{NodeStore, Place};
 use std::alloc::Global;
-use xq_values::{compare_text, holds};
+use value_pairs::{Compared, Hand};
 
 /// The closed ones of the nodes that the steps reach from the row at the place.
 pub fn closed_matches<N: NodeStore<Row>>(
@@ -35,28 +34,27 @@ pub fn closed_matches<N: NodeStore<Row>>(
     Ok(closed)
 }
 
-/// Whether the relation holds of the value and that of some node of the set.
-fn holds_with_some<N: NodeStore<Row>>(
+/// The values of the members become those of one side, which had none. Each is read once.
+fn take_values<N: NodeStore<Row>>(
+    alloc: Global,
     buffer: &Buffer<N>,
-    left: &[u8],
-    rel: Rel,
     set: &[Member],
-    room: &mut Vec<u8>,
-) -> Result<bool, Memory>
+    hand: Hand,
+    compared: &mut Compared,
+) -> Result<(), Memory>
     requires { AreInUse buffer.now.rows set.now }
-    ensures { IfOk result (λ b. TellsSome buffer.now.rows set.now (compare rel (Bytes left.now)) b) }
+    ensures { OnOk result (TakesValues buffer.now.rows set.now hand compared.old compared.new) }
 {
+    let mut room = Vec::new(alloc);
     for member in set {
-        let right = value(buffer, Place(member.place), room)?;
-        if holds(rel, compare_text(left, right)) {
-            return Ok(true);
-        }
+        let bytes = value(buffer, Place(member.place), &mut room)?;
+        compared.take(alloc, hand, bytes)?;
     }
-    Ok(false)
+    Ok(())
 }
 
 /// Whether the relation holds of the values of some pair. Where one side is empty no value is read.
-fn holds_of_some<N: NodeStore<Row>>(
+fn some_pair_satisfies<N: NodeStore<Row>>(
     alloc: Global,
     buffer: &Buffer<N>,
     lefts: &[Member],
@@ -67,17 +65,16 @@ fn holds_of_some<N: NodeStore<Row>>(
     requires rights { AreInUse buffer.now.rows rights.now }
     ensures { IfOk result (λ b. TellsPair buffer.now.rows lefts.now rel rights.now b) }
 {
+    if lefts.is_empty() {
+        return Ok(false);
+    }
     if rights.is_empty() {
         return Ok(false);
     }
-    let (mut room, mut other) = (Vec::new(alloc), Vec::new(alloc));
-    for member in lefts {
-        let left = value(buffer, Place(member.place), &mut room)?;
-        if holds_with_some(buffer, left, rel, rights, &mut other)? {
-            return Ok(true);
-        }
-    }
-    Ok(false)
+    let mut compared = Compared::new(alloc, rel);
+    take_values(alloc, buffer, lefts, Hand::Left, &mut compared)?;
+    take_values(alloc, buffer, rights, Hand::Right, &mut compared)?;
+    Ok(compared.found())
 }
 
 /// The truth of a comparison of two paths, from the rows at the places. Both sides are collected once.
@@ -96,7 +93,7 @@ pub(crate) fn paths_truth<N: NodeStore<Row>>(
 {
     let lefts = closed_matches(alloc, buffer, left, left_steps)?;
     let rights = closed_matches(alloc, buffer, right, right_steps)?;
-    let found = holds_of_some(alloc, buffer, &lefts, rel, &rights)?;
+    let found = some_pair_satisfies(alloc, buffer, &lefts, rel, &rights)?;
     Ok(settle(found, buffer.is_closed(left) && buffer.is_closed(right)))
 }
 

@@ -8,3 +8,11 @@ mod MarkBack
 mod MarkList
 mod MarkAgain
 mod Descending
+pub mod PathRows
+pub mod Untaken
+pub mod UntakenRows
+pub mod Takings
+mod PairSides
+mod PairTruths
+mod PairAsks
+mod Pairing

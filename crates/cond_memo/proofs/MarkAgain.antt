@@ -26,13 +26,13 @@ use Rattle.cond_memo.proofs.MarkAsks.{exists_asks, exists_may, left_asks, left_m
 exists_serves_path : (x : ℕ) (steps : List Step) → Serves x steps None (Exists x steps)
 exists_serves_path x steps = record {
   may = λ v bound k m. exists_may v.rows v.nodes bound k k x steps m;
-  answers = λ v bound k ms t f P env s a. let h = f P a.keep (env x) s.0 (exists_asks v.rows v.nodes bound P env s.1 x steps a) in (h.0, (h.1, s.1));
+  answers = λ v bound k ms qs t f P env s a. let h = f P a.keep (env x) s.0 (exists_asks v.rows v.nodes bound P env s.1 x steps a) in (h.0, (h.1, s.1));
 }
 
 left_serves : (x : ℕ) (steps : List Step) (rel : Rel) (o : Operand) → IsLiteral o → Serves x steps (Some (ask_of rel o)) (Compare (Path x steps) rel (operand_tree o))
 left_serves x steps rel o l = record {
   may = λ v bound k m. left_may v.rows v.nodes bound k k x steps rel o l m;
-  answers = λ v bound k ms t f P env s a.
+  answers = λ v bound k ms qs t f P env s a.
       let h = f P a.keep (env x) s.0 (left_asks v.rows v.nodes bound P env s.1 x steps rel (operand_tree o) (ask_of rel o) a) in
       (h.0 ∙ left_truth P env x steps rel o l, (h.1, s.1));
 }
@@ -40,7 +40,7 @@ left_serves x steps rel o l = record {
 right_serves : (x : ℕ) (steps : List Step) (rel flipped : Rel) (o : Operand) → IsLiteral o → ((v w : Value) → compare flipped w v ≡ compare rel v w) → Serves x steps (Some (ask_of flipped o)) (Compare (operand_tree o) rel (Path x steps))
 right_serves x steps rel flipped o l turned = record {
   may = λ v bound k m. right_may v.rows v.nodes bound k k x steps rel flipped o l m;
-  answers = λ v bound k ms t f P env s a.
+  answers = λ v bound k ms qs t f P env s a.
       let h = f P a.keep (env x) s.0 (right_asks v.rows v.nodes bound P env s.1 x steps rel (operand_tree o) (ask_of flipped o) a) in
       (h.0 ∙ right_truth P env x steps rel flipped o l turned, (h.1, s.1));
 }
@@ -61,6 +61,10 @@ serves_about m x steps ask c b s =
     (subst (λ (a : Option Ask). Serves x.0 steps a c) (sym b.ask) s))
 
 -- ---- the last mark
+
+-- none was asked last
+pub none_last : (k : Marked) (c : CondTree) → k.last ≡ None → AskedLast k c
+none_last k c e i m f a = let z : ◌≡◌ {A = Option ℕ} None (Some i) = sym e ∙ f in absurd (cc)
 
 pub asked_last : (k : Marked) (x : VarId) (steps : List Step) (ask : Option Ask) (c : CondTree) → Serves x.0 steps ask c → LastIsAbout k x steps ask → AskedLast k c
 asked_last k x steps ask c s h i m e a = serves_about m x steps ask c (h i m e a) s

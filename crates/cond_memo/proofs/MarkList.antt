@@ -66,7 +66,7 @@ set_marks xs i n w P at same k is = record { each = λ m j. go m (set_in xs i w 
 
 -- ---- the variable's node
 
-pair_place : (p q s t : ℕ) (b : Option (ℕ × ℕ)) → Some (p, s) ≡ b → b ≡ Some (q, t) → (p ≡ q) × (s ≡ t)
+pub pair_place : (p q s t : ℕ) (b : Option (ℕ × ℕ)) → Some (p, s) ≡ b → b ≡ Some (q, t) → (p ≡ q) × (s ≡ t)
 pair_place p q s t b e f = let g : ◌≡◌ {A = Option (ℕ × ℕ)} (Some (p, s)) (Some (q, t)) = e ∙ f in let h : ◌≡◌ {A = ℕ × ℕ} (p, s) (q, t) = cc in (ap (λ (z : ℕ × ℕ). z.0) h, ap (λ (z : ℕ × ℕ). z.1) h)
 
 module _ (rows : List Cell) (nodes : ℕ) (bound : Bindings) (x : ℕ) (p s : ℕ) (got : Some (p, s) ≡ get bound x) (steps : List Step) (ask : Option Ask) (m : Mark) (v : VarId) (about : IsAbout m v steps ask) where
@@ -82,7 +82,7 @@ module _ (rows : List Cell) (nodes : ℕ) (bound : Bindings) (x : ℕ) (p s : �
   pub may_tell : (k now : Marked) → MayFind k rows nodes bound x steps ask → ((P : Tree) → AreMarks k P → AreMarks now P) → In m now.marks.items → MayTell m rows nodes p s
   may_tell k now f stays i =
       let a = asks_mark f.tree f.keep f.node f.asks in
-      record { tree = f.tree; keep = f.keep; node = f.node; asks = a.0; serial = a.1; mark = (stays f.tree f.marks).each m i }
+      record { tree = f.tree; keep = f.keep; node = f.node; asks = a.0; serial = a.1; mark = (stays f.tree f.marks).0.each m i }
 
 -- ---- what is told of the variable's node
 

@@ -113,7 +113,7 @@ pub record Turned (P : Tree) (of : Serial) (m now : Mark) : Type 0 where
   pub steps : now.steps ≡ m.steps
   pub ask : now.ask ≡ m.ask
 
-same_serial : (s t : Serial) → s.0 ≡ t.0 → s ≡ t
+pub same_serial : (s t : Serial) → s.0 ≡ t.0 → s ≡ t
 same_serial s t e = let f : ℕ → Serial = λ x. record { 0 = x } in ap f e
 
 pub turned_mark : (rows : List Cell) (P : Tree) (keep : Node → Bool) → RowsOf rows P keep → (n : Node) → In n P.nodes → (of : Serial) → serial_of n ≡ of.0 → (m now : Mark)

@@ -7,18 +7,20 @@ use Rattle.gcx_model.specs.Core.{CondTree}
 use Rattle.gcx_model.specs.declared.truth.Truth.{Truth}
 use Rattle.buf_tree.specs.View.{View}
 use Rattle.cond_eval.specs.Bindings.{Bindings}
-use Rattle.cond_eval.specs.Asking.{Answers, AnswersOver, MayAskOver, Over}
+use Rattle.cond_eval.specs.Asking.{AnswersOver, MayAskOver}
 use Rattle.cond_memo.specs.Marks.{AreMarks, AsksOf, IsAbout, MayFind, StandFor, answer}
+use Rattle.cond_memo.specs.Pairs.{ArePairs}
 use Rattle.cond_memo.specs.declared.mark.Ask.{Ask}
 use Rattle.cond_memo.specs.declared.mark.Mark.{Mark}
 use Rattle.cond_memo.specs.declared.marked.Marked.{Marked}
+use Rattle.cond_memo.specs.declared.pair.Pair.{Pair}
 
 -- the question about the path is the condition: it may be asked where that may, and its answer is that of the condition
 pub record Serves (x : ℕ) (steps : List Step) (ask : Option Ask) (c : CondTree) : Type 0 where
   pub may : (v : View) (bound : Bindings) (k : Marked) → MayAskOver v (AreMarks k) bound c → MayFind k v.rows v.nodes bound x steps ask
-  pub answers : (v : View) (bound : Bindings) (k : Marked) (ms : List Mark) (t : Truth)
-      → ((P : Tree) (keep : Node → Bool) (n : Node) → AreMarks k P → AsksOf v.rows v.nodes bound x steps ask P keep n → (t ≡ answer P steps ask n) × StandFor ms P)
-      → Answers (Over v.nodes (AreMarks k)) (Over v.nodes (StandFor ms)) v.rows bound c t
+  pub answers : (v : View) (bound : Bindings) (k : Marked) (ms : List Mark) (qs : List Pair) (t : Truth)
+      → ((P : Tree) (keep : Node → Bool) (n : Node) → AreMarks k P → AsksOf v.rows v.nodes bound x steps ask P keep n → (t ≡ answer P steps ask n) × (StandFor ms P × ArePairs qs P))
+      → AnswersOver v (AreMarks k) (λ P. StandFor ms P × ArePairs qs P) bound c t
 
 -- the mark of this number
 abbrev pub IsAt : List Mark → ℕ → Mark → Type 0

@@ -1,5 +1,11 @@
+pub mod Waiting
+pub mod Taking
+pub mod Searching
+pub mod Pairs
 pub mod Marks
 pub mod Calls
 pub mod Again
+pub mod PairCalls
 pub mod Reaching
+pub mod TakenStays
 pub mod MarkStays

@@ -15,10 +15,14 @@ use Rattle.tree_laws.proofs.Lists.{In-left, In-append, In-filter}
 use Rattle.tree_laws.proofs.Matches.{Matches-in}
 use Rattle.move_laws.proofs.Keeping.{closed_stays}
 use Rattle.run_laws.proofs.Feeds.{nodes_grow, truth_stays}
-use Rattle.cond_memo.specs.Marks.{question, known, does, is_settled, WasOpen, Tried, Knows, IsMark, StandFor}
+use Rattle.cond_memo.specs.Marks.{AreMarks, question, known, does, is_settled, WasOpen, Tried, Knows, IsMark, StandFor}
+use Rattle.cond_memo.specs.Pairs.{IsPair}
+use Rattle.cond_memo.specs.TakenStays.{taken_stays}
 use Rattle.cond_eval.specs.Literals.{literal_value}
 use Rattle.cond_memo.specs.declared.mark.Ask.{Ask}
 use Rattle.cond_memo.specs.declared.mark.Mark.{Mark}
+use Rattle.cond_memo.specs.declared.marked.Marked.{Marked}
+use Rattle.cond_memo.specs.declared.pair.Pair.{Pair}
 
 module _ (P Q : Tree) (lo : Leads opening P) (l : Leads P Q) where
   stays_in : (n : Node) → In n P.nodes → In n Q.nodes
@@ -78,6 +82,18 @@ module _ (P Q : Tree) (lo : Leads opening P) (l : Leads P Q) where
     told = λ s e. let t = k.told s e in (t.0, stays_in t.0 t.1, t.2, knows_stays m t.0 t.1 t.3);
   }
 
-  -- what marks tell stays while tokens come
-  pub marks_stay : (ms : List Mark) → StandFor ms P → StandFor ms Q
+  marks_stay : (ms : List Mark) → StandFor ms P → StandFor ms Q
   marks_stay ms k = record { each = λ m i. mark_stays m (k.each m i); once = k.once }
+
+  pair_stays : (q : Pair) → IsPair q P → IsPair q Q
+  pair_stays q k = record {
+    lefts = k.lefts;
+    rights = k.rights;
+    took = k.took;
+    left = taken_stays P Q lo l q.left k.lefts k.left;
+    right = taken_stays P Q lo l q.right k.rights k.right;
+  }
+
+  -- what marks and pairs tell stays while tokens come
+  pub marked_stays : (k : Marked) → AreMarks k P → AreMarks k Q
+  marked_stays k is = (marks_stay k.marks.items is.0, record { each = λ q i. pair_stays q (is.1.each q i); once = is.1.once })

@@ -1,11 +1,10 @@
 -- What marks tell of an open tree (this project's).
-use Rattle.std.specs.Prelude.{◌≡◌, ◌<◌, ◌≤◌, ◌+◌, ◌⊎◌, ℕ, Bool, true, false, List, [], ◌∷◌, length, map, Option, Some, None}
+use Rattle.std.specs.Prelude.{◌≡◌, ◌<◌, ◌≤◌, ◌+◌, ◌⊎◌, ℕ, Bool, true, false, List, [], length, map, Option, Some, None}
 use Rattle.gcx_base.specs.declared.ids.Serial.{Serial}
 use Rattle.gcx_base.specs.declared.ids.VarId.{VarId}
 use Rattle.gcx_base.specs.declared.rel.Rel.{Rel}
-use Rattle.gcx_base.specs.declared.steps.Axis.TheVariants.{Descendant}
 use Rattle.gcx_base.specs.declared.steps.Step.{Step}
-use Rattle.gcx_model.specs.Tree.{Node, serial_of, above, Tree, is_closed}
+use Rattle.gcx_model.specs.Tree.{Node, serial_of, Tree, is_closed}
 use Rattle.gcx_model.specs.Paths.{head, hits, matches, value}
 use Rattle.gcx_model.specs.Members.{In, Once}
 use Rattle.gcx_model.specs.Core.{CondTree, Exists, Compare, Path}
@@ -15,13 +14,13 @@ use Rattle.gcx_model.specs.declared.truth.Truth.{Truth}
 use Rattle.gcx_model.specs.declared.truth.Truth.TheVariants.{True, False, Unknown}
 use Rattle.gcx_model.specs.Truth.{truth}
 use Rattle.gcx_model.specs.declared.cond.Operand.{Operand}
-use Rattle.buf_tree.specs.Shape.{Cell, num}
-use Rattle.buf_tree.specs.Match.{IsChild}
-use Rattle.buf_tree.specs.View.{InUse, serial_at}
+use Rattle.buf_tree.specs.Shape.{Cell}
 use Rattle.cond_eval.specs.Literals.{literal_value, IsLiteral}
 use Rattle.cond_eval.specs.Bindings.{Bindings}
 use Rattle.cond_eval.specs.Asking.{IsBound}
 use Rattle.cond_eval.specs.Reads.{NodeAt, IsWhole}
+pub use Rattle.cond_memo.specs.Waiting.{WasOpen, IsOpenNow, EndsAs, Fits, NextAbove, IsShut, StillOpen, HasNoParent, IsParentAt, AreApart}
+use Rattle.cond_memo.specs.Pairs.{ArePairs}
 use Rattle.cond_memo.specs.declared.mark.Ask.{Ask}
 use Rattle.cond_memo.specs.declared.mark.Mark.{Mark}
 use Rattle.cond_memo.specs.declared.marked.Marked.{Marked}
@@ -77,20 +76,11 @@ NotFound P ask ms = (j : Node) → In j ms → is_settled P ask j ≡ true → d
 
 -- ---- what is kept of it
 
--- the node is the open one of this serial or above it
-abbrev pub WasOpen : Tree → Option Serial → Node → Type 0
-WasOpen P None j = ⊥
-WasOpen P (Some s) j = (o : Node) × In o P.nodes × (serial_of o ≡ s.0) × In j (above o)
-
 -- Of the matches up to this serial none does, but for those that were open when they were looked at. Of these the innermost is kept.
 pub record Tried (P : Tree) (ask : Option Ask) (ms : List Node) (waiting : Option Serial) (upto : ℕ) : Type 0 where
   pub each : (j : Node) → In j ms → serial_of j ≤ upto → ((is_settled P ask j ≡ true) × (does P ask j ≡ false)) ⊎ WasOpen P waiting j
   pub open_in : (s : Serial) → waiting ≡ Some s → (o : Node) × In o ms × (serial_of o ≡ s.0) × (s.0 ≤ upto)
   pub no_ask : ask ≡ None → waiting ≡ None
-
--- the match that is kept is still open
-abbrev pub IsOpenNow : Tree → Option Serial → Type 0
-IsOpenNow P waiting = (s : Serial) → waiting ≡ Some s → (o : Node) → In o P.nodes → serial_of o ≡ s.0 → is_closed P o ≡ false
 
 -- What the mark tells of the node n: the truth of its question, or else what was tried.
 pub record Knows (m : Mark) (P : Tree) (n : Node) : Type 0 where
@@ -98,18 +88,6 @@ pub record Knows (m : Mark) (P : Tree) (n : Node) : Type 0 where
   pub most : m.upto.0 < length P.nodes
   pub truth : (v : Bool) → m.value ≡ Some v → answer P m.steps m.ask n ≡ known (Some v)
   pub tried : m.value ≡ None → (m.steps ≡ [] → ⊥) → Tried P m.ask (matches P (serial_of n) m.steps) m.waiting m.upto.0
-
--- as a descendant step it is the last of the steps
-abbrev pub EndsAs : List Step → Step → Type 0
-EndsAs [] last = Unit {0}
-EndsAs (s ∷ []) last = (last.axis ≡ Descendant) × (last.test ≡ s.test)
-EndsAs (s ∷ t ∷ rest) last = EndsAs (t ∷ rest) last
-
--- so it is, or it is the only one
-abbrev pub Fits : List Step → Step → Type 0
-Fits [] last = Unit {0}
-Fits (s ∷ []) last = last ≡ s
-Fits (s ∷ t ∷ rest) last = EndsAs (t ∷ rest) last
 
 pub record IsMark (m : Mark) (P : Tree) : Type 0 where
   pub fits : Fits m.steps m.last
@@ -128,8 +106,9 @@ pub record StandFor (ms : List Mark) (P : Tree) : Type 0 where
   pub each : (m : Mark) → In m ms → IsMark m P
   pub once : Once (map subject_of ms)
 
+-- the marks do, and so do the pairs of paths that are compared
 abbrev pub AreMarks : Marked → Tree → Type 0
-AreMarks k P = StandFor k.marks.items P
+AreMarks k P = StandFor k.marks.items P × ArePairs k.pairs.items P
 
 -- ---- what is asked. Private functions alone speak of it.
 
@@ -180,37 +159,6 @@ Settles P ask ms false = NotFound P ask ms
 abbrev pub Found : Tree → List Step → Option Ask → List Node → (waiting : Option Serial) → (upto : ℕ) → Bool → Type 0
 Found P steps ask ms waiting upto b = Settles P ask ms b × (b ≡ false → (steps ≡ [] → ⊥) → Tried P ask ms waiting upto)
 
--- the nearest match above o, of those from n
-abbrev pub NextAbove : List Step → (n o : Node) → Option Serial → Type 0
-NextAbove steps n o None = (j : Node) → In j (above o) → (serial_of j ≡ serial_of o → ⊥) → hits (serial_of n) steps j ≡ true → ⊥
-NextAbove steps n o (Some s) = (u : Node) × In u (above o) × (serial_of u ≡ s.0) × (hits (serial_of n) steps u ≡ true)
-    × ((j : Node) → In j (above o) → (serial_of j ≡ serial_of o → ⊥) → hits (serial_of n) steps j ≡ true → In j (above u))
-
--- the row at the place is the one of this serial, and closed
-pub record IsShut (rows : List Cell) (waiting : Option Serial) (p : ℕ) : Type 0 where
-  pub serial : Serial
-  pub is : waiting ≡ Some serial
-  pub at_serial : serial_at p rows ≡ serial.0
-  pub cell : Cell
-  pub among : In cell rows
-  pub place : cell.place ≡ p
-  pub number : num cell ≡ serial.0
-  pub closed : cell.row.is_open ≡ false
-
--- no node that is kept, below that at the place, has this serial and is closed
-abbrev pub StillOpen : List Cell → (p : ℕ) → Option Serial → Type 0
-StillOpen rows p waiting = (s : Serial) → waiting ≡ Some s → (P : Tree) (keep : Node → Bool) (n m : Node) → NodeAt rows P keep p n → In m P.nodes → keep m ≡ true → serial_of m ≡ s.0 → In n (above m) → is_closed P m ≡ false
-
--- the row at the place is that of the document node
-abbrev pub HasNoParent : List Cell → (p : ℕ) → Type 0
-HasNoParent rows p = (c : Cell) → In c rows → c.place ≡ p → num c ≡ 0
-
--- its parent is the row at the place q
-pub record IsParentAt (rows : List Cell) (p q : ℕ) : Type 0 where
-  pub used : InUse rows q
-  pub lower : serial_at q rows < serial_at p rows
-  pub parent : (c : Cell) → In c rows → c.place ≡ p → (d : Cell) × In d rows × IsChild d c × (d.place ≡ q)
-
 -- the mark may be asked of the node at the place, which has this serial
 pub record MayTell (m : Mark) (rows : List Cell) (nodes p of : ℕ) : Type 0 where
   pub tree : Tree
@@ -234,7 +182,3 @@ pub record MayFind (k : Marked) (rows : List Cell) (nodes : ℕ) (bound : Bindin
   pub marks : AreMarks k tree
   pub asks : AsksOf rows nodes bound x steps ask tree keep node
   pub literal : AsksLiteral ask
-
--- no two rows share a place
-abbrev pub AreApart : List Cell → Type 0
-AreApart rows = (c d : Cell) → In c rows → In d rows → c.place ≡ d.place → c ≡ d

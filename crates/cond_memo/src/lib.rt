@@ -3,7 +3,11 @@
 
 mod mark;
 mod marked;
+mod pair;
 mod reaching;
+mod taken;
+mod waiting;
 
 pub use mark::last_of;
 pub use marked::Marked;
+pub use taken::Taken;

@@ -1,13 +1,13 @@
 //! What is kept of an `exists`, or of a comparison with a literal.
-ghost use Rattle.std.specs.Prelude.{◌≡◌, ◌+◌, ◌<◌, ◌⊎◌, true, false, [], None, Some, IfOk, MatchOption};
+ghost use Rattle.std.specs.Prelude.{◌≡◌, ◌+◌, ◌<◌, ◌⊎◌, true, [], None, Some, IfOk};
 ghost use Rattle.gcx_base.specs.declared.steps.Step.{Step};
 ghost use Rattle.gcx_model.specs.Members.{In};
 ghost use Rattle.buf_tree.specs.Shape.{Cell, num};
-ghost use Rattle.buf_tree.specs.View.{InUse, serial_at};
-ghost use Rattle.cond_memo.specs.Marks.{AsksLiteral, Fits, MayTell, IsAbout, LooksUpto, settled, IsShut, StillOpen, HasNoParent, IsParentAt, AreApart};
-ghost use Rattle.cond_memo.specs.Calls.{TellsDoes, TellsSettled, TellsMatch, LooksAt, FindsNew, SearchesOn, SearchesBack, SearchesAll, FindsUpwards, SettlesItself, TellsAnswer};
+ghost use Rattle.buf_tree.specs.View.{InUse};
+ghost use Rattle.cond_memo.specs.Marks.{AsksLiteral, Fits, MayTell, IsAbout, LooksUpto, settled};
+ghost use Rattle.cond_memo.specs.Calls.{TellsDoes, TellsSettled, TellsMatch, LooksAt, FindsNew, SearchesOn, SearchesBack, SearchesAll, SettlesItself, TellsAnswer};
 
-use crate::reaching::row_below;
+use crate::waiting::{match_above, shut_by_now};
 use buf_tree::{Buffer, Row};
 use cond_eval::{Watermark, satisfies, value};
 use gcx_base::{Axis, Memory, Rel, Serial, Step, Steps, Test, VarId};
@@ -225,22 +225,6 @@ impl Mark {
         Ok(false)
     }
 
-    /// The place of the innermost match that was open, where it is closed by now.
-    #[inline(always)]
-    fn shut_by_now<N: NodeStore<Row>>(&self, buffer: &Buffer<N>, node: Place) -> Option<Place>
-        requires { InUse buffer.now.rows node.0 }
-        ensures { MatchOption result (StillOpen buffer.now.rows node.0 self.now.waiting)
-            (λ p. IsShut buffer.now.rows self.now.waiting p.0) }
-    {
-        let waiting = self.waiting?;
-        let row = row_below(buffer.at(node), waiting)?;
-        if buffer.is_closed(row.place) {
-            Some(row.place)
-        } else {
-            None
-        }
-    }
-
     /// Looks at the matches that were open and are closed now, from the innermost up: true where one does.
     #[inline(always)]
     fn look_back<N: NodeStore<Row>>(
@@ -255,38 +239,14 @@ impl Mark {
         ensures frame { IfOk result (λ _. self.new ≡ record self.old { waiting = self.new.waiting }) }
         ensures searched { IfOk result (λ b. SearchesBack buffer.now self.old node.0 self.new.waiting b) }
     {
-        'up: while let Some(place) = self.shut_by_now(buffer, node) {
+        'up: while let Some(place) = shut_by_now(buffer, node, self.waiting) {
             if self.does(buffer, place, room)? {
                 return Ok(true);
             }
-            self.waiting = self.match_above(buffer, node, place, room)?;
+            let steps = self.steps.items();
+            self.waiting = match_above(buffer, node, steps, place, &mut room.flags)?;
         }
         Ok(false)
-    }
-
-    /// The nearest match above a match.
-    fn match_above<N: NodeStore<Row>>(
-        &self,
-        buffer: &Buffer<N>,
-        node: Place,
-        place: Place,
-        room: &mut Room,
-    ) -> Result<Option<Serial>, Memory>
-        requires { InUse buffer.now.rows place.0 }
-        ensures above { IfOk result (λ r. FindsUpwards buffer.now.rows self.now.steps node.0 place.0 r) }
-        ensures lower { IfOk result (λ r. (s : Serial) → r ≡ Some s → s.0 < serial_at place.0 buffer.now.rows) }
-    {
-        let mut at = parent_at(buffer, place);
-        'up: while let Some(here) = at {
-            if here.0 == node.0 {
-                return Ok(None);
-            }
-            if buffer.leads(node, self.steps.items(), here, &mut room.flags)? {
-                return Ok(Some(buffer.serial(here)));
-            }
-            at = parent_at(buffer, here);
-        }
-        Ok(None)
     }
 
     /// Whether the node does, which is the only match where there are no steps.
@@ -364,18 +324,5 @@ impl Mark {
             self.value = Some(found);
         }
         self.value
-    }
-}
-
-/// The place of the parent's row.
-fn parent_at<N: NodeStore<Row>>(buffer: &Buffer<N>, place: Place) -> Option<Place>
-    requires { InUse buffer.now.rows place.0 }
-    ensures parent { MatchOption result (HasNoParent buffer.now.rows place.0)
-        (λ p. IsParentAt buffer.now.rows place.0 p.0) }
-    ensures apart { AreApart buffer.now.rows }
-{
-    match buffer.at(place).parent() {
-        Some(row) => Some(row.place),
-        None => None,
     }
 }

@@ -1,5 +1,5 @@
-//! A mark for each `exists` and each comparison with a literal.
-ghost use Rattle.std.specs.Prelude.{◌≡◌, ◌↔◌, ◌<◌, true, IfOk, option_map, vec_len, slice_index_or};
+//! A mark for each `exists` and each comparison with a literal, and a pair for each comparison of two paths.
+ghost use Rattle.std.specs.Prelude.{◌≡◌, ◌↔◌, ◌<◌, true, None, IfOk, option_map, vec_len, slice_index_or};
 ghost use Rattle.gcx_model.specs.Core.{CondTree};
 ghost use Rattle.gcx_model.specs.CondView.{core_cond_tree};
 ghost use Rattle.gcx_base.specs.declared.steps.Step.{Step};
@@ -11,9 +11,12 @@ ghost use Rattle.cond_eval.specs.Literals.{IsLiteral};
 ghost use Rattle.cond_memo.specs.Marks.{AsksLiteral, known as told, ask_of, IsAbout, AreMarks, MayFind};
 ghost use Rattle.cond_memo.specs.Calls.{AddsMark, AnswersAsked};
 ghost use Rattle.cond_memo.specs.Again.{AskedLast, LastIsAbout, TellsAgain};
+ghost use Rattle.cond_memo.specs.PairCalls.{AddsPair, AnswersPaths, IsAboutPaths, MayAskVariables};
 ghost use Rattle.cond_memo.specs.declared.mark.Mark.{Mark as KeptMark};
+ghost use Rattle.cond_memo.specs.declared.pair.Pair.{Pair as KeptPair};
 
 use crate::mark::{Ask, Mark, Room};
+use crate::pair::Pair;
 use buf_tree::{Buffer, Row};
 use cond_eval::{Env, Leaves, compare_truth, flipped};
 use gcx_base::{Memory, Rel, Step, Steps, VarId};
@@ -22,10 +25,11 @@ use node_store::NodeStore;
 use std::alloc::Global;
 
 /// Finds the truth of an `exists` or a comparison by looking at the rows alone that are new since it was asked for the
-/// same node. Of a comparison of two paths it keeps nothing.
+/// same node, or for the same two.
 #[derive(Drop, Debug)]
 pub struct Marked {
     marks: Vec<Mark>,
+    pairs: Vec<Pair>,
     room: Room,
     /// The number of the mark that answered last, where the condition was no more than its question.
     last: Option<usize>,
@@ -38,6 +42,7 @@ impl Marked {
     {
         Marked {
             marks: Vec::new(alloc),
+            pairs: Vec::new(alloc),
             room: Room {
                 flags: Vec::new(alloc),
                 text: Vec::new(alloc),
@@ -155,7 +160,7 @@ impl Marked {
         Ok(truth_of_known(known))
     }
 
-    /// The truth of a comparison: of a path and a literal by a mark.
+    /// The truth of a comparison: of a path and a literal by a mark, of two paths by a pair.
     #[inline(always)]
     fn compared<N: NodeStore<Row>>(
         &mut self,
@@ -199,7 +204,10 @@ impl Marked {
         ensures last { IfOk result (λ _. AskedLast self.new (comparison left.now rel right.now)) }
     {
         match right {
-            Operand::Path { .. } => self.compared_anew(alloc, env, buffer, left, rel, right),
+            Operand::Path {
+                var: other,
+                steps: others,
+            } => self.paired(alloc, env, buffer, (var, steps), rel, (*other, others)),
             _ => self.asked(alloc, env, buffer, var, steps, Some((rel, right))),
         }
     }
@@ -224,27 +232,66 @@ impl Marked {
             Operand::Path { var, steps } => {
                 self.asked(alloc, env, buffer, *var, steps, Some((flipped(rel), left)))
             }
-            _ => self.compared_anew(alloc, env, buffer, left, rel, right),
+            _ => {
+                self.last = None;
+                compare_truth(alloc, env, buffer, left, rel, right)
+            }
         }
     }
 
-    /// The truth of a comparison of which nothing is kept.
-    fn compared_anew<N: NodeStore<Row>>(
+    /// The number of the pair of these paths, which is made where there is none.
+    fn pair_of(
+        &mut self,
+        alloc: Global,
+        left: (VarId, &Steps),
+        rel: Rel,
+        right: (VarId, &Steps),
+    ) -> Result<usize, Memory>
+        ensures index { IfOk result (λ i. i < vec_len self.new.pairs) }
+        ensures pair { IfOk result (λ i. (q : KeptPair) × (q ≡ slice_index_or self.new.pairs.items i q)
+            × IsAboutPaths q left.entry.0 left.entry.1.now rel right.entry.0 right.entry.1.now) }
+        ensures stays { IfOk result (λ _. (P : Tree) → AreMarks self.old P → AreMarks self.new P) }
+        ensures last { self.new.last ≡ self.old.last }
+        ensures count { IfOk result (λ _. AddsPair self.old.pairs.items self.new.pairs.items
+            left.entry.0 left.entry.1.now rel right.entry.0 right.entry.1.now) }
+    {
+        let mut index = 0;
+        'pairs: while index < self.pairs.len() {
+            if is_pair_of(&self.pairs[index], left, rel, right) {
+                return Ok(index);
+            }
+            index += 1;
+        }
+        let pair = Pair::new(alloc, left, rel, right)?;
+        self.pairs.push(pair)?;
+        Ok(index)
+    }
+
+    /// The truth of the comparison of these paths.
+    fn paired<N: NodeStore<Row>>(
         &mut self,
         alloc: Global,
         env: &Env,
         buffer: &Buffer<N>,
-        left: &Operand,
+        left: (VarId, &Steps),
         rel: Rel,
-        right: &Operand,
+        right: (VarId, &Steps),
     ) -> Result<Truth, Memory>
-        requires { MayAskOver buffer.now (AreMarks self.old) env.now (comparison left.now rel right.now) }
-        ensures answers { IfOk result (λ t. AnswersOver buffer.now (AreMarks self.old) (AreMarks self.new)
-            env.now (comparison left.now rel right.now) t) }
-        ensures last { IfOk result (λ _. AskedLast self.new (comparison left.now rel right.now)) }
+        requires { MayAskVariables buffer.now self.old env.now left.0.0 right.0.0 left.1.now right.1.now }
+        ensures answers { IfOk result (λ t. AnswersPaths buffer.now self.old self.new env.now
+            left.entry.0.0 left.entry.1.now rel right.entry.0.0 right.entry.1.now t) }
+        ensures last { IfOk result (λ _. self.new.last ≡ None) }
     {
         self.last = None;
-        compare_truth(alloc, env, buffer, left, rel, right)
+        let Some(one) = env.get(left.0) else {
+            return Ok(Truth::Unknown);
+        };
+        let Some(two) = env.get(right.0) else {
+            return Ok(Truth::Unknown);
+        };
+        let index = self.pair_of(alloc, left, rel, right)?;
+        let truth = self.pairs[index].ask(alloc, buffer, one, two, &mut self.room)?;
+        Ok(truth)
     }
 }
 
@@ -332,6 +379,18 @@ fn is_literal(kept: &Operand, literal: &Operand) -> bool
         (Operand::Num(kept), Operand::Num(units)) => kept == units,
         _ => false,
     }
+}
+
+/// Whether the pair is that of these paths.
+fn is_pair_of(pair: &Pair, left: (VarId, &Steps), rel: Rel, right: (VarId, &Steps)) -> bool
+    ensures is { result ≡ true → IsAboutPaths pair.now left.entry.0 left.entry.1.now rel right.entry.0 right.entry.1.now }
+    ensures all { IsAboutPaths pair.now left.entry.0 left.entry.1.now rel right.entry.0 right.entry.1.now → result ≡ true }
+{
+    pair.var == left.0
+        && pair.rel == rel
+        && pair.other == right.0
+        && are_same(pair.left.steps.items(), left.1.items())
+        && are_same(pair.right.steps.items(), right.1.items())
 }
 
 // Step by step, which takes fewer instructions than the comparison of the two slices.

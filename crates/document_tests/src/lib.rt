@@ -1,10 +1,13 @@
-//! Tests of what reads and writes documents: characters, whole and cut documents, values, tags, and lines of a trace.
+//! Tests of what reads and writes documents: characters, whole and cut documents, values, pairs of values, tags, and
+//! lines of a trace.
 #![tactic(auto)]
 
 #[cfg(test)]
 mod characters;
 #[cfg(test)]
 mod documents;
+#[cfg(test)]
+mod pairs;
 #[cfg(test)]
 mod tags;
 #[cfg(test)]

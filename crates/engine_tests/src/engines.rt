@@ -7,6 +7,7 @@ mod joins;
 mod lean;
 mod manies;
 mod passing;
+mod relations;
 mod rows;
 mod sides;
 mod turns;

@@ -6,9 +6,9 @@ use Rattle.std.proofs.lemmas.List.{take_more}
 use Rattle.gcx_model.specs.Core.{OperandTree}
 use Rattle.gcx_model.specs.Members.{In}
 use Rattle.buf_tree.specs.Shape.{Cell}
+use Rattle.cond_memo.specs.declared.taken.Taken.{Taken}
 use Rattle.join_index.specs.declared.equality.Listed.{Listed}
 use Rattle.join_index.specs.declared.equality.Equality.{Equality}
-use Rattle.join_index.specs.declared.seen.Seen.{Seen}
 use Rattle.join_index.specs.Equalities.{HasEquality}
 use Rattle.join_index.specs.Index.{outer_of, same_serial, serial_kept}
 use Rattle.join_index.specs.Lookups.{IsOf, KeepsList, KeepsSeen, ListsAt}
@@ -72,18 +72,15 @@ made_for rows p of q r l left right kept serial other lists = record {
 }
 
 -- whatever was looked up in it
-pub kept_as : (rows : List Cell) (p of : ℕ) (q r : Equality) (made : Bool) (now : Seen) → KeepsList rows p of q r made → KeepsList rows p of q (record r { seen = now }) made
+pub kept_as : (rows : List Cell) (p of : ℕ) (q r : Equality) (made : Bool) (now : Taken) → KeepsList rows p of q r made → KeepsList rows p of q (record r { seen = now }) made
 kept_as rows p of q r made now k = record { left = k.left; right = k.right; list = k.list; kept = k.kept; serial = k.serial; made_so = k.made_so; told = k.told }
 
 -- which matches were looked up stays with the list, and none was in one that is made
 pub seen_still : (q : Equality) → KeepsSeen q q
-seen_still q = record { path = record { steps = refl; last = refl }; looked = inl (refl, refl) }
+seen_still q = record { steps = refl; last = refl; looked = inl refl }
 
-pub seen_none : (q r : Equality) → r.seen ≡ record q.seen { of = None; below = 0 } → KeepsSeen q r
-seen_none q r e = record {
-  path = record { steps = ap (λ (s : Seen). s.steps) e; last = ap (λ (s : Seen). s.last) e };
-  looked = inr (ap (λ (s : Seen). s.of) e);
-}
+pub seen_none : (q r : Equality) → r.seen ≡ record q.seen { of = None; below = 0; waiting = None } → KeepsSeen q r
+seen_none q r e = record { steps = ap (λ (s : Taken). s.steps) e; last = ap (λ (s : Taken). s.last) e; looked = inr (ap (λ (s : Taken). s.of) e) }
 
 pub same_list : (o : Option Listed) (l m : Listed) → o ≡ Some l → o ≡ Some m → l ≡ m
 same_list o l m e f = let g : Some l ≡ Some m = sym e ∙ f in cc

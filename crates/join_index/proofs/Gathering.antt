@@ -286,5 +286,5 @@ pub fresh_looked : (qs : List Equality) → NoneKept qs → (P : Tree) → AreLo
 fresh_looked qs none P q i = record {
   steps = (none q i).steps;
   fits = (none q i).fits;
-  told = λ l e s g. let f : ◌≡◌ {A = Option Listed} None (Some l) = sym (none q i).list ∙ e in absurd (cc);
+  told = λ l e. let f : ◌≡◌ {A = Option Listed} None (Some l) = sym (none q i).list ∙ e in absurd (cc);
 }

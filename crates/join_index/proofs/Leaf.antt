@@ -24,14 +24,13 @@ use Rattle.cond_eval.specs.Comparing.{IsNodeRow, KeepsMatches, comparison}
 use Rattle.cond_eval.specs.Reads.{NodeAt}
 use Rattle.cond_eval.proofs.Comparisons.{shut_told}
 use Rattle.cond_eval.proofs.Telling.{IsPlace, in_left, in_right, keeps_left, keeps_right, node_row, side_of}
-use Rattle.cond_memo.specs.Marks.{Fits}
+use Rattle.cond_memo.specs.Taking.{AsksPath}
 use Rattle.join_index.specs.declared.equality.Side.{Side}
 use Rattle.join_index.specs.declared.equality.Listed.{Listed}
 use Rattle.join_index.specs.declared.equality.Equality.{Equality}
 use Rattle.join_index.specs.Equalities.{inner_of, path_of_side}
 use Rattle.join_index.specs.Index.{GoesAfterQuestion, IndexView, IsIndex, IsLooked, IsOuterClosed, IsReached, TellsTruthOf, outer_of, raised, same_serial, serial_bound, serial_kept, variable_of}
-use Rattle.join_index.specs.Lookups.{FindsIn, FoundIs, IsOf, KeepsList, KeepsSeen}
-use Rattle.join_index.specs.Taking.{AsksPath, MayTake}
+use Rattle.join_index.specs.Lookups.{FindsIn, FoundIs, IsOf, KeepsList, KeepsSeen, MayFindIn}
 use Rattle.join_index.proofs.Finding.{kept_as}
 use Rattle.join_index.proofs.Looking.{kept_looked, set_looked}
 use Rattle.join_index.proofs.Listing.{IsList, at_in, changes_one, moved_one, outer_moved, set_has, set_lists}
@@ -112,7 +111,7 @@ module _ (v : View) (bound : Bindings) (k : IndexView) (i : ℕ) (q r0 r : Equal
     (rest : r ≡ record r0 { seen = r.seen })
     (tells : FindsIn v other so r0 r found) where
   abbrev now : IndexView
-  now = record { marked = k.marked; equalities = slice_set k.equalities i r; pairs = k.pairs; built = raised k.built (cond made 1 0) }
+  now = record { marked = k.marked; equalities = slice_set k.equalities i r; built = raised k.built (cond made 1 0) }
 
   lists : KeepsList v.rows p of q r made
   lists = subst (λ (z : Equality). KeepsList v.rows p of q z made) (sym rest) (kept_as v.rows p of q r0 made r.seen first)
@@ -173,10 +172,10 @@ module _ (v : View) (bound : Bindings) (k : IndexView) (i : ℕ) (q r0 r : Equal
       inner_serial = sym (pair_is other so (inner_bound v bound q P env a).place (serial_of (env y)) (get bound y) inner (inner_bound v bound q P env a).pair).1
 
       was : IsLooked q P
-      was = is.3 q (at_in k.equalities i q at)
+      was = is.2 q (at_in k.equalities i q at)
 
       inner_path : r0.seen.steps ≡ (inner_of q).steps
-      inner_path = seen.path.steps ∙ was.steps
+      inner_path = seen.steps ∙ was.steps
 
       asks : AsksPath v other r0.seen.steps P a.keep (env y)
       asks = record {
@@ -208,7 +207,7 @@ module _ (v : View) (bound : Bindings) (k : IndexView) (i : ℕ) (q r0 r : Equal
           ∙ sym (comes q.left q.right P env (ltb q.left.var.0 q.right.var.0) found both)
 
       pub stands : IsIndex now P
-      stands = (is.0, set_lists k.equalities i r P is.1 is_list, is.2, set_looked k.equalities i r P is.3 looked.1)
+      stands = (is.0, set_lists k.equalities i r P is.1 is_list, set_looked k.equalities i r P is.2 looked.1)
 
     abbrev pair_of : CondTree
     pair_of = Compare (path_of_side q.left) Eq (path_of_side q.right)
@@ -276,10 +275,11 @@ module _ (v : View) (bound : Bindings) (left right : Operand) (q : Equality) (is
 
   -- the inner path, whose matches may be looked up
   pub inner_asked : (k : IndexView) → MayAskOver v (IsIndex k) bound (comparison left Eq right) → (i : ℕ) → slice_get k.equalities i ≡ Some q → (p of : ℕ) → Some (p, of) ≡ get bound (inner_of q).var.0
-      → (r : Equality) → KeepsSeen q r → MayTake v p r.seen.steps
-  inner_asked k m i at p of got r seen =
+      → (r : Equality) → r.left ≡ q.left → r.right ≡ q.right → KeepsSeen q r → MayFindIn v p of r
+  inner_asked k m i at p of got r one two seen =
       let pair = asked_pair m.tree m.env m.asked in
-      let steps : r.seen.steps ≡ (inner_of q).steps = seen.path.steps ∙ (m.stand.0.3 q (at_in k.equalities i q at)).steps in
+      let was = m.stand.0.2 q (at_in k.equalities i q at) in
+      let there = inner_bound v bound q m.tree m.env pair in
       record {
         tree = m.tree;
         keep = pair.keep;
@@ -287,9 +287,8 @@ module _ (v : View) (bound : Bindings) (left right : Operand) (q : Equality) (is
         asks = record {
           at = at_inner v bound q m.tree m.env pair p (is_place bound (inner_of q).var.0 p of got);
           count = m.stand.1;
-          kept = subst (λ (s : List Step). KeepsMatches m.tree pair.keep (m.env (inner_of q).var.0) s) (sym steps) (inner_keeps q.left q.right v.rows bound m.tree m.env pair (ltb q.left.var.0 q.right.var.0));
+          kept = subst (λ (s : List Step). KeepsMatches m.tree pair.keep (m.env (inner_of q).var.0) s) (sym (seen.steps ∙ was.steps)) (inner_keeps q.left q.right v.rows bound m.tree m.env pair (ltb q.left.var.0 q.right.var.0));
         };
+        serial = sym (pair_is p of there.place (serial_of (m.env (inner_of q).var.0)) (get bound (inner_of q).var.0) got there.pair).1;
+        looked = kept_looked q r one two seen m.tree was;
       }
-
-  pub inner_fits : (k : IndexView) → MayAskOver v (IsIndex k) bound (comparison left Eq right) → (i : ℕ) → slice_get k.equalities i ≡ Some q → (r : Equality) → r.left ≡ q.left → r.right ≡ q.right → KeepsSeen q r → Fits r.seen.steps r.seen.last
-  inner_fits k m i at r one two seen = (kept_looked q r one two seen m.tree (m.stand.0.3 q (at_in k.equalities i q at))).fits

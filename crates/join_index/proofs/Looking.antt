@@ -1,166 +1,96 @@
--- Look-ups of the values of matches in a list, match by match, and what is known of those that were looked up.
-use Rattle.std.proofs.Common.{◌≡◌, ◌<◌, ◌≤◌, ℕ, suc, Bool, true, false, cond, ltb, List, Option, Some, None, refl, sym, ◌∙◌, ap, subst, inl, inr, ◌⊎◌, arith}
+-- Look-ups of the values of matches in a list, and what is known of those that were looked up.
+use Rattle.std.proofs.Common.{◌≡◌, ℕ, Bool, true, false, cond, ltb, List, [], ◌∷◌, Option, Some, None, refl, sym, ◌∙◌, ap, subst, inl, inr}
 use Rattle.std.specs.Prelude.{slice_set}
-use Rattle.std.proofs.lemmas.Bool.{cases_lt}
 use Rattle.gcx_base.specs.declared.ids.Serial.{Serial}
 use Rattle.gcx_base.specs.declared.steps.Step.{Step}
 use Rattle.gcx_model.specs.Growth.{Leads}
-use Rattle.gcx_model.specs.Tree.{Node, serial_of, Tree, opening, is_closed}
+use Rattle.gcx_model.specs.Tree.{Node, serial_of, Tree, opening}
 use Rattle.gcx_model.specs.Paths.{matches, value}
 use Rattle.gcx_model.specs.Members.{In}
 use Rattle.tree_laws.proofs.Fed.{grown_from}
 use Rattle.tree_laws.proofs.Matches.{Numbered-same}
 use Rattle.node_store.specs.declared.store.Place.{Place}
 use Rattle.buf_tree.specs.View.{View}
-use Rattle.cond_memo.specs.Marks.{Fits}
-use Rattle.cond_eval.specs.Comparing.{AreClosed}
 use Rattle.cond_eval.specs.Reads.{IsValue}
-use Rattle.cond_eval.specs.declared.sets.Member.{Member}
+use Rattle.cond_memo.specs.Waiting.{Fits}
+use Rattle.cond_memo.specs.Taking.{AsksPath, MayTake, TakesMore, TookUpto}
+use Rattle.cond_memo.specs.declared.taken.Taken.{Taken}
+use Rattle.cond_memo.proofs.Takings.{TakesOn, takes_this}
+use Rattle.cond_memo.proofs.Untaken.{took_none}
 use Rattle.join_index.specs.declared.equality.Listed.{Listed}
 use Rattle.join_index.specs.declared.equality.Equality.{Equality}
 use Rattle.join_index.specs.declared.equality.Side.{Side}
-use Rattle.join_index.specs.declared.seen.Next.{Next}
-use Rattle.join_index.specs.declared.seen.Next.TheVariants.{Closed, Over}
-use Rattle.join_index.specs.declared.seen.Seen.{Seen}
 use Rattle.join_index.specs.Equalities.{inner_of}
-use Rattle.join_index.specs.Index.{AreLooked, HasLooked, IsLooked}
-use Rattle.join_index.specs.Lookups.{FindsIn, FindsValue, FoundIs, IsOfSteps, KeepsSeen, LooksFrom, LooksOn, TellsLooked, WasLooked}
-use Rattle.join_index.specs.Taking.{AsksPath, ComesBehind, ComesFrom, GoesTo, IsClosedMatchAt, StaysOrTurns, TellsNext, MayTake}
+use Rattle.join_index.specs.Index.{AreLooked, HasLooked, IsLooked, NoneListed}
+use Rattle.join_index.specs.Lookups.{FindsIn, FoundIs, KeepsSeen, LookedUpto, LooksOn, MayFindIn, TurnsSeen}
 use Rattle.join_index.proofs.Finding.{same_list}
 use Rattle.join_index.proofs.Listing.{set_in}
-use Rattle.join_index.proofs.Nexts.{match_low, match_same}
-use Rattle.join_index.proofs.Reading.{tells_found}
 
-module _ (v : View) (p : ℕ) (steps : List Step) (vs : List (List ℕ)) (P : Tree) (keep : Node → Bool) (n : Node) (a : AsksPath v p steps P keep n) where
-  abbrev ms : List Node
-  ms = matches P (serial_of n) steps
+-- ---- match by match
 
-  looked_goes : (from below : ℕ) → GoesTo P ms from below → HasLooked P n steps from vs → HasLooked P n steps below vs
-  looked_goes from below g h = record {
-    closed = record { most = g.most; closed = λ j i l. h.closed.closed j i ((g.same j i).0 l) };
-    none = λ w k. h.none w (k.0, k.1, (g.same k.0 k.1).0 k.2, k.3);
-  }
+-- matches are taken whose values aren't in the list
+abbrev pub Looks : View → (p : ℕ) → (list : List (List ℕ)) → (was now : Taken) → (next : Option Place) → Type 0
+Looks v p list was now next = TakesOn v was now p (λ vs. NoneListed vs list) (λ vs. NoneListed vs list) next
 
-  -- a match more, without a value of the list
-  module _ (m : Node) (i : In m ms) (c : is_closed P m ≡ true) (other : In (value P m) vs → ⊥) (h : HasLooked P n steps (serial_of m) vs) where
-    lower : (j : Node) → In j ms → serial_of j < suc (serial_of m) → (serial_of j < serial_of m) ⊎ (j ≡ m)
-    lower j k l = elim (cases_lt (serial_of j) (serial_of m)) [
-      | inl f ↦ inl f
-      | inr f ↦ inr (match_same v p steps P keep n a j m k i (omega arith))
-    ]
+pub none_more : (list : List (List ℕ)) (w : List ℕ) → (In w list → ⊥) → (vs : List (List ℕ)) → NoneListed vs list → NoneListed (w ∷ vs) list
+none_more list w other vs none u i = elim i [
+  | inl e ↦ λ j. other (subst (λ (z : List ℕ). In z list) (sym e) j)
+  | inr j ↦ none u j
+]
 
-    looked_one : HasLooked P n steps (suc (serial_of m)) vs
-    looked_one = record {
-      closed = record {
-        most = let f = match_low v p steps P keep n a m i in omega arith;
-        closed = λ j k l. elim (lower j k l) [
-          | inl f ↦ h.closed.closed j k f
-          | inr e ↦ subst (λ (z : Node). is_closed P z ≡ true) (sym e) c
-        ];
-      };
-      none = λ w k. elim (lower k.0 k.1 k.2) [
-        | inl f ↦ h.none w (k.0, k.1, f, k.3)
-        | inr e ↦ λ y. other (subst (λ (z : List ℕ). In z vs) (sym k.3 ∙ ap (value P) e) y)
-      ];
-    }
+module _ (v : View) (p : ℕ) (list : List (List ℕ)) (was now : Taken) where
+  pub looks_found : (q : Place) → Looks v p list was now (Some q) → (w : List ℕ) → IsValue v.rows q.0 w → In w list → LooksOn v p was now list true
+  looks_found q looks w is i P keep n a h =
+      let t = takes_this v was now p (λ vs. NoneListed vs list) (λ vs. NoneListed vs list) q looks w is P keep n h.values a h.took h.none in
+      let m = t.3 in
+      ((m.0, m.1, m.2, subst (λ (z : List ℕ). In z list) (sym m.3) i), record { values = t.0; took = t.2; none = t.1 })
 
-    looked_more : (below : ℕ) → GoesTo P ms (suc (serial_of m)) below → HasLooked P n steps below vs
-    looked_more below g = looked_goes (suc (serial_of m)) below g looked_one
-
-  -- where nothing more is closed, none has one
-  looked_over : (below : ℕ) → TellsNext v.rows P keep ms below Over → HasLooked P n steps below vs → FoundIs P n steps vs false
-  looked_over below over h = λ f. elim (cases_lt (serial_of f.0) below) [
-    | inl l ↦ h.none (value P f.0) (f.0, f.1, l, refl) f.3
-    | inr l ↦ over f.0 f.1 l f.2
-  ]
-
--- what is known of the next match, and of those that were looked up since the bound was another one
-pub record Looks (v : View) (p : ℕ) (steps : List Step) (vs : List (List ℕ)) (before below : ℕ) (next : Next) : Type 0 where
-  pub next_is : (P : Tree) (keep : Node → Bool) (n : Node) → AsksPath v p steps P keep n → TellsNext v.rows P keep (matches P (serial_of n) steps) below next
-  pub told : (P : Tree) (keep : Node → Bool) (n : Node) → AsksPath v p steps P keep n → HasLooked P n steps before vs → HasLooked P n steps below vs
-
-module _ (v : View) (p : ℕ) (steps : List Step) (vs : List (List ℕ)) (before : ℕ) where
-  pub looks_start : (below : ℕ) (next : Next) → ComesFrom v p steps before below next → Looks v p steps vs before below next
-  looks_start below next comes = record {
-    next_is = λ P keep n a. (comes P keep n a).next_is;
-    told = λ P keep n a h. looked_goes v p steps vs P keep n a before below (comes P keep n a).goes h;
-  }
-
-  module _ (below : ℕ) (q : Place) (t : Looks v p steps vs before below (Closed q)) (w : List ℕ) (is : IsValue v.rows q.0 w) where
-    closed_at : (P : Tree) (keep : Node → Bool) (n : Node) → AsksPath v p steps P keep n → IsClosedMatchAt v.rows P keep (matches P (serial_of n) steps) below q.0
-    closed_at P keep n a = t.next_is P keep n a
-
-    value_is : (P : Tree) (keep : Node → Bool) (n : Node) → (a : AsksPath v p steps P keep n) → w ≡ value P (closed_at P keep n a).match_at
-    value_is P keep n a = let m = closed_at P keep n a in is P keep m.match_at m.at (a.kept m.match_at m.among)
-
-    pub looks_found : In w vs → LooksOn v p steps vs before below (Some true)
-    looks_found i P keep n a h =
-        let m = closed_at P keep n a in
-        (t.told P keep n a h, (m.match_at, m.among, m.closed, subst (λ (z : List ℕ). In z vs) (value_is P keep n a) i))
-
-    pub looks_on : (In w vs → ⊥) → (later : ℕ) (next : Next) → ComesBehind v p q.0 steps later next → Looks v p steps vs before later next
-    looks_on other later next comes = record {
-      next_is = λ P keep n a. let m = closed_at P keep n a in (comes P keep n m.match_at a m.at m.among).next_is;
-      told = λ P keep n a h.
-          let m = closed_at P keep n a in
-          looked_more v p steps vs P keep n a m.match_at m.among m.closed (λ i. other (subst (λ (z : List ℕ). In z vs) (sym (value_is P keep n a)) i))
-          (subst (λ (k : ℕ). HasLooked P n steps k vs) (sym m.serial) (t.told P keep n a h)) later (comes P keep n m.match_at a m.at m.among).goes;
-    }
-
-    -- the bound rises
-    pub looks_less : MayTake v p steps → (later : ℕ) (next : Next) → ComesBehind v p q.0 steps later next → (below < later) × (later ≤ v.nodes)
-    looks_less may later next comes =
-        let m = closed_at may.tree may.keep may.node may.asks in
-        let g = (comes may.tree may.keep may.node m.match_at may.asks m.at m.among).goes in
-        let low = match_low v p steps may.tree may.keep may.node may.asks m.match_at m.among in
-        let e = m.serial in
-        let l = g.least (omega arith) in
-        let top = g.most in
-        let c = may.asks.count in
-        (omega arith, omega arith)
-
-  module _ (below : ℕ) where
-    pub looks_over : Looks v p steps vs before below Over → LooksOn v p steps vs before below (Some false)
-    looks_over t P keep n a h =
-        let k = t.told P keep n a h in
-        (k, looked_over v p steps vs P keep n a below (t.next_is P keep n a) k)
-
-    -- where an open match has others below it, all is told that is known
-    pub looks_nested : (next : Next) → Looks v p steps vs before below next → LooksOn v p steps vs before below None
-    looks_nested next t P keep n a h = (t.told P keep n a h, tt)
+  pub looks_over : Looks v p list was now None → LooksOn v p was now list false
+  looks_over looks P keep n a h =
+      let t = looks P keep n h.values a h.took h.none in
+      (λ f. t.1 (value P f.0) (t.3 f.0 f.1 f.2) f.3, record { values = t.0; took = t.2; none = t.1 })
 
 -- ---- the node
 
--- nothing was looked up
-pub looked_none : (P : Tree) (n : Node) (steps : List Step) (vs : List (List ℕ)) → HasLooked P n steps 0 vs
-looked_none P n steps vs = record {
-  closed = record { most = omega arith; closed = λ j i l. absurd (omega arith) };
-  none = λ w k. let l = k.2 in absurd (omega arith);
-}
+module _ (k : Taken) (P : Tree) (list : List (List ℕ)) (of : Serial) (about : k.of ≡ Some of) (n : Node) (i : In n P.nodes) (f : serial_of n ≡ of.0) where
+  looked_upto : Leads opening P → HasLooked k P list → LookedUpto P (matches P (serial_of n) k.steps) k.waiting k.below list
+  looked_upto lo h =
+      let t = h.taken.told of about in
+      let is : t.0 ≡ n = Numbered-same 0 P.nodes (grown_from P lo).numbered t.0 n t.1 i (t.2 ∙ sym f) in
+      record {
+        values = h.values;
+        took = subst (λ (z : Node). TookUpto P (matches P (serial_of z) k.steps) k.waiting k.below h.values) is t.3;
+        none = h.none;
+      }
 
-pub looked_still : (P : Tree) → Leads opening P → (s : Seen) (vs : List (List ℕ)) (of : Serial) → s.of ≡ Some of → WasLooked s P vs → (n : Node) → In n P.nodes → serial_of n ≡ of.0 → HasLooked P n s.steps s.below vs
-looked_still P lo s vs of e was n i f =
-    let h = was of e in
-    let is : h.0 ≡ n = Numbered-same 0 P.nodes (grown_from P lo).numbered h.0 n h.1 i (h.2 ∙ sym f) in
-    subst (λ (z : Node). HasLooked P z s.steps s.below vs) is h.3
+  has_looked : Fits k.steps k.last → LookedUpto P (matches P (serial_of n) k.steps) k.waiting k.below list → HasLooked k P list
+  has_looked fits h = record {
+    values = h.values;
+    taken = record {
+      fits = fits;
+      none = λ e. let g : ◌≡◌ {A = Option Serial} None (Some of) = sym e ∙ about in absurd (cc);
+      told = λ s e. let g : ◌≡◌ {A = Option Serial} (Some of) (Some s) = sym about ∙ e in let same : of ≡ s = cc in (n, i, f ∙ ap (λ (z : Serial). z.0) same, h.took);
+    };
+    none = h.none;
+  }
 
-module _ (s t : Seen) (of : Serial) where
-  pub same_path : StaysOrTurns s t of → IsOfSteps s t
-  same_path (inl e) = record { steps = ap (λ (z : Seen). z.steps) e.0; last = ap (λ (z : Seen). z.last) e.0 }
-  same_path (inr e) = record { steps = ap (λ (z : Seen). z.steps) e; last = ap (λ (z : Seen). z.last) e }
+module _ (k l : Taken) (of : Serial) (turned : TurnsSeen k l of) where
+  pub turned_steps : l.steps ≡ k.steps
+  turned_steps = elim turned [ inl e ↦ ap (λ (z : Taken). z.steps) e.0 | inr e ↦ ap (λ (z : Taken). z.steps) e ]
 
-  pub goes_of : StaysOrTurns s t of → t.of ≡ Some of
-  goes_of (inl e) = ap (λ (z : Seen). z.of) e.0 ∙ e.1
-  goes_of (inr e) = ap (λ (z : Seen). z.of) e
+  pub turned_last : l.last ≡ k.last
+  turned_last = elim turned [ inl e ↦ ap (λ (z : Taken). z.last) e.0 | inr e ↦ ap (λ (z : Taken). z.last) e ]
 
-  still_looked : StaysOrTurns s t of → (P : Tree) → Leads opening P → (vs : List (List ℕ)) → WasLooked s P vs → (n : Node) → In n P.nodes → serial_of n ≡ of.0 → HasLooked P n s.steps t.below vs
-  still_looked (inl e) P lo vs was n i f = subst (λ (k : ℕ). HasLooked P n s.steps k vs) (sym (ap (λ (z : Seen). z.below) e.0)) (looked_still P lo s vs of e.1 was n i f)
-  still_looked (inr e) P lo vs was n i f = subst (λ (k : ℕ). HasLooked P n s.steps k vs) (sym (ap (λ (z : Seen). z.below) e)) (looked_none P n s.steps vs)
+  turned_of : l.of ≡ Some of
+  turned_of = elim turned [ inl e ↦ ap (λ (z : Taken). z.of) e.0 ∙ e.1 | inr e ↦ ap (λ (z : Taken). z.of) e ]
 
-  pub looks_from : StaysOrTurns s t of → (v : View) (p : ℕ) (vs : List (List ℕ)) (below : ℕ) (found : Option Bool) → LooksOn v p t.steps vs t.below below found → LooksFrom v p of.0 s vs below found
-  looks_from is v p vs below found on P keep n a f was =
-      let told : LooksOn v p s.steps vs t.below below found = subst (λ (z : List Step). LooksOn v p z vs t.below below found) (same_path is).steps on in
-      told P keep n a (still_looked is P a.at.rows_of.grown vs was n a.at.among f)
+  -- what was looked up of the node, or nothing
+  turned_looked : (P : Tree) (list : List (List ℕ)) → HasLooked k P list → Leads opening P → (n : Node) → In n P.nodes → serial_of n ≡ of.0 → LookedUpto P (matches P (serial_of n) k.steps) l.waiting l.below list
+  turned_looked P list h lo n i f = elim turned [
+    | inl e ↦ subst (λ (z : Taken). LookedUpto P (matches P (serial_of n) k.steps) z.waiting z.below list) (sym e.0) (looked_upto k P list of e.1 n i f lo h)
+    | inr e ↦
+        subst (λ (z : Taken). LookedUpto P (matches P (serial_of n) k.steps) z.waiting z.below list) (sym e) (record { values = []; took = took_none P (matches P (serial_of n) k.steps); none = λ u j. absurd j })
+  ]
 
 -- ---- the equality
 
@@ -169,28 +99,28 @@ inner_side a b = cond (ltb a.var.0 b.var.0) b a
 
 -- the list was made anew, or it is as it was
 pub kept_looked : (q r : Equality) → r.left ≡ q.left → r.right ≡ q.right → KeepsSeen q r → (P : Tree) → IsLooked q P → IsLooked r P
-kept_looked q r left right k P is = record {
-  steps = k.path.steps ∙ (is.steps ∙ inner_same);
-  fits = subst (λ (s : List Step). Fits s r.seen.last) (sym k.path.steps) (subst (Fits q.seen.steps) (sym k.path.last) is.fits);
-  told = λ l e s f. elim k.looked [
-    | inl w ↦
-        subst (λ (z : Seen). (n : Node) × In n P.nodes × (serial_of n ≡ s.0) × HasLooked P n z.steps z.below l.values) (sym w.1)
-        (is.told l (sym w.0 ∙ e) s (ap (λ (z : Seen). z.of) (sym w.1) ∙ f))
-    | inr none ↦ (let g : ◌≡◌ {A = Option Serial} None (Some s) = sym none ∙ f in absurd (cc))
-  ];
-}
+kept_looked q r left right k P is = elim k.looked [
+  | inl e ↦ subst (λ (z : Equality). IsLooked z P) (sym e) is
+  | inr none ↦ record {
+    steps = k.steps ∙ (is.steps ∙ inner_same);
+    fits = fits;
+    told = λ l e. record {
+      values = [];
+      taken = record {
+        fits = fits;
+        none = λ f. refl;
+        told = λ s f. let g : ◌≡◌ {A = Option Serial} None (Some s) = sym none ∙ f in absurd (cc);
+      };
+      none = λ u i. absurd i;
+    };
+  }
+]
   where
     inner_same : (inner_of q).steps ≡ (inner_of r).steps
     inner_same = ap (λ (z : Side). (inner_side z q.right).steps) (sym left) ∙ ap (λ (z : Side). (inner_side r.left z).steps) (sym right)
 
--- with what was looked up now
-pub now_looked : (q r : Equality) (now : Seen) → r ≡ record q { seen = now } → IsOfSteps q.seen now → (P : Tree) → IsLooked q P
-    → ((l : Listed) → q.list ≡ Some l → (s : Serial) → now.of ≡ Some s → (n : Node) × In n P.nodes × (serial_of n ≡ s.0) × HasLooked P n q.seen.steps now.below l.values) → IsLooked r P
-now_looked q r now e path P is told = subst (λ (z : Equality). IsLooked z P) (sym e) (record {
-  steps = path.steps ∙ is.steps;
-  fits = subst (λ (s : List Step). Fits s now.last) (sym path.steps) (subst (Fits q.seen.steps) (sym path.last) is.fits);
-  told = λ l f s g. let h = told l f s g in (h.0, h.1, h.2, subst (λ (z : List Step). HasLooked P h.0 z now.below l.values) (sym path.steps) h.3);
-})
+    fits : Fits r.seen.steps r.seen.last
+    fits = subst (λ (s : List Step). Fits s r.seen.last) (sym k.steps) (subst (Fits q.seen.steps) (sym k.last) is.fits)
 
 pub set_looked : (qs : List Equality) (i : ℕ) (r : Equality) (P : Tree) → AreLooked qs P → IsLooked r P → AreLooked (slice_set qs i r) P
 set_looked qs i r P all is p k = elim (set_in qs i r p k) [
@@ -202,29 +132,63 @@ set_looked qs i r P all is p k = elim (set_in qs i r p k) [
 pub no_list : (v : View) (p of : ℕ) (q r : Equality) (b : Bool) → q.list ≡ None → FindsIn v p of q r b
 no_list v p of q r b none P keep n a f is l e = let g : ◌≡◌ {A = Option Listed} None (Some l) = sym none ∙ e in absurd (cc)
 
-module _ (v : View) (p : ℕ) (of : Serial) (q r : Equality) (now : Seen) (rest : r ≡ record q { seen = now }) (path : IsOfSteps q.seen now) (about : now.of ≡ Some of) (list : Listed) (kept : q.list ≡ Some list) (found : Option Bool)
-    (told : LooksFrom v p of.0 q.seen list.values now.below found) where
-  module _ (P : Tree) (keep : Node → Bool) (n : Node) (a : AsksPath v p q.seen.steps P keep n) (f : serial_of n ≡ of.0) (is : IsLooked q P) where
-    tells : TellsLooked P n q.seen.steps now.below list.values found
-    tells = told P keep n a f (is.told list kept)
+module _ (v : View) (p : ℕ) (of : Serial) (q : Equality) (list : Listed) (kept : q.list ≡ Some list) (k : Taken) (turned : TurnsSeen q.seen k of) where
+  now_upto : (P : Tree) (keep : Node → Bool) (n : Node) → AsksPath v p q.seen.steps P keep n → serial_of n ≡ of.0 → IsLooked q P → LookedUpto P (matches P (serial_of n) q.seen.steps) k.waiting k.below list.values
+  now_upto P keep n a f is = turned_looked q.seen k of turned P list.values (is.told list kept) a.at.rows_of.grown n a.at.among f
 
-    stands : IsLooked r P
-    stands = now_looked q r now rest path P is (λ l e s g.
-        let same : list ≡ l = same_list q.list list l kept e in
-        let here : ◌≡◌ {A = Option Serial} (Some of) (Some s) = sym about ∙ g in
-        let serial : of ≡ s = cc in
-        (n, a.at.among, f ∙ ap (λ (z : Serial). z.0) serial, subst (λ (z : Listed). HasLooked P n q.seen.steps now.below z.values) same tells.0))
+  -- the matches may be looked up
+  pub may_look : MayFindIn v p of.0 q → MayTake v k p
+  may_look m =
+      let h = now_upto m.tree m.keep m.node m.asks m.serial m.looked in
+      let steps = sym (turned_steps q.seen k of turned) in
+      record {
+        tree = m.tree;
+        keep = m.keep;
+        node = m.node;
+        values = h.values;
+        asks = subst (λ (s : List Step). AsksPath v p s m.tree m.keep m.node) steps m.asks;
+        took = subst (λ (s : List Step). TookUpto m.tree (matches m.tree (serial_of m.node) s) k.waiting k.below h.values) steps h.took;
+      }
+
+  pub fits_look : MayFindIn v p of.0 q → Fits k.steps k.last
+  fits_look m =
+      subst (λ (s : List Step). Fits s k.last) (sym (turned_steps q.seen k of turned)) (subst (Fits q.seen.steps) (sym (turned_last q.seen k of turned)) m.looked.fits)
 
   -- the look-ups tell it
-  pub found_so : (b : Bool) → found ≡ Some b → FindsIn v p of.0 q r b
-  found_so b e P keep n a f is l g =
-      let t : TellsLooked P n q.seen.steps now.below list.values (Some b) = subst (λ (o : Option Bool). TellsLooked P n q.seen.steps now.below list.values o) e (tells P keep n a f is) in
-      (subst (λ (z : Listed). FoundIs P n q.seen.steps z.values b) (same_list q.list list l kept g) t.1, stands P keep n a f is)
+  module _ (now : Taken) (same : TakesMore k now) (b : Bool) (told : LooksOn v p k now list.values b) where
+    now_steps : now.steps ≡ q.seen.steps
+    now_steps = ap (λ (z : Taken). z.steps) same ∙ turned_steps q.seen k of turned
 
-  -- all closed matches tell it
-  pub found_anew : (set : List Member) → AreClosed v.rows p now.steps set → (b : Bool) → FindsValue v.rows set list.values b → FindsIn v p of.0 q r b
-  found_anew set closed b finds P keep n a f is l g =
-      let all : AreClosed v.rows p q.seen.steps set = subst (λ (z : List Step). AreClosed v.rows p z set) path.steps closed in (
-        subst (λ (z : Listed). FoundIs P n q.seen.steps z.values b) (same_list q.list list l kept g) (tells_found v.rows p q.seen.steps set all list.values b finds P keep n a.at a.kept),
-        stands P keep n a f is,
-      )
+    now_last : now.last ≡ q.seen.last
+    now_last = ap (λ (z : Taken). z.last) same ∙ turned_last q.seen k of turned
+
+    now_of : now.of ≡ Some of
+    now_of = ap (λ (z : Taken). z.of) same ∙ turned_of q.seen k of turned
+
+    -- what is told, by the steps
+    abbrev LooksBy : List Step → Type 0
+    LooksBy s = (P : Tree) (keep : Node → Bool) (n : Node) → AsksPath v p s P keep n → LookedUpto P (matches P (serial_of n) s) k.waiting k.below list.values
+        → FoundIs P n s list.values b × LookedUpto P (matches P (serial_of n) s) now.waiting now.below list.values
+
+    told_by : LooksBy q.seen.steps
+    told_by = subst LooksBy (turned_steps q.seen k of turned) told
+
+    module _ (P : Tree) (keep : Node → Bool) (n : Node) (a : AsksPath v p q.seen.steps P keep n) (f : serial_of n ≡ of.0) (is : IsLooked q P) where
+      tells : FoundIs P n q.seen.steps list.values b × LookedUpto P (matches P (serial_of n) q.seen.steps) now.waiting now.below list.values
+      tells = told_by P keep n a (now_upto P keep n a f is)
+
+      fits : Fits now.steps now.last
+      fits = subst (λ (s : List Step). Fits s now.last) (sym now_steps) (subst (Fits q.seen.steps) (sym now_last) is.fits)
+
+      has : HasLooked now P list.values
+      has = has_looked now P list.values of now_of n a.at.among f fits (subst (λ (s : List Step). LookedUpto P (matches P (serial_of n) s) now.waiting now.below list.values) (sym now_steps) tells.1)
+
+      stands : IsLooked (record q { seen = now }) P
+      stands = record {
+        steps = now_steps ∙ is.steps;
+        fits = fits;
+        told = λ l e. subst (λ (z : Listed). HasLooked now P z.values) (same_list q.list list l kept e) has;
+      }
+
+    pub found_so : FindsIn v p of.0 q (record q { seen = now }) b
+    found_so P keep n a f is l e = (subst (λ (z : Listed). FoundIs P n q.seen.steps z.values b) (same_list q.list list l kept e) (tells P keep n a f is).0, stands P keep n a f is)

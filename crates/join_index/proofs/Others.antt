@@ -1,5 +1,5 @@
 -- A condition that is answered as marks do: the lists stay. And what the parts of a condition tell of it.
-use Rattle.std.proofs.Common.{◌≡◌, ◌⊎◌, List, Option, Some, None, refl, sym, ap, subst, inl, inr, ◌∙◌}
+use Rattle.std.proofs.Common.{◌≡◌, ◌⊎◌, List, None, refl, sym, ap, subst, inl, inr, ◌∙◌}
 use Rattle.gcx_base.specs.declared.ids.VarId.{VarId}
 use Rattle.gcx_base.specs.declared.rel.Rel.{Rel}
 use Rattle.gcx_base.specs.declared.steps.Step.{Step}
@@ -12,10 +12,10 @@ use Rattle.gcx_model.specs.declared.cond.Operand.{Operand}
 use Rattle.gcx_model.specs.declared.cond.Operand.TheVariants as operand
 use Rattle.gcx_model.specs.declared.truth.Truth.{Truth}
 use Rattle.gcx_model.specs.declared.truth.Truth.TheVariants.{True}
-use Rattle.gcx_model.specs.Truth.{Env, negate, truth}
+use Rattle.gcx_model.specs.Truth.{negate, truth}
 use Rattle.buf_tree.specs.View.{View}
 use Rattle.cond_eval.specs.Bindings.{Bindings}
-use Rattle.cond_eval.specs.Asking.{AnswersOver, Asked, IsLeaf, MayAskOver, Over}
+use Rattle.cond_eval.specs.Asking.{AnswersOver, Asked, IsLeaf, MayAskOver}
 use Rattle.cond_eval.specs.Comparing.{comparison}
 use Rattle.cond_eval.specs.Literals.{IsLiteral}
 use Rattle.cond_eval.proofs.Parts.{asked_not, fold_Exists}
@@ -23,19 +23,13 @@ use Rattle.cond_memo.specs.Marks.{AreMarks}
 use Rattle.cond_memo.specs.declared.marked.Marked.{Marked}
 use Rattle.join_index.specs.declared.equality.Equality.{Equality}
 use Rattle.join_index.specs.declared.equality.Side.{Side}
-use Rattle.join_index.specs.declared.pair.Pair.{Pair}
 use Rattle.join_index.specs.Equalities.{HasEquality, path_of_side}
 use Rattle.join_index.specs.Index.{AreLists, AreLooked, GoesAfterQuestion, HasItsList, HaveMoved, IndexView, IsIndex, IsOuterClosed, IsReached, KeepsLists, ReachesEquality, TellsTruthOf, changes, raised}
 use Rattle.join_index.specs.Lookups.{GetsNoList, IsNoneOfPaths, LooksUp, MarksTell, ReachesNone}
-use Rattle.join_index.specs.Pairs.{PairsTell}
-use Rattle.join_index.specs.Sides.{ArePairs}
 use Rattle.join_index.proofs.Gathering.{fold_Compare, fold_True}
 use Rattle.join_index.proofs.Listing.{changes_none, goes_also, goes_none, moved_none}
 
 module _ (v : View) (bound : Bindings) (k : IndexView) (c : CondTree) where
-  pub may_pairs : MayAskOver v (IsIndex k) bound c → MayAskOver v (ArePairs k.pairs) bound c
-  may_pairs m = record { tree = m.tree; env = m.env; stand = (m.stand.0.2, m.stand.1); asked = m.asked }
-
   pub may_marks : MayAskOver v (IsIndex k) bound c → MayAskOver v (AreMarks k.marked) bound c
   may_marks m = record { tree = m.tree; env = m.env; stand = (m.stand.0.0, m.stand.1); asked = m.asked }
 
@@ -61,47 +55,13 @@ module _ (v : View) (bound : Bindings) (k : IndexView) (c : CondTree) where
   marks_tell l t told none = leaf_tells l t told.equalities told.built
       (λ P env over a.
       let r = told.answers P env (over.0.0, over.1) a in
-      (r.0, ((r.1.0, subst (λ (qs : List Equality). AreLists qs P) (sym told.equalities) over.0.1, subst (λ (qs : List Pair). ArePairs qs P) (sym told.pairs) over.0.2, subst (λ (qs : List Equality). AreLooked qs P) (sym told.equalities) over.0.3), r.1.1)))
-      none
-
-  -- ---- the pairs
-
-  rest_marked : (l : IndexView) (t : Option Truth) → PairsTell v bound c k l t → l.marked ≡ k.marked
-  rest_marked l t told = ap (λ (z : IndexView). z.marked) told.rest
-
-  rest_lists : (l : IndexView) (t : Option Truth) → PairsTell v bound c k l t → l.equalities ≡ k.equalities
-  rest_lists l t told = ap (λ (z : IndexView). z.equalities) told.rest
-
-  -- they changed, and the index stands as before
-  pub pairs_stand : (l : IndexView) (t : Option Truth) → PairsTell v bound c k l t → (P : Tree) (env : Env) → Over v.nodes (IsIndex k) P → Asked v.rows bound c P env → IsIndex l P
-  pairs_stand l t told P env over a = (
-    subst (λ (z : Marked). AreMarks z P) (sym (rest_marked l t told)) over.0.0,
-    subst (λ (qs : List Equality). AreLists qs P) (sym (rest_lists l t told)) over.0.1,
-    (told.tells P env (over.0.2, over.1) a).1,
-    subst (λ (qs : List Equality). AreLooked qs P) (sym (rest_lists l t told)) over.0.3,
-  )
-
-  pub pairs_tell : (l : IndexView) (t : Truth) → PairsTell v bound c k l (Some t) → ReachesNone v bound k c → TellsTruthOf v bound c k l t
-  pairs_tell l t told none = leaf_tells l t (rest_lists l (Some t) told) (ap (λ (z : IndexView). z.built) told.rest)
-      (λ P env over a. ((told.tells P env (over.0.2, over.1) a).0, (pairs_stand l (Some t) told P env over a, over.1)))
-      none
-
-  pub may_again : (l : IndexView) (t : Option Truth) → PairsTell v bound c k l t → MayAskOver v (IsIndex k) bound c → MayAskOver v (IsIndex l) bound c
-  may_again l t told m = record { tree = m.tree; env = m.env; stand = (pairs_stand l t told m.tree m.env m.stand m.asked, m.stand.1); asked = m.asked }
-
-  -- none is told by them: the marks tell it
-  pub marks_after : (l m : IndexView) (t : Truth) → PairsTell v bound c k l None → MarksTell v bound c l m t → ReachesNone v bound k c → TellsTruthOf v bound c k m t
-  marks_after l m t pairs told none = leaf_tells m t (told.equalities ∙ rest_lists l None pairs) (told.built ∙ ap (λ (z : IndexView). z.built) pairs.rest)
-      (λ P env over a.
-      let s = pairs_stand l None pairs P env over a in
-      let r = told.answers P env (s.0, over.1) a in
-      (r.0, ((r.1.0, subst (λ (qs : List Equality). AreLists qs P) (sym told.equalities) s.1, subst (λ (qs : List Pair). ArePairs qs P) (sym told.pairs) s.2, subst (λ (qs : List Equality). AreLooked qs P) (sym told.equalities) s.3), r.1.1)))
+      (r.0, ((r.1.0, subst (λ (qs : List Equality). AreLists qs P) (sym told.equalities) over.0.1, subst (λ (qs : List Equality). AreLooked qs P) (sym told.equalities) over.0.2), r.1.1)))
       none
 
   -- marks that stand for the same trees tell the same
-  pub tells_still : (l m : IndexView) (t : Truth) → ((P : Tree) → AreMarks l.marked P → AreMarks m.marked P) → m.equalities ≡ l.equalities → m.pairs ≡ l.pairs → m.built ≡ l.built → TellsTruthOf v bound c k l t → TellsTruthOf v bound c k m t
-  tells_still l m t f same twin built told = record {
-    answers = λ P env over a. let r = told.answers P env over a in (r.0, ((f P r.1.0.0, subst (λ (qs : List Equality). AreLists qs P) (sym same) r.1.0.1, subst (λ (qs : List Pair). ArePairs qs P) (sym twin) r.1.0.2, subst (λ (qs : List Equality). AreLooked qs P) (sym same) r.1.0.3), r.1.1));
+  pub tells_still : (l m : IndexView) (t : Truth) → ((P : Tree) → AreMarks l.marked P → AreMarks m.marked P) → m.equalities ≡ l.equalities → m.built ≡ l.built → TellsTruthOf v bound c k l t → TellsTruthOf v bound c k m t
+  tells_still l m t f same built told = record {
+    answers = λ P env over a. let r = told.answers P env over a in (r.0, ((f P r.1.0.0, subst (λ (qs : List Equality). AreLists qs P) (sym same) r.1.0.1, subst (λ (qs : List Equality). AreLooked qs P) (sym same) r.1.0.2), r.1.1));
     goes = record {
       moved = subst (λ (qs : List Equality). HaveMoved bound (IsReached v (IsIndex k) bound c) k.equalities qs) (sym same) told.goes.moved;
       built = built ∙ (told.goes.built ∙ ap (λ (qs : List Equality). raised k.built (changes k.equalities qs)) (sym same));
@@ -119,10 +79,10 @@ module _ (v : View) (bound : Bindings) (k : IndexView) (c : CondTree) where
   pub again_may : MayAskOver v (IsIndex k) bound c → (m : Marked) → m ≡ k.marked → MayAskOver v (AreMarks m) bound c
   again_may may m e = subst (λ (z : Marked). MayAskOver v (AreMarks z) bound c) (sym e) (may_marks may)
 
-  pub again_answers : (l : IndexView) (t : Truth) → AnswersOver v (AreMarks k.marked) (AreMarks l.marked) bound c t → l.equalities ≡ k.equalities → l.pairs ≡ k.pairs → AnswersOver v (IsIndex k) (IsIndex l) bound c t
-  again_answers l t h same twin P env over a =
+  pub again_answers : (l : IndexView) (t : Truth) → AnswersOver v (AreMarks k.marked) (AreMarks l.marked) bound c t → l.equalities ≡ k.equalities → AnswersOver v (IsIndex k) (IsIndex l) bound c t
+  again_answers l t h same P env over a =
       let r = h P env (over.0.0, over.1) a in
-      (r.0, ((r.1.0, subst (λ (qs : List Equality). AreLists qs P) (sym same) over.0.1, subst (λ (qs : List Pair). ArePairs qs P) (sym twin) over.0.2, subst (λ (qs : List Equality). AreLooked qs P) (sym same) over.0.3), r.1.1))
+      (r.0, ((r.1.0, subst (λ (qs : List Equality). AreLists qs P) (sym same) over.0.1, subst (λ (qs : List Equality). AreLooked qs P) (sym same) over.0.2), r.1.1))
 
 -- ---- a comparison
 
@@ -142,12 +102,9 @@ module _ (v : View) (bound : Bindings) (left : Operand) (rel : Rel) (right : Ope
         (subst (λ (z : CondTree). Asked v.rows bound z P env) is a)
         (subst (λ (z : OperandTree). IsOuterClosed z (operand_tree right) env P) (sym e.0) (subst (λ (z : OperandTree). IsOuterClosed x z env P) (sym e.2) closed))
 
-    pub told_otherwise : (m : IndexView) (t : Truth) → (ReachesNone v bound l c → TellsTruthOf v bound c l m t) → TellsTruthOf v bound c k m t
-    told_otherwise m t f = subst (λ (z : IndexView). TellsTruthOf v bound c z m t) none.0 (f (subst (λ (z : IndexView). ReachesNone v bound z c) (sym none.0) none_reached))
-
-  -- what the pairs tell of the comparison
-  pub pairs_as : (k m : IndexView) (t : Option Truth) → PairsTell v bound (comparison left rel right) k m t → PairsTell v bound c k m t
-  pairs_as k m t told = subst (λ (z : CondTree). PairsTell v bound z k m t) (sym is) told
+    -- so marks tell it
+    pub told_otherwise : (m : IndexView) (t : Truth) → MarksTell v bound c l m t → TellsTruthOf v bound c k m t
+    told_otherwise m t told = marks_tell v bound k c m t (subst (λ (z : IndexView). MarksTell v bound c z m t) none.0 told) none_reached
 
 -- ---- the other kinds
 

@@ -1,5 +1,5 @@
 -- The values of the nodes of a set, and look-ups of them.
-use Rattle.std.proofs.Common.{◌≡◌, ◌+◌, ◌<◌, ◌≤◌, ◌↔◌, ℕ, Bool, true, false, List, [], ◌∷◌, ◌++◌, map, take, length, get_or, refl, sym, ◌∙◌, ap, subst, inl, inr, arith}
+use Rattle.std.proofs.Common.{◌≡◌, ◌+◌, ◌<◌, ◌≤◌, ◌↔◌, ℕ, Bool, true, List, [], ◌∷◌, ◌++◌, map, take, length, get_or, refl, sym, ◌∙◌, ap, subst, inl, inr, arith}
 use Rattle.std.specs.List.{filter}
 use Rattle.std.proofs.lemmas.List.{take_all}
 use Rattle.gcx_base.specs.declared.steps.Step.{Step}
@@ -7,17 +7,17 @@ use Rattle.gcx_model.specs.Tree.{Node, serial_of, Tree, is_closed}
 use Rattle.gcx_model.specs.Paths.{matches, value}
 use Rattle.gcx_model.specs.Members.{In}
 use Rattle.base_laws.proofs.Members.{in_map}
-use Rattle.tree_laws.proofs.Lists.{In-append, In-filter, In-kept}
+use Rattle.tree_laws.proofs.Lists.{In-filter, In-kept}
 use Rattle.tree_laws.proofs.Freeze.{closed_below, hits_within}
 use Rattle.tree_laws.proofs.Matches.{Grown, Matches-in}
 use Rattle.pass_laws.specs.ValueLists.{IsValueAt}
 use Rattle.buf_tree.specs.Shape.{Cell}
-use Rattle.cond_eval.specs.Reads.{IsValue, NodeAt}
-use Rattle.cond_eval.specs.Comparing.{AreClosed, KeepsMatches, Readable}
+use Rattle.cond_eval.specs.Reads.{IsValue}
+use Rattle.cond_eval.specs.Comparing.{AreClosed, Readable}
 use Rattle.cond_eval.specs.declared.sets.Member.{Member}
 use Rattle.cond_eval.proofs.Comparisons.{closed_read, read_at, same_length}
 use Rattle.cond_eval.proofs.Rows.{grown_tree}
-use Rattle.join_index.specs.Lookups.{AreValues, FindsValue, FoundIs, ListsAt, NoneOf}
+use Rattle.join_index.specs.Lookups.{AreValues, ListsAt}
 
 map-last : {X Y : Type 0} (f : X → Y) (xs : List X) (y : X) → map f (xs ++ y ∷ []) ≡ map f xs ++ f y ∷ []
 map-last f [] y = refl
@@ -27,10 +27,6 @@ from_map : {X Y : Type 0} (f : X → Y) (v : Y) (xs : List X) → In v (map f xs
 from_map f v [] i = absurd i
 from_map f v (x ∷ xs) (inl e) = (x, inl refl, e)
 from_map f v (x ∷ xs) (inr i) = let r = from_map f v xs i in (r.0, inr r.1, r.2)
-
-alone : (m n : Node) → In m (n ∷ []) → n ≡ m
-alone m n (inl e) = e
-alone m n (inr i) = absurd i
 
 -- the values of the first members
 abbrev pub ValuesOf : List Cell → List Member → (seen : ℕ) → List (List ℕ) → Type 0
@@ -45,11 +41,6 @@ module _ (rows : List Cell) (ms : List Member) (i : ℕ) where
       let same = same_length ms ns r.nodes.serials in
       on P keep ns r ∙ ap (map (value P)) (take_all i ns (omega arith))
 
-  pub none_all : (vs : List (List ℕ)) → length ms ≤ i → NoneOf rows ms vs i → FindsValue rows ms vs false
-  none_all vs h on P keep ns r m k =
-      let same = same_length ms ns r.nodes.serials in
-      on P keep ns r m (subst (λ (z : List Node). In m z) (sym (take_all i ns (omega arith))) k)
-
   module _ (d : Member) (h : i < length ms) (v : List ℕ) (is : IsValue rows (get_or ms i d).place v) where
     pub values_more : (vs now : List (List ℕ)) → ValuesOf rows ms i vs → now ≡ vs ++ v ∷ [] → ValuesOf rows ms (i + 1) now
     values_more vs now on e P keep ns r =
@@ -57,23 +48,6 @@ module _ (rows : List Cell) (ms : List Member) (i : ℕ) where
         let n = t.turn.node in
         e ∙ (ap (λ l. l ++ v ∷ []) (on P keep ns r) ∙ (ap (λ w. map (value P) (take i ns) ++ w ∷ []) (is P keep n t.at t.whole)
         ∙ (sym (map-last (value P) (take i ns) n) ∙ sym (ap (map (value P)) t.turn.taken))))
-
-    pub found_here : (vs : List (List ℕ)) → In v vs → FindsValue rows ms vs true
-    found_here vs k P keep ns r =
-        let t = read_at rows P keep ms ns i d r h in
-        (t.turn.node, t.turn.among, subst (λ (w : List ℕ). In w vs) (is P keep t.turn.node t.at t.whole) k)
-
-    pub none_more : (vs : List (List ℕ)) → (In v vs → ⊥) → NoneOf rows ms vs i → NoneOf rows ms vs (i + 1)
-    none_more vs not_in on P keep ns r m k =
-        let t = read_at rows P keep ms ns i d r h in
-        let n = t.turn.node in
-        elim (In-append m (take i ns) (n ∷ []) (subst (λ (z : List Node). In m z) t.turn.taken k)) [
-          | inl j ↦ on P keep ns r m j
-          | inr j ↦ λ w. not_in (subst (λ (z : List ℕ). In z vs) (sym (is P keep n t.at t.whole ∙ ap (value P) (alone m n j))) w)
-        ]
-
-pub none_start : (rows : List Cell) (ms : List Member) (vs : List (List ℕ)) → NoneOf rows ms vs 0
-none_start rows ms vs P keep ns r m k = absurd k
 
 -- the matches of a closed node are closed
 match_closed : (P : Tree) → Grown P → (n m : Node) (steps : List Step) → is_closed P n ≡ true → In m (matches P (serial_of n) steps) → is_closed P m ≡ true
@@ -106,14 +80,3 @@ module _ (rows : List Cell) (p : ℕ) (steps : List Step) (set : List Member) (c
           let c = match_closed P (grown_tree rows P keep at.rows_of) n m.0 steps shut m.1 in
           let i = in_map (value P) m.0 ms (In-kept (is_closed P) m.0 (matches P (serial_of n) steps) m.1 c) in
           (same v).1 (subst (λ (z : List (List ℕ)). In v z) (sym all) (subst (λ (w : List ℕ). In w (map (value P) ms)) m.2 i))
-
-  -- whether one of the values is found
-  pub tells_found : (vs : List (List ℕ)) (b : Bool) → FindsValue rows set vs b → (P : Tree) (keep : Node → Bool) (n : Node) → NodeAt rows P keep p n → KeepsMatches P keep n steps → FoundIs P n steps vs b
-  tells_found vs true f P keep n at kept =
-      let ms = filter (is_closed P) (matches P (serial_of n) steps) in
-      let m = f P keep ms (closed_read rows p steps set closed P keep n at kept) in
-      let c = In-filter (is_closed P) m.0 (matches P (serial_of n) steps) m.1 in
-      (m.0, c.0, c.1, m.2)
-  tells_found vs false f P keep n at kept =
-      let ms = filter (is_closed P) (matches P (serial_of n) steps) in
-      λ found. f P keep ms (closed_read rows p steps set closed P keep n at kept) found.0 (In-kept (is_closed P) found.0 (matches P (serial_of n) steps) found.1 found.2) found.3

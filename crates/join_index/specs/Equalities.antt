@@ -3,7 +3,7 @@ use Rattle.std.specs.Prelude.{◌≡◌, ◌≢◌, ◌⊎◌, ◌↔◌, cond, 
 use Rattle.gcx_base.specs.declared.rel.Rel.TheVariants.{Eq}
 use Rattle.gcx_model.specs.Members.{In}
 use Rattle.gcx_model.specs.Core.{OperandTree, Path, Str, Num, CondTree, CondTrees, Always, Exists, Compare, Not, All, Any, no_cond, more_conds, ItemTree, BodyTree, Write, Copy, For, If, Off, Nil, Then}
-use Rattle.cond_memo.specs.Marks.{Fits}
+use Rattle.cond_memo.specs.Waiting.{Fits}
 use Rattle.join_index.specs.declared.equality.Side.{Side}
 use Rattle.join_index.specs.declared.equality.Equality.{Equality}
 

@@ -2,9 +2,7 @@
 use Rattle.std.specs.Prelude.{◌≡◌, ◌⊎◌, ◌+◌, ◌-◌, ◌^◌, ◌==◌, ℕ, zero, suc, Bool, true, false, cond, min, ltb, List, [], ◌∷◌, Option, Some, None, option_map}
 use Rattle.std.specs.FinMap.{get}
 use Rattle.gcx_base.specs.declared.rel.Rel.TheVariants.{Eq}
-use Rattle.gcx_base.specs.declared.ids.Serial.{Serial}
-use Rattle.gcx_base.specs.declared.steps.Step.{Step}
-use Rattle.gcx_model.specs.Tree.{Node, serial_of, Tree, is_closed}
+use Rattle.gcx_model.specs.Tree.{Tree, is_closed}
 use Rattle.gcx_model.specs.Members.{In}
 use Rattle.gcx_model.specs.Core.{OperandTree, Path, Str, Num, CondTree, CondTrees, Always, Exists, Compare, Not, All, Any, no_cond, more_conds}
 use Rattle.gcx_model.specs.declared.truth.Truth.{Truth}
@@ -14,20 +12,20 @@ use Rattle.pass_laws.specs.ValueLists.{IsListOf}
 use Rattle.buf_tree.specs.View.{View}
 use Rattle.cond_eval.specs.Bindings.{Bindings}
 use Rattle.cond_eval.specs.Asking.{Asked, Over, AnswersOver}
-use Rattle.cond_memo.specs.Marks.{AreMarks, Fits}
+use Rattle.cond_memo.specs.Marks.{AreMarks}
+use Rattle.cond_memo.specs.Taking.{IsTaken}
+use Rattle.cond_memo.specs.Waiting.{Fits}
 use Rattle.cond_memo.specs.declared.marked.Marked.{Marked}
+use Rattle.cond_memo.specs.declared.taken.Taken.{Taken}
 use Rattle.join_index.specs.declared.equality.Side.{Side}
 use Rattle.join_index.specs.declared.equality.Listed.{Listed}
 use Rattle.join_index.specs.declared.equality.Equality.{Equality}
-use Rattle.join_index.specs.declared.pair.Pair.{Pair}
 use Rattle.join_index.specs.Equalities.{HasEquality, inner_of, path_of_side}
-use Rattle.join_index.specs.Sides.{AreTakenBelow, ArePairs, IsValueBelow}
 
--- marks, the equalities with their lists, the pairs of paths with their values, and how many lists were made
+-- marks, the equalities with their lists, and how many lists were made
 pub record IndexView : Type 0 where
   pub marked : Marked
   pub equalities : List Equality
-  pub pairs : List Pair
   pub built : ℕ
 
 -- the path whose variable has the smaller number
@@ -38,23 +36,27 @@ outer_of q = cond (ltb q.left.var.0 q.right.var.0) q.left q.right
 abbrev pub AreLists : List Equality → Tree → Type 0
 AreLists qs P = (q : Equality) → In q qs → (l : Listed) → q.list ≡ Some l → IsListOf P (outer_of q).steps l.of.0 l.values
 
--- the matches of the steps from n with smaller serials are closed, and have no value of the list
-pub record HasLooked (P : Tree) (n : Node) (steps : List Step) (below : ℕ) (vs : List (List ℕ)) : Type 0 where
-  pub closed : AreTakenBelow P n steps below
-  pub none : (v : List ℕ) → IsValueBelow P n steps below v → In v vs → ⊥
+-- none of these values is in the list
+abbrev pub NoneListed : (vs list : List (List ℕ)) → Type 0
+NoneListed vs list = (v : List ℕ) → In v vs → In v list → ⊥
 
--- so it is of the matches of the inner path that were looked up in the list that is kept
+-- values were taken of the matches of a path, and looked up in the list: none is there
+pub record HasLooked (seen : Taken) (P : Tree) (list : List (List ℕ)) : Type 0 where
+  pub values : List (List ℕ)
+  pub taken : IsTaken seen P values
+  pub none : NoneListed values list
+
+-- so it is of the inner path and the list that is kept
 pub record IsLooked (q : Equality) (P : Tree) : Type 0 where
   pub steps : q.seen.steps ≡ (inner_of q).steps
   pub fits : Fits q.seen.steps q.seen.last
-  pub told : (l : Listed) → q.list ≡ Some l → (s : Serial) → q.seen.of ≡ Some s
-      → (n : Node) × In n P.nodes × (serial_of n ≡ s.0) × HasLooked P n q.seen.steps q.seen.below l.values
+  pub told : (l : Listed) → q.list ≡ Some l → HasLooked q.seen P l.values
 
 abbrev pub AreLooked : List Equality → Tree → Type 0
 AreLooked qs P = (q : Equality) → In q qs → IsLooked q P
 
 abbrev pub IsIndex : IndexView → Tree → Type 0
-IsIndex k P = AreMarks k.marked P × AreLists k.equalities P × ArePairs k.pairs P × AreLooked k.equalities P
+IsIndex k P = AreMarks k.marked P × AreLists k.equalities P × AreLooked k.equalities P
 
 -- ---- which lists are kept
 

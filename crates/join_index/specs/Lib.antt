@@ -2,9 +2,4 @@ pub mod Equalities
 pub mod Index
 pub mod IndexStays
 pub mod Lookups
-pub mod Pairs
 pub mod Rising
-pub mod Sharing
-pub mod Sides
-pub mod SidesStay
-pub mod Taking

@@ -1,12 +1,11 @@
 -- What each call on an equality tells. Private functions alone speak of it, but for the names.
-use Rattle.std.specs.Prelude.{◌≡◌, ◌⊎◌, ℕ, Bool, true, false, not, List, map, take, Option, Some, None, IfSome}
+use Rattle.std.specs.Prelude.{◌≡◌, ◌⊎◌, ℕ, Bool, true, false, not, List, map, Option, Some, None}
 use Rattle.gcx_base.specs.declared.ids.Serial.{Serial}
 use Rattle.gcx_base.specs.declared.rel.Rel.{Rel}
 use Rattle.gcx_base.specs.declared.rel.Rel.TheVariants.{Eq}
 use Rattle.gcx_base.specs.declared.steps.Step.{Step}
 use Rattle.gcx_model.specs.Tree.{Node, serial_of, Tree, is_closed}
-use Rattle.gcx_model.specs.Paths.{value}
-use Rattle.gcx_model.specs.Members.{In}
+use Rattle.gcx_model.specs.Paths.{matches, value}
 use Rattle.gcx_model.specs.Core.{CondTree, OperandTree}
 use Rattle.gcx_model.specs.Truth.{Env}
 use Rattle.gcx_model.specs.CondView.{operand_tree}
@@ -21,26 +20,17 @@ use Rattle.cond_eval.specs.Reads.{NodeAt}
 use Rattle.cond_eval.specs.Comparing.{comparison, KeepsMatches, Readable}
 use Rattle.cond_eval.specs.declared.sets.Member.{Member}
 use Rattle.cond_memo.specs.Marks.{AreMarks}
+use Rattle.cond_memo.specs.Taking.{AsksPath, TookUpto}
+use Rattle.cond_memo.specs.declared.taken.Taken.{Taken}
 use Rattle.join_index.specs.declared.equality.Side.{Side}
 use Rattle.join_index.specs.declared.equality.Listed.{Listed}
 use Rattle.join_index.specs.declared.equality.Equality.{Equality}
-use Rattle.join_index.specs.declared.seen.Seen.{Seen}
 use Rattle.join_index.specs.Equalities.{HasEquality, path_of_side}
-use Rattle.join_index.specs.Index.{HasLooked, IndexView, IsIndex, IsLooked, IsOuterClosed, ReachesEquality, TellsTruthOf, outer_of, same_serial, serial_kept}
-use Rattle.join_index.specs.Taking.{AsksPath}
+use Rattle.join_index.specs.Index.{IndexView, IsIndex, IsLooked, IsOuterClosed, NoneListed, ReachesEquality, TellsTruthOf, outer_of, same_serial, serial_kept}
 
 -- the texts are the values of the members' nodes
 abbrev pub AreValues : List Cell → List Member → List (List ℕ) → Type 0
 AreValues rows ms vs = (P : Tree) (keep : Node → Bool) (ns : List Node) → Readable rows P keep ms ns → vs ≡ map (value P) ns
-
--- whether one of the members' nodes has a value of the list
-abbrev pub FindsValue : List Cell → List Member → (vs : List (List ℕ)) → Bool → Type 0
-FindsValue rows ms vs true = (P : Tree) (keep : Node → Bool) (ns : List Node) → Readable rows P keep ms ns → (m : Node) × In m ns × In (value P m) vs
-FindsValue rows ms vs false = (P : Tree) (keep : Node → Bool) (ns : List Node) → Readable rows P keep ms ns → (m : Node) → In m ns → In (value P m) vs → ⊥
-
--- of the first members none has one
-abbrev pub NoneOf : List Cell → List Member → (vs : List (List ℕ)) → (seen : ℕ) → Type 0
-NoneOf rows ms vs i = (P : Tree) (keep : Node → Bool) (ns : List Node) → Readable rows P keep ms ns → (m : Node) → In m (take i ns) → In (value P m) vs → ⊥
 
 -- it is the equality of these two
 abbrev pub IsOf : Equality → (left right : OperandTree) → Type 0
@@ -49,11 +39,6 @@ IsOf q l r = (path_of_side q.left ≡ l) × (path_of_side q.right ≡ r)
 -- the list is that of the values at the node of the row at the place, where that is closed
 abbrev pub ListsAt : List Cell → (p : ℕ) → List Step → (vs : List (List ℕ)) → Type 0
 ListsAt rows p steps vs = (P : Tree) (keep : Node → Bool) (n : Node) → NodeAt rows P keep p n → KeepsMatches P keep n steps → is_closed P n ≡ true → IsListOf P steps (serial_of n) vs
-
--- it is the same path
-pub record IsOfSteps (before now : Seen) : Type 0 where
-  pub steps : now.steps ≡ before.steps
-  pub last : now.last ≡ before.last
 
 -- The list of the node of the row at the place is kept; whether it was made.
 pub record KeepsList (rows : List Cell) (p of : ℕ) (q r : Equality) (made : Bool) : Type 0 where
@@ -65,34 +50,42 @@ pub record KeepsList (rows : List Cell) (p of : ℕ) (q r : Equality) (made : Bo
   pub made_so : made ≡ not (same_serial (serial_kept q) (Some of))
   pub told : (q.list ≡ Some list) ⊎ ListsAt rows p (outer_of q).steps list.values
 
--- Which matches were looked up stays, or none was.
+-- The path stays. Which matches were looked up does too, or none was.
 pub record KeepsSeen (q r : Equality) : Type 0 where
-  pub path : IsOfSteps q.seen r.seen
-  pub looked : ((r.list ≡ q.list) × (r.seen ≡ q.seen)) ⊎ (r.seen.of ≡ None)
+  pub steps : r.seen.steps ≡ q.seen.steps
+  pub last : r.seen.last ≡ q.seen.last
+  pub looked : (r ≡ q) ⊎ (r.seen.of ≡ None)
 
-abbrev pub FoundIs : Tree → Node → List Step → (vs : List (List ℕ)) → Bool → Type 0
-FoundIs P n steps vs true = IsFoundIn P n steps vs
-FoundIs P n steps vs false = IsFoundIn P n steps vs → ⊥
+-- it is about the node of this serial: it was before, or none of its matches was taken
+abbrev pub TurnsSeen : (before now : Taken) → Serial → Type 0
+TurnsSeen k l of = ((l ≡ k) × (k.of ≡ Some of)) ⊎ (l ≡ record k { of = Some of; below = 0; waiting = None })
 
--- of the node that it is about, where it is about one, the matches up to the bound have no value of the list
-abbrev pub WasLooked : Seen → Tree → (vs : List (List ℕ)) → Type 0
-WasLooked s P vs = (t : Serial) → s.of ≡ Some t → (n : Node) × In n P.nodes × (serial_of n ≡ t.0) × HasLooked P n s.steps s.below vs
+abbrev pub FoundIs : Tree → Node → List Step → (list : List (List ℕ)) → Bool → Type 0
+FoundIs P n steps list true = IsFoundIn P n steps list
+FoundIs P n steps list false = IsFoundIn P n steps list → ⊥
 
--- what is told of the matches up to the bound, and of all, where that is told
-abbrev pub TellsLooked : Tree → Node → List Step → (below : ℕ) → (vs : List (List ℕ)) → Option Bool → Type 0
-TellsLooked P n steps below vs found = HasLooked P n steps below vs × IfSome found (λ b. FoundIs P n steps vs b)
+-- the values of these matches that were taken aren't in the list
+pub record LookedUpto (P : Tree) (ms : List Node) (waiting : Option Serial) (below : ℕ) (list : List (List ℕ)) : Type 0 where
+  pub values : List (List ℕ)
+  pub took : TookUpto P ms waiting below values
+  pub none : NoneListed values list
 
--- from a bound on
-abbrev pub LooksOn : View → (p : ℕ) → List Step → (vs : List (List ℕ)) → (before below : ℕ) → Option Bool → Type 0
-LooksOn v p steps vs before below found = (P : Tree) (keep : Node → Bool) (n : Node) → AsksPath v p steps P keep n
-    → HasLooked P n steps before vs → TellsLooked P n steps below vs found
+-- whether a closed match has a value of the list, and that none has that was taken now or before
+abbrev pub LooksOn : View → (p : ℕ) → (before now : Taken) → (list : List (List ℕ)) → Bool → Type 0
+LooksOn v p k l list b = (P : Tree) (keep : Node → Bool) (n : Node) → AsksPath v p k.steps P keep n
+    → LookedUpto P (matches P (serial_of n) k.steps) k.waiting k.below list
+    → FoundIs P n k.steps list b × LookedUpto P (matches P (serial_of n) k.steps) l.waiting l.below list
 
--- from what was looked up before on, where that was of the node of this serial
-abbrev pub LooksFrom : View → (p of : ℕ) → Seen → (vs : List (List ℕ)) → (below : ℕ) → Option Bool → Type 0
-LooksFrom v p of s vs below found = (P : Tree) (keep : Node → Bool) (n : Node) → AsksPath v p s.steps P keep n
-    → serial_of n ≡ of → WasLooked s P vs → TellsLooked P n s.steps below vs found
+-- over some tree the inner path is asked about at the node of this serial, whose row is at the place, and what was looked up is right
+pub record MayFindIn (v : View) (p of : ℕ) (q : Equality) : Type 0 where
+  pub tree : Tree
+  pub keep : Node → Bool
+  pub node : Node
+  pub asks : AsksPath v p q.seen.steps tree keep node
+  pub serial : serial_of node ≡ of
+  pub looked : IsLooked q tree
 
--- whether a closed match of the inner path from the node of this serial, whose row is at the place, has a value of the list
+-- whether a closed match of the inner path from that node has a value of the list
 abbrev pub FindsIn : View → (p of : ℕ) → (q r : Equality) → Bool → Type 0
 FindsIn v p of q r b = (P : Tree) (keep : Node → Bool) (n : Node) → AsksPath v p q.seen.steps P keep n → serial_of n ≡ of
     → IsLooked q P → (l : Listed) → q.list ≡ Some l → FoundIs P n q.seen.steps l.values b × IsLooked r P
@@ -116,9 +109,8 @@ IsNoneOfPaths left rel right = (one two : Side) → operand_tree left ≡ path_o
 abbrev pub GetsNoList : CondTree → Type 0
 GetsNoList c = (P : Tree) (env : Env) (one two : Side) → ReachesEquality (path_of_side one) (path_of_side two) c env P → ⊥
 
--- what marks tell of a condition without parts: the lists and the pairs stay
+-- what marks tell of a condition without parts: the lists stay
 pub record MarksTell (v : View) (bound : Bindings) (c : CondTree) (k l : IndexView) (t : Truth) : Type 0 where
   pub answers : AnswersOver v (AreMarks k.marked) (AreMarks l.marked) bound c t
   pub equalities : l.equalities ≡ k.equalities
-  pub pairs : l.pairs ≡ k.pairs
   pub built : l.built ≡ k.built

@@ -1,23 +1,28 @@
 //! An equality of two paths, and the list that is kept for it.
-ghost use Rattle.std.specs.Prelude.{◌≡◌, ◌↔◌, Bool, true, not, cond, ltb, Some, None, IfOk, MatchOption, slice_get};
+ghost use Rattle.std.specs.Prelude.{◌≡◌, ◌↔◌, cond, ltb, true, Some, None, IfOk, MatchOption, slice_get};
 ghost use Rattle.gcx_model.specs.CondView.{operand_tree};
-ghost use Rattle.buf_tree.specs.Shape.{Cell};
 ghost use Rattle.cond_eval.specs.Comparing.{AreInUse, IsNodeRow};
-ghost use Rattle.cond_memo.specs.Marks.{Fits};
+ghost use Rattle.cond_memo.specs.Taking.{MayTake, TakesMore};
+ghost use Rattle.cond_memo.specs.Waiting.{Fits};
 ghost use Rattle.join_index.specs.Equalities.{VariablesDiffer, HasEquality, NothingKept, inner_of, path_of_side};
 ghost use Rattle.join_index.specs.Index.{outer_of, same_serial, serial_kept};
-ghost use Rattle.join_index.specs.Lookups.{AreValues, FindsIn, FindsValue, IsOf, IsOfSteps, ListsAt, LooksFrom, LooksOn, KeepsList, KeepsSeen};
-ghost use Rattle.join_index.specs.Taking.{MayTake};
+ghost use Rattle.join_index.specs.Lookups.{AreValues, FindsIn, IsOf, ListsAt, LooksOn, KeepsList, KeepsSeen, MayFindIn, TurnsSeen};
 
-use crate::pair::Room;
-use crate::seen::{Next, Seen};
 use crate::values::{Probes, Values};
 use buf_tree::{Buffer, Row};
 use cond_eval::{Member, closed_matches, value};
+use cond_memo::Taken;
 use gcx_base::{Memory, Serial, Step, Steps, Text, VarId};
 use gcx_model::Operand;
 use node_store::{NodeStore, Place};
 use std::alloc::Global;
+
+/// Room for walks and for values.
+#[derive(Drop, Debug)]
+pub struct Room {
+    pub flags: Vec<bool>,
+    pub text: Vec<u8>,
+}
 
 /// A path from a variable.
 #[derive(Drop, Debug)]
@@ -41,7 +46,7 @@ pub struct Equality {
     pub right: Side,
     pub list: Option<Listed>,
     /// The inner path, and which of its matches were looked up in the list. None of them has a value of it.
-    pub seen: Seen,
+    pub seen: Taken,
 }
 
 impl Side {
@@ -166,86 +171,68 @@ impl Equality {
     /// Whether a closed match of the inner path from the row at the place has a value of the list that is kept.
     pub(crate) fn finds<N: NodeStore<Row>>(
         &mut self,
-        alloc: Global,
         buffer: &Buffer<N>,
         place: Place,
         of: Serial,
         room: &mut Room,
     ) -> Result<bool, Memory>
-        requires may { MayTake buffer.now place.0 self.old.seen.steps }
-        requires fits { Fits self.old.seen.steps self.old.seen.last }
+        requires { MayFindIn buffer.now place.0 of.0 self.old }
         ensures rest { IfOk result (λ _. self.new ≡ record self.old { seen = self.new.seen }) }
         ensures found { IfOk result (λ found. FindsIn buffer.now place.0 of.0 self.old self.new found) }
     {
         let Some(list) = &self.list else {
             return Ok(false);
         };
-        if let Some(found) = look_up(&mut self.seen, buffer, place, of, &list.values, room)? {
-            return Ok(found);
-        }
-        let set = closed_matches(alloc, buffer, place, self.seen.steps.items())?;
-        is_found(alloc, buffer, &set, &list.values)
+        turn_to(&mut self.seen, of);
+        let found = look_up(&mut self.seen, buffer, place, &list.values, room)?;
+        Ok(found)
     }
 }
 
 /// The inner one of two paths, of which no match was looked up.
-fn seen_of(alloc: Global, left: &Side, right: &Side) -> Result<Seen, Memory>
+fn seen_of(alloc: Global, left: &Side, right: &Side) -> Result<Taken, Memory>
     ensures steps { IfOk result (λ s. s.steps ≡ (cond (ltb left.now.var.0 right.now.var.0) right.now left.now).steps) }
     ensures fits { IfOk result (λ s. Fits s.steps s.last) }
 {
     if left.var < right.var {
-        Seen::new(alloc, &right.steps)
+        Taken::new(alloc, &right.steps)
     } else {
-        Seen::new(alloc, &left.steps)
+        Taken::new(alloc, &left.steps)
     }
 }
 
-/// Looks up the values of the closed matches that weren't looked up yet, up to the first that is one of these: true where
-/// there is one. None where an open match has others below it, which may be closed.
-fn look_up<N: NodeStore<Row>>(
-    seen: &mut Seen,
-    buffer: &Buffer<N>,
-    node: Place,
-    of: Serial,
-    values: &Values,
-    room: &mut Room,
-) -> Result<Option<bool>, Memory>
-    requires may { MayTake buffer.now node.0 seen.old.steps }
-    requires fits { Fits seen.old.steps seen.old.last }
-    ensures path { IfOk result (λ _. IsOfSteps seen.old seen.new) }
-    ensures of { IfOk result (λ _. seen.new.of ≡ Some of) }
-    ensures told { IfOk result (λ found. LooksFrom buffer.now node.0 of.0 seen.old values.now seen.new.below found) }
+/// It is about the node of this serial. Which matches of another one were taken is forgotten.
+fn turn_to(seen: &mut Taken, of: Serial)
+    ensures { TurnsSeen seen.old seen.new of }
 {
-    seen.go_to(of);
-    look_on(seen, buffer, node, values, room)
+    if !seen.is_of(of) {
+        seen.turn_to(of);
+    }
 }
 
-/// Looks up the values as `look_up` does, of the matches behind those that were looked at.
-fn look_on<N: NodeStore<Row>>(
-    seen: &mut Seen,
+/// Looks up the values of the closed matches that weren't taken, up to the first that is one of these: true where there
+/// is one. Its match isn't taken, so that the next question finds it at once.
+fn look_up<N: NodeStore<Row>>(
+    seen: &mut Taken,
     buffer: &Buffer<N>,
     node: Place,
     values: &Values,
     room: &mut Room,
-) -> Result<Option<bool>, Memory>
-    requires may { MayTake buffer.now node.0 seen.old.steps }
+) -> Result<bool, Memory>
+    requires may { MayTake buffer.now seen.old node.0 }
     requires fits { Fits seen.old.steps seen.old.last }
-    ensures rest { IfOk result (λ _. seen.new ≡ record seen.old { below = seen.new.below }) }
-    ensures told { IfOk result (λ found. LooksOn buffer.now node.0 seen.old.steps values.now
-        seen.old.below seen.new.below found) }
+    ensures frame { IfOk result (λ _. TakesMore seen.old seen.new) }
+    ensures told { IfOk result (λ found. LooksOn buffer.now node.0 seen.old seen.new values.now found) }
 {
     let mut next = seen.next(buffer, node, &mut room.flags)?;
-    'matches: while let Next::Closed(place) = next {
+    'matches: while let Some(place) = next {
         let bytes = value(buffer, place, &mut room.text)?;
         if values.contains(bytes, &mut Probes::new()) {
-            return Ok(Some(true));
+            return Ok(true);
         }
         next = seen.take(buffer, node, place, &mut room.flags)?;
     }
-    match next {
-        Next::Over => Ok(Some(false)),
-        Next::Closed(_) | Next::Nested => Ok(None),
-    }
+    Ok(false)
 }
 
 /// The number of the equality of these two.
@@ -295,24 +282,4 @@ fn list_at<N: NodeStore<Row>>(
     let set = closed_matches(alloc, buffer, place, steps)?;
     let texts = values_of(alloc, buffer, &set)?;
     Values::make(texts)
-}
-
-/// Whether some member's value is one of these.
-fn is_found<N: NodeStore<Row>>(
-    alloc: Global,
-    buffer: &Buffer<N>,
-    set: &[Member],
-    values: &Values,
-) -> Result<bool, Memory>
-    requires { AreInUse buffer.now.rows set.now }
-    ensures { IfOk result (λ found. FindsValue buffer.now.rows set.now values.now found) }
-{
-    let mut room = Vec::new(alloc);
-    for member in set {
-        let bytes = value(buffer, Place(member.place), &mut room)?;
-        if values.contains(bytes, &mut Probes::new()) {
-            return Ok(true);
-        }
-    }
-    Ok(false)
 }

@@ -9,13 +9,10 @@ ghost use Rattle.cond_eval.specs.Comparing.{comparison};
 ghost use Rattle.cond_memo.specs.Again.{AskedLast};
 ghost use Rattle.join_index.specs.Equalities.{VariablesDiffer, BodyHas, HasEquality};
 ghost use Rattle.join_index.specs.Index.{GoesAfterQuestion, IsIndex, IsReached, KeepsLists, TellsTruthOf, raised};
-ghost use Rattle.join_index.specs.Lookups.{LooksUp, MarksTell, ReachesNone};
-ghost use Rattle.join_index.specs.Pairs.{PairsTell};
+ghost use Rattle.join_index.specs.Lookups.{LooksUp, MarksTell};
 
 use crate::comparisons::{gets_no_list, put_body};
-use crate::equality::{Equality, find};
-use crate::pair::{Pair, Room};
-use crate::shared::shared_truth;
+use crate::equality::{Equality, Room, find};
 use buf_tree::{Buffer, Row};
 use cond_eval::{Conds, Env, Leaves, Truth, negate, settle};
 use cond_memo::Marked;
@@ -32,8 +29,6 @@ use std::marker::Model;
 pub struct Indexed {
     marked: Marked,
     equalities: Vec<Equality>,
-    /// The equalities of two paths that were asked for open nodes.
-    pairs: Vec<Pair>,
     room: Room,
     /// How many lists were made. It stands still at its end.
     built: u64,
@@ -47,7 +42,6 @@ impl Model for Indexed {
     ghost view = { λ k. record {
       marked = k.marked;
       equalities = k.equalities.items;
-      pairs = k.pairs.items;
       built = k.built;
     } };
 }
@@ -60,13 +54,11 @@ impl Indexed {
             ↔ (BodyHas l r (plan_tree plan.now).body × VariablesDiffer l r)) }
         ensures built { IfOk result (λ k. k.built ≡ 0) }
     {
-        let pairs = Vec::new(alloc);
         let mut equalities = Vec::new(alloc);
         put_body(alloc, &mut equalities, &plan.body)?;
         Ok(Indexed {
             marked: Marked::new(alloc),
             equalities,
-            pairs,
             room: Room {
                 flags: Vec::new(alloc),
                 text: Vec::new(alloc),
@@ -113,7 +105,7 @@ impl Indexed {
         }
         let made = self.equalities[index].keep_list(alloc, buffer, outer, of)?;
         self.built = risen(self.built, made);
-        let found = self.equalities[index].finds(alloc, buffer, inner, inner_of, &mut self.room)?;
+        let found = self.equalities[index].finds(buffer, inner, inner_of, &mut self.room)?;
         Ok(Some(settle(found, buffer.is_closed(inner))))
     }
 
@@ -138,61 +130,8 @@ impl Indexed {
                 self.marked.forget_last();
                 Ok(truth)
             }
-            None => self.otherwise(alloc, cond, env, buffer, left, rel, right),
-        }
-    }
-
-    /// The truth of a comparison that isn't looked up in a list.
-    fn otherwise<N: NodeStore<Row>>(
-        &mut self,
-        alloc: Global,
-        cond: &Cond,
-        env: &Env,
-        buffer: &Buffer<N>,
-        left: &Operand,
-        rel: Rel,
-        right: &Operand,
-    ) -> Result<Truth, Memory>
-        requires cond { core_cond_tree cond.now ≡ comparison left.now rel right.now }
-        requires may { MayAskOver buffer.now (IsIndex self.old) env.now (core_cond_tree cond.now) }
-        ensures tells { IfOk result (λ t. ReachesNone buffer.now env.now self.old (core_cond_tree cond.now)
-            → TellsTruthOf buffer.now env.now (core_cond_tree cond.now) self.old self.new t) }
-        ensures last { IfOk result (λ _. AskedLast self.new.marked (core_cond_tree cond.now)) }
-    {
-        match self.paired(alloc, env, buffer, left, rel, right)? {
-            Some(truth) => {
-                self.marked.forget_last();
-                Ok(truth)
-            }
             None => self.by_marks(alloc, cond, env, buffer),
         }
-    }
-
-    /// The truth of an equality of two paths, from what is kept of their values. None of another comparison, and where
-    /// that doesn't tell it.
-    fn paired<N: NodeStore<Row>>(
-        &mut self,
-        alloc: Global,
-        env: &Env,
-        buffer: &Buffer<N>,
-        left: &Operand,
-        rel: Rel,
-        right: &Operand,
-    ) -> Result<Option<Truth>, Memory>
-        requires { MayAskOver buffer.now (IsIndex self.old) env.now (comparison left.now rel right.now) }
-        ensures { IfOk result (λ t. PairsTell buffer.now env.now (comparison left.now rel right.now)
-            self.old self.new t) }
-    {
-        shared_truth(
-            alloc,
-            &mut self.pairs,
-            &mut self.room,
-            env,
-            buffer,
-            left,
-            rel,
-            right,
-        )
     }
 
     /// The truth of a condition without parts, as marks tell it. The lists stay.

@@ -4,13 +4,8 @@
 mod comparisons;
 mod equality;
 mod indexed;
-mod pair;
-mod seen;
-mod shared;
 mod values;
 
 pub use equality::{Equality, Listed, Side};
 pub use indexed::Indexed;
-pub use pair::{Pair, Taken};
-pub use seen::{Next, Seen};
 pub use values::{Probes, Values};

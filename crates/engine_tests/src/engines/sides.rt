@@ -1,4 +1,4 @@
-//! Comparisons of two paths from nodes that are open: each value is looked at once, and the answers are those of a
+//! Equalities of two paths from nodes that are open: each value is looked at once, and the answers are those of a
 //! comparison made anew.
 use super::joins::builds;
 use super::{Answered, Built, is_answered_in_pieces, plainly};

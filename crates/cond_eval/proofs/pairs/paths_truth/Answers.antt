@@ -11,11 +11,11 @@ use Rattle.cond_eval.proofs.Comparisons.{row_used, shut_told, closed_read, both_
 use Rattle.cond_eval.proofs.pairs.paths_truth.Goals as goal
 use Rattle.cond_eval.proofs.pairs.paths_truth.Goals.{then-is_closed, else-is_closed}
 
-pub holds_of_some-requires-clause-lefts : goal.holds_of_some-requires-clause-lefts
-holds_of_some-requires-clause-lefts g c = subst (λ (z : List Member). AreInUse c.args.buffer.now.rows z) (sym c.deref.ensures.value) c.in_ok-lefts.ensures.used
+pub some_pair_satisfies-requires-clause-lefts : goal.some_pair_satisfies-requires-clause-lefts
+some_pair_satisfies-requires-clause-lefts g c = subst (λ (z : List Member). AreInUse c.args.buffer.now.rows z) (sym c.deref.ensures.value) c.in_ok-lefts.ensures.used
 
-pub holds_of_some-requires-clause-rights : goal.holds_of_some-requires-clause-rights
-holds_of_some-requires-clause-rights g c = subst (λ (z : List Member). AreInUse c.args.buffer.now.rows z) (sym c.deref-2.ensures.value) c.in_ok-rights.ensures.used
+pub some_pair_satisfies-requires-clause-rights : goal.some_pair_satisfies-requires-clause-rights
+some_pair_satisfies-requires-clause-rights g c = subst (λ (z : List Member). AreInUse c.args.buffer.now.rows z) (sym c.deref-2.ensures.value) c.in_ok-rights.ensures.used
 
 pub is_closed-requires : goal.is_closed-requires
 is_closed-requires g c = row_used c.args.buffer.now.rows c.args.left.0 c.requires.left

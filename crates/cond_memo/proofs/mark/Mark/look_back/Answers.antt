@@ -1,4 +1,4 @@
-use Rattle.std.proofs.Common.{ap}
+use Rattle.std.proofs.Common.{◌∙◌, ap}
 use Rattle.cond_memo.specs.declared.mark.Mark.{Mark}
 use Rattle.cond_memo.proofs.MarkBack.{does_as, back_found, back_goes, back_ends, above_as}
 use Rattle.cond_memo.proofs.mark.Mark.look_back.Goals as goal
@@ -19,7 +19,7 @@ up-preserved g c = record {
       let steps = ap (λ (x : Mark). x.steps) c.up.invariant.frame in
       back_goes c.args.buffer.now.rows c.args.buffer.now.nodes m.steps m.ask c.args.node.0 P keep n a c.up.self.waiting m.upto.0 c.requires.steps (c.up.invariant.tried P keep n a t) c.in-Some.place.0 c.in-Some.ensures c.in_ok-does.field-0
       (does_as c.args.buffer.now.rows c.in-Some.place.0 c.in_ok-does.field-0 c.up.self.ask m.ask asks c.in_ok-does.ensures) c.if-branch.false c.in_ok-self.field-0
-      (above_as c.args.buffer.now.rows c.args.node.0 c.in-Some.place.0 c.up.self.steps m.steps c.in_ok-self.field-0 steps c.requires.steps c.in_ok-self.ensures.above P keep n a.at);
+      (above_as c.args.buffer.now.rows c.args.node.0 c.in-Some.place.0 c.items-steps.result.now m.steps c.in_ok-self.field-0 (c.items-steps.ensures ∙ steps) c.requires.steps c.in_ok-self.ensures.above P keep n a.at);
 }
 
 pub returns-clause-searched : goal.returns-clause-searched

@@ -1,6 +1,7 @@
 use Rattle.std.proofs.lemmas.Result.{IfOk-weaker}
-use Rattle.cond_memo.proofs.MarkAgain.{asked_last, path_serves}
+use Rattle.cond_memo.proofs.MarkAgain.{asked_last, none_last, path_serves}
 use Rattle.cond_memo.proofs.MarkAsks.{literal_of, path_may, path_answers}
+use Rattle.cond_memo.proofs.PairAsks.{operands_answer, operands_may}
 use Rattle.cond_memo.proofs.marked.Marked.compared_path.Goals as goal
 
 pub asked-requires : goal.asked-requires
@@ -17,3 +18,16 @@ returns-in_default-clause-last g c =
     IfOk-weaker c.asked.result _ _
     (λ t h. asked_last c.asked.new.self c.args.var c.args.steps.now _ _ (path_serves c.args.var c.args.steps.now c.args.left.now c.args.right.now c.args.rel c.requires.path (literal_of c.args.right.now c.in_default.not-Path)) h)
     c.asked.ensures.last
+
+pub paired-requires : goal.paired-requires
+paired-requires g c =
+    operands_may c.args.buffer.now c.args.env.now c.args.left.now c.args.right.now c.args.var c.in-Path.other c.args.steps.now c.in-Path.others c.requires.path c.in-Path.is c.args.rel c.args.self.now c.requires.may
+
+pub returns-in-Path-clause-answers : goal.returns-in-Path-clause-answers
+returns-in-Path-clause-answers g c =
+    IfOk-weaker c.paired.result _ _
+    (λ t tells. operands_answer c.args.buffer.now c.args.env.now c.args.left.now c.args.right.now c.args.var c.in-Path.other c.args.steps.now c.in-Path.others c.requires.path c.in-Path.is c.args.rel c.args.self.now c.paired.new.self t tells)
+    c.paired.ensures.answers
+
+pub returns-in-Path-clause-last : goal.returns-in-Path-clause-last
+returns-in-Path-clause-last g c = IfOk-weaker c.paired.result _ _ (λ t e. none_last c.paired.new.self _ e) c.paired.ensures.last

@@ -21,8 +21,8 @@ returns g c =
     let n = c.index_mut.result.now in
     let s = c.requires.last c.args.index m c.requires.index (low, c.index.ensures) in
     let t = c.requires.last c.args.index n c.requires.index (low, c.index_mut.ensures.value) in (
-      s.answers c.args.buffer.now c.args.env.now c.args.self.now (slice_set marks.items c.args.index c.ask.new.self) c.truth_of_known.result
-          (told_at c.args.buffer.now.rows c.args.buffer.now.nodes c.args.env.now m.var c.in-Some.node.0 c.in-Some.of.0 c.in-Some.ensures m.steps m.ask c.args.index n
-          marks.items low (m, c.index.ensures, record { var = refl; steps = refl; ask = refl }) c.index_mut.ensures.value c.ask.new.self c.in_ok-known.ensures.same c.in_ok-known.known c.in_ok-known.ensures.told c.truth_of_known.result c.truth_of_known.ensures),
+      s.answers c.args.buffer.now c.args.env.now c.args.self.now (slice_set marks.items c.args.index c.ask.new.self) c.args.self.now.pairs.items c.truth_of_known.result
+          (λ P keep x k a. let h = told_at c.args.buffer.now.rows c.args.buffer.now.nodes c.args.env.now m.var c.in-Some.node.0 c.in-Some.of.0 c.in-Some.ensures m.steps m.ask c.args.index n
+          marks.items low (m, c.index.ensures, record { var = refl; steps = refl; ask = refl }) c.index_mut.ensures.value c.ask.new.self c.in_ok-known.ensures.same c.in_ok-known.known c.in_ok-known.ensures.told c.truth_of_known.result c.truth_of_known.ensures P keep x k.0 a in (h.0, (h.1, k.1))),
       λ j u e a. set_serves marks.items c.args.index n c.ask.new.self _ low c.in_ok-known.ensures.same t j u (sym c.requires.index ∙ e) a,
     )

@@ -40,8 +40,10 @@ returns-clause-stays c P k =
     let about : IsAbout m c.args.var c.args.steps.now ask = record { var = made.var; steps = made.steps; ask = made.ask ∙ c.in_ok-ask.ensures } in
     let none : In (subject c.args.var c.args.steps.now ask) (map subject_of ms.items) → ⊥ = none_in subject_of ms.items c.marks.index (subject c.args.var c.args.steps.now ask) (omega (arith, c.marks-test.false, ms.ok.0)) c.marks.invariant.none in
     let fits = subst (λ (s : List Step). Fits s m.last) (sym made.steps) made.last in
-    let literal = subst AsksLiteral (sym about.ask) c.requires in
-    push_all ms.items c.push.new.self.items m P c.in_ok-push.ensures.items (subst (λ (s : VarId × List Step × Option Ask). In s (map subject_of ms.items) → ⊥) (sym (subject_is m c.args.var c.args.steps.now ask about)) none) k (new_mark m fits literal made.unasked P)
+    let literal = subst AsksLiteral (sym about.ask) c.requires in (
+      push_all ms.items c.push.new.self.items m P c.in_ok-push.ensures.items (subst (λ (s : VarId × List Step × Option Ask). In s (map subject_of ms.items) → ⊥) (sym (subject_is m c.args.var c.args.steps.now ask about)) none) k.0 (new_mark m fits literal made.unasked P),
+      k.1,
+    )
 
 pub returns-clause-count : goal.returns-clause-count
 returns-clause-count c =

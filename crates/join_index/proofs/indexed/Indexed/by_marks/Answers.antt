@@ -18,7 +18,6 @@ returns-clause-tells g c =
     (λ t told. record {
       answers = subst (λ (k : IndexView). AnswersOver c.args.buffer.now (AreMarks k.marked) (AreMarks c.leaf.new.self) c.args.env.now (core_cond_tree c.args.cond.now) t) c.self.view_is told;
       equalities = ap (λ (k : IndexView). k.equalities) c.self.view_is;
-      pairs = ap (λ (k : IndexView). k.pairs) c.self.view_is;
       built = ap (λ (k : IndexView). k.built) c.self.view_is;
     })
     c.leaf.ensures.answers

@@ -1,5 +1,0 @@
-use Rattle.cond_memo.proofs.MarkRows.{leads_told}
-use Rattle.join_index.proofs.seen.Seen.is_match.Goals as goal
-
-pub returns : goal.returns
-returns g c = leads_told c.args.buffer.now.rows c.args.node.0 c.args.place.0 c.items-steps.result.now c.args.self.now.steps c.args.self.now.last c.leads.result c.items-steps.ensures c.leads.ensures

@@ -1,0 +1,6 @@
+mod Orders
+mod Bounds
+mod Holding
+mod Meeting
+mod Hands
+mod Passing

@@ -1,0 +1,6 @@
+pub mod Pairs
+pub mod Extremes
+pub mod Sets
+pub mod Taking
+pub mod Sharing
+pub mod Taken
