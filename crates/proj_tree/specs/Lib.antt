@@ -1,3 +1,4 @@
 pub mod Depths
 pub mod Own
 pub mod Projection
+pub mod Adding

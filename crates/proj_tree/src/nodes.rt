@@ -8,6 +8,7 @@ ghost use Rattle.gcx_model.specs.Roles.{roles_of};
 ghost use Rattle.gcx_model.specs.Variables.{var_rows};
 ghost use Rattle.proj_tree.specs.Own.{own_list};
 ghost use Rattle.proj_tree.specs.Projection.{HasRolePaths, node_tree, other_nodes, projected, role_nodes, root_node, step_nodes, tail_nodes, var_node, var_nodes};
+ghost use Rattle.proj_tree.specs.Adding.{AddsNodes, nodes_of_vars};
 
 use gcx_base::{Memory, Role, Step};
 use gcx_model::{Core, RoleKind, RoleRow, RoleRows, VarRow};
@@ -73,7 +74,8 @@ pub struct ProjTree {
 
 /// Adds the role where it is a variable's own.
 fn put_own(own: &mut Vec<Role>, role: Role, row: &RoleRow) -> Result<(), Memory>
-    ensures { OnOk result (map (λ r. r.0) own.new.items ≡ map (λ r. r.0) own.old.items ++ cond (is_own_kind (role_kind row.now.kind)) (role.0 ∷ []) []) }
+    ensures { OnOk result (map (λ r. r.0) own.new.items ≡ map (λ r. r.0) own.old.items
+        ++ cond (is_own_kind (role_kind row.now.kind)) (role.0 ∷ []) []) }
 {
     match row.kind {
         RoleKind::Own => {
@@ -98,7 +100,7 @@ pub fn own_roles(alloc: Global, roles: &[RoleRow]) -> Result<Vec<Role>, Memory>
 
 /// Adds the node of variable 0.
 fn put_root(nodes: &mut ProjNodes, role: Role) -> Result<(), Memory>
-    ensures { OnOk result (map node_tree nodes.new ≡ map node_tree nodes.old ++ root_node role.0 ∷ []) }
+    ensures { OnOk result (AddsNodes nodes.old nodes.new (root_node role.0 ∷ [])) }
 {
     nodes.push(ProjNode {
         parent: None,
@@ -109,7 +111,7 @@ fn put_root(nodes: &mut ProjNodes, role: Role) -> Result<(), Memory>
 
 /// Adds the node of another variable.
 fn put_var(alloc: Global, nodes: &mut ProjNodes, row: &VarRow, role: Role) -> Result<(), Memory>
-    ensures { OnOk result (map node_tree nodes.new ≡ map node_tree nodes.old ++ var_node role.0 (var_row_tree row.now) ∷ []) }
+    ensures { OnOk result (AddsNodes nodes.old nodes.new (var_node role.0 (var_row_tree row.now) ∷ [])) }
 {
     let step = row.step.copy(alloc)?;
     nodes.push(ProjNode {
@@ -127,7 +129,7 @@ fn put_vars(
     own: &[Role],
 ) -> Result<(), Memory>
     requires { length own.now ≡ suc (length vars.now) }
-    ensures { OnOk result (map node_tree nodes.new ≡ map node_tree nodes.old ++ (root_node (slice_index_or (map (λ r. r.0) own.now) 0 0) ∷ var_nodes (λ x. slice_index_or (map (λ r. r.0) own.now) x 0) 1 (map var_row_tree vars.now))) }
+    ensures { OnOk result (AddsNodes nodes.old nodes.new (nodes_of_vars own.now vars.now)) }
 {
     put_root(nodes, own[0])?;
     for (i, row) in vars.iter().enumerate() {
@@ -162,7 +164,8 @@ fn put_step(
     step: &Step,
     role: Option<Role>,
 ) -> Result<(), Memory>
-    ensures { OnOk result (map node_tree nodes.new ≡ map node_tree nodes.old ++ record { parent = Some from; step = Some step.now; role = option_map (λ r. r.0) role } ∷ []) }
+    ensures { OnOk result (AddsNodes nodes.old nodes.new
+        (record { parent = Some from; step = Some step.now; role = option_map (λ r. r.0) role } ∷ [])) }
 {
     let step = step.copy(alloc)?;
     nodes.push(ProjNode {
@@ -180,7 +183,7 @@ fn put_steps(
     steps: &[Step],
     role: Role,
 ) -> Result<(), Memory>
-    ensures { OnOk result (map node_tree nodes.new ≡ map node_tree nodes.old ++ step_nodes from (length nodes.old) role.0 steps.now) }
+    ensures { OnOk result (AddsNodes nodes.old nodes.new (step_nodes from (length nodes.old) role.0 steps.now)) }
 {
     let mut above = from;
     let mut rest = steps;
@@ -195,7 +198,8 @@ fn put_steps(
 
 /// Adds the node of a role with an empty tail.
 fn put_at(nodes: &mut ProjNodes, from: u32, role: Role) -> Result<(), Memory>
-    ensures { OnOk result (map node_tree nodes.new ≡ map node_tree nodes.old ++ record { parent = Some from; step = None; role = Some role.0 } ∷ []) }
+    ensures { OnOk result (AddsNodes nodes.old nodes.new
+        (record { parent = Some from; step = None; role = Some role.0 } ∷ [])) }
 {
     nodes.push(ProjNode {
         parent: Some(from),
@@ -212,7 +216,7 @@ fn put_tail(
     tail: &[Step],
     role: Role,
 ) -> Result<(), Memory>
-    ensures { OnOk result (map node_tree nodes.new ≡ map node_tree nodes.old ++ tail_nodes from (length nodes.old) role.0 tail.now) }
+    ensures { OnOk result (AddsNodes nodes.old nodes.new (tail_nodes from (length nodes.old) role.0 tail.now)) }
 {
     if tail.is_empty() {
         put_at(nodes, from, role)
@@ -223,7 +227,8 @@ fn put_tail(
 
 /// Adds the nodes of a role that is no variable's own.
 fn put_role(alloc: Global, nodes: &mut ProjNodes, role: Role, row: &RoleRow) -> Result<(), Memory>
-    ensures { OnOk result (map node_tree nodes.new ≡ map node_tree nodes.old ++ role_nodes (length nodes.old) role.0 (role_row_tree row.now)) }
+    ensures { OnOk result (AddsNodes nodes.old nodes.new
+        (role_nodes (length nodes.old) role.0 (role_row_tree row.now))) }
 {
     match row.kind {
         RoleKind::Own => Ok(()),
@@ -240,7 +245,8 @@ fn put_role(alloc: Global, nodes: &mut ProjNodes, role: Role, row: &RoleRow) -> 
 /// Adds the nodes of all roles that are no variable's own.
 fn put_roles(alloc: Global, nodes: &mut ProjNodes, roles: &[RoleRow]) -> Result<(), Memory>
     requires { length roles.now ≤ 2000 }
-    ensures { OnOk result (map node_tree nodes.new ≡ map node_tree nodes.old ++ other_nodes (length nodes.old) 0 (map role_row_tree roles.now)) }
+    ensures { OnOk result (AddsNodes nodes.old nodes.new
+        (other_nodes (length nodes.old) 0 (map role_row_tree roles.now))) }
 {
     for (i, row) in roles.iter().enumerate() {
         put_role(alloc, nodes, Role(i as u32), row)?;

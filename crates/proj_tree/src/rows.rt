@@ -1,5 +1,5 @@
 //! The roles of a core.
-ghost use Rattle.std.specs.Prelude.{◌≡◌, ◌≤◌, ◌<◌, ◌+◌, ◌++◌, ◌∷◌, [], false, map, length, IfOk, IfErr, OnOk, Some, None, nat_lt, slice_index_or};
+ghost use Rattle.std.specs.Prelude.{◌≡◌, ◌≤◌, ◌+◌, ◌++◌, ◌∷◌, [], map, length, IfOk, IfErr, OnOk, Some, None, nat_lt, slice_index_or};
 ghost use Rattle.gcx_model.specs.Core.{First};
 ghost use Rattle.gcx_model.specs.Cores.{Good};
 ghost use Rattle.gcx_model.specs.CondView.{core_cond_tree, core_cond_trees, core_conds_of, operand_tree};
@@ -10,6 +10,7 @@ ghost use Rattle.gcx_model.specs.Roles.{cond_rows, conds_rows, item_rows, operan
 ghost use Rattle.gcx_model.specs.Variables.{var_rows};
 ghost use Rattle.gcx_model.specs.Refusals.{UnlessMemory};
 ghost use Rattle.proj_tree.specs.Depths.{descendants, is_deep, roles_refusal};
+ghost use Rattle.proj_tree.specs.Adding.{AddsRows};
 
 use crate::depth::{depths, is_deeper};
 use gcx_base::{Memory, Steps, VarId};
@@ -26,7 +27,7 @@ const MOST_DESCENDANTS: u32 = 6;
 
 /// Adds the role `Own` of a variable.
 fn put_own(alloc: Global, out: &mut RoleRows, var: VarId) -> Result<(), Memory>
-    ensures { OnOk result (map role_row_tree out.new ≡ map role_row_tree out.old ++ own_row var.0 ∷ []) }
+    ensures { OnOk result (AddsRows out.old out.new (own_row var.0 ∷ [])) }
 {
     out.push(RoleRow {
         var,
@@ -37,7 +38,7 @@ fn put_own(alloc: Global, out: &mut RoleRows, var: VarId) -> Result<(), Memory>
 
 /// Adds the role of a copy.
 fn put_copy(alloc: Global, out: &mut RoleRows, var: VarId) -> Result<(), Memory>
-    ensures { OnOk result (map role_row_tree out.new ≡ map role_row_tree out.old ++ whole_row var.0 ∷ []) }
+    ensures { OnOk result (AddsRows out.old out.new (whole_row var.0 ∷ [])) }
 {
     out.push(RoleRow {
         var,
@@ -48,7 +49,7 @@ fn put_copy(alloc: Global, out: &mut RoleRows, var: VarId) -> Result<(), Memory>
 
 /// Adds the role of a path that is only looked for.
 fn put_first(alloc: Global, out: &mut RoleRows, var: VarId, steps: &Steps) -> Result<(), Memory>
-    ensures { OnOk result (map role_row_tree out.new ≡ map role_row_tree out.old ++ record { var = var.0; tail = steps.now; kind = First } ∷ []) }
+    ensures { OnOk result (AddsRows out.old out.new (record { var = var.0; tail = steps.now; kind = First } ∷ [])) }
 {
     let tail = steps.copy(alloc)?;
     out.push(RoleRow {
@@ -60,7 +61,7 @@ fn put_first(alloc: Global, out: &mut RoleRows, var: VarId, steps: &Steps) -> Re
 
 /// Adds the role of an operand that is a path.
 fn put_operand(alloc: Global, out: &mut RoleRows, operand: &Operand) -> Result<(), Memory>
-    ensures { OnOk result (map role_row_tree out.new ≡ map role_row_tree out.old ++ operand_rows (operand_tree operand.now)) }
+    ensures { OnOk result (AddsRows out.old out.new (operand_rows (operand_tree operand.now))) }
 {
     match operand {
         Operand::Path { var, steps } => {
@@ -82,7 +83,8 @@ fn put_comparison(
     left: &Operand,
     right: &Operand,
 ) -> Result<(), Memory>
-    ensures { OnOk result (map role_row_tree out.new ≡ map role_row_tree out.old ++ (operand_rows (operand_tree left.now) ++ operand_rows (operand_tree right.now))) }
+    ensures { OnOk result (AddsRows out.old out.new (operand_rows (operand_tree left.now)
+        ++ operand_rows (operand_tree right.now))) }
 {
     put_operand(alloc, out, left)?;
     put_operand(alloc, out, right)
@@ -91,7 +93,7 @@ fn put_comparison(
 /// Adds the roles of a condition.
 #[cycle(read_conditions)]
 fn put_cond(alloc: Global, out: &mut RoleRows, cond: &Cond) -> Result<(), Memory>
-    ensures { OnOk result (map role_row_tree out.new ≡ map role_row_tree out.old ++ cond_rows (core_cond_tree cond.now)) }
+    ensures { OnOk result (AddsRows out.old out.new (cond_rows (core_cond_tree cond.now))) }
 {
     match cond {
         Cond::True => Ok(()),
@@ -105,7 +107,7 @@ fn put_cond(alloc: Global, out: &mut RoleRows, cond: &Cond) -> Result<(), Memory
 /// Adds the roles of the conditions, one behind another.
 #[cycle(read_conditions)]
 fn put_conds(alloc: Global, out: &mut RoleRows, conds: &CondList) -> Result<(), Memory>
-    ensures { OnOk result (map role_row_tree out.new ≡ map role_row_tree out.old ++ conds_rows (core_conds_of (core_cond_trees conds.now))) }
+    ensures { OnOk result (AddsRows out.old out.new (conds_rows (core_conds_of (core_cond_trees conds.now)))) }
 {
     for cond in conds.items() {
         put_cond(alloc, out, cond)?;
@@ -116,7 +118,7 @@ fn put_conds(alloc: Global, out: &mut RoleRows, conds: &CondList) -> Result<(), 
 /// Adds the roles of an item.
 #[cycle(read_roles)]
 fn put_item(alloc: Global, out: &mut RoleRows, item: &Item) -> Result<(), Memory>
-    ensures { OnOk result (map role_row_tree out.new ≡ map role_row_tree out.old ++ item_rows (item_tree item.now)) }
+    ensures { OnOk result (AddsRows out.old out.new (item_rows (item_tree item.now))) }
 {
     match item {
         Item::Write(_) | Item::Off(_) => Ok(()),
@@ -136,7 +138,7 @@ fn put_item(alloc: Global, out: &mut RoleRows, item: &Item) -> Result<(), Memory
 /// Adds the roles of a body, as it is read from the left.
 #[cycle(read_roles)]
 fn put_body(alloc: Global, out: &mut RoleRows, body: &Body) -> Result<(), Memory>
-    ensures { OnOk result (map role_row_tree out.new ≡ map role_row_tree out.old ++ rows (body_tree body.now)) }
+    ensures { OnOk result (AddsRows out.old out.new (rows (body_tree body.now))) }
 {
     for item in body.items() {
         put_item(alloc, out, item)?;
@@ -156,7 +158,8 @@ fn all_roles(alloc: Global, core: &Core) -> Result<RoleRows, Memory>
 
 /// Whether some role reaches too deep, where the counts of the variables from 0 are known.
 fn some_deep(known: &[u32], rows: &[RoleRow]) -> bool
-    ensures { result ≡ any (λ r. nat_lt 6 (slice_index_or known.now r.var 0 + descendants r.tail)) (map role_row_tree rows.now) }
+    ensures { result ≡ any (λ r. nat_lt 6 (slice_index_or known.now r.var 0 + descendants r.tail))
+        (map role_row_tree rows.now) }
 {
     for row in rows {
         if is_deeper(known, row.var, row.tail.items(), MOST_DESCENDANTS) {

@@ -1,16 +1,21 @@
 -- What each call makes of a position, and what it finds of the rows. Private functions alone speak of it.
-use Rattle.std.specs.Prelude.{◌≡◌, ℕ, true, List, Option, MatchOption}
+use Rattle.std.specs.Prelude.{◌≡◌, ◌<◌, ℕ, true, List, Option, Some, MatchOption}
 use Rattle.gcx_model.specs.Tree.{Tree}
 use Rattle.gcx_model.specs.Members.{In}
-use Rattle.gcx_model.specs.Core.{CondTree, If, BodyTree, Then}
+use Rattle.gcx_model.specs.Core.{CondTree, If, OffTree, BodyTree, Then}
 use Rattle.gcx_model.specs.Answer.{child_step}
-use Rattle.gcx_model.specs.Past.{Past}
+use Rattle.gcx_model.specs.Past.{Past, past_acted}
+use Rattle.gcx_model.specs.Placed.{offs_in}
+use Rattle.gcx_model.specs.Run.{Offed}
 use Rattle.node_store.specs.declared.store.Place.{Place}
 use Rattle.buf_tree.specs.Shape.{Cell, num}
-use Rattle.buf_tree.specs.Match.{Unreached, FirstReached}
-use Rattle.buf_tree.specs.View.{View}
+use Rattle.buf_tree.specs.Match.{IsChild, Unreached, FirstReached}
+use Rattle.buf_tree.specs.Stands.{StandsFor}
+use Rattle.buf_tree.specs.View.{View, serial_at}
 use Rattle.pull_eval.specs.Acting.{Beside, Moves, IsNextItem, Chosen, IsOver}
+use Rattle.pull_eval.specs.Copies.{risen}
 use Rattle.pull_eval.specs.Position.{items}
+use Rattle.pull_eval.specs.declared.block.Copying.{Copying}
 use Rattle.pull_eval.specs.declared.machine.Acted.{Acted}
 use Rattle.pull_eval.specs.declared.position.Position.{Position}
 
@@ -48,3 +53,13 @@ pub record WasAsked (asked : CondTree → Type 0) (w : Position) : Type 0 where
 -- the next child of the node at p, behind that at q or the first one
 abbrev pub FindsChild : List Cell → (p q : ℕ) → Option Place → Type 0
 FindsChild rows p q found = (c d : Cell) → In c rows → In d rows → c.place ≡ p → d.place ≡ q → MatchOption found (Unreached rows c child_step (num d)) (λ r. FirstReached rows c child_step (num d) r.0)
+
+-- ---- what a statement and the end of a copy do
+
+-- the statement is carried out for the node at the place, whatever was before
+abbrev pub SignsFor : (before after : View) → OffTree → (place : ℕ) → Type 0
+SignsFor v w o p = (past : Past) → StandsFor v past → In o (offs_in past.plan.body) → StandsFor w (past_acted (Offed o (serial_at p v.rows)) past)
+
+-- behind the copy of a node below the top it goes on within its parent's
+abbrev pub RisesTo : List Cell → Copying → Option Copying → Type 0
+RisesTo rows k next = (c d t : Cell) → In c rows → In d rows → In t rows → c.place ≡ k.node.0 → t.place ≡ k.top.0 → num t < num c → IsChild d c → next ≡ Some (risen k d.place)

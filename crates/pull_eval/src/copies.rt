@@ -4,14 +4,14 @@ ghost use Rattle.gcx_model.specs.Core.{Copy};
 ghost use Rattle.gcx_model.specs.Members.{In};
 ghost use Rattle.gcx_model.specs.Past.{Past};
 ghost use Rattle.gcx_model.specs.Answer.{child_step};
-ghost use Rattle.buf_tree.specs.Shape.{Cell, num};
+ghost use Rattle.buf_tree.specs.Shape.{Cell};
 ghost use Rattle.buf_tree.specs.View.{InUse};
 ghost use Rattle.gcx_base.specs.Kinds.{is_text};
-ghost use Rattle.buf_tree.specs.Match.{IsChild, GoesFrom};
+ghost use Rattle.buf_tree.specs.Match.{GoesFrom};
 ghost use Rattle.pull_eval.specs.Position.{items};
-ghost use Rattle.pull_eval.specs.Copies.{first_bytes, last_bytes, present_place, begun_at, come_to, risen};
+ghost use Rattle.pull_eval.specs.Copies.{first_bytes, last_bytes, present_place, begun_at, come_to};
 ghost use Rattle.pull_eval.specs.Acting.{Beside, IsNextItem, NextIs, NoNext};
-ghost use Rattle.pull_eval.specs.Calls.{MovesTo, FindsChild};
+ghost use Rattle.pull_eval.specs.Calls.{MovesTo, FindsChild, RisesTo};
 ghost use Rattle.pull_eval.specs.declared.machine.Acted.TheVariants.{Wrote};
 
 use crate::block::Copying;
@@ -240,9 +240,7 @@ impl<'p> Position<'p> {
 fn above<N: NodeStore<Row>>(buffer: &Buffer<N>, copying: &Copying) -> Option<Copying>
     requires { InUse buffer.now.rows copying.now.node.0 }
     ensures top { copying.now.node.0 ≡ copying.now.top.0 → result ≡ None }
-    ensures below { (c d t : Cell) → In c buffer.now.rows → In d buffer.now.rows → In t buffer.now.rows
-        → c.place ≡ copying.now.node.0 → t.place ≡ copying.now.top.0 → num t < num c → IsChild d c
-        → result ≡ Some (risen copying.now d.place) }
+    ensures below { RisesTo buffer.now.rows copying.now result }
 {
     let node = buffer.at(copying.node);
     if copying.node.0 == copying.top.0 {

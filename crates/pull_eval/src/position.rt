@@ -2,17 +2,14 @@
 ghost use Rattle.std.specs.Prelude.{◌≡◌, ℕ, true, false, [], None, IfOk, OnOk, OnErr};
 ghost use Rattle.gcx_model.specs.Core as tree;
 ghost use Rattle.gcx_model.specs.Core.{Write};
-ghost use Rattle.gcx_model.specs.Members.{In};
-ghost use Rattle.gcx_model.specs.Placed.{offs_in};
-ghost use Rattle.gcx_model.specs.Run.{Offed};
-ghost use Rattle.buf_tree.specs.View.{View, serial_at};
+ghost use Rattle.buf_tree.specs.View.{View};
 ghost use Rattle.buf_tree.specs.Calls.{Signed};
-ghost use Rattle.buf_tree.specs.Stands.{StandsFor, Due};
+ghost use Rattle.buf_tree.specs.Stands.{Due};
 ghost use Rattle.gcx_model.specs.ItemView.{off_tree};
-ghost use Rattle.gcx_model.specs.Past.{Past, past_acted};
+ghost use Rattle.gcx_model.specs.Past.{Past};
 ghost use Rattle.pull_eval.specs.Position.{items};
 ghost use Rattle.pull_eval.specs.Acting.{Beside, IsNextItem};
-ghost use Rattle.pull_eval.specs.Calls.{MovesTo, MovesSilently, MovesInto, MovesBehind};
+ghost use Rattle.pull_eval.specs.Calls.{MovesTo, MovesSilently, MovesInto, MovesBehind, SignsFor};
 
 use crate::block::{Block, Copying};
 use crate::machine::Acted;
@@ -169,8 +166,7 @@ fn carry_out<N: NodeStore<Row>>(
     off: &Off,
 ) -> Result<(), Memory>
     requires due { Due buffer.old place.0 off.now }
-    ensures stands { OnOk result ((past : Past) → StandsFor buffer.old past → In (off_tree off.now) (offs_in past.plan.body)
-        → StandsFor buffer.new (past_acted (Offed (off_tree off.now) (serial_at place.0 buffer.old.rows)) past)) }
+    ensures stands { OnOk result (SignsFor buffer.old buffer.new (off_tree off.now) place.0) }
     ensures signed { OnOk result (Signed buffer.old buffer.new off.now.role.0) }
     ensures kept { OnErr result (buffer.new ≡ buffer.old) }
     ensures loans { buffer.new.loans ≡ buffer.old.loans }

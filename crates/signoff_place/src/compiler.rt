@@ -25,7 +25,8 @@ pub fn compile(alloc: Global, query: &Query) -> Result<Plan, QueryFault>
     ensures placed { IfOk result (λ plan. Placed (normal (query_trees query.now)) (plan_tree plan)) }
     ensures sized { IfOk result (λ plan. IsSized plan) }
     ensures accepted { IfOk result (λ plan. refusal_of (normal (query_trees query.now)) ≡ None) }
-    ensures refused { IfErr result (UnlessMemory (λ fault. refusal_of (normal (query_trees query.now)) ≡ Some fault)) }
+    ensures refused { IfErr result (UnlessMemory (λ fault.
+        refusal_of (normal (query_trees query.now)) ≡ Some fault)) }
 {
     normal_is_good();
     placed_once();

@@ -1,23 +1,24 @@
 //! The lines of variables, roles and items.
-ghost use Rattle.std.specs.Prelude.{◌≡◌, ◌++◌, ◌∷◌, [], codes, string_bytes, OnOk};
+ghost use Rattle.std.specs.Prelude.{◌≡◌, OnOk};
 ghost use Rattle.std.specs.Fmt.{decimal};
 ghost use Rattle.gcx_model.specs.ItemView.{off_tree, role_kind};
 ghost use Rattle.gcx_model.specs.PlanView.{role_row_tree, var_row_tree};
 ghost use Rattle.signoff_place.specs.Explained.{kind_text, loop_text, off_text, reach_text, role_line, role_text, spaces, var_line};
+ghost use Rattle.xq_print.specs.Printed.{Prints};
 
 use gcx_base::{Memory, Step, VarId};
 use gcx_model::{Off, RoleKind, RoleRow, VarRow};
 use xq_normal::{put_step, put_steps};
 
 pub(crate) fn put_number(out: &mut String, number: u32) -> Result<(), Memory>
-    ensures { OnOk result (string_bytes out.new ≡ string_bytes out.old ++ decimal number) }
+    ensures { OnOk result (Prints out.old out.new (decimal number)) }
 {
     write!(out, "{number}")?;
     Ok(())
 }
 
 fn put_reach(out: &mut String, straight: bool, fsa: VarId) -> Result<(), Memory>
-    ensures { OnOk result (string_bytes out.new ≡ string_bytes out.old ++ reach_text straight fsa.0) }
+    ensures { OnOk result (Prints out.old out.new (reach_text straight fsa.0)) }
 {
     if straight {
         out.push_str("straight")?;
@@ -35,7 +36,7 @@ pub(crate) fn put_var(
     straight: bool,
     fsa: VarId,
 ) -> Result<(), Memory>
-    ensures { OnOk result (string_bytes out.new ≡ string_bytes out.old ++ var_line number (var_row_tree row.now) straight fsa.0) }
+    ensures { OnOk result (Prints out.old out.new (var_line number (var_row_tree row.now) straight fsa.0)) }
 {
     out.push_str("var ")?;
     put_number(out, number)?;
@@ -61,7 +62,7 @@ fn kind_text(kind: RoleKind) -> &'static str
 
 /// Appends what stands behind a role's number. A variable's own role has no steps.
 fn put_role_text(out: &mut String, row: &RoleRow) -> Result<(), Memory>
-    ensures { OnOk result (string_bytes out.new ≡ string_bytes out.old ++ role_text (role_kind row.now.kind) row.now.var.0 row.now.tail) }
+    ensures { OnOk result (Prints out.old out.new (role_text (role_kind row.now.kind) row.now.var.0 row.now.tail)) }
 {
     out.push_str(kind_text(row.kind))?;
     out.push_str(" ")?;
@@ -77,7 +78,7 @@ fn put_role_text(out: &mut String, row: &RoleRow) -> Result<(), Memory>
 
 /// Appends the line of the role with this number.
 pub(crate) fn put_role(out: &mut String, number: u32, row: &RoleRow) -> Result<(), Memory>
-    ensures { OnOk result (string_bytes out.new ≡ string_bytes out.old ++ role_line number (role_row_tree row.now)) }
+    ensures { OnOk result (Prints out.old out.new (role_line number (role_row_tree row.now))) }
 {
     out.push_str("role ")?;
     put_number(out, number)?;
@@ -89,7 +90,7 @@ pub(crate) fn put_role(out: &mut String, number: u32, row: &RoleRow) -> Result<(
 
 /// Appends a space for each loop or branch round an item.
 pub(crate) fn put_spaces(out: &mut String, depth: u32) -> Result<(), Memory>
-    ensures { OnOk result (string_bytes out.new ≡ string_bytes out.old ++ spaces depth) }
+    ensures { OnOk result (Prints out.old out.new (spaces depth)) }
 {
     for _ in 0..depth {
         out.push_str(" ")?;
@@ -98,7 +99,7 @@ pub(crate) fn put_spaces(out: &mut String, depth: u32) -> Result<(), Memory>
 }
 
 pub(crate) fn put_loop(out: &mut String, var: VarId, from: VarId, step: &Step) -> Result<(), Memory>
-    ensures { OnOk result (string_bytes out.new ≡ string_bytes out.old ++ loop_text var.0 from.0 step.now) }
+    ensures { OnOk result (Prints out.old out.new (loop_text var.0 from.0 step.now)) }
 {
     out.push_str("for ")?;
     put_number(out, var.0)?;
@@ -109,7 +110,7 @@ pub(crate) fn put_loop(out: &mut String, var: VarId, from: VarId, step: &Step) -
 }
 
 pub(crate) fn put_off(out: &mut String, off: &Off) -> Result<(), Memory>
-    ensures { OnOk result (string_bytes out.new ≡ string_bytes out.old ++ off_text (off_tree off.now)) }
+    ensures { OnOk result (Prints out.old out.new (off_text (off_tree off.now))) }
 {
     out.push_str("off ")?;
     put_number(out, off.base.0)?;

@@ -64,7 +64,8 @@ fn placed_item(alloc: Global, ends: &[Offs], item: &Item) -> Result<Item, Memory
 /// The body of the variable, with the statements in it and at its end.
 #[cycle(place_statements)]
 fn placed_body(alloc: Global, ends: &[Offs], var: VarId, body: &Body) -> Result<Body, Memory>
-    ensures { IfOk result (λ placed. body_tree placed ≡ add_offs (place (ends_of ends.now) (body_tree body.now)) (ends_of ends.now var.0)) }
+    ensures { IfOk result (λ placed. body_tree placed
+        ≡ add_offs (place (ends_of ends.now) (body_tree body.now)) (ends_of ends.now var.0)) }
 {
     let mut placed = Body::new(alloc);
     for item in body.items() {

@@ -74,7 +74,8 @@ fn steps_behind(alloc: Global, parent: &[Step], step: &Step) -> Result<Steps, Me
 
 /// The steps from its fsa to a variable: none where it is straight.
 fn next_rel(alloc: Global, rels: &[Steps], row: &VarRow, straight: bool) -> Result<Steps, Memory>
-    ensures { IfOk result (λ steps. steps ≡ rel_next straight (slice_index_or rels.now row.now.parent.0 []) row.now.step) }
+    ensures { IfOk result (λ steps. steps
+        ≡ rel_next straight (slice_index_or rels.now row.now.parent.0 []) row.now.step) }
 {
     if straight {
         return Ok(Steps::new(alloc));
@@ -147,7 +148,8 @@ fn statement(alloc: Global, known: &Known, role: Role, row: &RoleRow) -> Result<
 /// Adds the statement at the end of its base's list.
 fn add(ends: &mut [Offs], off: Off) -> Result<(), Memory>
     requires { off.base.0 < length ends.old }
-    ensures lists { OnOk result ((x : ℕ) → ends_of ends.new x ≡ ends_of ends.old x ++ (if off.base.0 == x then off_tree off ∷ [] else [])) }
+    ensures lists { OnOk result ((x : ℕ) → ends_of ends.new x ≡ ends_of ends.old x
+        ++ (if off.base.0 == x then off_tree off ∷ [] else [])) }
     ensures count { OnOk result (length ends.new ≡ length ends.old) }
 {
     ends[off.base.0 as usize].push(off)
@@ -163,7 +165,8 @@ fn add_role(
     own: bool,
 ) -> Result<(), Memory>
     requires { Within (length ends.old) (tables known.now) }
-    ensures lists { OnOk result ((x : ℕ) → ends_of ends.new x ≡ ends_of ends.old x ++ ends_at own (stated (tables known.now) role.0 (role_row_tree row.now) ∷ []) x) }
+    ensures lists { OnOk result ((x : ℕ) → ends_of ends.new x ≡ ends_of ends.old x
+        ++ ends_at own (stated (tables known.now) role.0 (role_row_tree row.now) ∷ []) x) }
     ensures count { OnOk result (length ends.new ≡ length ends.old) }
 {
     let off = statement(alloc, known, role, row)?;
@@ -184,7 +187,8 @@ fn add_turn(
 ) -> Result<(), Memory>
     requires few { length roles.now ≤ 2000 }
     requires within { Within (length ends.old) (tables known.now) }
-    ensures lists { OnOk result ((x : ℕ) → ends_of ends.new x ≡ ends_of ends.old x ++ ends_at own (all_stated (tables known.now) 0 (map role_row_tree roles.now)) x) }
+    ensures lists { OnOk result ((x : ℕ) → ends_of ends.new x ≡ ends_of ends.old x
+        ++ ends_at own (all_stated (tables known.now) 0 (map role_row_tree roles.now)) x) }
     ensures count { OnOk result (length ends.new ≡ length ends.old) }
 {
     for (i, row) in roles.iter().enumerate() {
@@ -214,7 +218,8 @@ pub(crate) fn ends(
 ) -> Result<Vec<Offs>, Memory>
     requires few { length roles.now ≤ 2000 }
     requires within { Within count (tables known.now) }
-    ensures { IfOk result (λ ends. (x : ℕ) → ends_of ends.items x ≡ at_end (all_stated (tables known.now) 0 (map role_row_tree roles.now)) x) }
+    ensures { IfOk result (λ ends. (x : ℕ) → ends_of ends.items x
+        ≡ at_end (all_stated (tables known.now) 0 (map role_row_tree roles.now)) x) }
 {
     let mut ends = no_ends(alloc, count)?;
     add_turn(alloc, &mut ends, known, roles, false)?;

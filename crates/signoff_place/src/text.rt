@@ -1,5 +1,5 @@
 //! The text of a plan.
-ghost use Rattle.std.specs.Prelude.{◌≡◌, ◌+◌, ◌<◌, ◌^◌, ◌++◌, [], suc, map, length, codes, string_bytes, IfOk, OnOk};
+ghost use Rattle.std.specs.Prelude.{◌≡◌, ◌+◌, ◌<◌, ◌^◌, ◌++◌, suc, map, length, codes, IfOk, OnOk};
 ghost use Rattle.std.specs.Fmt.{decimal};
 ghost use Rattle.gcx_model.specs.CondView.{core_cond_tree};
 ghost use Rattle.gcx_model.specs.ItemView.{body_tree, item_tree, off_tree};
@@ -7,6 +7,7 @@ ghost use Rattle.gcx_model.specs.PlanView.{plan_tree, role_row_tree, var_row_tre
 ghost use Rattle.xq_normal.specs.ConditionText.{cond_text};
 ghost use Rattle.signoff_place.specs.Explained.{body_text, explained, item_line, item_text, loop_text, off_text, role_lines, var_lines};
 ghost use Rattle.signoff_place.specs.Sized.{IsSized};
+ghost use Rattle.xq_print.specs.Printed.{Prints};
 
 use crate::lines::{put_loop, put_number, put_off, put_role, put_spaces, put_var};
 use gcx_base::{Memory, Step, Text, VarId};
@@ -15,7 +16,7 @@ use std::alloc::Global;
 use xq_normal::put_cond;
 
 fn put_write_line(out: &mut String, depth: u32, text: &Text) -> Result<(), Memory>
-    ensures { OnOk result (string_bytes out.new ≡ string_bytes out.old ++ item_line depth (codes "write " ++ text.now)) }
+    ensures { OnOk result (Prints out.old out.new (item_line depth (codes "write " ++ text.now))) }
 {
     put_spaces(out, depth)?;
     out.push_str("write ")?;
@@ -25,7 +26,7 @@ fn put_write_line(out: &mut String, depth: u32, text: &Text) -> Result<(), Memor
 }
 
 fn put_copy_line(out: &mut String, depth: u32, var: VarId) -> Result<(), Memory>
-    ensures { OnOk result (string_bytes out.new ≡ string_bytes out.old ++ item_line depth (codes "copy " ++ decimal var.0)) }
+    ensures { OnOk result (Prints out.old out.new (item_line depth (codes "copy " ++ decimal var.0))) }
 {
     put_spaces(out, depth)?;
     out.push_str("copy ")?;
@@ -41,7 +42,7 @@ fn put_loop_line(
     from: VarId,
     step: &Step,
 ) -> Result<(), Memory>
-    ensures { OnOk result (string_bytes out.new ≡ string_bytes out.old ++ item_line depth (loop_text var.0 from.0 step.now)) }
+    ensures { OnOk result (Prints out.old out.new (item_line depth (loop_text var.0 from.0 step.now))) }
 {
     put_spaces(out, depth)?;
     put_loop(out, var, from, step)?;
@@ -50,7 +51,8 @@ fn put_loop_line(
 }
 
 fn put_if_line(out: &mut String, depth: u32, cond: &Cond) -> Result<(), Memory>
-    ensures { OnOk result (string_bytes out.new ≡ string_bytes out.old ++ item_line depth (codes "if " ++ cond_text (core_cond_tree cond.now))) }
+    ensures { OnOk result (Prints out.old out.new (item_line depth (codes "if "
+        ++ cond_text (core_cond_tree cond.now)))) }
 {
     put_spaces(out, depth)?;
     out.push_str("if ")?;
@@ -60,7 +62,7 @@ fn put_if_line(out: &mut String, depth: u32, cond: &Cond) -> Result<(), Memory>
 }
 
 fn put_else_line(out: &mut String, depth: u32) -> Result<(), Memory>
-    ensures { OnOk result (string_bytes out.new ≡ string_bytes out.old ++ item_line depth (codes "else")) }
+    ensures { OnOk result (Prints out.old out.new (item_line depth (codes "else"))) }
 {
     put_spaces(out, depth)?;
     out.push_str("else\n")?;
@@ -68,7 +70,7 @@ fn put_else_line(out: &mut String, depth: u32) -> Result<(), Memory>
 }
 
 fn put_off_line(out: &mut String, depth: u32, off: &Off) -> Result<(), Memory>
-    ensures { OnOk result (string_bytes out.new ≡ string_bytes out.old ++ item_line depth (off_text (off_tree off.now))) }
+    ensures { OnOk result (Prints out.old out.new (item_line depth (off_text (off_tree off.now)))) }
 {
     put_spaces(out, depth)?;
     put_off(out, off)?;
@@ -85,7 +87,7 @@ fn deeper(depth: u32) -> Result<u32, Memory>
 
 #[cycle(explain_items)]
 fn put_item(out: &mut String, depth: u32, item: &Item) -> Result<(), Memory>
-    ensures { OnOk result (string_bytes out.new ≡ string_bytes out.old ++ item_text (item_tree item.now) depth) }
+    ensures { OnOk result (Prints out.old out.new (item_text (item_tree item.now) depth)) }
 {
     match item {
         Item::Write(text) => put_write_line(out, depth, text),
@@ -112,7 +114,7 @@ fn put_item(out: &mut String, depth: u32, item: &Item) -> Result<(), Memory>
 
 #[cycle(explain_items)]
 fn put_body(out: &mut String, depth: u32, body: &Body) -> Result<(), Memory>
-    ensures { OnOk result (string_bytes out.new ≡ string_bytes out.old ++ body_text (body_tree body.now) depth) }
+    ensures { OnOk result (Prints out.old out.new (body_text (body_tree body.now) depth)) }
 {
     for item in body.items() {
         put_item(out, depth, item)?;
@@ -130,7 +132,8 @@ fn put_vars(
     requires straight { length straight.now ≡ length rows.now }
     requires fsa { length fsa.now ≡ length rows.now }
     requires few { length rows.now + 1 < 2 ^ 32 }
-    ensures { OnOk result (string_bytes out.new ≡ string_bytes out.old ++ var_lines 1 (map var_row_tree rows.now) straight.now (map (λ x. x.0) fsa.now)) }
+    ensures { OnOk result (Prints out.old out.new
+        (var_lines 1 (map var_row_tree rows.now) straight.now (map (λ x. x.0) fsa.now))) }
 {
     for (i, row) in rows.iter().enumerate() {
         put_var(out, i as u32 + 1, row, straight[i], fsa[i])?;
@@ -141,7 +144,7 @@ fn put_vars(
 /// The lines of the roles from 0.
 fn put_roles(out: &mut String, rows: &[RoleRow]) -> Result<(), Memory>
     requires { length rows.now < 2 ^ 32 }
-    ensures { OnOk result (string_bytes out.new ≡ string_bytes out.old ++ role_lines 0 (map role_row_tree rows.now)) }
+    ensures { OnOk result (Prints out.old out.new (role_lines 0 (map role_row_tree rows.now))) }
 {
     for (i, row) in rows.iter().enumerate() {
         put_role(out, i as u32, row)?;

@@ -17,7 +17,8 @@ use std::alloc::Global;
 
 /// Appends the copies of the nodes.
 fn put_copies(out: &mut Vec<u8>, tree: &Tree, nodes: &[usize]) -> Result<(), Memory>
-    ensures { OnOk result (out.new.items ≡ out.old.items ++ flat_map (copy_of tree.now) (map (node_at tree.now.nodes) nodes.now)) }
+    ensures { OnOk result (out.new.items ≡ out.old.items
+        ++ flat_map (copy_of tree.now) (map (node_at tree.now.nodes) nodes.now)) }
 {
     for node in nodes {
         tree.put_copy(out, *node)?;
@@ -32,7 +33,8 @@ fn is_taken(
     scope: &[Binding<'_>],
     filter: &Option<QCond>,
 ) -> Result<bool, Memory>
-    ensures { IfOk result (λ taken. taken ≡ filtered (option_map cond_tree filter.now) (scope_of tree.now scope.now) tree.now) }
+    ensures { IfOk result (λ taken. taken
+        ≡ filtered (option_map cond_tree filter.now) (scope_of tree.now scope.now) tree.now) }
 {
     match filter {
         Some(cond) => holds(alloc, tree, scope, cond),
@@ -50,7 +52,8 @@ fn put_expr<'q>(
     expr: &'q Expr,
 ) -> Result<(), Memory>
     ensures scope { OnOk result (scope.new.items ≡ scope.old.items) }
-    ensures written { OnOk result (out.new.items ≡ out.old.items ++ answer_expr (expr_tree expr.now) (scope_of tree.now scope.old.items) tree.now) }
+    ensures written { OnOk result (out.new.items ≡ out.old.items
+        ++ answer_expr (expr_tree expr.now) (scope_of tree.now scope.old.items) tree.now) }
 {
     match expr {
         Expr::Empty => Ok(()),
@@ -90,7 +93,8 @@ fn put_exprs<'q>(
     exprs: &'q Exprs,
 ) -> Result<(), Memory>
     ensures scope { OnOk result (scope.new.items ≡ scope.old.items) }
-    ensures written { OnOk result (out.new.items ≡ out.old.items ++ answer_exprs (exprs_of (expr_trees exprs.now)) (scope_of tree.now scope.old.items) tree.now) }
+    ensures written { OnOk result (out.new.items ≡ out.old.items
+        ++ answer_exprs (exprs_of (expr_trees exprs.now)) (scope_of tree.now scope.old.items) tree.now) }
 {
     for expr in &exprs.members {
         put_expr(alloc, tree, scope, out, expr)?;
@@ -110,7 +114,9 @@ fn put_turns<'q>(
     body: &'q Expr,
 ) -> Result<(), Memory>
     ensures scope { OnOk result (scope.new.items ≡ scope.old.items) }
-    ensures written { OnOk result (out.new.items ≡ out.old.items ++ turns_bytes clauses.now (option_map cond_tree filter.now) (expr_tree body.now) (scope_of tree.now scope.old.items) tree.now) }
+    ensures written { OnOk result (out.new.items ≡ out.old.items
+        ++ turns_bytes clauses.now (option_map cond_tree filter.now) (expr_tree body.now)
+        (scope_of tree.now scope.old.items) tree.now) }
 {
     let Some((clause, rest)) = clauses.split_first() else {
         if is_taken(alloc, tree, scope, filter)? {
@@ -133,7 +139,8 @@ fn put_turns<'q>(
 /// What the query writes over the document of the tree: its meaning, where the tree is that of a whole
 /// document.
 pub fn answer_whole(alloc: Global, query: &Query, tree: &Tree) -> Result<Vec<u8>, Memory>
-    ensures { IfOk result (λ bytes. (d : Nodes) → tree.now ≡ tree_of d → bytes.items ≡ answer (query_trees query.now) d) }
+    ensures { IfOk result (λ bytes. (d : Nodes) → tree.now ≡ tree_of d → bytes.items
+        ≡ answer (query_trees query.now) d) }
 {
     let mut scope = Vec::new(alloc);
     let mut out = Vec::new(alloc);

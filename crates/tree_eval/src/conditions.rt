@@ -31,7 +31,8 @@ pub(crate) fn found(
     scope: &[Binding<'_>],
     path: &PathExpr,
 ) -> Result<Vec<usize>, Memory>
-    ensures { IfOk result (λ nodes. map (node_at tree.now.nodes) nodes.items ≡ found path.now (scope_of tree.now scope.now) tree.now) }
+    ensures { IfOk result (λ nodes. map (node_at tree.now.nodes) nodes.items
+        ≡ found path.now (scope_of tree.now scope.now) tree.now) }
 {
     let start = match &path.start {
         Some(name) => look_up(scope, name).unwrap_or(0),
@@ -68,7 +69,8 @@ fn values(
     scope: &[Binding<'_>],
     operand: &QOperand,
 ) -> Result<Vec<Value>, Memory>
-    ensures { IfOk result (λ found. map value_in found.items ≡ values operand.now (scope_of tree.now scope.now) tree.now) }
+    ensures { IfOk result (λ found. map value_in found.items
+        ≡ values operand.now (scope_of tree.now scope.now) tree.now) }
 {
     match operand {
         QOperand::Path(path) => {

@@ -54,7 +54,8 @@ fn facts_at(known: &[VarFacts], var: VarId) -> VarFacts
 
 /// Of the variable of a loop.
 fn next_facts(outer: VarId, var: VarId, from: VarId, step: &Step, parent: VarFacts) -> VarFacts
-    ensures { facts_of result ≡ next_facts (record { outer = outer.0; var = var.0; parent = from.0; step = step.now }) (facts_of parent) }
+    ensures { facts_of result
+        ≡ next_facts (record { outer = outer.0; var = var.0; parent = from.0; step = step.now }) (facts_of parent) }
 {
     let child = matches!(step.axis, Axis::Child);
     let straight = parent.straight && from.0 == outer.0 && (child || parent.only_child);
@@ -68,7 +69,8 @@ fn next_facts(outer: VarId, var: VarId, from: VarId, step: &Step, parent: VarFac
 /// Adds what is kept of the variables of the item's loops.
 #[cycle(read_loops)]
 fn read_item(known: &mut Vec<VarFacts>, outer: VarId, item: &Item) -> Result<(), Memory>
-    ensures { OnOk result (map facts_of known.new.items ≡ with_loops (map facts_of known.old.items) (item_loops (item_tree item.now) outer.0)) }
+    ensures { OnOk result (map facts_of known.new.items
+        ≡ with_loops (map facts_of known.old.items) (item_loops (item_tree item.now) outer.0)) }
 {
     match item {
         Item::For {
@@ -92,7 +94,8 @@ fn read_item(known: &mut Vec<VarFacts>, outer: VarId, item: &Item) -> Result<(),
 /// Adds what is kept of the variables of the body's loops. The nearest loop round them is that of `outer`.
 #[cycle(read_loops)]
 fn read_body(known: &mut Vec<VarFacts>, outer: VarId, body: &Body) -> Result<(), Memory>
-    ensures { OnOk result (map facts_of known.new.items ≡ with_loops (map facts_of known.old.items) (loops (body_tree body.now) outer.0)) }
+    ensures { OnOk result (map facts_of known.new.items
+        ≡ with_loops (map facts_of known.old.items) (loops (body_tree body.now) outer.0)) }
 {
     for item in body.items() {
         read_item(known, outer, item)?;

@@ -3,3 +3,4 @@ pub mod Sums
 pub mod Raw
 pub mod Scopes
 pub mod Shapes
+pub mod Calls

@@ -1,12 +1,13 @@
 //! Queries as bodies, with each `If` where the query has it.
-ghost use Rattle.std.specs.Prelude.{◌≡◌, ◌+◌, ◌-◌, ◌<◌, ◌^◌, length, IfOk, OnOk, option_map};
+ghost use Rattle.std.specs.Prelude.{◌≡◌, ◌+◌, ◌<◌, ◌^◌, length, IfOk, OnOk, option_map};
 ghost use Rattle.gcx_model.specs.Core.{Copy, Write};
 ghost use Rattle.gcx_model.specs.ItemView.{body_tree, item_tree};
 ghost use Rattle.gcx_model.specs.Query.{cond_tree, expr_tree, expr_trees, exprs_of};
-ghost use Rattle.gcx_model.specs.Normal.{all_loops, clause_loops, join, loops, nest, normal_clauses, one, start_var};
+ghost use Rattle.gcx_model.specs.Normal.{all_loops, clause_loops, loops, nest, one, start_var};
 ghost use Rattle.gcx_model.specs.Written.{end_tag, start_tag};
 ghost use Rattle.xq_normal.specs.Raw.{innermost, raw_expr, raw_exprs, raw_filtered, raw_turns};
 ghost use Rattle.xq_normal.specs.Scopes.{names_of};
+ghost use Rattle.xq_normal.specs.Calls.{PutsItems};
 
 use crate::conditions::core_cond;
 use crate::scope::{Binding, start_of};
@@ -24,16 +25,16 @@ pub(crate) fn single(alloc: Global, item: Item) -> Result<Body, Memory>
     Ok(body)
 }
 
-/// Puts an item at the end.
+/// PutsItems an item at the end.
 pub(crate) fn put_item(out: &mut Body, item: Item) -> Result<(), Memory>
-    ensures { OnOk result (body_tree out.new ≡ join (body_tree out.old) (one (item_tree item))) }
+    ensures { OnOk result (PutsItems out.old out.new (one (item_tree item))) }
 {
     out.push(item)
 }
 
-/// Puts the items at the end.
+/// PutsItems the items at the end.
 pub(crate) fn put_body(out: &mut Body, body: Body) -> Result<(), Memory>
-    ensures { OnOk result (body_tree out.new ≡ join (body_tree out.old) (body_tree body)) }
+    ensures { OnOk result (PutsItems out.old out.new (body_tree body)) }
 {
     for item in body.members {
         put_item(out, item)?;
@@ -106,7 +107,8 @@ fn path_body(
 ) -> Result<Body, Memory>
     requires { next.now + length path.now.steps < 2 ^ 32 }
     ensures next { OnOk result (next.new ≡ next.old + length path.now.steps) }
-    ensures body { IfOk result (λ body. body_tree body ≡ nest (start_var (names_of scope.now) path.now.start) path.now.steps next.old (λ y. one (Copy y))) }
+    ensures body { IfOk result (λ body. body_tree body
+        ≡ nest (start_var (names_of scope.now) path.now.start) path.now.steps next.old (λ y. one (Copy y))) }
 {
     let from = start_of(scope, &path.start);
     let steps = path.steps.items();
@@ -117,7 +119,7 @@ fn path_body(
     nested(alloc, from, steps, var, copy)
 }
 
-/// Puts what the expression becomes at the end. The next variable has the number `next`.
+/// PutsItems what the expression becomes at the end. The next variable has the number `next`.
 #[cycle(bodies)]
 fn put_expr<'q>(
     alloc: Global,
@@ -129,7 +131,8 @@ fn put_expr<'q>(
     requires { next.now + loops (expr_tree expr.now) < 2 ^ 32 }
     ensures scope { OnOk result (scope.new.items ≡ scope.old.items) }
     ensures next { OnOk result (next.new ≡ next.old + loops (expr_tree expr.now)) }
-    ensures body { OnOk result (body_tree out.new ≡ join (body_tree out.old) (raw_expr (expr_tree expr.now) (names_of scope.old.items) next.old)) }
+    ensures body { OnOk result (PutsItems out.old out.new
+        (raw_expr (expr_tree expr.now) (names_of scope.old.items) next.old)) }
 {
     match expr {
         Expr::Empty => Ok(()),
@@ -166,7 +169,7 @@ fn put_expr<'q>(
     }
 }
 
-/// Puts what the expressions become at the end, one behind another.
+/// PutsItems what the expressions become at the end, one behind another.
 #[cycle(bodies)]
 pub(crate) fn put_exprs<'q>(
     alloc: Global,
@@ -178,7 +181,8 @@ pub(crate) fn put_exprs<'q>(
     requires { next.now + all_loops (exprs_of (expr_trees exprs.now)) < 2 ^ 32 }
     ensures scope { OnOk result (scope.new.items ≡ scope.old.items) }
     ensures next { OnOk result (next.new ≡ next.old + all_loops (exprs_of (expr_trees exprs.now))) }
-    ensures body { OnOk result (body_tree out.new ≡ join (body_tree out.old) (raw_exprs (exprs_of (expr_trees exprs.now)) (names_of scope.old.items) next.old)) }
+    ensures body { OnOk result (PutsItems out.old out.new
+        (raw_exprs (exprs_of (expr_trees exprs.now)) (names_of scope.old.items) next.old)) }
 {
     for expr in &exprs.members {
         put_expr(alloc, scope, next, out, expr)?;
@@ -186,7 +190,7 @@ pub(crate) fn put_exprs<'q>(
     Ok(())
 }
 
-/// Puts a loop's body at the end, inside an `If` where there is a filter.
+/// PutsItems a loop's body at the end, inside an `If` where there is a filter.
 #[cycle(bodies)]
 fn put_filtered<'q>(
     alloc: Global,
@@ -199,7 +203,8 @@ fn put_filtered<'q>(
     requires { next.now + loops (expr_tree body.now) < 2 ^ 32 }
     ensures scope { OnOk result (scope.new.items ≡ scope.old.items) }
     ensures next { OnOk result (next.new ≡ next.old + loops (expr_tree body.now)) }
-    ensures body { OnOk result (body_tree out.new ≡ join (body_tree out.old) (raw_filtered (option_map cond_tree filter.now) (names_of scope.old.items) (raw_expr (expr_tree body.now) (names_of scope.old.items) next.old))) }
+    ensures body { OnOk result (PutsItems out.old out.new (raw_filtered (option_map cond_tree filter.now)
+        (names_of scope.old.items) (raw_expr (expr_tree body.now) (names_of scope.old.items) next.old))) }
 {
     match filter {
         Some(cond) => {
@@ -213,7 +218,7 @@ fn put_filtered<'q>(
     }
 }
 
-/// Puts the loops of the clauses at the end, one inside the other.
+/// PutsItems the loops of the clauses at the end, one inside the other.
 #[cycle(bodies)]
 fn put_turns<'q>(
     alloc: Global,
@@ -227,7 +232,8 @@ fn put_turns<'q>(
     requires { next.now + (clause_loops clauses.now + loops (expr_tree body.now)) < 2 ^ 32 }
     ensures scope { OnOk result (scope.new.items ≡ scope.old.items) }
     ensures next { OnOk result (next.new ≡ next.old + (clause_loops clauses.now + loops (expr_tree body.now))) }
-    ensures body { OnOk result (body_tree out.new ≡ join (body_tree out.old) (raw_turns clauses.now (option_map cond_tree filter.now) (expr_tree body.now) (names_of scope.old.items) next.old)) }
+    ensures body { OnOk result (PutsItems out.old out.new (raw_turns clauses.now (option_map cond_tree filter.now)
+        (expr_tree body.now) (names_of scope.old.items) next.old)) }
 {
     let Some((clause, rest)) = clauses.split_first() else {
         return put_filtered(alloc, scope, next, out, filter, body);

@@ -25,7 +25,8 @@ fn core_operand(alloc: Global, scope: &[Binding<'_>], operand: &QOperand) -> Res
 
 /// A variable alone has a match always.
 fn core_exists(alloc: Global, scope: &[Binding<'_>], path: &PathExpr) -> Result<Cond, Memory>
-    ensures { IfOk result (λ c. core_cond_tree c ≡ normal_exists (start_var (names_of scope.now) path.now.start) path.now.steps) }
+    ensures { IfOk result (λ c. core_cond_tree c
+        ≡ normal_exists (start_var (names_of scope.now) path.now.start) path.now.steps) }
 {
     if path.steps.items().is_empty() {
         return Ok(Cond::True);
@@ -63,7 +64,8 @@ pub(crate) fn core_cond(alloc: Global, scope: &[Binding<'_>], cond: &QCond) -> R
 
 #[cycle(core_conditions)]
 fn core_conds(alloc: Global, scope: &[Binding<'_>], conds: &QConds) -> Result<CondList, Memory>
-    ensures { IfOk result (λ cs. core_conds_of (core_cond_trees cs) ≡ normal_conds (conds_of (cond_trees conds.now)) (names_of scope.now)) }
+    ensures { IfOk result (λ cs. core_conds_of (core_cond_trees cs)
+        ≡ normal_conds (conds_of (cond_trees conds.now)) (names_of scope.now)) }
 {
     let mut members = CondList::new(alloc);
     for cond in conds.items() {

@@ -5,6 +5,7 @@ ghost use Rattle.gcx_model.specs.ItemView.{body_tree, item_tree};
 ghost use Rattle.xq_normal.specs.Raw.{moved, moved_item};
 ghost use Rattle.xq_normal.specs.Shapes.{branch_copies, branch_shape, capped, code_shape, shape_of};
 ghost use Rattle.xq_normal.specs.Sums.{cond_bytes, cond_steps, condition_bytes, condition_steps, conds_steps, operand_steps};
+ghost use Rattle.xq_normal.specs.Calls.{CountsOn};
 
 use crate::shape::Shape;
 use crate::text::put_cond;
@@ -70,8 +71,10 @@ fn cond_bytes(alloc: Global, cond: &Cond) -> Result<u64, Memory>
 impl Tally {
     /// Adds so many copies of a condition.
     fn add(&mut self, alloc: Global, cond: &Cond, copies: u64) -> Result<(), Memory>
-        ensures steps { OnOk result ((m n : ℕ) → self.old.steps ≡ capped m → copies ≡ capped n → self.new.steps ≡ capped (m + n * cond_steps (core_cond_tree cond.now))) }
-        ensures bytes { OnOk result ((m n : ℕ) → self.old.bytes ≡ capped m → copies ≡ capped n → self.new.bytes ≡ capped (m + n * cond_bytes (core_cond_tree cond.now))) }
+        ensures steps { OnOk result ((m n : ℕ) → self.old.steps ≡ capped m → copies ≡ capped n
+            → self.new.steps ≡ capped (m + n * cond_steps (core_cond_tree cond.now))) }
+        ensures bytes { OnOk result ((m n : ℕ) → self.old.bytes ≡ capped m → copies ≡ capped n
+            → self.new.bytes ≡ capped (m + n * cond_bytes (core_cond_tree cond.now))) }
     {
         let steps = cond_steps(cond);
         let bytes = cond_bytes(alloc, cond)?;
@@ -84,8 +87,10 @@ impl Tally {
 /// Adds the conditions of what the item becomes, and answers its shape.
 #[cycle(measures)]
 fn measure_item(alloc: Global, tally: &mut Tally, item: &Item) -> Result<Shape, Memory>
-    ensures steps { OnOk result ((n : ℕ) → tally.old.steps ≡ capped n → tally.new.steps ≡ capped (n + condition_steps (moved_item (item_tree item.now)))) }
-    ensures bytes { OnOk result ((n : ℕ) → tally.old.bytes ≡ capped n → tally.new.bytes ≡ capped (n + condition_bytes (moved_item (item_tree item.now)))) }
+    ensures steps { OnOk result (CountsOn tally.old.steps tally.new.steps
+        (condition_steps (moved_item (item_tree item.now)))) }
+    ensures bytes { OnOk result (CountsOn tally.old.bytes tally.new.bytes
+        (condition_bytes (moved_item (item_tree item.now)))) }
     ensures shape { IfOk result (λ shape. shape ≡ code_shape (shape_of (moved_item (item_tree item.now)))) }
 {
     match item {
@@ -106,8 +111,10 @@ fn measure_item(alloc: Global, tally: &mut Tally, item: &Item) -> Result<Shape, 
 /// Adds the conditions of what the body becomes once each `If` is moved, and answers its shape.
 #[cycle(measures)]
 pub(crate) fn measure(alloc: Global, tally: &mut Tally, body: &Body) -> Result<Shape, Memory>
-    ensures steps { OnOk result ((n : ℕ) → tally.old.steps ≡ capped n → tally.new.steps ≡ capped (n + condition_steps (moved (body_tree body.now)))) }
-    ensures bytes { OnOk result ((n : ℕ) → tally.old.bytes ≡ capped n → tally.new.bytes ≡ capped (n + condition_bytes (moved (body_tree body.now)))) }
+    ensures steps { OnOk result (CountsOn tally.old.steps tally.new.steps
+        (condition_steps (moved (body_tree body.now)))) }
+    ensures bytes { OnOk result (CountsOn tally.old.bytes tally.new.bytes
+        (condition_bytes (moved (body_tree body.now)))) }
     ensures shape { IfOk result (λ shape. shape ≡ code_shape (shape_of (moved (body_tree body.now)))) }
 {
     let mut shape = Shape::Empty;

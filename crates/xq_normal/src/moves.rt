@@ -5,6 +5,7 @@ ghost use Rattle.gcx_model.specs.CondView.{core_cond_tree};
 ghost use Rattle.gcx_model.specs.ItemView.{body_tree, item_tree};
 ghost use Rattle.gcx_model.specs.Normal.{branch, half, has_loop, join};
 ghost use Rattle.xq_normal.specs.Raw.{flush, moved, moved_item, spread_on, turn_of};
+ghost use Rattle.xq_normal.specs.Calls.{PutsItems, Spreads};
 
 use crate::bodies::{put_body, put_item, single};
 use gcx_base::Memory;
@@ -44,7 +45,7 @@ fn half(alloc: Global, cond: &Cond, first: bool, body: Body) -> Result<Item, Mem
     }
 }
 
-/// Puts the run at the end as one branch of an `If`. There is none for an empty run.
+/// PutsItems the run at the end as one branch of an `If`. There is none for an empty run.
 fn flush(
     alloc: Global,
     cond: &Cond,
@@ -53,7 +54,8 @@ fn flush(
     out: &mut Body,
 ) -> Result<(), Memory>
     ensures empty { OnOk result (body_tree run.new ≡ Nil) }
-    ensures put { OnOk result (body_tree out.new ≡ join (body_tree out.old) (flush (core_cond_tree cond.now) first (body_tree run.old) Nil)) }
+    ensures put { OnOk result (PutsItems out.old out.new
+        (flush (core_cond_tree cond.now) first (body_tree run.old) Nil)) }
 {
     if run.members.is_empty() {
         return Ok(());
@@ -85,7 +87,7 @@ fn spread_item(
     run: &mut Body,
     out: &mut Body,
 ) -> Result<(), Memory>
-    ensures { OnOk result ((rest : BodyTree) → join (body_tree out.new) (spread_on (core_cond_tree cond.now) first (body_tree run.new) rest) ≡ join (body_tree out.old) (spread_on (core_cond_tree cond.now) first (body_tree run.old) (Then (item_tree item) rest))) }
+    ensures { OnOk result (Spreads (core_cond_tree cond.now) first (item_tree item) run.old run.new out.old out.new) }
 {
     match item {
         Item::For {
@@ -116,7 +118,8 @@ fn spread_item(
 /// The items that stand for an `If` with the body as one branch.
 #[cycle(spreads)]
 fn spread(alloc: Global, cond: &Cond, first: bool, body: Body) -> Result<Body, Memory>
-    ensures { IfOk result (λ items. body_tree items ≡ spread_on (core_cond_tree cond.now) first Nil (body_tree body)) }
+    ensures { IfOk result (λ items. body_tree items
+        ≡ spread_on (core_cond_tree cond.now) first Nil (body_tree body)) }
 {
     let mut run = Body::new(alloc);
     let mut out = Body::new(alloc);
@@ -133,7 +136,7 @@ fn any_loop(then: &Body, other: &Body) -> bool
     has_loop(then) || has_loop(other)
 }
 
-/// Puts at the end what stands for an `If`: itself where its branches have no loop, else the items of
+/// PutsItems at the end what stands for an `If`: itself where its branches have no loop, else the items of
 /// the first branch and then those of the other.
 fn put_branch(
     alloc: Global,
@@ -142,7 +145,8 @@ fn put_branch(
     then: Body,
     other: Body,
 ) -> Result<(), Memory>
-    ensures { OnOk result (body_tree out.new ≡ join (body_tree out.old) (branch (core_cond_tree cond) (body_tree then) (body_tree other))) }
+    ensures { OnOk result (PutsItems out.old out.new
+        (branch (core_cond_tree cond) (body_tree then) (body_tree other))) }
 {
     if any_loop(&then, &other) {
         let then = spread(alloc, &cond, true, then)?;
@@ -154,10 +158,10 @@ fn put_branch(
     }
 }
 
-/// Puts at the end what the item becomes.
+/// PutsItems at the end what the item becomes.
 #[cycle(moves)]
 fn put_moved_item(alloc: Global, out: &mut Body, item: Item) -> Result<(), Memory>
-    ensures { OnOk result (body_tree out.new ≡ join (body_tree out.old) (moved_item (item_tree item))) }
+    ensures { OnOk result (PutsItems out.old out.new (moved_item (item_tree item))) }
 {
     match item {
         Item::For {

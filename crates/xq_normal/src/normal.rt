@@ -46,7 +46,8 @@ fn raw_body(alloc: Global, query: &Query) -> Result<Body, Memory>
 /// Refuses a body whose conditions come to too much once each `If` is moved.
 fn check_conditions(alloc: Global, body: &Body) -> Result<(), QueryFault>
     ensures ok { IfOk result (λ _. conditions_refusal (moved (body_tree body.now)) ≡ None) }
-    ensures err { IfErr result (UnlessMemory (λ fault. conditions_refusal (moved (body_tree body.now)) ≡ Some fault)) }
+    ensures err { IfErr result (UnlessMemory (λ fault.
+        conditions_refusal (moved (body_tree body.now)) ≡ Some fault)) }
 {
     let mut tally = Tally { steps: 0, bytes: 0 };
     measure(alloc, &mut tally, body)?;
@@ -89,7 +90,8 @@ pub(crate) fn core_within(alloc: Global, query: &Query) -> Result<Core, QueryFau
 pub fn normalise(alloc: Global, query: &Query) -> Result<Core, QueryFault>
     requires sound { is_sound (query_trees query.now) ≡ true }
     ensures core { IfOk result (λ core. core_tree core ≡ core_of (query_trees query.now)) }
-    ensures meaning { IfOk result (λ core. (d : Nodes) → bytes_written (core_tree core).body (tree_of d) ≡ answer (query_trees query.now) d) }
+    ensures meaning { IfOk result (λ core. (d : Nodes) → bytes_written (core_tree core).body (tree_of d)
+        ≡ answer (query_trees query.now) d) }
     ensures within { IfOk result (λ core. refusal (normal (query_trees query.now)) ≡ None) }
     ensures refused { IfErr result (UnlessMemory (λ fault. refusal (normal (query_trees query.now)) ≡ Some fault)) }
 {

@@ -11,7 +11,8 @@ use std::alloc::Global;
 /// Puts the rows of an item's variables at the end.
 #[cycle(rows)]
 fn put_item_rows(alloc: Global, rows: &mut VarRows, item: &Item) -> Result<(), Memory>
-    ensures { OnOk result (map var_row_tree rows.new ≡ map var_row_tree rows.old ++ item_var_rows (item_tree item.now)) }
+    ensures { OnOk result (map var_row_tree rows.new ≡ map var_row_tree rows.old
+        ++ item_var_rows (item_tree item.now)) }
 {
     match item {
         Item::For {

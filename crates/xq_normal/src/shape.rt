@@ -24,7 +24,8 @@ pub(crate) enum Shape {
 impl Shape {
     /// The shape of two bodies, one behind the other. Runs that meet are one run.
     pub(crate) fn beside(self, next: Shape) -> Shape
-        ensures { (a b : ShapeTree) → self ≡ code_shape a → next ≡ code_shape b → result ≡ code_shape (beside a b) }
+        ensures { (a b : ShapeTree) → self ≡ code_shape a → next ≡ code_shape b
+            → result ≡ code_shape (beside a b) }
     {
         match (self, next) {
             (Shape::Empty, shape) | (shape, Shape::Empty) => shape,
@@ -80,7 +81,8 @@ impl Shape {
 
     /// The shape of a loop over the body. An `If` goes into an empty body too.
     pub(crate) fn inside_loop(self) -> Shape
-        ensures { (a : ShapeTree) → self ≡ code_shape a → result ≡ code_shape (Loops (turn_copies a) false false) }
+        ensures { (a : ShapeTree) → self ≡ code_shape a
+            → result ≡ code_shape (Loops (turn_copies a) false false) }
     {
         let inner = match self {
             Shape::Empty => 1,
@@ -95,7 +97,8 @@ impl Shape {
 
     /// How many copies there are of the condition of an `If` with branches of these shapes.
     pub(crate) fn branch_copies(self, other: Shape) -> u64
-        ensures { (a b : ShapeTree) → self ≡ code_shape a → other ≡ code_shape b → result ≡ capped (branch_copies a b) }
+        ensures { (a b : ShapeTree) → self ≡ code_shape a → other ≡ code_shape b
+            → result ≡ capped (branch_copies a b) }
     {
         if self.is_looped() || other.is_looped() {
             self.copies().saturating_add(other.copies())
@@ -106,7 +109,8 @@ impl Shape {
 
     /// The shape of what stands for an `If` with branches of these shapes.
     pub(crate) fn branched(self, other: Shape) -> Shape
-        ensures { (a b : ShapeTree) → self ≡ code_shape a → other ≡ code_shape b → result ≡ code_shape (branch_shape a b) }
+        ensures { (a b : ShapeTree) → self ≡ code_shape a → other ≡ code_shape b
+            → result ≡ code_shape (branch_shape a b) }
     {
         if self.is_looped() || other.is_looped() {
             self.beside(other)

@@ -1,7 +1,7 @@
 //! The text of a core's condition.
-ghost use Rattle.std.specs.Prelude.{◌≡◌, ◌++◌, [], map, string_bytes, codes, OnOk};
+ghost use Rattle.std.specs.Prelude.{◌≡◌, ◌++◌, map, codes, OnOk};
 ghost use Rattle.gcx_model.specs.CondView.{core_cond_tree, core_cond_trees, core_conds_of, operand_tree};
-ghost use Rattle.xq_print.specs.Printed.{joined, rel_text};
+ghost use Rattle.xq_print.specs.Printed.{Prints, joined, rel_text};
 ghost use Rattle.xq_normal.specs.ConditionText.{axis_text, cond_text, cond_texts, operand_text, path_text, step_text, steps_text};
 ghost use Rattle.std.specs.Fmt.{decimal};
 ghost use Rattle.gcx_model.specs.Core.{Path};
@@ -21,14 +21,14 @@ fn axis_text(axis: Axis) -> &'static str
 
 /// Appends a step: its axis, two colons and its test.
 pub fn put_step(out: &mut String, step: &Step) -> Result<(), Memory>
-    ensures { OnOk result (string_bytes out.new ≡ string_bytes out.old ++ step_text step.now) }
+    ensures { OnOk result (Prints out.old out.new (step_text step.now)) }
 {
     out.push_str(axis_text(step.axis))?;
     put_test(out, &step.test)
 }
 
 fn put_joined_steps(out: &mut String, steps: &[Step]) -> Result<(), Memory>
-    ensures { OnOk result (string_bytes out.new ≡ string_bytes out.old ++ joined (codes "/") (map step_text steps.now)) }
+    ensures { OnOk result (Prints out.old out.new (joined (codes "/") (map step_text steps.now))) }
 {
     let mut later = false;
     for step in steps {
@@ -41,7 +41,7 @@ fn put_joined_steps(out: &mut String, steps: &[Step]) -> Result<(), Memory>
 
 /// Appends steps with a slash between, or a point where there are none.
 pub fn put_steps(out: &mut String, steps: &[Step]) -> Result<(), Memory>
-    ensures { OnOk result (string_bytes out.new ≡ string_bytes out.old ++ steps_text steps.now) }
+    ensures { OnOk result (Prints out.old out.new (steps_text steps.now)) }
 {
     if steps.is_empty() {
         out.push_str(".")?;
@@ -51,7 +51,7 @@ pub fn put_steps(out: &mut String, steps: &[Step]) -> Result<(), Memory>
 }
 
 fn put_var(out: &mut String, var: VarId) -> Result<(), Memory>
-    ensures { OnOk result (string_bytes out.new ≡ string_bytes out.old ++ decimal var.0) }
+    ensures { OnOk result (Prints out.old out.new (decimal var.0)) }
 {
     let number = var.0;
     write!(out, "{number}")?;
@@ -59,7 +59,7 @@ fn put_var(out: &mut String, var: VarId) -> Result<(), Memory>
 }
 
 fn put_path(out: &mut String, var: VarId, steps: &[Step]) -> Result<(), Memory>
-    ensures { OnOk result (string_bytes out.new ≡ string_bytes out.old ++ path_text var.0 steps.now) }
+    ensures { OnOk result (Prints out.old out.new (path_text var.0 steps.now)) }
 {
     put_var(out, var)?;
     out.push_str("/")?;
@@ -67,7 +67,7 @@ fn put_path(out: &mut String, var: VarId, steps: &[Step]) -> Result<(), Memory>
 }
 
 fn put_path_operand(out: &mut String, var: VarId, steps: &[Step]) -> Result<(), Memory>
-    ensures { OnOk result (string_bytes out.new ≡ string_bytes out.old ++ operand_text (Path var.0 steps.now)) }
+    ensures { OnOk result (Prints out.old out.new (operand_text (Path var.0 steps.now))) }
 {
     if steps.is_empty() {
         return put_var(out, var);
@@ -76,7 +76,7 @@ fn put_path_operand(out: &mut String, var: VarId, steps: &[Step]) -> Result<(), 
 }
 
 fn put_operand(out: &mut String, operand: &Operand) -> Result<(), Memory>
-    ensures { OnOk result (string_bytes out.new ≡ string_bytes out.old ++ operand_text (operand_tree operand.now)) }
+    ensures { OnOk result (Prints out.old out.new (operand_text (operand_tree operand.now))) }
 {
     match operand {
         Operand::Path { var, steps } => put_path_operand(out, *var, steps.items()),
@@ -86,7 +86,7 @@ fn put_operand(out: &mut String, operand: &Operand) -> Result<(), Memory>
 }
 
 fn put_exists(out: &mut String, var: VarId, steps: &[Step]) -> Result<(), Memory>
-    ensures { OnOk result (string_bytes out.new ≡ string_bytes out.old ++ (codes "exists(" ++ (path_text var.0 steps.now ++ codes ")"))) }
+    ensures { OnOk result (Prints out.old out.new (codes "exists(" ++ (path_text var.0 steps.now ++ codes ")"))) }
 {
     out.push_str("exists(")?;
     put_path(out, var, steps)?;
@@ -95,7 +95,9 @@ fn put_exists(out: &mut String, var: VarId, steps: &[Step]) -> Result<(), Memory
 }
 
 fn put_comparison(out: &mut String, left: &Operand, rel: Rel, right: &Operand) -> Result<(), Memory>
-    ensures { OnOk result (string_bytes out.new ≡ string_bytes out.old ++ (codes "(" ++ (operand_text (operand_tree left.now) ++ (rel_text rel ++ (operand_text (operand_tree right.now) ++ codes ")"))))) }
+    ensures { OnOk result (Prints out.old out.new (codes "("
+        ++ (operand_text (operand_tree left.now)
+        ++ (rel_text rel ++ (operand_text (operand_tree right.now) ++ codes ")"))))) }
 {
     out.push_str("(")?;
     put_operand(out, left)?;
@@ -108,7 +110,7 @@ fn put_comparison(out: &mut String, left: &Operand, rel: Rel, right: &Operand) -
 /// Appends a condition as the text of a plan has it. The limit on conditions counts this text.
 #[cycle(print_conditions)]
 pub fn put_cond(out: &mut String, cond: &Cond) -> Result<(), Memory>
-    ensures { OnOk result (string_bytes out.new ≡ string_bytes out.old ++ cond_text (core_cond_tree cond.now)) }
+    ensures { OnOk result (Prints out.old out.new (cond_text (core_cond_tree cond.now))) }
 {
     match cond {
         Cond::True => {
@@ -140,7 +142,8 @@ pub fn put_cond(out: &mut String, cond: &Cond) -> Result<(), Memory>
 
 #[cycle(print_conditions)]
 fn put_members(out: &mut String, members: &CondList) -> Result<(), Memory>
-    ensures { OnOk result (string_bytes out.new ≡ string_bytes out.old ++ joined (codes ", ") (cond_texts (core_conds_of (core_cond_trees members.now)))) }
+    ensures { OnOk result (Prints out.old out.new
+        (joined (codes ", ") (cond_texts (core_conds_of (core_cond_trees members.now))))) }
 {
     let mut later = false;
     for member in members.items() {

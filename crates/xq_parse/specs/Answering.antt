@@ -12,7 +12,7 @@ use Rattle.xq_parse.specs.declared.refusal.Why.{Why}
 use Rattle.xq_parse.specs.declared.refusal.Why.TheVariants.{Syntax, TagMismatch, Nesting}
 use Rattle.xq_parse.specs.declared.refusal.Refusal.{Refusal}
 use Rattle.xq_parse.specs.declared.refusal.Refusal.TheVariants.{Memory, At}
-use Rattle.xq_parse.specs.Machine.{Found, start}
+use Rattle.xq_parse.specs.Machine.{deepest, Found, start}
 use Rattle.xq_parse.specs.Reading.{Stop, a_stop, run}
 
 abbrev pub from_or : ℕ → Option Tok → ℕ
@@ -26,7 +26,7 @@ place_at ts left end = from_or end (slice_get ts (length ts - left))
 abbrev pub fault_at : Why → ℕ → QueryFault
 fault_at Syntax at = faults.Syntax at
 fault_at TagMismatch at = faults.TagMismatch at
-fault_at Nesting at = faults.TooLarge whats.Nesting 200
+fault_at Nesting at = faults.TooLarge whats.Nesting deepest
 
 abbrev pub stop_fault : List Tok → ℕ → Stop → QueryFault
 stop_fault ts end r = fault_at r.why (place_at ts r.left end)
@@ -50,4 +50,4 @@ Answers (Ok q) now = now ≡ Ok (query_trees q)
 Answers (Err e) now = UnlessMemory (λ f. now ≡ Err f) e
 
 abbrev pub judged : List Tok → ℕ → Result (List ExprTree) QueryFault
-judged ts end = judge ts end (run 200 start ts)
+judged ts end = judge ts end (run deepest start ts)

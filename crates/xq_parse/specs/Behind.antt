@@ -16,7 +16,7 @@ use Rattle.xq_parse.specs.declared.expressions.ExprStart.TheVariants as exprs
 use Rattle.xq_parse.specs.declared.expressions.Part.{Part}
 use Rattle.xq_parse.specs.declared.expressions.Part.TheVariants as parts
 use Rattle.xq_parse.specs.Places.{Scope}
-use Rattle.xq_parse.specs.Machine.{State, sign, end_name, axis_or_name, test, steps, steps_state, no_trail, with_start, path, inner, side_seen, path_seen, not_state, true_state, exists_state, group_state, literal_state, compare_state, for_state, if_state, elem_state, after_nested, braces_state}
+use Rattle.xq_parse.specs.Machine.{State, deepest, sign, end_name, axis_or_name, test, steps, steps_state, no_trail, with_start, path, inner, side_seen, path_seen, not_state, true_state, exists_state, group_state, literal_state, compare_state, for_state, if_state, elem_state, after_nested, braces_state}
 
 abbrev pub axis_found : Option (List ℕ) → (Step → State) → State
 axis_found None k = test axes.Child k
@@ -41,8 +41,8 @@ atom_behind n sc m atoms.Path k = path (compare_state sc m k)
 
 -- what opens a construct has room for it
 abbrev pub HasRoom : ℕ → AtomStart → Type 0
-HasRoom n atoms.Not = n < 200
-HasRoom n atoms.Group = n < 200
+HasRoom n atoms.Not = n < deepest
+HasRoom n atoms.Group = n < deepest
 HasRoom n s = Unit {0}
 
 -- what stands behind the beginning of an expression
@@ -55,7 +55,7 @@ expr_behind n sc m exprs.Path k = path (path_seen sc m k)
 
 abbrev pub ExprHasRoom : ℕ → ExprStart → Type 0
 ExprHasRoom n exprs.Path = Unit {0}
-ExprHasRoom n s = n < 200
+ExprHasRoom n s = n < deepest
 
 -- what stands behind the beginning of a part of a constructor
 abbrev pub part_behind : ℕ → Scope → Marks → List ℕ → List ExprTree → Part → (Marks → List ExprTree → State) → State
@@ -64,7 +64,7 @@ part_behind n sc m x body parts.Nested k = elem_state (n + 1) sc m (after_nested
 part_behind n sc m x body parts.Braced k = braces_state n sc m x body k
 
 abbrev pub PartHasRoom : ℕ → Part → Type 0
-PartHasRoom n parts.Nested = n < 200
+PartHasRoom n parts.Nested = n < deepest
 PartHasRoom n s = Unit {0}
 
 -- The scope is another one with more names inside.

@@ -19,3 +19,11 @@ or_else (Some k) b = Some k
 abbrev pub unless_at : (place : ℕ) → Option ℕ → Option ℕ
 unless_at place None = None
 unless_at place (Some k) = if k == place then None else Some k
+
+-- the place of the name q, where `name` gets this place unless it had one
+abbrev pub place_put : (name : List ℕ) (place : ℕ) (q : List ℕ) → Option ℕ → Option ℕ
+place_put name place q had = or_else had (if bytes_eq q name then Some place else None)
+
+-- and where that place of `name` is taken back
+abbrev pub place_taken : (name : List ℕ) (place : ℕ) (q : List ℕ) → Option ℕ → Option ℕ
+place_taken name place q had = if bytes_eq q name then unless_at place had else had

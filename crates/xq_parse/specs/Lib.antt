@@ -9,3 +9,4 @@ pub mod Reading
 pub mod Behind
 pub mod Answering
 pub mod Bindings
+pub mod Calls

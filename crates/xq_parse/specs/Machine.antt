@@ -27,6 +27,10 @@ use Rattle.xq_parse.specs.Grammar.{a_step, a_path, a_clause, all_of, any_of, seq
 use Rattle.xq_parse.specs.Places.{Scope}
 use Rattle.xq_parse.specs.Signs.{sign_eq}
 
+-- at most so many constructs are open at a token
+abbrev pub deepest : ℕ
+deepest = 200
+
 -- ---- paths with their places
 
 abbrev pub or_else : {X : Type 0} → Option X → Option X → Option X

@@ -1,13 +1,10 @@
 //! Conditions.
-ghost use Rattle.std.specs.Prelude.{◌≡◌, ◌≤◌, ◌<◌, ◌+◌, ℕ, true, cond, List, Option, Some, None, length, IfOk, OnOk};
-ghost use Rattle.gcx_model.specs.declared.query.QOperand.{QOperand};
-ghost use Rattle.gcx_model.specs.Query.{CondTree, cond_tree, cond_trees};
-ghost use Rattle.xq_parse.specs.declared.marks.Marks.{Marks};
-ghost use Rattle.xq_parse.specs.Places.{Scope};
+ghost use Rattle.std.specs.Prelude.{◌≡◌, ◌≤◌, ◌<◌, true, length, IfOk, OnOk};
+ghost use Rattle.gcx_model.specs.Query.{cond_tree, cond_trees};
 ghost use Rattle.xq_parse.specs.Grammar.{all_of, any_of};
-ghost use Rattle.xq_parse.specs.Machine.{State, all_state, alls_state, ands, atom, atoms_state, compare_state, cond_state, condition, exists_state, group_state, literal_state, more_ands, more_ors, not_state, operand, ors, path, true_state, with_filter};
-ghost use Rattle.xq_parse.specs.Behind.{HasRoom, atom_behind};
-ghost use Rattle.xq_parse.specs.Reading.{Moves, Stop, run};
+ghost use Rattle.xq_parse.specs.Machine.{deepest, all_state, alls_state, atom, atoms_state, compare_state, cond_state, exists_state, group_state, literal_state, not_state, operand, path, true_state};
+ghost use Rattle.xq_parse.specs.Behind.{HasRoom};
+ghost use Rattle.xq_parse.specs.Calls.{Parses, TakesAnd, TakesOr, TakesWhere, ReadsAtomStart};
 
 use crate::cursor::{Cursor, MOST, is_word};
 use crate::marks::Marks;
@@ -38,7 +35,7 @@ pub(crate) enum AtomStart {
 impl<'a> Cursor<'a> {
     /// Takes the word `and`, if it stands next.
     fn takes_and(&mut self) -> bool
-        ensures moves { (n : ℕ) (sc : Scope) (m : Marks) (bs : List CondTree) (k : Marks → List CondTree → State) → run 200 (ands n sc m bs k) self.old.rest.now ≡ run 200 (cond result (atom n sc m (more_ands n sc bs k)) (k m bs)) self.new.rest.now }
+        ensures moves { TakesAnd self.old.rest.now self.new.rest.now result }
         ensures shorter { length self.new.rest.now ≤ length self.old.rest.now }
         ensures some { result ≡ true → length self.new.rest.now < length self.old.rest.now }
     {
@@ -59,7 +56,7 @@ impl<'a> Cursor<'a> {
 
     /// Takes the word `or`, if it stands next.
     fn takes_or(&mut self) -> bool
-        ensures moves { (n : ℕ) (sc : Scope) (m : Marks) (bs : List CondTree) (k : Marks → List CondTree → State) → run 200 (ors n sc m bs k) self.old.rest.now ≡ run 200 (cond result (all_state n sc m (more_ors n sc bs k)) (k m bs)) self.new.rest.now }
+        ensures moves { TakesOr self.old.rest.now self.new.rest.now result }
         ensures shorter { length self.new.rest.now ≤ length self.old.rest.now }
         ensures some { result ≡ true → length self.new.rest.now < length self.old.rest.now }
     {
@@ -80,7 +77,7 @@ impl<'a> Cursor<'a> {
 
     /// Takes the word `where`, if it stands next.
     pub(crate) fn takes_where(&mut self) -> bool
-        ensures moves { (n : ℕ) (sc : Scope) (m : Marks) (k : Marks → Option CondTree → State) → run 200 (condition n sc m k) self.old.rest.now ≡ run 200 (cond result (cond_state n sc m (with_filter k)) (k m None)) self.new.rest.now }
+        ensures moves { TakesWhere self.old.rest.now self.new.rest.now result }
         ensures shorter { length self.new.rest.now ≤ length self.old.rest.now }
         ensures some { result ≡ true → length self.new.rest.now < length self.old.rest.now }
     {
@@ -101,8 +98,8 @@ impl<'a> Cursor<'a> {
 
     /// Takes what tells how an atom goes on.
     fn takes_atom(&mut self, depth: usize) -> Result<AtomStart, Refusal>
-        requires { depth ≤ 200 }
-        ensures moves { (sc : Scope) (m : Marks) (k : Marks → CondTree → State) → Moves (λ s. run 200 (atom_behind depth sc m s k) self.new.rest.now) result (run 200 (atom depth sc m k) self.old.rest.now) }
+        requires { depth ≤ deepest }
+        ensures moves { ReadsAtomStart depth self.old.rest.now self.new.rest.now result }
         ensures room { IfOk result (λ s. HasRoom depth s) }
         ensures shorter { length self.new.rest.now ≤ length self.old.rest.now }
     {
@@ -161,9 +158,9 @@ fn any_in(members: QConds) -> QCond
 }
 
 impl<'a> Parser<'a> {
-    /// Reads the right side of a comparison.
+    /// Proceeds the right side of a comparison.
     fn operand(&mut self) -> Result<QOperand, Refusal>
-        ensures moves { (k : Marks → QOperand → State) → Moves (λ o. run 200 (k self.new.marks o) self.new.cursor.rest.now) result (run 200 (operand self.old.scope self.old.marks k) self.old.cursor.rest.now) }
+        ensures moves { Parses (λ o. o) operand self.old self.new result }
         ensures scope { OnOk result (self.new.scope ≡ self.old.scope) }
         ensures shorter { length self.new.cursor.rest.now ≤ length self.old.cursor.rest.now }
     {
@@ -177,9 +174,9 @@ impl<'a> Parser<'a> {
         }
     }
 
-    /// Reads what stands behind `true`.
+    /// Proceeds what stands behind `true`.
     fn always(&mut self) -> Result<QCond, Refusal>
-        ensures moves { (k : Marks → CondTree → State) → Moves (λ c. run 200 (k self.new.marks (cond_tree c)) self.new.cursor.rest.now) result (run 200 (true_state self.old.marks k) self.old.cursor.rest.now) }
+        ensures moves { Parses cond_tree (λ sc. true_state) self.old self.new result }
         ensures scope { OnOk result (self.new.scope ≡ self.old.scope) }
         ensures shorter { length self.new.cursor.rest.now ≤ length self.old.cursor.rest.now }
     {
@@ -188,10 +185,10 @@ impl<'a> Parser<'a> {
         Ok(QCond::True)
     }
 
-    /// Reads what stands behind `exists`.
+    /// Proceeds what stands behind `exists`.
     #[tactic(auto, unfolding(crate::specs::Machine::exists_state))]
     fn existing(&mut self) -> Result<QCond, Refusal>
-        ensures moves { (k : Marks → CondTree → State) → Moves (λ c. run 200 (k self.new.marks (cond_tree c)) self.new.cursor.rest.now) result (run 200 (exists_state self.old.scope self.old.marks k) self.old.cursor.rest.now) }
+        ensures moves { Parses cond_tree exists_state self.old self.new result }
         ensures scope { OnOk result (self.new.scope ≡ self.old.scope) }
         ensures shorter { length self.new.cursor.rest.now ≤ length self.old.cursor.rest.now }
     {
@@ -202,9 +199,9 @@ impl<'a> Parser<'a> {
         Ok(QCond::Exists(route.path))
     }
 
-    /// Reads a comparison that begins with a path.
+    /// Proceeds a comparison that begins with a path.
     fn comparison(&mut self) -> Result<QCond, Refusal>
-        ensures moves { (k : Marks → CondTree → State) → Moves (λ c. run 200 (k self.new.marks (cond_tree c)) self.new.cursor.rest.now) result (run 200 (path (compare_state self.old.scope self.old.marks k)) self.old.cursor.rest.now) }
+        ensures moves { Parses cond_tree (λ sc m k. path (compare_state sc m k)) self.old self.new result }
         ensures scope { OnOk result (self.new.scope ≡ self.old.scope) }
         ensures shorter { length self.new.cursor.rest.now ≤ length self.old.cursor.rest.now }
     {
@@ -219,10 +216,10 @@ impl<'a> Parser<'a> {
         })
     }
 
-    /// Reads a comparison behind the literal that it begins with.
+    /// Proceeds a comparison behind the literal that it begins with.
     #[tactic(auto, unfolding(crate::specs::Machine::literal_state))]
     fn literal_comparison(&mut self, left: QOperand) -> Result<QCond, Refusal>
-        ensures moves { (k : Marks → CondTree → State) → Moves (λ c. run 200 (k self.new.marks (cond_tree c)) self.new.cursor.rest.now) result (run 200 (literal_state left self.old.scope self.old.marks k) self.old.cursor.rest.now) }
+        ensures moves { Parses cond_tree (literal_state left) self.old self.new result }
         ensures scope { OnOk result (self.new.scope ≡ self.old.scope) }
         ensures shorter { length self.new.cursor.rest.now ≤ length self.old.cursor.rest.now }
     {
@@ -236,11 +233,11 @@ impl<'a> Parser<'a> {
         })
     }
 
-    /// Reads an atom, with `depth` constructs open before it.
+    /// Proceeds an atom, with `depth` constructs open before it.
     #[cycle(conds)]
     fn atom(&mut self, depth: usize) -> Result<QCond, Refusal>
-        requires { depth ≤ 200 }
-        ensures moves { (k : Marks → CondTree → State) → Moves (λ c. run 200 (k self.new.marks (cond_tree c)) self.new.cursor.rest.now) result (run 200 (atom depth self.old.scope self.old.marks k) self.old.cursor.rest.now) }
+        requires { depth ≤ deepest }
+        ensures moves { Parses cond_tree (atom depth) self.old self.new result }
         ensures scope { OnOk result (self.new.scope ≡ self.old.scope) }
         ensures shorter { length self.new.cursor.rest.now ≤ length self.old.cursor.rest.now }
     {
@@ -272,12 +269,12 @@ impl<'a> Parser<'a> {
         }
     }
 
-    /// Reads what stands behind `not`.
+    /// Proceeds what stands behind `not`.
     #[tactic(auto, unfolding(crate::specs::Machine::not_state))]
     #[cycle(conds)]
     fn negation(&mut self, depth: usize) -> Result<QCond, Refusal>
-        requires { depth ≤ 200 }
-        ensures moves { (k : Marks → CondTree → State) → Moves (λ c. run 200 (k self.new.marks (cond_tree c)) self.new.cursor.rest.now) result (run 200 (not_state depth self.old.scope self.old.marks k) self.old.cursor.rest.now) }
+        requires { depth ≤ deepest }
+        ensures moves { Parses cond_tree (not_state depth) self.old self.new result }
         ensures scope { OnOk result (self.new.scope ≡ self.old.scope) }
         ensures shorter { length self.new.cursor.rest.now ≤ length self.old.cursor.rest.now }
     {
@@ -286,12 +283,12 @@ impl<'a> Parser<'a> {
         Ok(QCond::Not(Box::new(self.cursor.alloc, cond)?))
     }
 
-    /// Reads a condition and the `)` behind it.
+    /// Proceeds a condition and the `)` behind it.
     #[tactic(auto, unfolding(crate::specs::Machine::group_state))]
     #[cycle(conds)]
     fn group(&mut self, depth: usize) -> Result<QCond, Refusal>
-        requires { depth ≤ 200 }
-        ensures moves { (k : Marks → CondTree → State) → Moves (λ c. run 200 (k self.new.marks (cond_tree c)) self.new.cursor.rest.now) result (run 200 (group_state depth self.old.scope self.old.marks k) self.old.cursor.rest.now) }
+        requires { depth ≤ deepest }
+        ensures moves { Parses cond_tree (group_state depth) self.old self.new result }
         ensures scope { OnOk result (self.new.scope ≡ self.old.scope) }
         ensures shorter { length self.new.cursor.rest.now ≤ length self.old.cursor.rest.now }
     {
@@ -300,11 +297,11 @@ impl<'a> Parser<'a> {
         Ok(cond)
     }
 
-    /// Reads atoms with `and` between them.
+    /// Proceeds atoms with `and` between them.
     #[cycle(conds)]
     fn atoms(&mut self, depth: usize) -> Result<QConds, Refusal>
-        requires { depth ≤ 200 }
-        ensures moves { (k : Marks → List CondTree → State) → Moves (λ cs. run 200 (k self.new.marks (cond_trees cs)) self.new.cursor.rest.now) result (run 200 (atoms_state depth self.old.scope self.old.marks k) self.old.cursor.rest.now) }
+        requires { depth ≤ deepest }
+        ensures moves { Parses cond_trees (atoms_state depth) self.old self.new result }
         ensures scope { OnOk result (self.new.scope ≡ self.old.scope) }
         ensures shorter { length self.new.cursor.rest.now ≤ length self.old.cursor.rest.now }
     {
@@ -318,12 +315,12 @@ impl<'a> Parser<'a> {
         Ok(conds)
     }
 
-    /// Reads what may stand between `or`s.
+    /// Proceeds what may stand between `or`s.
     #[tactic(auto, unfolding(crate::specs::Machine::all_state))]
     #[cycle(conds)]
     fn all(&mut self, depth: usize) -> Result<QCond, Refusal>
-        requires { depth ≤ 200 }
-        ensures moves { (k : Marks → CondTree → State) → Moves (λ c. run 200 (k self.new.marks (cond_tree c)) self.new.cursor.rest.now) result (run 200 (all_state depth self.old.scope self.old.marks k) self.old.cursor.rest.now) }
+        requires { depth ≤ deepest }
+        ensures moves { Parses cond_tree (all_state depth) self.old self.new result }
         ensures scope { OnOk result (self.new.scope ≡ self.old.scope) }
         ensures shorter { length self.new.cursor.rest.now ≤ length self.old.cursor.rest.now }
     {
@@ -331,11 +328,11 @@ impl<'a> Parser<'a> {
         Ok(all_in(conds))
     }
 
-    /// Reads conditions with `or` between them.
+    /// Proceeds conditions with `or` between them.
     #[cycle(conds)]
     fn alls(&mut self, depth: usize) -> Result<QConds, Refusal>
-        requires { depth ≤ 200 }
-        ensures moves { (k : Marks → List CondTree → State) → Moves (λ cs. run 200 (k self.new.marks (cond_trees cs)) self.new.cursor.rest.now) result (run 200 (alls_state depth self.old.scope self.old.marks k) self.old.cursor.rest.now) }
+        requires { depth ≤ deepest }
+        ensures moves { Parses cond_trees (alls_state depth) self.old self.new result }
         ensures scope { OnOk result (self.new.scope ≡ self.old.scope) }
         ensures shorter { length self.new.cursor.rest.now ≤ length self.old.cursor.rest.now }
     {
@@ -349,12 +346,12 @@ impl<'a> Parser<'a> {
         Ok(conds)
     }
 
-    /// Reads a condition.
+    /// Proceeds a condition.
     #[tactic(auto, unfolding(crate::specs::Machine::cond_state))]
     #[cycle(conds)]
     pub(crate) fn condition(&mut self, depth: usize) -> Result<QCond, Refusal>
-        requires { depth ≤ 200 }
-        ensures moves { (k : Marks → CondTree → State) → Moves (λ c. run 200 (k self.new.marks (cond_tree c)) self.new.cursor.rest.now) result (run 200 (cond_state depth self.old.scope self.old.marks k) self.old.cursor.rest.now) }
+        requires { depth ≤ deepest }
+        ensures moves { Parses cond_tree (cond_state depth) self.old self.new result }
         ensures scope { OnOk result (self.new.scope ≡ self.old.scope) }
         ensures shorter { length self.new.cursor.rest.now ≤ length self.old.cursor.rest.now }
     {

@@ -1,12 +1,11 @@
 //! What is left of the tokens of a query.
-ghost use Rattle.std.specs.Prelude.{◌≡◌, ◌≤◌, ◌<◌, ◌++◌, ◌∷◌, ℕ, true, false, cond, List, [], Some, drop, length, bytes_eq, IfErr, OnOk};
-ghost use Rattle.gcx_model.specs.declared.query.Clause.{Clause};
+ghost use Rattle.std.specs.Prelude.{◌≡◌, ◌≤◌, ◌<◌, true, false, List, [], drop, length, bytes_eq, IfErr, OnOk};
 ghost use Rattle.gcx_model.specs.Query.{ExprTree};
 ghost use Rattle.xq_parse.specs.declared.marks.Marks.{Marks};
-ghost use Rattle.xq_parse.specs.Places.{Scope};
 ghost use Rattle.xq_parse.specs.Signs.{is_slash, sign_eq};
-ghost use Rattle.xq_parse.specs.Machine.{State, Found, clause_state, clauses, done, end_name, expr, more_clauses, more_rest, name, rest, sign, var, word};
-ghost use Rattle.xq_parse.specs.Reading.{Moves, Stop, run};
+ghost use Rattle.xq_parse.specs.Machine.{deepest, clauses, done, end_name, name, sign, var, word};
+ghost use Rattle.xq_parse.specs.Reading.{Moves, run};
+ghost use Rattle.xq_parse.specs.Calls.{ReadsOne, Skips, TakesComma, TakesClauseComma};
 
 use crate::refusal::{Refusal, Why};
 use gcx_base::Name;
@@ -40,7 +39,7 @@ impl<'a> Cursor<'a> {
     /// Takes this sign, which is no slash.
     pub(crate) fn sign(&mut self, wanted: Sign) -> Result<(), Refusal>
         requires { is_slash wanted ≡ false }
-        ensures moves { (s : State) → Moves (λ _. run 200 s self.new.rest.now) result (run 200 (sign wanted s) self.old.rest.now) }
+        ensures moves { Skips (sign wanted) self.old.rest.now self.new.rest.now result }
         ensures shorter { length self.new.rest.now ≤ length self.old.rest.now }
     {
         match self.rest {
@@ -61,8 +60,9 @@ impl<'a> Cursor<'a> {
     /// Takes the next token, which opens a construct inside `depth` others.
     pub(crate) fn open(&mut self, depth: usize) -> Result<(), Refusal>
         requires { 0 < length self.now.rest.now }
-        ensures ok { OnOk result ((depth < 200) × (self.new.rest.now ≡ drop 1 self.old.rest.now)) }
-        ensures err { IfErr result (λ e. (200 ≤ depth) × (e ≡ Refusal.At Why.Nesting (length self.old.rest.now))) }
+        ensures ok { OnOk result ((depth < deepest) × (self.new.rest.now ≡ drop 1 self.old.rest.now)) }
+        ensures err { IfErr result (λ e. (deepest ≤ depth)
+            × (e ≡ Refusal.At Why.Nesting (length self.old.rest.now))) }
         ensures shorter { length self.new.rest.now ≤ length self.old.rest.now }
     {
         if depth >= MOST {
@@ -74,7 +74,8 @@ impl<'a> Cursor<'a> {
 
     /// Wants no token more.
     pub(crate) fn end(&self) -> Result<(), Refusal>
-        ensures { (m : Marks) (es : List ExprTree) → Moves (λ _. run 200 (done m es) []) result (run 200 (done m es) self.now.rest.now) }
+        ensures { (m : Marks) (es : List ExprTree)
+            → Moves (λ _. run deepest (done m es) []) result (run deepest (done m es) self.now.rest.now) }
     {
         match self.rest {
             [] => Ok(()),
@@ -84,7 +85,7 @@ impl<'a> Cursor<'a> {
 
     /// Takes this word.
     pub(crate) fn word(&mut self, wanted: &[u8]) -> Result<(), Refusal>
-        ensures moves { (s : State) → Moves (λ _. run 200 s self.new.rest.now) result (run 200 (word wanted.now s) self.old.rest.now) }
+        ensures moves { Skips (word wanted.now) self.old.rest.now self.new.rest.now result }
         ensures shorter { length self.new.rest.now ≤ length self.old.rest.now }
     {
         match self.rest {
@@ -104,7 +105,7 @@ impl<'a> Cursor<'a> {
 
     /// Takes the name of an end tag.
     pub(crate) fn end_name(&mut self, wanted: &Name) -> Result<(), Refusal>
-        ensures moves { (s : State) → Moves (λ _. run 200 s self.new.rest.now) result (run 200 (end_name wanted.now s) self.old.rest.now) }
+        ensures moves { Skips (end_name wanted.now) self.old.rest.now self.new.rest.now result }
         ensures shorter { length self.new.rest.now ≤ length self.old.rest.now }
     {
         match self.rest {
@@ -127,8 +128,8 @@ impl<'a> Cursor<'a> {
 
     /// Takes a comma, if it stands next.
     pub(crate) fn takes_comma(&mut self) -> bool
-        ensures parts { (n : ℕ) (sc : Scope) (m : Marks) (es : List ExprTree) (k : Marks → List ExprTree → State) → run 200 (rest n sc m es k) self.old.rest.now ≡ run 200 (cond result (expr n sc m (more_rest n sc es k)) (k m es)) self.new.rest.now }
-        ensures clauses { (sc : Scope) (m : Marks) (cs : List Clause) (k : Scope → Marks → List Clause → State) → run 200 (clauses sc m cs k) self.old.rest.now ≡ run 200 (cond result (clause_state sc m (more_clauses sc cs k)) (k sc m cs)) self.new.rest.now }
+        ensures parts { TakesComma self.old.rest.now self.new.rest.now result }
+        ensures clauses { TakesClauseComma self.old.rest.now self.new.rest.now result }
         ensures shorter { length self.new.rest.now ≤ length self.old.rest.now }
         ensures some { result ≡ true → length self.new.rest.now < length self.old.rest.now }
     {
@@ -149,7 +150,7 @@ impl<'a> Cursor<'a> {
 
     /// Takes a variable.
     pub(crate) fn var(&mut self) -> Result<Name, Refusal>
-        ensures moves { (k : List ℕ → State) → Moves (λ n. run 200 (k n) self.new.rest.now) result (run 200 (var k) self.old.rest.now) }
+        ensures moves { ReadsOne var self.old.rest.now self.new.rest.now result }
         ensures shorter { length self.new.rest.now ≤ length self.old.rest.now }
     {
         match self.rest {
@@ -170,7 +171,7 @@ impl<'a> Cursor<'a> {
 
     /// Takes a name.
     pub(crate) fn name(&mut self) -> Result<Name, Refusal>
-        ensures moves { (k : List ℕ → State) → Moves (λ n. run 200 (k n) self.new.rest.now) result (run 200 (name k) self.old.rest.now) }
+        ensures moves { ReadsOne name self.old.rest.now self.new.rest.now result }
         ensures shorter { length self.new.rest.now ≤ length self.old.rest.now }
     {
         match self.rest {

@@ -1,14 +1,10 @@
 //! Expressions.
-ghost use Rattle.std.specs.Prelude.{◌≡◌, ◌≤◌, ◌<◌, ◌+◌, ◌++◌, ◌∷◌, [], ℕ, true, cond, List, Option, length, IfOk, OnOk, box_value, option_map};
-ghost use Rattle.gcx_model.specs.declared.query.Clause.{Clause};
-ghost use Rattle.gcx_model.specs.Query as trees;
-ghost use Rattle.gcx_model.specs.Query.{CondTree, ExprTree, cond_tree, expr_tree, expr_trees};
-ghost use Rattle.xq_parse.specs.declared.marks.Marks.{Marks};
-ghost use Rattle.xq_parse.specs.Places.{Scope};
+ghost use Rattle.std.specs.Prelude.{◌≡◌, ◌≤◌, ◌<◌, ◌+◌, ◌++◌, ◌∷◌, [], length, IfOk, OnOk, box_value, option_map};
+ghost use Rattle.gcx_model.specs.Query.{cond_tree, expr_tree, expr_trees};
 ghost use Rattle.xq_parse.specs.Grammar.{seq_of};
-ghost use Rattle.xq_parse.specs.Machine.{State, clause_state, clauses, clauses_state, condition, content, elem_state, else_state, expr, for_state, head_state, if_state, inner, list_state, listed_state, loop_body_state, loop_head_state, rest, tag};
-ghost use Rattle.xq_parse.specs.Behind.{ExprHasRoom, Extends, PartHasRoom, expr_behind, part_behind};
-ghost use Rattle.xq_parse.specs.Reading.{Moves, Stop, run};
+ghost use Rattle.xq_parse.specs.Machine.{deepest, clause_state, clauses_state, condition, content, elem_state, else_state, expr, for_state, head_state, if_state, inner, list_state, loop_body_state, loop_head_state, tag};
+ghost use Rattle.xq_parse.specs.Behind.{ExprHasRoom, Extends, PartHasRoom};
+ghost use Rattle.xq_parse.specs.Calls.{Parses, ParsesClauses, ParsesHead, TakesClose, ReadsTagEnd, ReadsExprStart, ReadsPart};
 
 use crate::conditions::Parser;
 use crate::cursor::{Cursor, MOST, is_word};
@@ -45,8 +41,8 @@ pub(crate) enum Part {
 impl<'a> Cursor<'a> {
     /// Takes what tells how an expression goes on.
     fn takes_expr(&mut self, depth: usize) -> Result<ExprStart, Refusal>
-        requires { depth ≤ 200 }
-        ensures moves { (sc : Scope) (m : Marks) (k : Marks → ExprTree → State) → Moves (λ s. run 200 (expr_behind depth sc m s k) self.new.rest.now) result (run 200 (expr depth sc m k) self.old.rest.now) }
+        requires { depth ≤ deepest }
+        ensures moves { ReadsExprStart depth self.old.rest.now self.new.rest.now result }
         ensures room { IfOk result (λ s. ExprHasRoom depth s) }
         ensures shorter { length self.new.rest.now ≤ length self.old.rest.now }
     {
@@ -67,7 +63,7 @@ impl<'a> Cursor<'a> {
 
     /// Takes the `)` of an empty parenthesis.
     fn takes_close(&mut self) -> bool
-        ensures moves { (n : ℕ) (sc : Scope) (m : Marks) (k : Marks → ExprTree → State) → run 200 (inner n sc m k) self.old.rest.now ≡ run 200 (cond result (k m trees.Empty) (listed_state n sc m k)) self.new.rest.now }
+        ensures moves { TakesClose self.old.rest.now self.new.rest.now result }
         ensures shorter { length self.new.rest.now ≤ length self.old.rest.now }
     {
         match self.rest {
@@ -87,7 +83,7 @@ impl<'a> Cursor<'a> {
 
     /// Takes the end of a start tag: whether the constructor ends with it.
     fn takes_tag_end(&mut self) -> Result<bool, Refusal>
-        ensures moves { (n : ℕ) (sc : Scope) (m : Marks) (x : List ℕ) (k : Marks → List ExprTree → State) → Moves (λ short. run 200 (cond short (k m []) (content n sc m x [] k)) self.new.rest.now) result (run 200 (tag n sc m x k) self.old.rest.now) }
+        ensures moves { ReadsTagEnd self.old.rest.now self.new.rest.now result }
         ensures shorter { length self.new.rest.now ≤ length self.old.rest.now }
     {
         match self.rest {
@@ -117,8 +113,8 @@ impl<'a> Cursor<'a> {
 
     /// Takes what tells what comes next in a constructor.
     fn takes_part(&mut self, depth: usize) -> Result<Part, Refusal>
-        requires { depth ≤ 200 }
-        ensures moves { (sc : Scope) (m : Marks) (x : List ℕ) (body : List ExprTree) (k : Marks → List ExprTree → State) → Moves (λ p. run 200 (part_behind depth sc m x body p k) self.new.rest.now) result (run 200 (content depth sc m x body k) self.old.rest.now) }
+        requires { depth ≤ deepest }
+        ensures moves { ReadsPart depth self.old.rest.now self.new.rest.now result }
         ensures room { IfOk result (λ p. PartHasRoom depth p) }
         ensures shorter { length self.new.rest.now ≤ length self.old.rest.now }
         ensures some { OnOk result (length self.new.rest.now < length self.old.rest.now) }
@@ -165,10 +161,10 @@ fn in_parens(parts: Exprs) -> Expr
 }
 
 impl<'a> Parser<'a> {
-    /// Reads a variable and its path. The variable is in scope from then on.
+    /// Proceeds a variable and its path. The variable is in scope from then on.
     #[tactic(auto, unfolding(crate::specs::Machine::clause_state))]
     fn clause(&mut self) -> Result<Clause, Refusal>
-        ensures moves { (k : Marks → Clause → State) → Moves (λ c. run 200 (k self.new.marks c) self.new.cursor.rest.now) result (run 200 (clause_state self.old.scope self.old.marks k) self.old.cursor.rest.now) }
+        ensures moves { Parses (λ c. c) clause_state self.old self.new result }
         ensures scope { IfOk result (λ c. self.new.scope ≡ c.var ∷ self.old.scope) }
         ensures shorter { length self.new.cursor.rest.now ≤ length self.old.cursor.rest.now }
     {
@@ -183,10 +179,10 @@ impl<'a> Parser<'a> {
         })
     }
 
-    /// Reads the clauses of a loop.
+    /// Proceeds the clauses of a loop.
     #[tactic(auto, using(crate::proofs::ScopeLaws::extends_after, crate::proofs::ScopeLaws::extends_one))]
     fn clauses(&mut self) -> Result<Clauses, Refusal>
-        ensures moves { (k : Scope → Marks → List Clause → State) → Moves (λ cs. run 200 (k self.new.scope self.new.marks cs) self.new.cursor.rest.now) result (run 200 (clauses_state self.old.scope self.old.marks k) self.old.cursor.rest.now) }
+        ensures moves { ParsesClauses clauses_state self.old self.new result }
         ensures scope { OnOk result (Extends self.new.scope self.old.scope) }
         ensures shorter { length self.new.cursor.rest.now ≤ length self.old.cursor.rest.now }
     {
@@ -200,10 +196,10 @@ impl<'a> Parser<'a> {
         Ok(clauses)
     }
 
-    /// Reads the condition of a loop, if it has one.
+    /// Proceeds the condition of a loop, if it has one.
     fn filter(&mut self, depth: usize) -> Result<Option<QCond>, Refusal>
-        requires { depth ≤ 200 }
-        ensures moves { (k : Marks → Option CondTree → State) → Moves (λ c. run 200 (k self.new.marks (option_map cond_tree c)) self.new.cursor.rest.now) result (run 200 (condition depth self.old.scope self.old.marks k) self.old.cursor.rest.now) }
+        requires { depth ≤ deepest }
+        ensures moves { Parses (λ c. option_map cond_tree c) (condition depth) self.old self.new result }
         ensures scope { OnOk result (self.new.scope ≡ self.old.scope) }
         ensures shorter { length self.new.cursor.rest.now ≤ length self.old.cursor.rest.now }
     {
@@ -214,11 +210,11 @@ impl<'a> Parser<'a> {
         Ok(Some(cond))
     }
 
-    /// Reads an expression, with `depth` constructs open before it.
+    /// Proceeds an expression, with `depth` constructs open before it.
     #[cycle(exprs)]
     fn expr(&mut self, depth: usize) -> Result<Expr, Refusal>
-        requires { depth ≤ 200 }
-        ensures moves { (k : Marks → ExprTree → State) → Moves (λ e. run 200 (k self.new.marks (expr_tree e)) self.new.cursor.rest.now) result (run 200 (expr depth self.old.scope self.old.marks k) self.old.cursor.rest.now) }
+        requires { depth ≤ deepest }
+        ensures moves { Parses expr_tree (expr depth) self.old self.new result }
         ensures scope { OnOk result (self.new.scope ≡ self.old.scope) }
         ensures shorter { length self.new.cursor.rest.now ≤ length self.old.cursor.rest.now }
     {
@@ -247,10 +243,10 @@ impl<'a> Parser<'a> {
         }
     }
 
-    /// Reads the clauses of a loop and its condition, if it has one.
+    /// Proceeds the clauses of a loop and its condition, if it has one.
     fn loop_head(&mut self, depth: usize) -> Result<LoopHead, Refusal>
-        requires { depth ≤ 200 }
-        ensures moves { (k : Scope → Marks → List Clause → Option CondTree → State) → Moves (λ h. run 200 (k self.new.scope self.new.marks h.clauses (option_map cond_tree h.filter)) self.new.cursor.rest.now) result (run 200 (loop_head_state depth self.old.scope self.old.marks k) self.old.cursor.rest.now) }
+        requires { depth ≤ deepest }
+        ensures moves { ParsesHead (loop_head_state depth) self.old self.new result }
         ensures scope { OnOk result (Extends self.new.scope self.old.scope) }
         ensures shorter { length self.new.cursor.rest.now ≤ length self.old.cursor.rest.now }
     {
@@ -259,11 +255,11 @@ impl<'a> Parser<'a> {
         Ok(LoopHead { clauses, filter })
     }
 
-    /// Reads an expression that stands inside another one.
+    /// Proceeds an expression that stands inside another one.
     #[cycle(exprs)]
     fn part(&mut self, depth: usize) -> Result<Box<Expr>, Refusal>
-        requires { depth ≤ 200 }
-        ensures moves { (k : Marks → ExprTree → State) → Moves (λ e. run 200 (k self.new.marks (expr_tree (box_value e))) self.new.cursor.rest.now) result (run 200 (expr depth self.old.scope self.old.marks k) self.old.cursor.rest.now) }
+        requires { depth ≤ deepest }
+        ensures moves { Parses (λ e. expr_tree (box_value e)) (expr depth) self.old self.new result }
         ensures scope { OnOk result (self.new.scope ≡ self.old.scope) }
         ensures shorter { length self.new.cursor.rest.now ≤ length self.old.cursor.rest.now }
     {
@@ -271,11 +267,11 @@ impl<'a> Parser<'a> {
         Ok(Box::new(self.cursor.alloc, part)?)
     }
 
-    /// Reads `return` and the body of a loop.
+    /// Proceeds `return` and the body of a loop.
     #[cycle(exprs)]
     fn loop_body(&mut self, depth: usize) -> Result<Box<Expr>, Refusal>
-        requires { depth ≤ 200 }
-        ensures moves { (k : Marks → ExprTree → State) → Moves (λ e. run 200 (k self.new.marks (expr_tree (box_value e))) self.new.cursor.rest.now) result (run 200 (loop_body_state depth self.old.scope self.old.marks k) self.old.cursor.rest.now) }
+        requires { depth ≤ deepest }
+        ensures moves { Parses (λ e. expr_tree (box_value e)) (loop_body_state depth) self.old self.new result }
         ensures scope { OnOk result (self.new.scope ≡ self.old.scope) }
         ensures shorter { length self.new.cursor.rest.now ≤ length self.old.cursor.rest.now }
     {
@@ -284,12 +280,12 @@ impl<'a> Parser<'a> {
         Ok(body)
     }
 
-    /// Reads what stands behind `for`.
+    /// Proceeds what stands behind `for`.
     #[tactic(auto, unfolding(crate::specs::Machine::for_state))]
     #[cycle(exprs)]
     fn for_expr(&mut self, depth: usize) -> Result<Expr, Refusal>
-        requires { depth ≤ 200 }
-        ensures moves { (k : Marks → ExprTree → State) → Moves (λ e. run 200 (k self.new.marks (expr_tree e)) self.new.cursor.rest.now) result (run 200 (for_state depth self.old.scope self.old.marks k) self.old.cursor.rest.now) }
+        requires { depth ≤ deepest }
+        ensures moves { Parses expr_tree (for_state depth) self.old self.new result }
         ensures scope { OnOk result (self.new.scope ≡ self.old.scope) }
         ensures shorter { length self.new.cursor.rest.now ≤ length self.old.cursor.rest.now }
     {
@@ -304,11 +300,11 @@ impl<'a> Parser<'a> {
         })
     }
 
-    /// Reads what stands between `if` and the first branch.
+    /// Proceeds what stands between `if` and the first branch.
     #[tactic(auto, unfolding(crate::specs::Machine::head_state))]
     fn head(&mut self, depth: usize) -> Result<QCond, Refusal>
-        requires { depth ≤ 200 }
-        ensures moves { (k : Marks → CondTree → State) → Moves (λ c. run 200 (k self.new.marks (cond_tree c)) self.new.cursor.rest.now) result (run 200 (head_state depth self.old.scope self.old.marks k) self.old.cursor.rest.now) }
+        requires { depth ≤ deepest }
+        ensures moves { Parses cond_tree (head_state depth) self.old self.new result }
         ensures scope { OnOk result (self.new.scope ≡ self.old.scope) }
         ensures shorter { length self.new.cursor.rest.now ≤ length self.old.cursor.rest.now }
     {
@@ -319,11 +315,11 @@ impl<'a> Parser<'a> {
         Ok(cond)
     }
 
-    /// Reads `else` and the other branch.
+    /// Proceeds `else` and the other branch.
     #[cycle(exprs)]
     fn other_branch(&mut self, depth: usize) -> Result<Box<Expr>, Refusal>
-        requires { depth ≤ 200 }
-        ensures moves { (k : Marks → ExprTree → State) → Moves (λ e. run 200 (k self.new.marks (expr_tree (box_value e))) self.new.cursor.rest.now) result (run 200 (else_state depth self.old.scope self.old.marks k) self.old.cursor.rest.now) }
+        requires { depth ≤ deepest }
+        ensures moves { Parses (λ e. expr_tree (box_value e)) (else_state depth) self.old self.new result }
         ensures scope { OnOk result (self.new.scope ≡ self.old.scope) }
         ensures shorter { length self.new.cursor.rest.now ≤ length self.old.cursor.rest.now }
     {
@@ -332,12 +328,12 @@ impl<'a> Parser<'a> {
         Ok(other)
     }
 
-    /// Reads what stands behind `if`.
+    /// Proceeds what stands behind `if`.
     #[tactic(auto, unfolding(crate::specs::Machine::if_state))]
     #[cycle(exprs)]
     fn if_expr(&mut self, depth: usize) -> Result<Expr, Refusal>
-        requires { depth ≤ 200 }
-        ensures moves { (k : Marks → ExprTree → State) → Moves (λ e. run 200 (k self.new.marks (expr_tree e)) self.new.cursor.rest.now) result (run 200 (if_state depth self.old.scope self.old.marks k) self.old.cursor.rest.now) }
+        requires { depth ≤ deepest }
+        ensures moves { Parses expr_tree (if_state depth) self.old self.new result }
         ensures scope { OnOk result (self.new.scope ≡ self.old.scope) }
         ensures shorter { length self.new.cursor.rest.now ≤ length self.old.cursor.rest.now }
     {
@@ -347,12 +343,12 @@ impl<'a> Parser<'a> {
         Ok(Expr::If { cond, then, other })
     }
 
-    /// Reads what stands behind the `<` of a constructor.
+    /// Proceeds what stands behind the `<` of a constructor.
     #[tactic(auto, unfolding(crate::specs::Machine::elem_state))]
     #[cycle(exprs)]
     fn elem(&mut self, depth: usize) -> Result<Expr, Refusal>
-        requires { depth ≤ 200 }
-        ensures moves { (k : Marks → ExprTree → State) → Moves (λ e. run 200 (k self.new.marks (expr_tree e)) self.new.cursor.rest.now) result (run 200 (elem_state depth self.old.scope self.old.marks k) self.old.cursor.rest.now) }
+        requires { depth ≤ deepest }
+        ensures moves { Parses expr_tree (elem_state depth) self.old self.new result }
         ensures scope { OnOk result (self.new.scope ≡ self.old.scope) }
         ensures shorter { length self.new.cursor.rest.now ≤ length self.old.cursor.rest.now }
     {
@@ -361,11 +357,11 @@ impl<'a> Parser<'a> {
         Ok(Expr::Elem { name, body })
     }
 
-    /// Reads what stands behind the name of a start tag.
+    /// Proceeds what stands behind the name of a start tag.
     #[cycle(exprs)]
     fn tag(&mut self, depth: usize, name: &Name) -> Result<Exprs, Refusal>
-        requires { depth ≤ 200 }
-        ensures moves { (k : Marks → List ExprTree → State) → Moves (λ es. run 200 (k self.new.marks (expr_trees es)) self.new.cursor.rest.now) result (run 200 (tag depth self.old.scope self.old.marks name.now k) self.old.cursor.rest.now) }
+        requires { depth ≤ deepest }
+        ensures moves { Parses expr_trees (λ sc m. tag depth sc m name.now) self.old self.new result }
         ensures scope { OnOk result (self.new.scope ≡ self.old.scope) }
         ensures shorter { length self.new.cursor.rest.now ≤ length self.old.cursor.rest.now }
     {
@@ -376,11 +372,11 @@ impl<'a> Parser<'a> {
         Ok(body)
     }
 
-    /// Reads the body of a constructor and its end tag.
+    /// Proceeds the body of a constructor and its end tag.
     #[cycle(exprs)]
     fn content(&mut self, depth: usize, name: &Name) -> Result<Exprs, Refusal>
-        requires { depth ≤ 200 }
-        ensures moves { (k : Marks → List ExprTree → State) → Moves (λ es. run 200 (k self.new.marks (expr_trees es)) self.new.cursor.rest.now) result (run 200 (content depth self.old.scope self.old.marks name.now [] k) self.old.cursor.rest.now) }
+        requires { depth ≤ deepest }
+        ensures moves { Parses expr_trees (λ sc m. content depth sc m name.now []) self.old self.new result }
         ensures scope { OnOk result (self.new.scope ≡ self.old.scope) }
         ensures shorter { length self.new.cursor.rest.now ≤ length self.old.cursor.rest.now }
     {
@@ -405,11 +401,11 @@ impl<'a> Parser<'a> {
         }
     }
 
-    /// Reads what stands behind the `(` of an expression.
+    /// Proceeds what stands behind the `(` of an expression.
     #[cycle(exprs)]
     fn inner(&mut self, depth: usize) -> Result<Expr, Refusal>
-        requires { depth ≤ 200 }
-        ensures moves { (k : Marks → ExprTree → State) → Moves (λ e. run 200 (k self.new.marks (expr_tree e)) self.new.cursor.rest.now) result (run 200 (inner depth self.old.scope self.old.marks k) self.old.cursor.rest.now) }
+        requires { depth ≤ deepest }
+        ensures moves { Parses expr_tree (inner depth) self.old self.new result }
         ensures scope { OnOk result (self.new.scope ≡ self.old.scope) }
         ensures shorter { length self.new.cursor.rest.now ≤ length self.old.cursor.rest.now }
     {
@@ -421,11 +417,11 @@ impl<'a> Parser<'a> {
         Ok(in_parens(parts))
     }
 
-    /// Reads expressions with commas between them.
+    /// Proceeds expressions with commas between them.
     #[cycle(exprs)]
     pub(crate) fn list(&mut self, depth: usize) -> Result<Exprs, Refusal>
-        requires { depth ≤ 200 }
-        ensures moves { (k : Marks → List ExprTree → State) → Moves (λ es. run 200 (k self.new.marks (expr_trees es)) self.new.cursor.rest.now) result (run 200 (list_state depth self.old.scope self.old.marks k) self.old.cursor.rest.now) }
+        requires { depth ≤ deepest }
+        ensures moves { Parses expr_trees (list_state depth) self.old self.new result }
         ensures scope { OnOk result (self.new.scope ≡ self.old.scope) }
         ensures shorter { length self.new.cursor.rest.now ≤ length self.old.cursor.rest.now }
     {

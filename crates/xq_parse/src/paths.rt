@@ -1,21 +1,11 @@
 //! Paths and the sides of comparisons.
-ghost use Rattle.std.specs.Prelude.{◌≡◌, ◌≤◌, ◌<◌, ℕ, true, false, cond, List, Option, Some, None, length, bytes_eq, ◌||◌, OnOk, option_map};
-ghost use Rattle.gcx_base.specs.declared.rel.Rel.{Rel};
-ghost use Rattle.gcx_base.specs.declared.steps.Axis.{Axis};
-ghost use Rattle.gcx_base.specs.declared.steps.Axis.TheVariants as axes;
+ghost use Rattle.std.specs.Prelude.{◌≡◌, ◌≤◌, ◌<◌, true, false, length, bytes_eq, ◌||◌, OnOk, option_map};
 ghost use Rattle.gcx_base.specs.declared.steps.Step.{Step};
-ghost use Rattle.gcx_base.specs.declared.steps.Test.TheVariants as tests;
-ghost use Rattle.gcx_model.specs.declared.query.QOperand.{QOperand};
-ghost use Rattle.xq_lex.specs.declared.sign.Sign.TheVariants as signs;
-ghost use Rattle.xq_parse.specs.declared.route.Route.{Route};
-ghost use Rattle.xq_parse.specs.declared.route.Trail.{Trail};
-ghost use Rattle.xq_parse.specs.declared.marks.Marks.{Marks};
 ghost use Rattle.xq_parse.specs.Tokens.{child_, descendant_, node_, text_};
-ghost use Rattle.xq_parse.specs.Places.{Scope};
-ghost use Rattle.xq_parse.specs.Grammar.{a_step};
-ghost use Rattle.xq_parse.specs.Machine.{State, axis, axis_named, axis_or_name, first_step, kind_test, name_behind, no_trail, operand, path, rel, rel_of, side_seen, sign, source, steps, steps_behind, steps_state, test, with_start};
-ghost use Rattle.xq_parse.specs.Behind.{axis_found, operand_behind, path_behind};
-ghost use Rattle.xq_parse.specs.Reading.{Moves, Stop, run};
+ghost use Rattle.xq_parse.specs.Machine.{deepest, State, axis, axis_named, first_step, kind_test, name_behind, no_trail, path, rel, rel_of, source, steps, steps_state, test};
+ghost use Rattle.xq_parse.specs.Behind.{axis_found};
+ghost use Rattle.xq_parse.specs.Reading.{run};
+ghost use Rattle.xq_parse.specs.Calls.{Proceeds, ReadsOne, TakesCall, TakesColons, SeesSlash, StepsAre, ReadsLiteral, ReadsPathVar, ReadsSourceVar};
 
 use crate::cursor::{Cursor, is_word};
 use crate::refusal::{Refusal, Why};
@@ -76,9 +66,9 @@ fn relation(found: Sign) -> Option<Rel>
 impl<'a> Cursor<'a> {
     /// Whether another step follows.
     fn at_slash(&self) -> bool
-        ensures more { (t : Trail) (k : Trail → State) → run 200 (steps t k) self.now.rest.now ≡ run 200 (cond result (first_step (steps_behind t k)) (k t)) self.now.rest.now }
-        ensures some { result ≡ true → (k : Trail → State) → run 200 (steps no_trail k) self.now.rest.now ≡ run 200 (steps_state k) self.now.rest.now }
-        ensures none { result ≡ false → (k : Trail → State) → run 200 (steps no_trail k) self.now.rest.now ≡ run 200 (k no_trail) self.now.rest.now }
+        ensures more { SeesSlash self.now.rest.now result }
+        ensures some { result ≡ true → StepsAre steps_state self.now.rest.now }
+        ensures none { result ≡ false → StepsAre (λ k. k no_trail) self.now.rest.now }
     {
         matches!(
             self.rest,
@@ -94,7 +84,7 @@ impl<'a> Cursor<'a> {
 
     /// Takes the `(` behind `text` or `node`, which is a kind test then.
     fn takes_call(&mut self, found: &Name) -> bool
-        ensures moves { (a : Axis) (k : Step → State) → run 200 (name_behind a found.now k) self.old.rest.now ≡ run 200 (cond result (sign signs.ParenClose (k (a_step a (kind_test found.now)))) (k (a_step a (tests.Named found.now)))) self.new.rest.now }
+        ensures moves { TakesCall found.now self.old.rest.now self.new.rest.now result }
         ensures shorter { length self.new.rest.now ≤ length self.old.rest.now }
     {
         if !is_kind(found) {
@@ -115,9 +105,9 @@ impl<'a> Cursor<'a> {
         }
     }
 
-    /// Reads what stands behind the name of a test.
+    /// Proceeds what stands behind the name of a test.
     fn named_test(&mut self, axis: Axis, found: &Name) -> Result<Step, Refusal>
-        ensures moves { (k : Step → State) → Moves (λ s. run 200 (k s) self.new.rest.now) result (run 200 (name_behind axis found.now k) self.old.rest.now) }
+        ensures moves { ReadsOne (name_behind axis found.now) self.old.rest.now self.new.rest.now result }
         ensures shorter { length self.new.rest.now ≤ length self.old.rest.now }
     {
         if self.takes_call(found) {
@@ -135,9 +125,9 @@ impl<'a> Cursor<'a> {
         }
     }
 
-    /// Reads the test of a step.
+    /// Proceeds the test of a step.
     fn test(&mut self, axis: Axis) -> Result<Step, Refusal>
-        ensures moves { (k : Step → State) → Moves (λ s. run 200 (k s) self.new.rest.now) result (run 200 (test axis k) self.old.rest.now) }
+        ensures moves { ReadsOne (test axis) self.old.rest.now self.new.rest.now result }
         ensures shorter { length self.new.rest.now ≤ length self.old.rest.now }
     {
         match self.rest {
@@ -171,7 +161,8 @@ impl<'a> Cursor<'a> {
 
     /// Takes `child` or `descendant` behind a slash.
     fn takes_axis_name(&mut self) -> Option<&'a Name>
-        ensures moves { (k : Step → State) → run 200 (axis k) self.old.rest.now ≡ run 200 (axis_found (option_map (λ n. n.now) result) k) self.new.rest.now }
+        ensures moves { (k : Step → State) → run deepest (axis k) self.old.rest.now
+            ≡ run deepest (axis_found (option_map (λ n. n.now) result) k) self.new.rest.now }
         ensures shorter { length self.new.rest.now ≤ length self.old.rest.now }
     {
         match self.rest {
@@ -195,7 +186,7 @@ impl<'a> Cursor<'a> {
 
     /// Takes the `::` behind such a name, which is an axis then.
     fn takes_colons(&mut self) -> bool
-        ensures moves { (x : List ℕ) (k : Step → State) → run 200 (axis_or_name x k) self.old.rest.now ≡ run 200 (cond result (test (axis_named x) k) (k (a_step axes.Child (tests.Named x)))) self.new.rest.now }
+        ensures moves { TakesColons self.old.rest.now self.new.rest.now result }
         ensures shorter { length self.new.rest.now ≤ length self.old.rest.now }
     {
         match self.rest {
@@ -213,9 +204,9 @@ impl<'a> Cursor<'a> {
         }
     }
 
-    /// Reads what stands behind the `/` of a step.
+    /// Proceeds what stands behind the `/` of a step.
     fn axis_step(&mut self) -> Result<Step, Refusal>
-        ensures moves { (k : Step → State) → Moves (λ s. run 200 (k s) self.new.rest.now) result (run 200 (axis k) self.old.rest.now) }
+        ensures moves { ReadsOne axis self.old.rest.now self.new.rest.now result }
         ensures shorter { length self.new.rest.now ≤ length self.old.rest.now }
     {
         match self.takes_axis_name() {
@@ -234,9 +225,9 @@ impl<'a> Cursor<'a> {
         }
     }
 
-    /// Reads a step.
+    /// Proceeds a step.
     fn step(&mut self) -> Result<PlacedStep, Refusal>
-        ensures moves { (k : ℕ → Step → State) → Moves (λ s. run 200 (k s.at s.step) self.new.rest.now) result (run 200 (first_step k) self.old.rest.now) }
+        ensures moves { Proceeds first_step (λ k s. k s.at s.step) self.old.rest.now self.new.rest.now result }
         ensures shorter { length self.new.rest.now ≤ length self.old.rest.now }
         ensures some { OnOk result (length self.new.rest.now < length self.old.rest.now) }
     {
@@ -269,9 +260,9 @@ impl<'a> Cursor<'a> {
         }
     }
 
-    /// Reads one step or more.
+    /// Proceeds one step or more.
     fn steps(&mut self) -> Result<Trail, Refusal>
-        ensures moves { (k : Trail → State) → Moves (λ t. run 200 (k t) self.new.rest.now) result (run 200 (steps_state k) self.old.rest.now) }
+        ensures moves { ReadsOne steps_state self.old.rest.now self.new.rest.now result }
         ensures shorter { length self.new.rest.now ≤ length self.old.rest.now }
     {
         let first = self.step()?;
@@ -284,9 +275,9 @@ impl<'a> Cursor<'a> {
         Ok(trail)
     }
 
-    /// Reads any number of steps.
+    /// Proceeds any number of steps.
     fn later_steps(&mut self) -> Result<Trail, Refusal>
-        ensures moves { (k : Trail → State) → Moves (λ t. run 200 (k t) self.new.rest.now) result (run 200 (steps no_trail k) self.old.rest.now) }
+        ensures moves { ReadsOne (steps no_trail) self.old.rest.now self.new.rest.now result }
         ensures shorter { length self.new.rest.now ≤ length self.old.rest.now }
     {
         if !self.at_slash() {
@@ -297,8 +288,8 @@ impl<'a> Cursor<'a> {
 
     /// Takes the variable that a path may begin with.
     fn takes_var(&mut self) -> Result<Option<Var>, Refusal>
-        ensures paths { (k : Route → State) → Moves (λ v. run 200 (path_behind v k) self.new.rest.now) result (run 200 (path k) self.old.rest.now) }
-        ensures sources { (k : Route → State) → Moves (λ v. run 200 (steps_state (with_start v k)) self.new.rest.now) result (run 200 (source k) self.old.rest.now) }
+        ensures paths { ReadsPathVar self.old.rest.now self.new.rest.now result }
+        ensures sources { ReadsSourceVar self.old.rest.now self.new.rest.now result }
         ensures shorter { length self.new.rest.now ≤ length self.old.rest.now }
     {
         match self.rest {
@@ -318,9 +309,9 @@ impl<'a> Cursor<'a> {
         }
     }
 
-    /// Reads a path.
+    /// Proceeds a path.
     pub(crate) fn path(&mut self) -> Result<Route, Refusal>
-        ensures moves { (k : Route → State) → Moves (λ r. run 200 (k r) self.new.rest.now) result (run 200 (path k) self.old.rest.now) }
+        ensures moves { ReadsOne path self.old.rest.now self.new.rest.now result }
         ensures shorter { length self.new.rest.now ≤ length self.old.rest.now }
     {
         match self.takes_var()? {
@@ -335,9 +326,9 @@ impl<'a> Cursor<'a> {
         }
     }
 
-    /// Reads the path of a clause.
+    /// Proceeds the path of a clause.
     pub(crate) fn source(&mut self) -> Result<Route, Refusal>
-        ensures moves { (k : Route → State) → Moves (λ r. run 200 (k r) self.new.rest.now) result (run 200 (source k) self.old.rest.now) }
+        ensures moves { ReadsOne source self.old.rest.now self.new.rest.now result }
         ensures shorter { length self.new.rest.now ≤ length self.old.rest.now }
     {
         let start = self.takes_var()?;
@@ -345,9 +336,9 @@ impl<'a> Cursor<'a> {
         Ok(trail.from(start))
     }
 
-    /// Reads the sign of a comparison.
+    /// Proceeds the sign of a comparison.
     pub(crate) fn rel(&mut self) -> Result<Rel, Refusal>
-        ensures moves { (k : Rel → State) → Moves (λ r. run 200 (k r) self.new.rest.now) result (run 200 (rel k) self.old.rest.now) }
+        ensures moves { ReadsOne rel self.old.rest.now self.new.rest.now result }
         ensures shorter { length self.new.rest.now ≤ length self.old.rest.now }
     {
         match self.rest {
@@ -371,7 +362,7 @@ impl<'a> Cursor<'a> {
 
     /// Takes a string or a number, if one stands next.
     pub(crate) fn takes_literal(&mut self) -> Result<Option<QOperand>, Refusal>
-        ensures moves { (sc : Scope) (m : Marks) (k : Marks → QOperand → State) → Moves (λ l. run 200 (operand_behind l sc m k) self.new.rest.now) result (run 200 (operand sc m k) self.old.rest.now) }
+        ensures moves { ReadsLiteral self.old.rest.now self.new.rest.now result }
         ensures shorter { length self.new.rest.now ≤ length self.old.rest.now }
     {
         match self.rest {

@@ -5,8 +5,8 @@ ghost use Rattle.gcx_model.specs.Sound.{is_sound};
 ghost use Rattle.gcx_model.specs.Refusals.{UnlessMemory};
 ghost use Rattle.xq_parse.specs.Spelling.{QuerySpells};
 ghost use Rattle.xq_parse.specs.Faults.{HasOnlyQuery, HasOnlyRefusal, TextFaultOf};
-ghost use Rattle.xq_parse.specs.Machine.{start};
-ghost use Rattle.xq_parse.specs.Reading.{Moves, Stop, a_found, run};
+ghost use Rattle.xq_parse.specs.Machine.{deepest, start};
+ghost use Rattle.xq_parse.specs.Reading.{Moves, a_found, run};
 ghost use Rattle.xq_parse.specs.Answering.{Answers, fault_from, judge_marks, judged, place_at};
 
 use crate::conditions::Parser;
@@ -26,7 +26,7 @@ pub(crate) struct Draft {
 }
 
 fn read_tokens(alloc: Global, tokens: &[Tok]) -> Result<Draft, Refusal>
-    ensures { Moves (λ d. Ok (a_found d.marks (query_trees d.query))) result (run 200 start tokens.now) }
+    ensures { Moves (λ d. Ok (a_found d.marks (query_trees d.query))) result (run deepest start tokens.now) }
 {
     let mut parser = Parser {
         cursor: Cursor {

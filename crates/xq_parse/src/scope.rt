@@ -1,8 +1,8 @@
 //! The variables in scope.
-ghost use Rattle.std.specs.Prelude.{◌≡◌, ◌∷◌, ◌-◌, ◌≤◌, ℕ, List, [], None, Some, length, drop, bytes_eq, OnOk, OnErr, if◌then◌else◌};
+ghost use Rattle.std.specs.Prelude.{◌≡◌, ◌∷◌, ◌-◌, ◌≤◌, ℕ, List, [], length, drop, bytes_eq, OnOk, OnErr};
 ghost use Rattle.std.specs.BTreeMap.{get_by_text};
 ghost use Rattle.gcx_model.specs.Paths.{any};
-ghost use Rattle.xq_parse.specs.Bindings.{or_else, unless_at};
+ghost use Rattle.xq_parse.specs.Bindings.{place_put, place_taken};
 
 use gcx_base::{Memory, Name};
 use std::alloc::Global;
@@ -38,7 +38,8 @@ fn put_first(
     name: &Name,
     place: usize,
 ) -> Result<(), Memory>
-    ensures ok { OnOk result ((q : List ℕ) → get_by_text first.new q ≡ or_else (get_by_text first.old q) (if bytes_eq q name.now then Some place else None)) }
+    ensures ok { OnOk result ((q : List ℕ)
+        → get_by_text first.new q ≡ place_put name.now place q (get_by_text first.old q)) }
     ensures err { OnErr result ((q : List ℕ) → get_by_text first.new q ≡ get_by_text first.old q) }
 {
     let key = String::from_str(alloc, name.as_str())?;
@@ -48,7 +49,7 @@ fn put_first(
 
 /// Takes back the place of a name, if it is this one.
 fn take_first(first: &mut BTreeMap<String, usize>, name: &Name, place: usize)
-    ensures { (q : List ℕ) → get_by_text first.new q ≡ (if bytes_eq q name.now then unless_at place (get_by_text first.old q) else get_by_text first.old q) }
+    ensures { (q : List ℕ) → get_by_text first.new q ≡ place_taken name.now place q (get_by_text first.old q) }
 {
     let text = name.as_str();
     if first.get(text).copied() == Some(place) {

@@ -1,5 +1,5 @@
 -- How a query is printed (this project's; the words are those of XQuery 1.0).
-use Rattle.std.specs.Prelude.{ℕ, Bool, true, false, List, [], ◌∷◌, ◌++◌, map, flat_map, codes, Option, Some, None}
+use Rattle.std.specs.Prelude.{ℕ, ◌≡◌, String, string_bytes, Bool, true, false, List, [], ◌∷◌, ◌++◌, map, flat_map, codes, Option, Some, None}
 use Rattle.gcx_base.specs.declared.rel.Rel.{Rel}
 use Rattle.gcx_base.specs.declared.rel.Rel.TheVariants.{Eq, Ne, Lt, Le, Gt, Ge}
 use Rattle.gcx_base.specs.declared.steps.Axis.{Axis}
@@ -17,6 +17,10 @@ use Rattle.gcx_model.specs.Written.{start_tag, end_tag}
 use Rattle.xq_print.specs.declared.cond.Joint.{Joint}
 use Rattle.xq_print.specs.declared.cond.Joint.TheVariants.{And, Or}
 use Rattle.xq_print.specs.Literals.{number_text, string_text}
+
+-- a text is put at the end
+abbrev pub Prints : {X : Type 0} → (before after : String X) → (text : List ℕ) → Type 0
+Prints before after text = string_bytes after ≡ string_bytes before ++ text
 
 -- the texts in a row, with one more between each two
 abbrev pub joined : (between : List ℕ) → List (List ℕ) → List ℕ

@@ -1,7 +1,7 @@
 //! Conditions.
-ghost use Rattle.std.specs.Prelude.{◌≡◌, ◌++◌, ◌∷◌, [], string_bytes, codes, OnOk, if◌then◌else◌};
+ghost use Rattle.std.specs.Prelude.{◌≡◌, ◌++◌, [], codes, OnOk, if◌then◌else◌};
 ghost use Rattle.gcx_model.specs.Query.{cond_tree, cond_trees, conds_of};
-ghost use Rattle.xq_print.specs.Printed.{cond_text, is_enclosed, joined, joint_text, member_texts, operand_text, path_text, rel_text};
+ghost use Rattle.xq_print.specs.Printed.{Prints, cond_text, is_enclosed, joined, joint_text, member_texts, operand_text, path_text, rel_text};
 
 use crate::literal::{put_number, put_string};
 use crate::path::put_path;
@@ -39,7 +39,7 @@ impl Joint {
 
 /// Appends the text where it is wanted, and else nothing.
 pub fn put_where(out: &mut String, wanted: bool, text: &str) -> Result<(), Memory>
-    ensures { OnOk result (string_bytes out.new ≡ string_bytes out.old ++ (if wanted then text.now else [])) }
+    ensures { OnOk result (Prints out.old out.new (if wanted then text.now else [])) }
 {
     if wanted {
         out.push_str(text)?;
@@ -62,7 +62,7 @@ pub fn rel_text(rel: Rel) -> &'static str
 }
 
 fn put_operand(out: &mut String, operand: &QOperand) -> Result<(), Memory>
-    ensures { OnOk result (string_bytes out.new ≡ string_bytes out.old ++ operand_text operand.now) }
+    ensures { OnOk result (Prints out.old out.new (operand_text operand.now)) }
 {
     match operand {
         QOperand::Path(path) => put_path(out, path),
@@ -72,7 +72,7 @@ fn put_operand(out: &mut String, operand: &QOperand) -> Result<(), Memory>
 }
 
 fn put_exists(out: &mut String, path: &PathExpr) -> Result<(), Memory>
-    ensures { OnOk result (string_bytes out.new ≡ string_bytes out.old ++ (codes "exists(" ++ (path_text path.now ++ codes ")"))) }
+    ensures { OnOk result (Prints out.old out.new (codes "exists(" ++ (path_text path.now ++ codes ")"))) }
 {
     out.push_str("exists(")?;
     put_path(out, path)?;
@@ -86,7 +86,7 @@ fn put_comparison(
     rel: Rel,
     right: &QOperand,
 ) -> Result<(), Memory>
-    ensures { OnOk result (string_bytes out.new ≡ string_bytes out.old ++ (operand_text left.now ++ (rel_text rel ++ operand_text right.now))) }
+    ensures { OnOk result (Prints out.old out.new (operand_text left.now ++ (rel_text rel ++ operand_text right.now))) }
 {
     put_operand(out, left)?;
     out.push_str(rel_text(rel))?;
@@ -95,7 +95,7 @@ fn put_comparison(
 
 #[cycle(print_conditions)]
 pub(crate) fn put_cond(out: &mut String, cond: &QCond) -> Result<(), Memory>
-    ensures { OnOk result (string_bytes out.new ≡ string_bytes out.old ++ cond_text (cond_tree cond.now)) }
+    ensures { OnOk result (Prints out.old out.new (cond_text (cond_tree cond.now))) }
 {
     match cond {
         QCond::True => {
@@ -117,7 +117,8 @@ pub(crate) fn put_cond(out: &mut String, cond: &QCond) -> Result<(), Memory>
 
 #[cycle(print_conditions)]
 fn put_members(out: &mut String, joint: Joint, members: &QConds) -> Result<(), Memory>
-    ensures { OnOk result (string_bytes out.new ≡ string_bytes out.old ++ joined (joint_text joint) (member_texts joint (conds_of (cond_trees members.now)))) }
+    ensures { OnOk result (Prints out.old out.new
+        (joined (joint_text joint) (member_texts joint (conds_of (cond_trees members.now))))) }
 {
     let mut later = false;
     for member in members.items() {

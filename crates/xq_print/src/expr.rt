@@ -1,8 +1,8 @@
 //! Expressions, and the query.
-ghost use Rattle.std.specs.Prelude.{◌≡◌, ◌++◌, ◌∷◌, [], Bool, map, string_bytes, codes, IfOk, OnOk, option_map};
+ghost use Rattle.std.specs.Prelude.{◌≡◌, ◌++◌, map, codes, IfOk, OnOk, option_map};
 ghost use Rattle.gcx_model.specs.Query.{cond_tree, expr_tree, expr_trees, exprs_of, query_trees};
 ghost use Rattle.gcx_model.specs.Written.{end_tag, start_tag};
-ghost use Rattle.xq_print.specs.Printed.{clause_text, cond_text, expr_text, expr_texts, filter_text, joined, printed_query};
+ghost use Rattle.xq_print.specs.Printed.{Prints, clause_text, cond_text, expr_text, expr_texts, filter_text, joined, printed_query};
 ghost use Rattle.xq_print.specs.ReadsBack.{ReadsBack};
 
 use crate::cond::{put_cond, put_where};
@@ -12,7 +12,7 @@ use gcx_model::{Clause, Clauses, Expr, Exprs, QCond, Query};
 use std::alloc::Global;
 
 fn put_start_tag(out: &mut String, name: &Name) -> Result<(), Memory>
-    ensures { OnOk result (string_bytes out.new ≡ string_bytes out.old ++ start_tag name.now) }
+    ensures { OnOk result (Prints out.old out.new (start_tag name.now)) }
 {
     out.push_str("<")?;
     put_name(out, name)?;
@@ -21,7 +21,7 @@ fn put_start_tag(out: &mut String, name: &Name) -> Result<(), Memory>
 }
 
 fn put_end_tag(out: &mut String, name: &Name) -> Result<(), Memory>
-    ensures { OnOk result (string_bytes out.new ≡ string_bytes out.old ++ end_tag name.now) }
+    ensures { OnOk result (Prints out.old out.new (end_tag name.now)) }
 {
     out.push_str("</")?;
     put_name(out, name)?;
@@ -30,7 +30,7 @@ fn put_end_tag(out: &mut String, name: &Name) -> Result<(), Memory>
 }
 
 fn put_clause(out: &mut String, clause: &Clause) -> Result<(), Memory>
-    ensures { OnOk result (string_bytes out.new ≡ string_bytes out.old ++ clause_text clause.now) }
+    ensures { OnOk result (Prints out.old out.new (clause_text clause.now)) }
 {
     out.push_str("$")?;
     put_name(out, &clause.var)?;
@@ -39,7 +39,7 @@ fn put_clause(out: &mut String, clause: &Clause) -> Result<(), Memory>
 }
 
 fn put_clauses(out: &mut String, clauses: &Clauses) -> Result<(), Memory>
-    ensures { OnOk result (string_bytes out.new ≡ string_bytes out.old ++ joined (codes ", ") (map clause_text clauses.now)) }
+    ensures { OnOk result (Prints out.old out.new (joined (codes ", ") (map clause_text clauses.now))) }
 {
     let mut later = false;
     for clause in clauses.items() {
@@ -51,7 +51,7 @@ fn put_clauses(out: &mut String, clauses: &Clauses) -> Result<(), Memory>
 }
 
 fn put_filter(out: &mut String, filter: &Option<QCond>) -> Result<(), Memory>
-    ensures { OnOk result (string_bytes out.new ≡ string_bytes out.old ++ filter_text (option_map cond_tree filter.now)) }
+    ensures { OnOk result (Prints out.old out.new (filter_text (option_map cond_tree filter.now))) }
 {
     match filter {
         Some(cond) => {
@@ -64,7 +64,9 @@ fn put_filter(out: &mut String, filter: &Option<QCond>) -> Result<(), Memory>
 
 /// Appends what stands before the body of a loop.
 fn put_loop(out: &mut String, clauses: &Clauses, filter: &Option<QCond>) -> Result<(), Memory>
-    ensures { OnOk result (string_bytes out.new ≡ string_bytes out.old ++ (codes "for " ++ (joined (codes ", ") (map clause_text clauses.now) ++ (filter_text (option_map cond_tree filter.now) ++ codes " return ")))) }
+    ensures { OnOk result (Prints out.old out.new (codes "for "
+        ++ (joined (codes ", ") (map clause_text clauses.now)
+        ++ (filter_text (option_map cond_tree filter.now) ++ codes " return ")))) }
 {
     out.push_str("for ")?;
     put_clauses(out, clauses)?;
@@ -75,7 +77,8 @@ fn put_loop(out: &mut String, clauses: &Clauses, filter: &Option<QCond>) -> Resu
 
 /// Appends what stands before the first branch.
 fn put_test(out: &mut String, cond: &QCond) -> Result<(), Memory>
-    ensures { OnOk result (string_bytes out.new ≡ string_bytes out.old ++ (codes "if (" ++ (cond_text (cond_tree cond.now) ++ codes ") then "))) }
+    ensures { OnOk result (Prints out.old out.new (codes "if ("
+        ++ (cond_text (cond_tree cond.now) ++ codes ") then "))) }
 {
     out.push_str("if (")?;
     put_cond(out, cond)?;
@@ -85,7 +88,7 @@ fn put_test(out: &mut String, cond: &QCond) -> Result<(), Memory>
 
 #[cycle(print_expressions)]
 fn put_expr(out: &mut String, expr: &Expr) -> Result<(), Memory>
-    ensures { OnOk result (string_bytes out.new ≡ string_bytes out.old ++ expr_text (expr_tree expr.now)) }
+    ensures { OnOk result (Prints out.old out.new (expr_text (expr_tree expr.now))) }
 {
     match expr {
         Expr::Empty => {
@@ -126,7 +129,8 @@ fn put_expr(out: &mut String, expr: &Expr) -> Result<(), Memory>
 
 #[cycle(print_expressions)]
 fn put_exprs(out: &mut String, exprs: &Exprs) -> Result<(), Memory>
-    ensures { OnOk result (string_bytes out.new ≡ string_bytes out.old ++ joined (codes ", ") (expr_texts (exprs_of (expr_trees exprs.now)))) }
+    ensures { OnOk result (Prints out.old out.new
+        (joined (codes ", ") (expr_texts (exprs_of (expr_trees exprs.now))))) }
 {
     let mut later = false;
     for expr in exprs.items() {

@@ -1,7 +1,8 @@
 //! Numbers and strings.
-ghost use Rattle.std.specs.Prelude.{◌≡◌, ◌<◌, ◌+◌, ◌^◌, ◌++◌, ◌∷◌, [], string_bytes, flat_map, OnOk};
+ghost use Rattle.std.specs.Prelude.{◌≡◌, ◌<◌, ◌+◌, ◌^◌, flat_map, OnOk};
 ghost use Rattle.std.specs.Str.{chars, encode_utf8_all};
 ghost use Rattle.xq_print.specs.Literals.{fraction_text, minus_text, number_text, places, quoted, string_text, without_zeros};
+ghost use Rattle.xq_print.specs.Printed.{Prints};
 
 use gcx_base::{Memory, Text};
 
@@ -22,7 +23,7 @@ fn digit_char(digit: u64) -> char
 /// Appends the digits behind a point, without the zeros at their end.
 fn put_places(out: &mut String, fraction: u64) -> Result<(), Memory>
     requires { fraction < 10 ^ 18 }
-    ensures { OnOk result (string_bytes out.new ≡ string_bytes out.old ++ without_zeros (places 18 fraction)) }
+    ensures { OnOk result (Prints out.old out.new (without_zeros (places 18 fraction))) }
 {
     let mut rest = fraction;
     let mut left = PLACES;
@@ -38,7 +39,7 @@ fn put_places(out: &mut String, fraction: u64) -> Result<(), Memory>
 /// Appends the point and the digits behind it, or nothing where they are zeros.
 fn put_fraction(out: &mut String, fraction: u64) -> Result<(), Memory>
     requires { fraction < 10 ^ 18 }
-    ensures { OnOk result (string_bytes out.new ≡ string_bytes out.old ++ fraction_text fraction) }
+    ensures { OnOk result (Prints out.old out.new (fraction_text fraction)) }
 {
     if fraction > 0 {
         out.push_str(".")?;
@@ -48,7 +49,7 @@ fn put_fraction(out: &mut String, fraction: u64) -> Result<(), Memory>
 }
 
 fn put_minus(out: &mut String, units: i128) -> Result<(), Memory>
-    ensures { OnOk result (string_bytes out.new ≡ string_bytes out.old ++ minus_text units) }
+    ensures { OnOk result (Prints out.old out.new (minus_text units)) }
 {
     if units < 0 {
         out.push_str("-")?;
@@ -59,7 +60,7 @@ fn put_minus(out: &mut String, units: i128) -> Result<(), Memory>
 /// Appends a number in units of 10^-18: `-` where it is negative, its integer part, and where it has
 /// a fraction the point and the fraction's digits without zeros at their end.
 pub fn put_number(out: &mut String, units: i128) -> Result<(), Memory>
-    ensures { OnOk result (string_bytes out.new ≡ string_bytes out.old ++ number_text units) }
+    ensures { OnOk result (Prints out.old out.new (number_text units)) }
 {
     put_minus(out, units)?;
     let size = units.unsigned_abs();
@@ -70,7 +71,7 @@ pub fn put_number(out: &mut String, units: i128) -> Result<(), Memory>
 
 /// Appends a character of a string.
 fn put_quoted(out: &mut String, c: char) -> Result<(), Memory>
-    ensures { OnOk result (string_bytes out.new ≡ string_bytes out.old ++ encode_utf8_all (quoted c)) }
+    ensures { OnOk result (Prints out.old out.new (encode_utf8_all (quoted c))) }
 {
     match c {
         '"' => out.push_str("\"\"")?,
@@ -81,7 +82,7 @@ fn put_quoted(out: &mut String, c: char) -> Result<(), Memory>
 }
 
 fn put_chars(out: &mut String, text: &str) -> Result<(), Memory>
-    ensures { OnOk result (string_bytes out.new ≡ string_bytes out.old ++ encode_utf8_all (flat_map quoted (chars text.now))) }
+    ensures { OnOk result (Prints out.old out.new (encode_utf8_all (flat_map quoted (chars text.now)))) }
 {
     for c in text.chars() {
         put_quoted(out, c)?;
@@ -91,7 +92,7 @@ fn put_chars(out: &mut String, text: &str) -> Result<(), Memory>
 
 /// Appends a string in quotes, with each quote in it doubled and `&` as `&amp;`.
 pub fn put_string(out: &mut String, text: &Text) -> Result<(), Memory>
-    ensures { OnOk result (string_bytes out.new ≡ string_bytes out.old ++ string_text text.now) }
+    ensures { OnOk result (Prints out.old out.new (string_text text.now)) }
 {
     out.push_str("\"")?;
     put_chars(out, text.as_str())?;

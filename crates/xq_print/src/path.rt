@@ -1,13 +1,13 @@
 //! Names and paths.
-ghost use Rattle.std.specs.Prelude.{◌≡◌, ◌++◌, ◌∷◌, [], string_bytes, flat_map, OnOk};
-ghost use Rattle.xq_print.specs.Printed.{axis_text, path_text, start_text, step_text, test_text};
+ghost use Rattle.std.specs.Prelude.{◌≡◌, flat_map, OnOk};
+ghost use Rattle.xq_print.specs.Printed.{Prints, axis_text, path_text, start_text, step_text, test_text};
 
 use gcx_base::{Axis, Memory, Name, Step, Test};
 use gcx_model::PathExpr;
 
 /// Appends a name.
 pub fn put_name(out: &mut String, name: &Name) -> Result<(), Memory>
-    ensures { OnOk result (string_bytes out.new ≡ string_bytes out.old ++ name.now) }
+    ensures { OnOk result (Prints out.old out.new name.now) }
 {
     out.push_str(name.as_str())?;
     Ok(())
@@ -24,7 +24,7 @@ fn axis_text(axis: Axis) -> &'static str
 
 /// Appends the test of a step.
 pub fn put_test(out: &mut String, test: &Test) -> Result<(), Memory>
-    ensures { OnOk result (string_bytes out.new ≡ string_bytes out.old ++ test_text test.now) }
+    ensures { OnOk result (Prints out.old out.new (test_text test.now)) }
 {
     match test {
         Test::Named(name) => put_name(out, name)?,
@@ -36,14 +36,14 @@ pub fn put_test(out: &mut String, test: &Test) -> Result<(), Memory>
 }
 
 fn put_step(out: &mut String, step: &Step) -> Result<(), Memory>
-    ensures { OnOk result (string_bytes out.new ≡ string_bytes out.old ++ step_text step.now) }
+    ensures { OnOk result (Prints out.old out.new (step_text step.now)) }
 {
     out.push_str(axis_text(step.axis))?;
     put_test(out, &step.test)
 }
 
 fn put_steps(out: &mut String, steps: &[Step]) -> Result<(), Memory>
-    ensures { OnOk result (string_bytes out.new ≡ string_bytes out.old ++ flat_map step_text steps.now) }
+    ensures { OnOk result (Prints out.old out.new (flat_map step_text steps.now)) }
 {
     for step in steps {
         put_step(out, step)?;
@@ -52,7 +52,7 @@ fn put_steps(out: &mut String, steps: &[Step]) -> Result<(), Memory>
 }
 
 fn put_start(out: &mut String, start: &Option<Name>) -> Result<(), Memory>
-    ensures { OnOk result (string_bytes out.new ≡ string_bytes out.old ++ start_text start.now) }
+    ensures { OnOk result (Prints out.old out.new (start_text start.now)) }
 {
     match start {
         Some(name) => {
@@ -64,7 +64,7 @@ fn put_start(out: &mut String, start: &Option<Name>) -> Result<(), Memory>
 }
 
 pub(crate) fn put_path(out: &mut String, path: &PathExpr) -> Result<(), Memory>
-    ensures { OnOk result (string_bytes out.new ≡ string_bytes out.old ++ path_text path.now) }
+    ensures { OnOk result (Prints out.old out.new (path_text path.now)) }
 {
     put_start(out, &path.start)?;
     put_steps(out, path.steps.items())
