@@ -148,8 +148,9 @@ fn has_all(roles: &RoleSet, given: &[Role]) -> bool {
 
 /// Whether the set of the innermost node's roles, where there is one at hand, has these and no more.
 fn are_plain(matcher: &Matcher, given: &Given) -> bool {
+    let (roles, _) = matcher.plain_sets();
     match matcher.plain() {
-        Some((roles, _, count)) => count == given.items().len() && has_all(roles, given.items()),
+        Some(count) => count == given.items().len() && has_all(roles, given.items()),
         None => true,
     }
 }

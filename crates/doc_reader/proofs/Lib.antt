@@ -6,5 +6,6 @@ pub mod Judgings
 pub mod Counts
 pub mod Standings
 pub mod Owning
+pub mod Behind
 pub mod Accepting
 pub mod Reading

@@ -53,7 +53,7 @@ takes_end (Some t) old new w s e n = e ∙ sym s ∙ ap (λ l. t ∷ l) (sym n)
 
 -- ---- the first token that is owned is taken
 
-same_parts : (t u : Token) (l m : List Token) → t ∷ l ≡ u ∷ m → (t ≡ u) × (l ≡ m)
+pub same_parts : (t u : Token) (l m : List Token) → t ∷ l ≡ u ∷ m → (t ≡ u) × (l ≡ m)
 same_parts t u l m e = (cc, cc)
 
 pub first_owned : (items rest : List Token) (t : Token) → map given_token (map said_of items) ≡ items → items ≡ t ∷ rest → (given_token (said_of t) ≡ t) × (map given_token (map said_of rest) ≡ rest)

@@ -1,5 +1,5 @@
 -- What a reader stands for (this project's).
-use Rattle.std.specs.Prelude.{ℕ, ◌≡◌, ◌≤◌, Bool, true, false, List, [], ◌∷◌, ◌++◌, length, map, Option, Some, None, Result, Ok, Err, if◌then◌else◌, ⊤}
+use Rattle.std.specs.Prelude.{ℕ, zero, suc, ◌≡◌, ◌≤◌, Bool, true, false, List, [], ◌∷◌, ◌++◌, length, drop, map, Option, Some, None, Result, Ok, Err, if◌then◌else◌, ⊤}
 use lib.Utf8.{scalars, encodes}
 use Rattle.gcx_base.specs.declared.limits.Limits.{Limits}
 use Rattle.gcx_model.specs.Document.{Nodes, IsDocument, tokens}
@@ -53,6 +53,14 @@ end_token waits = if waits then (EndOfDocument ∷ []) else []
 abbrev pub waiting : ReaderView → List Token
 waiting h = map given_token h.state.tokens ++ end_token h.end_waits
 
+-- those that are lent next: the tokens of tags, or the end of the document where it waits and none of these does
+abbrev pub lent_of : List Said → (ends : Bool) → List Token
+lent_of [] ends = end_token ends
+lent_of (t ∷ ts) ends = map given_token (t ∷ ts)
+
+abbrev pub lent_next : ReaderView → List Token
+lent_next h = lent_of h.state.tokens h.end_waits
+
 -- what feed and finish answer, and answer again
 abbrev pub answer_by : Option DocFault → Result ⊤ DocFault
 answer_by None = Ok tt
@@ -95,6 +103,15 @@ with_given before s = record s { tokens = before ++ s.tokens }
 -- a reader with these tokens
 abbrev pub with_tokens : ReaderView → List Said → ReaderView
 with_tokens h rest = record h { state = record h.state { tokens = rest } }
+
+-- a reader of which so many of the tokens were taken that are lent next
+abbrev pub behind_tokens : ReaderView → List Said → (count : ℕ) → ReaderView
+behind_tokens h (t ∷ ts) count = with_tokens h (drop count (t ∷ ts))
+behind_tokens h [] zero = h
+behind_tokens h [] (suc n) = record h { end_waits = false }
+
+abbrev pub behind_lent : (count : ℕ) → ReaderView → ReaderView
+behind_lent count h = behind_tokens h h.state.tokens count
 
 -- All characters of the bytes were read and make no fault, and a front of a character is carried.
 pub record IsReading (h : ReaderView) (lim : Limits) (b : List ℕ) (given : List Token) : Type 0 where

@@ -1,4 +1,4 @@
-ghost use Rattle.std.specs.Prelude.{◌≡◌, ◌+◌, ◌≤◌, ◌++◌, [], ℕ, List, length, take, drop, map, Bool, false, true, Some, OnOk, is_some};
+ghost use Rattle.std.specs.Prelude.{◌≡◌, ◌+◌, ◌<◌, ◌≤◌, ◌++◌, [], ℕ, List, length, take, drop, map, Bool, false, true, Some, OnOk, is_some};
 ghost use Rattle.gcx_model.specs.declared.fault.DocFault.TheVariants.{Memory as out_of_memory};
 ghost use Rattle.doc_tokens.specs.Parts.{AreLent};
 ghost use Rattle.doc_reader.specs.Piece.{char_fault as fault_of_char};
@@ -51,7 +51,8 @@ fn char_fault(fault: CharFault) -> DocFault
 }
 
 impl LentReader {
-    ghost use Rattle.doc_reader.specs.Standing.{Stands, IsReading, IsOpen, IsDone, IsRefused, Answers, Accepted, Token, waiting, answer_of, given_token, end_token, with_tokens};
+    ghost use Rattle.doc_reader.specs.Standing.{Stands, IsReading, IsOpen, IsDone, IsRefused, Answers, Accepted, Token, waiting, answer_of};
+    ghost use Rattle.doc_reader.specs.Standing.{behind_lent, end_token, given_token, lent_next, said_of, with_tokens};
     ghost use Rattle.doc_reader.specs.Piece.{Took, Ends, IsSame};
 
     /// A reader that has read nothing. The limits are at most 1,000 elements and 1,099,511,627,776 bytes.
@@ -90,28 +91,71 @@ impl LentReader {
         self.answer()
     }
 
-    /// The tokens that wait, but the one that says that the document ended, with their bytes.
+    /// The tokens of tags that wait, with their bytes. Where none does and the document ended, its end, and no bytes.
     #[inline(always)]
     pub fn lent(&self) -> (&[Lent], &[u8])
-        ensures { AreLent result.0.now result.1.now self.now.state.tokens }
+        ensures { AreLent result.0.now result.1.now (map said_of (lent_next self.now)) }
     {
-        lent_whole(&self.machine)
+        if self.is_last() {
+            return (&[Lent::End], &[]);
+        }
+        self.lent_tags()
     }
 
     /// Takes so many of them.
     #[inline(always)]
     pub fn take_lent(&mut self, count: usize)
-        requires { count ≤ length self.old.state.tokens }
-        ensures takes { self.new ≡ with_tokens self.old (drop count self.old.state.tokens) }
+        requires { count ≤ length (lent_next self.old) }
+        ensures takes { self.new ≡ behind_lent count self.old }
         ensures stands { (lim : Limits) (b : List ℕ) (ended : Bool) (given : List Token) → Stands self.old lim b ended given
-            → Stands self.new lim b ended (given ++ map given_token (take count self.old.state.tokens)) }
+            → Stands self.new lim b ended (given ++ take count (lent_next self.old)) }
+    {
+        if !self.is_last() {
+            return self.take_tags(count);
+        }
+        if count > 0 {
+            self.take_end();
+        }
+    }
+
+    /// Whether the document's end waits, and no token of a tag does.
+    #[inline(always)]
+    fn is_last(&self) -> bool
+        ensures last { result ≡ true → (self.now.state.tokens ≡ []) × (self.now.end_waits ≡ true) }
+        ensures tags { result ≡ false → lent_next self.now ≡ map given_token self.now.state.tokens }
+    {
+        self.end_waits && self.has_no_tags()
+    }
+
+    /// Whether no token of a tag waits.
+    fn has_no_tags(&self) -> bool
+        ensures none { result ≡ true → self.now.state.tokens ≡ [] }
+        ensures some { result ≡ false → 0 < length self.now.state.tokens }
+    {
+        let (tokens, _) = self.lent_tags();
+        tokens.is_empty()
+    }
+
+    /// The tokens of tags that wait, with their bytes.
+    #[inline(always)]
+    pub(crate) fn lent_tags(&self) -> (&[Lent], &[u8])
+        ensures { AreLent result.0.now result.1.now self.now.state.tokens }
+    {
+        lent_whole(&self.machine)
+    }
+
+    /// Takes so many of the tokens of tags.
+    #[inline(always)]
+    pub(crate) fn take_tags(&mut self, count: usize)
+        requires { count ≤ length self.old.state.tokens }
+        ensures { self.new ≡ with_tokens self.old (drop count self.old.state.tokens) }
     {
         take_whole(&mut self.machine, count)
     }
 
     /// Takes the token that says that the document ended, where no other one waits. True where there is it.
     #[inline(always)]
-    pub fn take_end(&mut self) -> bool
+    pub(crate) fn take_end(&mut self) -> bool
         requires { self.old.state.tokens ≡ [] }
         ensures takes { self.new ≡ record self.old { end_waits = false } }
         ensures waits { result ≡ self.old.end_waits }

@@ -88,16 +88,16 @@ fn put_all(
     }
 }
 
-/// Takes the tokens that are lent, and puts them behind the others, all or none of them.
+/// Takes the tokens of tags that are lent, and puts them behind the others, all or none of them.
 fn own_all(alloc: Global, lent: &mut LentReader, waits: &mut VecDeque<Token>) -> Result<(), Memory>
     ensures ok { OnOk result (waits.new.items ≡ waits.old.items ++ map given_token lent.old.state.tokens) }
     ensures err { OnErr result (waits.new.items ≡ waits.old.items) }
     ensures lent { lent.new ≡ with_tokens lent.old [] }
 {
-    let (tokens, bytes) = lent.lent();
+    let (tokens, bytes) = lent.lent_tags();
     let count = tokens.len();
     let put = put_all(alloc, tokens, bytes, waits);
-    lent.take_lent(count);
+    lent.take_tags(count);
     put
 }
 

@@ -1,18 +1,18 @@
 -- Tokens that are lent by the reader: the first one made owned, or all of them fed together.
-use Rattle.std.proofs.Common.{◌≡◌, ℕ, Bool, true, false, List, [], ◌∷◌, ◌++◌, length, take, drop, map, slice_get, Option, Some, None, refl, sym, ap, ◌∙◌, subst, arith}
-use Rattle.std.proofs.lemmas.List.{append-nil}
+use Rattle.std.proofs.Common.{◌≡◌, ℕ, ◌+◌, ◌≤◌, Bool, List, [], ◌∷◌, ◌++◌, length, take, map, slice_get, Option, Some, None, refl, sym, ap, ◌∙◌, subst, take_at, arith}
+use Rattle.std.proofs.lemmas.List.{length-append, length-map, take-map}
 use Rattle.gcx_base.specs.declared.limits.Limits.{Limits}
 use Rattle.gcx_model.specs.PlanView.{plan_tree}
 use Rattle.gcx_model.specs.Growth.{Leads}
 use Rattle.gcx_model.specs.Seen.{seen_tree}
-use Rattle.gcx_model.specs.Tree.{Tree, Token as Said, Start, Chars, End, opening, grow}
+use Rattle.gcx_model.specs.Tree.{Tree, Token as Said, Start, Chars, End, opening}
 use Rattle.doc_laws.proofs.TreeBounds.{seen_within}
-use Rattle.doc_reader.specs.Standing.{AreLent, EndOfDocument, Keeps, Lent, LiesWithin, ReaderView, Stands, Token, answer_of, end_token, given_token, lent_token, said_of, waiting, with_tokens}
-use Rattle.doc_reader.proofs.Givings.{said-append, said-map}
-use Rattle.doc_reader.proofs.Standings.{stands_taken}
+use Rattle.doc_reader.specs.Standing.{AreLent, Keeps, Lent, LiesWithin, ReaderView, Stands, Token, behind_lent, given_token, lent_next, lent_token, said_of, waiting}
+use Rattle.doc_reader.proofs.Behind.{behind_keeps, behind_stands, behind_waits, one_behind, stands_all, stands_one, waits_all}
+use Rattle.doc_reader.proofs.Givings.{said-append}
 use Rattle.engine.specs.View.{ActorsView, EngineView}
-use Rattle.engine.specs.Actors.{ComesWithin, Goes, StandAt, all_of}
-use Rattle.engine.specs.Calls.{TakesNext, GoesAlone}
+use Rattle.engine.specs.Actors.{Goes, StandAt, all_of}
+use Rattle.engine.specs.Calls.{GoesAlone, TakesLent, TakesNext}
 use Rattle.engine.specs.Engine.{CountsOf, MayLimit, PartsStand}
 use Rattle.engine.specs.Going.{Breaks, FeedsOn}
 use Rattle.engine.specs.Late.{AllCome, BrokeLate, FedLent, IsLow, MayFeedAll, said_lent}
@@ -42,104 +42,119 @@ first_lent (x ∷ lent) bytes tokens first e a =
       part = subst (λ (z : Lent). LiesWithin 0 (length bytes) bytes z) same a.parts.0;
     }
 
-pub none_lent : (lent : List Lent) (bytes : List ℕ) (tokens : List Said) → None ≡ slice_get lent 0 → AreLent lent bytes tokens → tokens ≡ []
-none_lent [] bytes tokens e a = sym a.tokens_are
-none_lent (x ∷ lent) bytes tokens e a = absurd (cc)
+some_said : (t : Said) (ts : List Said) → [] ≡ t ∷ ts → ⊥
+some_said t ts e = cc
 
--- it was taken
-pub next_given : (q r : ReaderView) (t : Said) (rest : List Said) (u : Token) → q.state.tokens ≡ t ∷ rest → u ≡ given_token t → r ≡ with_tokens q (drop 1 q.state.tokens)
-    → ((lim : Limits) (b : List ℕ) (ended : Bool) (given : List Token) → Stands q lim b ended given → Stands r lim b ended (given ++ map given_token (take 1 q.state.tokens))) → TakesNext q r (Some u)
-next_given q r t rest u first is takes stands =
-    let now : r ≡ with_tokens q rest = takes ∙ ap (λ (ts : List Said). with_tokens q (drop 1 ts)) first in
-    record {
-      takes = ap (λ (ts : List Said). map given_token ts ++ end_token q.end_waits) first ∙ (ap (λ (z : Token). z ∷ waiting (with_tokens q rest)) (sym is) ∙ ap (λ (z : ReaderView). u ∷ waiting z) (sym now));
-      stands = λ lim b ended given s.
-          subst (λ (z : Token). Stands r lim b ended (given ++ z ∷ [])) (sym is)
-          (subst (λ (ts : List Said). Stands r lim b ended (given ++ map given_token (take 1 ts))) first (stands lim b ended given s));
-    }
-
--- where no other token waits
-last_waits : (r : ReaderView) (w : Bool) → r.state.tokens ≡ [] → r.end_waits ≡ w → waiting r ≡ end_token w
-last_waits r w none is = (λ i. map given_token (none i) ++ end_token (is i))
-
-module _ (q r : ReaderView) (none : q.state.tokens ≡ []) (same : r ≡ record q { end_waits = false }) where
-  now_none : waiting r ≡ []
-  now_none = ap waiting same ∙ last_waits (record q { end_waits = false }) false none refl
-
-  -- the end of the document does
-  pub end_given : q.end_waits ≡ true → ((lim : Limits) (b : List ℕ) (ended : Bool) (given : List Token) → Stands q lim b ended given → Stands r lim b ended (given ++ end_token true)) → TakesNext q r (Some EndOfDocument)
-  end_given ends stands = record { takes = last_waits q true none ends ∙ ap (λ (ts : List Token). EndOfDocument ∷ ts) (sym now_none); stands = stands }
-
-  -- or nothing
-  pub none_given : q.end_waits ≡ false → ((lim : Limits) (b : List ℕ) (ended : Bool) (given : List Token) → Stands q lim b ended given → Stands r lim b ended (given ++ end_token false)) → TakesNext q r None
-  none_given over stands = record { takes = (last_waits q false none over, now_none); stands = stands }
-
-  pub keeps_end : Keeps q r
-  keeps_end = record { finished = ap (λ (z : ReaderView). z.finished) same; answer = ap answer_of same }
-
--- what taking tokens keeps
-pub keeps_taken : (q r : ReaderView) (ts : List Said) → r ≡ with_tokens q ts → Keeps q r
-keeps_taken q r ts same = record { finished = ap (λ (z : ReaderView). z.finished) same; answer = ap answer_of same }
-
--- ---- all tokens that are lent, fed together
+pub none_lent : (lent : List Lent) (bytes : List ℕ) (us : List Token) → None ≡ slice_get lent 0 → AreLent lent bytes (map said_of us) → us ≡ []
+none_lent [] bytes [] e a = refl
+none_lent [] bytes (u ∷ us) e a = absurd (some_said (said_of u) (map said_of us) a.tokens_are)
+none_lent (x ∷ lent) bytes us e a = absurd (cc)
 
 said_given : (t : Said) → said_of (given_token t) ≡ t
 said_given (Start name) = refl
 said_given (Chars text) = refl
 said_given End = refl
 
-said_more : (given : List Token) (us : List Said) → map said_of (given ++ map given_token us) ≡ map said_of given ++ us
-said_more given us = said-append given (map given_token us) ∙ ap (λ (ts : List Said). map said_of given ++ ts) (said-map us)
+-- the first of tokens that say these
+record FirstOf (us : List Token) (t : Said) : Type 0 where
+  pub next : Token
+  pub more : List Token
+  pub is : us ≡ next ∷ more
+  pub says : said_of next ≡ t
 
-module _ (lim : Limits) (l : MayLimit lim) (b : List ℕ) (ended : Bool) where
-  -- behind the tokens given a document is no deeper than it may be
-  low_given : (r : ReaderView) (given : List Token) → Stands r lim b ended given → IsLow (seen_tree (map said_of given))
-  low_given r given s n e =
-      let x = seeing r lim b ended given s in
-      let w = seen_within lim b ended (map said_of given ++ x.rest) (map said_of given) x.rest x.seen refl in
-      let h = w.open_elements n e in
-      let d = l.depth in
-      omega arith
+same_said : (t u : Said) (ts us : List Said) → t ∷ ts ≡ u ∷ us → t ≡ u
+same_said t u ts us e = cc
 
-  -- the tokens that are lent come behind those given
-  pub all_come : (us : List Said) (r : ReaderView) (given : List Token) → r.state.tokens ≡ us → Stands r lim b ended given → AllCome (seen_tree (map said_of given)) us
-  all_come [] r given e s = low_given r given s
-  all_come (u ∷ us) r given e s =
-      let t = given_token u in
-      let next : waiting r ≡ t ∷ waiting (with_tokens r us) = ap (λ (ts : List Said). map given_token ts ++ end_token r.end_waits) e in
-      let on : Stands (with_tokens r us) lim b ended (given ++ t ∷ []) = stands_taken r (u ∷ []) us e lim b given ended s in
-      let tree : seen_tree (map said_of (given ++ t ∷ [])) ≡ grow u (seen_tree (map said_of given)) = tree_on given t ∙ ap (λ (z : Said). grow z (seen_tree (map said_of given))) (said_given u) in (
-        subst (λ (z : Said). ComesWithin z (seen_tree (map said_of given))) (said_given u) (next_comes r lim b ended given s l t (waiting (with_tokens r us)) next),
-        subst (λ (T : Tree). AllCome T us) tree (all_come us (with_tokens r us) (given ++ t ∷ []) refl on),
-      )
+first_of : (us : List Token) (t : Said) (rest : List Said) → map said_of us ≡ t ∷ rest → FirstOf us t
+first_of [] t rest e = absurd (some_said t rest e)
+first_of (u ∷ us) t rest e = record { next = u; more = us; is = refl; says = same_said (said_of u) t (map said_of us) rest e }
+
+-- it was taken
+pub next_given : (q r : ReaderView) (t : Said) (rest : List Said) (u : Token) → map said_of (lent_next q) ≡ t ∷ rest → u ≡ given_token t → r ≡ behind_lent 1 q → TakesNext q r (Some u)
+next_given q r t rest u first is same =
+    let f = first_of (lent_next q) t rest first in
+    let some : 1 ≤ length (f.next ∷ f.more) = omega arith in
+    let few : 1 ≤ length (lent_next q) = subst (λ (zs : List Token). 1 ≤ length zs) (sym f.is) some in
+    record {
+      next = f.next;
+      says = ap said_of is ∙ (said_given t ∙ sym f.says);
+      takes = behind_waits q 1 few ∙ (ap (λ (zs : List Token). take 1 zs ++ waiting (behind_lent 1 q)) f.is ∙ ap (λ (z : ReaderView). f.next ∷ waiting z) (sym same));
+      stands = λ lim b ended given s.
+          subst (λ (z : ReaderView). Stands z lim b ended (given ++ f.next ∷ [])) (sym same)
+          (subst (λ (zs : List Token). Stands (behind_lent 1 q) lim b ended (given ++ take 1 zs)) f.is (behind_stands q 1 few lim b ended given s));
+    }
+
+-- what taking tokens keeps
+pub keeps_behind : (q r : ReaderView) (count : ℕ) → r ≡ behind_lent count q → Keeps q r
+keeps_behind q r count same = subst (λ (z : ReaderView). Keeps q z) (sym same) (behind_keeps q count)
+
+-- ---- all tokens that are lent, fed together
+
+-- behind the tokens given a document is no deeper than it may be
+low_given : (lim : Limits) → MayLimit lim → (b : List ℕ) (ended : Bool) (r : ReaderView) (given : List Token) → Stands r lim b ended given → IsLow (seen_tree (map said_of given))
+low_given lim l b ended r given s n e =
+    let x = seeing r lim b ended given s in
+    let w = seen_within lim b ended (map said_of given ++ x.rest) (map said_of given) x.rest x.seen refl in
+    let h = w.open_elements n e in
+    let d = l.depth in
+    omega arith
+
+-- tokens that wait come behind those given
+front_comes : (lim : Limits) → MayLimit lim → (b : List ℕ) (ended : Bool) (us more : List Token) (r : ReaderView) (given : List Token) → waiting r ≡ us ++ more → Stands r lim b ended given → AllCome (seen_tree (map said_of given)) (map said_of us)
+front_comes lim l b ended [] more r given e s = low_given lim l b ended r given s
+front_comes lim l b ended (u ∷ us) more r given e s = (
+  next_comes r lim b ended given s l u (us ++ more) e,
+  subst (λ (T : Tree). AllCome T (map said_of us)) (tree_on given u)
+      (front_comes lim l b ended us more (behind_lent 1 r) (given ++ u ∷ []) (one_behind r u (us ++ more) e).2 (stands_one r u (us ++ more) e lim b ended given s)),
+)
+
+-- so do those that are lent
+pub all_come : (lim : Limits) → MayLimit lim → (b : List ℕ) (ended : Bool) (r : ReaderView) (given : List Token) → Stands r lim b ended given → AllCome (seen_tree (map said_of given)) (map said_of (lent_next r))
+all_come lim l b ended r given s = front_comes lim l b ended (lent_next r) (waiting (behind_lent (length (lent_next r)) r)) r given (waits_all r) s
+
+pub said_lent_next : (r : ReaderView) (given : List Token) (us : List Said) → us ≡ map said_of (lent_next r) → map said_of (given ++ lent_next r) ≡ map said_of given ++ us
+said_lent_next r given us tokens = said-append given (lent_next r) ∙ ap (λ (ts : List Said). map said_of given ++ ts) (sym tokens)
+
+-- the first of those that are lent
+record FrontOf (r : ReaderView) (fed : List Said) (count : ℕ) : Type 0 where
+  pub few : count ≤ length (lent_next r)
+  pub says : map said_of (take count (lent_next r)) ≡ fed
+
+front_of : (r : ReaderView) (us fed rest : List Said) → us ≡ map said_of (lent_next r) → us ≡ fed ++ rest → FrontOf r fed (length fed)
+front_of r us fed rest tokens parts =
+    let gs = lent_next r in
+    let all : length gs ≡ length fed + length rest = sym (length-map gs said_of) ∙ (ap length (sym tokens ∙ parts) ∙ length-append fed rest) in
+    record {
+      few = omega arith;
+      says = sym (take-map said_of (length fed) gs) ∙ (ap (take (length fed)) (sym tokens ∙ parts) ∙ take_at fed rest (length fed) refl);
+    }
 
 module _ {C : Type 0} (stands : C → Tree → Type 0) (lim : Limits) (b : List ℕ) (ended : Bool) (given : List Token) where
-  pub parts_may : (old : EngineView C) (lent : List Lent) (bytes : List ℕ) → PartsStand stands lim old b ended given → AreLent lent bytes old.reader.state.tokens
+  pub parts_may : (old : EngineView C) (lent : List Lent) (bytes : List ℕ) → PartsStand stands lim old b ended given → AreLent lent bytes (map said_of (lent_next old.reader))
       → MayFeedAll stands (plan_tree old.plan) old.ahead old.actors (map said_of given) (said_lent bytes lent)
   parts_may old lent bytes p a = record {
     stand = record { actors = p.actors; counts = p.counts };
     may = given_come old.reader lim b ended given p.reader;
-    come = subst (λ (ts : List Said). AllCome (seen_tree (map said_of given)) ts) (sym a.tokens_are) (all_come lim p.limits b ended old.reader.state.tokens old.reader given refl p.reader);
+    come = subst (λ (ts : List Said). AllCome (seen_tree (map said_of given)) ts) (sym a.tokens_are) (all_come lim p.limits b ended old.reader given p.reader);
   }
 
   -- they were fed, and taken from the reader
-  pub lent_feeds : (old d : EngineView C) (us : List Said) → PartsStand stands lim old b ended given → us ≡ old.reader.state.tokens → d.reader ≡ with_tokens old.reader [] → d.plan ≡ old.plan → d.ahead ≡ old.ahead
+  pub lent_feeds : (old d : EngineView C) (us : List Said) → PartsStand stands lim old b ended given → us ≡ map said_of (lent_next old.reader) → TakesLent old.reader d.reader → d.plan ≡ old.plan → d.ahead ≡ old.ahead
       → FedLent stands (plan_tree old.plan) old.ahead old.actors d.actors (map said_of given) us old.out d.out → FeedsOn stands lim old d b ended given
   lent_feeds old d us p tokens reader plan ahead f =
-      let gs = map given_token us in
+      let gs = lent_next old.reader in
       let pl = plan_tree old.plan in
       let ts = map said_of given in
-      let all : ts ++ us ≡ map said_of (given ++ gs) = sym (said_more given us) in
+      let all : ts ++ us ≡ map said_of (given ++ gs) = sym (said_lent_next old.reader given us tokens) in
       let actors : StandAt stands pl d.actors (seen_tree (map said_of (given ++ gs))) (all_of pl (seen_tree (map said_of (given ++ gs))))
       = subst (λ (z : List Said). StandAt stands pl d.actors (seen_tree z) (all_of pl (seen_tree z))) all f.stand.actors in
       let counts : CountsOf pl (map said_of (given ++ gs)) old.ahead d.actors.buffer d.actors.counts = subst (λ (z : List Said). CountsOf pl z old.ahead d.actors.buffer d.actors.counts) all f.stand.counts in
-      let taken : Stands (with_tokens old.reader []) lim b ended (given ++ gs) = stands_taken old.reader us [] (sym tokens ∙ sym (append-nil us)) lim b given ended p.reader in
       record {
         more = gs;
-        waited = ap (λ (z : List Said). map given_token z ++ end_token old.reader.end_waits) (sym tokens) ∙ ap (λ (z : ReaderView). gs ++ waiting z) (sym reader);
+        waited = waits_all old.reader ∙ ap (λ (z : ReaderView). gs ++ waiting z) (sym reader);
         parts = record {
           limits = p.limits;
-          reader = subst (λ (z : ReaderView). Stands z lim b ended (given ++ gs)) (sym reader) taken;
+          reader = subst (λ (z : ReaderView). Stands z lim b ended (given ++ gs)) (sym reader) (stands_all old.reader lim b ended given p.reader);
           actors = subst (λ z. StandAt stands (plan_tree z) d.actors (seen_tree (map said_of (given ++ gs))) (all_of (plan_tree z) (seen_tree (map said_of (given ++ gs))))) (sym plan) actors;
           counts = subst (λ z. CountsOf (plan_tree z) (map said_of (given ++ gs)) d.ahead d.actors.buffer d.actors.counts) (sym plan)
               (subst (λ n. CountsOf pl (map said_of (given ++ gs)) n d.actors.buffer d.actors.counts) (sym ahead) counts);
@@ -149,15 +164,17 @@ module _ {C : Type 0} (stands : C → Tree → Type 0) (lim : Limits) (b : List 
       }
 
   -- or memory ran out behind some of them
-  pub lent_breaks : (old d : EngineView C) (us : List Said) → PartsStand stands lim old b ended given → us ≡ old.reader.state.tokens
+  pub lent_breaks : (old d : EngineView C) (us : List Said) → PartsStand stands lim old b ended given → us ≡ map said_of (lent_next old.reader)
       → BrokeLate (plan_tree old.plan) d.actors (map said_of given) us old.out d.out → Breaks lim old d b ended given
   lent_breaks old d us p tokens k =
-      let gs = map given_token k.fed in
+      let n = length k.fed in
+      let front = front_of old.reader us k.fed k.rest tokens k.parts in
+      let gs = take n (lent_next old.reader) in
       let pl = plan_tree old.plan in
       let ts = map said_of given in
-      let all : map said_of (given ++ gs) ≡ ts ++ k.fed = said_more given k.fed in
-      let r = with_tokens old.reader k.rest in
-      let taken : Stands r lim b ended (given ++ gs) = stands_taken old.reader k.fed k.rest (sym tokens ∙ k.parts) lim b given ended p.reader in
+      let all : map said_of (given ++ gs) ≡ ts ++ k.fed = said-append given gs ∙ ap (λ (zs : List Said). ts ++ zs) front.says in
+      let r = behind_lent n old.reader in
+      let taken : Stands r lim b ended (given ++ gs) = behind_stands old.reader n front.few lim b ended given p.reader in
       let grew : Leads opening (seen_tree (ts ++ k.fed)) = subst (λ (z : List Said). Leads opening (seen_tree z)) all (given_grew r lim b ended (given ++ gs) taken) in
       record {
         balance = k.balance;

@@ -1,5 +1,5 @@
 -- What the calls of an engine make, a record or a statement for each (this project's).
-use Rattle.std.specs.Prelude.{◌≡◌, ℕ, Bool, true, false, List, [], ◌++◌, map, Option, None, Result, ⊤}
+use Rattle.std.specs.Prelude.{◌≡◌, ℕ, Bool, true, false, List, [], ◌∷◌, ◌++◌, length, map, Option, None, Some, Result, ⊤}
 use Rattle.gcx_base.specs.declared.limits.Limits.{Limits}
 use Rattle.gcx_model.specs.declared.fault.DocFault.{DocFault}
 use Rattle.gcx_model.specs.Tree.{Tree}
@@ -7,7 +7,7 @@ use Rattle.gcx_model.specs.PlanView.{plan_tree}
 use Rattle.gcx_model.specs.Demand.{text_of_lines}
 use Rattle.gcx_model.specs.Points.{actions}
 use Rattle.gcx_model.specs.Seen.{seen_tree}
-use Rattle.doc_reader.specs.Standing.{Answers, Keeps, ReaderView, Stands, Takes, Token, said_of, taken, waiting}
+use Rattle.doc_reader.specs.Standing.{Answers, Keeps, ReaderView, Stands, Token, behind_lent, lent_next, said_of, waiting}
 use Rattle.engine.specs.View.{EngineView}
 use Rattle.engine.specs.Engine.{Balanced, IsSilent, IsTold, Kept, Lost, PartsStand, StandsOf, TraceGrewBy, TraceGrewWithin}
 use Rattle.engine.specs.Going.{Breaks, FeedsOn, FeedsSome, GoesOn}
@@ -60,10 +60,21 @@ pub record SameRun {C : Type 0} (old new : EngineView C) : Type 0 where
 
 -- ---- the tokens that wait
 
--- the first token that waited was given, or none waited
-pub record TakesNext (old new : ReaderView) (token : Option Token) : Type 0 where
-  pub takes : Takes token (waiting old) (waiting new)
-  pub stands : (lim : Limits) (b : List ℕ) (ended : Bool) (given : List Token) → Stands old lim b ended given → Stands new lim b ended (given ++ taken token)
+-- The token that waited first was given. The end of the document is given as an end tag.
+pub record TakesFirst (old new : ReaderView) (token : Token) : Type 0 where
+  pub next : Token
+  pub says : said_of token ≡ said_of next
+  pub takes : waiting old ≡ next ∷ waiting new
+  pub stands : (lim : Limits) (b : List ℕ) (ended : Bool) (given : List Token) → Stands old lim b ended given → Stands new lim b ended (given ++ next ∷ [])
+
+-- it was, or none waited
+abbrev pub TakesNext : (old new : ReaderView) → Option Token → Type 0
+TakesNext old new None = (waiting old ≡ []) × (new ≡ old)
+TakesNext old new (Some t) = TakesFirst old new t
+
+-- all that is lent was taken
+abbrev pub TakesLent : (old new : ReaderView) → Type 0
+TakesLent old new = new ≡ behind_lent (length (lent_next old)) old
 
 -- whatever its parts stood for, this holds of it
 abbrev pub OfParts : {C : Type 0} → (C → Tree → Type 0) → EngineView C → (Limits → List ℕ → Bool → List Token → Type 0) → Type 0

@@ -10,9 +10,9 @@ ghost use Rattle.doc_reader.specs.Standing.{said_of};
 ghost use Rattle.buf_tree.specs.Shape.{Shape, cells};
 ghost use Rattle.buf_tree.specs.Spread.{SameButRoles};
 ghost use Rattle.projector.specs.Calls.{BeginsFor, GivesDocument};
-ghost use Rattle.engine.specs.Actors.{ActorsBegin, ActsOnFrom, ActsOneFrom, ActsSomeFrom, BalancesEach, FeedsEach, IsQuietFor, MayFeed, SomeActors};
+ghost use Rattle.engine.specs.Actors.{ActorsBegin, ActsOnFrom, ActsOneFrom, ActsSomeFrom, FeedsEach, MayFeed, SomeActors};
 
-use crate::tallies::{count, is_quiet};
+use crate::tallies::count;
 use buf_tree::{Buffer, Row};
 use cond_eval::Conds;
 use doc_reader::Token;
@@ -113,21 +113,15 @@ impl<'p, N: NodeStore<Row> + Drop, C: Conds + Drop> Actors<'p, N, C> {
 }
 
 impl<'p, N: NodeStore<Row>, C: Conds> Actors<'p, N, C> {
-    /// Feeds one token. True where no action is possible behind it that wasn't before.
-    #[inline(always)]
-    pub(crate) fn feed_one(&mut self, alloc: Global, token: Token) -> Result<bool, Memory>
+    /// Feeds one token.
+    pub(crate) fn feed(&mut self, alloc: Global, token: Token) -> Result<(), Memory>
         requires { MayFeed C.stands self.old (said_of token) }
-        ensures feeds { OnOk result (FeedsEach C.stands self.old self.new (said_of token)) }
-        ensures quiet { IfOk result (λ q. q ≡ true → IsQuietFor C.stands self.old (said_of token)) }
-        ensures balance { OnErr result (BalancesEach C.stands self.old self.new (said_of token)) }
-        ensures machine { self.new.machine ≡ self.old.machine }
-        ensures loans { self.new.buffer.loans ≡ self.old.buffer.loans }
+        ensures { OnOk result (FeedsEach C.stands self.old self.new (said_of token)) }
     {
-        let tally = self.projector.feed_tallied(alloc, &mut self.buffer, token)?;
-        let quiet = is_quiet(tally, &self.buffer);
-        self.counts = count(self.counts, tally, self.buffer.held());
+        let fed = self.projector.feed_token(alloc, &mut self.buffer, token)?;
+        self.counts = count(self.counts, fed.tally(), self.buffer.held());
         self.buffer.clear_gone();
-        Ok(quiet)
+        Ok(())
     }
 
     /// Takes every action that is possible.

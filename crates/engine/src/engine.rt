@@ -15,7 +15,7 @@ ghost use Rattle.engine.specs.Actors.{ActsAlone, ActsOnFrom, ActsSomeFrom, Balan
 ghost use Rattle.engine.specs.Engine.{IsSilent, MayGoOn, MostIs, OnAnswer, OnRefusal, Starts, StandsOf, StandsSome};
 ghost use Rattle.engine.specs.Going.{Begins, SomeParts};
 ghost use Rattle.engine.specs.Telling.{TellsAll, TellsEach, TellsFront, TellsPart};
-ghost use Rattle.engine.specs.Calls.{AnswersEnd, AnswersPiece, BalancesFrom, BreaksFrom, FeedsAlone, FeedsFrom, FeedsSomeFrom, TakesNext, GoesAlone, FeedsAllFrom, IsEmptied, SameRun, FeedsEnd, FeedsPiece, TellsEnd, TellsOne, TellsPiece, TellsGroups, TellsWaiting, TellsWithin};
+ghost use Rattle.engine.specs.Calls.{AnswersEnd, AnswersPiece, BalancesFrom, BreaksFrom, FeedsAlone, FeedsFrom, FeedsSomeFrom, TakesLent, TakesNext, GoesAlone, FeedsAllFrom, IsEmptied, SameRun, FeedsEnd, FeedsPiece, TellsEnd, TellsOne, TellsPiece, TellsGroups, TellsWaiting, TellsWithin};
 
 use crate::actors::Actors;
 use crate::lines::opening_trace;
@@ -324,7 +324,8 @@ impl<'p, N: NodeStore<Row>, C: Conds> Engine<'p, N, C> {
         self.refused = lacking(self.refused, fed);
     }
 
-    /// Feeds the tokens that wait, in groups, and takes every possible action behind each group.
+    /// Feeds the tokens that wait, in groups, and takes every possible action behind each group. The end of the document
+    /// is lent once no token of a tag is.
     fn feed_waiting(&mut self, alloc: Global) -> Result<(), Memory>
         requires { SomeParts C.stands self.old }
         ensures feeds { OnOk result (FeedsFrom C.stands self.old self.new) }
@@ -334,14 +335,18 @@ impl<'p, N: NodeStore<Row>, C: Conds> Engine<'p, N, C> {
         ensures part { OnErr result (TellsWithin C.stands self.old self.new) }
         ensures same { GoesAlone self.old self.new }
     {
+        if self.tracing {
+            return self.feed_groups(alloc);
+        }
         self.feed_lean(alloc)?;
-        self.feed_groups(alloc)
+        self.feed_lean(alloc)
     }
 
-    /// Feeds the tokens that wait, owned and one by one, with their lines where a trace is wanted, in groups, and takes
-    /// every possible action behind each group.
+    /// Feeds the tokens that wait, owned and one by one, with their lines, in groups, and takes every possible action
+    /// behind each group.
     fn feed_groups(&mut self, alloc: Global) -> Result<(), Memory>
-        requires { SomeParts C.stands self.old }
+        requires parts { SomeParts C.stands self.old }
+        requires traced { self.old.tracing ≡ true }
         ensures feeds { OnOk result (FeedsFrom C.stands self.old self.new) }
         ensures none { OnOk result (waiting self.new.reader ≡ []) }
         ensures breaks { OnErr result (BreaksFrom C.stands self.old self.new) }
@@ -353,19 +358,14 @@ impl<'p, N: NodeStore<Row>, C: Conds> Engine<'p, N, C> {
         Ok(())
     }
 
-    /// Feeds the tokens that are lent, in groups, and takes every possible action behind each group. None of them where a
-    /// trace is wanted.
+    /// Feeds the tokens that are lent, in groups, and takes every possible action behind each group.
     fn feed_lean(&mut self, alloc: Global) -> Result<(), Memory>
         requires { SomeParts C.stands self.old }
         ensures feeds { OnOk result (FeedsFrom C.stands self.old self.new) }
+        ensures takes { OnOk result (TakesLent self.old.reader self.new.reader) }
         ensures breaks { OnErr result (BreaksFrom C.stands self.old self.new) }
-        ensures told { OnOk result (TellsGroups C.stands self.old self.new) }
-        ensures part { OnErr result (TellsWithin C.stands self.old self.new) }
         ensures same { GoesAlone self.old self.new }
     {
-        if self.tracing {
-            return Ok(());
-        }
         let (tokens, bytes) = self.reader.lent();
         let count = tokens.len();
         self.actors
@@ -378,7 +378,8 @@ impl<'p, N: NodeStore<Row>, C: Conds> Engine<'p, N, C> {
     /// no token waits.
     #[inline(always)]
     fn feed_group(&mut self, alloc: Global) -> Result<bool, Memory>
-        requires { SomeParts C.stands self.old }
+        requires parts { SomeParts C.stands self.old }
+        requires traced { self.old.tracing ≡ true }
         ensures feeds { OnOk result (FeedsFrom C.stands self.old self.new) }
         ensures none { IfOk result (λ any. any ≡ false → waiting self.new.reader ≡ []) }
         ensures fewer { IfOk result (λ any. any ≡ true → length (waiting self.new.reader) < length (waiting self.old.reader)) }
@@ -399,7 +400,8 @@ impl<'p, N: NodeStore<Row>, C: Conds> Engine<'p, N, C> {
     /// them that wasn't before.
     #[inline(always)]
     fn feed_some(&mut self, alloc: Global) -> Result<(bool, bool), Memory>
-        requires { SomeParts C.stands self.old }
+        requires parts { SomeParts C.stands self.old }
+        requires traced { self.old.tracing ≡ true }
         ensures feeds { IfOk result (λ r. FeedsSomeFrom C.stands self.old self.new r.1) }
         ensures none { IfOk result (λ r. r.0 ≡ false → waiting self.new.reader ≡ []) }
         ensures fewer { IfOk result (λ r. r.0 ≡ true → length (waiting self.new.reader) < length (waiting self.old.reader)) }
@@ -431,26 +433,20 @@ impl<'p, N: NodeStore<Row>, C: Conds> Engine<'p, N, C> {
         next_owned(alloc, &mut self.reader)
     }
 
-    /// Feeds one token. True where no action is possible behind it that wasn't before.
+    /// Feeds one token, and appends its lines to the trace. True where no action is possible behind it that wasn't before.
     #[inline(always)]
     fn feed_one(&mut self, alloc: Global, token: Token) -> Result<bool, Memory>
         requires { MayFeed C.stands self.old.actors (said_of token) }
         ensures feeds { OnOk result (FeedsEach C.stands self.old.actors self.new.actors (said_of token)) }
         ensures quiet { IfOk result (λ q. q ≡ true → IsQuietFor C.stands self.old.actors (said_of token)) }
         ensures balance { OnErr result (BalancesEach C.stands self.old.actors self.new.actors (said_of token)) }
-        ensures told { OnOk result (self.old.tracing ≡ true
-            → TellsEach C.stands self.old.actors (said_of token) self.old.trace self.new.trace) }
-        ensures part { OnErr result (self.old.tracing ≡ true
-            → TellsPart C.stands self.old.actors (said_of token) self.old.trace self.new.trace) }
+        ensures told { OnOk result (TellsEach C.stands self.old.actors (said_of token) self.old.trace self.new.trace) }
+        ensures part { OnErr result (TellsPart C.stands self.old.actors (said_of token) self.old.trace self.new.trace) }
         ensures rest { self.new ≡ record self.old { actors = self.new.actors; trace = self.new.trace } }
         ensures machine { self.new.actors.machine ≡ self.old.actors.machine }
-        ensures silent { IsSilent self.old → IsSilent self.new }
         ensures loans { self.new.actors.buffer.loans ≡ self.old.actors.buffer.loans }
     {
-        if self.tracing {
-            return self.actors.feed_told(alloc, token, &mut self.trace);
-        }
-        self.actors.feed_one(alloc, token)
+        self.actors.feed_told(alloc, token, &mut self.trace)
     }
 
     /// Takes every action that is possible.

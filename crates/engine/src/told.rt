@@ -16,7 +16,8 @@ use pull_eval::Acted;
 use std::alloc::Global;
 
 impl<'p, N: NodeStore<Row>, C: Conds> Actors<'p, N, C> {
-    /// Feeds one token as `feed_one` does, and appends its lines. After `Memory` a front of them stands there.
+    /// Feeds one token, and appends its lines. True where no action is possible behind it that wasn't before. After `Memory`
+    /// a front of the lines stands there.
     #[inline(never)]
     pub(crate) fn feed_told(
         &mut self,

@@ -62,7 +62,7 @@ impl<'p, N: NodeStore<Row>, C: Conds> Course<'p, N, C> {
         let Some(token) = self.tokens.pop_front() else {
             return Ok(());
         };
-        self.actors.feed_one(alloc, token)?;
+        self.actors.feed(alloc, token)?;
         self.fed += 1;
         Ok(())
     }

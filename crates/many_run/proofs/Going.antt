@@ -1,44 +1,33 @@
 -- Tokens fed to all parts, or memory ran out on the way.
-use Rattle.std.proofs.Common.{◌≡◌, ◌∙◌, ℕ, Bool, false, Option, List, [], ◌∷◌, ◌++◌, map, refl, sym, ap, subst, append_assoc}
+use Rattle.std.proofs.Common.{◌≡◌, ◌∙◌, ℕ, Bool, Option, List, [], ◌++◌, length, map, sym, ap, subst, append_assoc}
 use Rattle.std.specs.Prelude.{Result, OnOk, OnErr, ⊤}
 use Rattle.std.specs.declared.result.Result.TheVariants.{Ok, Err}
-use Rattle.std.proofs.lemmas.List.{append-nil, map-append}
+use Rattle.std.proofs.lemmas.List.{append-nil}
 use Rattle.gcx_base.specs.declared.limits.Limits.{Limits}
 use Rattle.gcx_base.specs.declared.memory.Memory.{Memory as Lack}
 use Rattle.gcx_model.specs.Core.{PlanTree}
 use Rattle.gcx_model.specs.Growth.{Leads}
 use Rattle.gcx_model.specs.PlanView.{plan_tree}
 use Rattle.gcx_model.specs.Seen.{seen_tree}
-use Rattle.gcx_model.specs.Tree.{Tree, Token as Said, End, grow, opening}
+use Rattle.gcx_model.specs.Tree.{Tree, Token as Said, opening}
 use Rattle.gcx_model.specs.declared.fault.DocFault.{DocFault}
-use Rattle.doc_reader.specs.Standing.{EndOfDocument, ReaderView, Stands, Token, end_token, given_token, said_of, waiting, with_tokens}
-use Rattle.doc_reader.proofs.Givings.{said-append, said-map}
-use Rattle.doc_reader.proofs.Standings.{stands_taken}
+use Rattle.doc_reader.specs.Standing.{ReaderView, Stands, Token, behind_lent, lent_next, said_of, waiting}
+use Rattle.doc_reader.proofs.Behind.{stands_all, waits_all}
 use Rattle.engine.specs.Actors.{all_of}
+use Rattle.engine.specs.Calls.{TakesLent}
 use Rattle.engine.specs.Going.{lacking}
-use Rattle.engine.specs.Late.{IsLow}
-use Rattle.engine.proofs.Grouping.{given_come, tree_on}
-use Rattle.engine.proofs.Lending.{all_come}
-use Rattle.engine.proofs.Seeing.{given_grew, given_leads, next_comes}
+use Rattle.engine.specs.Late.{AllCome}
+use Rattle.engine.proofs.Grouping.{given_come}
+use Rattle.engine.proofs.Lending.{all_come, said_lent_next}
+use Rattle.engine.proofs.Seeing.{given_grew, given_leads}
 use Rattle.engine.proofs.Waiting.{on_refusal}
-use Rattle.engine.proofs.Writing.{goes_none, goes_on}
+use Rattle.engine.proofs.Writing.{goes_on}
 use Rattle.many_run.specs.Each.{AtEach, OfEach}
 use Rattle.many_run.specs.Many.{PartGrew, PartStands}
 use Rattle.many_run.specs.Parts.{BreaksEach, ComeBehind, FedBy, FedEach, FedSome, MayTakeSome, PartBreaks, PartGoes, TakesSomeTokens, TakesTokens, TokensGiven}
 use Rattle.many_run.specs.View.{ManyView, PartView}
 use Rattle.many_run.proofs.Breaking.{breaks_behind, breaks_more, breaks_whole}
 use Rattle.many_run.proofs.Lists.{each_map, each_on, each_there_with, each_with}
-use Rattle.many_run.proofs.Walking.{each_same}
-
--- where no other token waits
-pub last_waits : (r : ReaderView) (w : Bool) → r.state.tokens ≡ [] → r.end_waits ≡ w → waiting r ≡ end_token w
-last_waits r w none is = (λ i. map given_token (none i) ++ end_token (is i))
-
-pub none_waits : (q r : ReaderView) → q.state.tokens ≡ [] → r ≡ record q { end_waits = false } → waiting r ≡ []
-none_waits q r last same = ap waiting same ∙ ap (λ (ts : List Said). map given_token ts ++ end_token false) last
-
-said_more : (given : List Token) (us : List Said) → map said_of (given ++ map given_token us) ≡ map said_of given ++ us
-said_more given us = said-append given (map given_token us) ∙ ap (λ (ts : List Said). map said_of given ++ ts) (said-map us)
 
 module _ {C : Type 0} (stands : C → Tree → Type 0) (lim : Limits) (b : List ℕ) (ended : Bool) (given : List Token) where
   -- ---- tokens that were taken from the reader, fed to each part
@@ -72,68 +61,29 @@ module _ {C : Type 0} (stands : C → Tree → Type 0) (lim : Limits) (b : List 
 
   -- ---- those that are lent
 
-  module _ (old : ManyView C) (h : TokensGiven stands old lim b ended given) where
-    lent_come : ComeBehind (map said_of given) old.reader.state.tokens
-    lent_come = record { may = given_come old.reader lim b ended given h.reader; come = all_come lim h.limits b ended old.reader.state.tokens old.reader given refl h.reader }
+  module _ (old : ManyView C) (h : TokensGiven stands old lim b ended given) (us : List Said) (tokens : us ≡ map said_of (lent_next old.reader)) where
+    abbrev gs : List Token
+    gs = lent_next old.reader
 
-    module _ (us : List Said) (tokens : us ≡ old.reader.state.tokens) where
-      us_come : ComeBehind (map said_of given) us
-      us_come = subst (λ (z : List Said). ComeBehind (map said_of given) z) (sym tokens) lent_come
+    us_come : ComeBehind (map said_of given) us
+    us_come = record {
+      may = given_come old.reader lim b ended given h.reader;
+      come = subst (λ (z : List Said). AllCome (seen_tree (map said_of given)) z) (sym tokens) (all_come lim h.limits b ended old.reader given h.reader);
+    }
 
-      lent_taken : Stands (with_tokens old.reader []) lim b ended (given ++ map given_token us)
-      lent_taken = stands_taken old.reader us [] (sym tokens ∙ sym (append-nil us)) lim b given ended h.reader
+    all_said : map said_of (given ++ gs) ≡ map said_of given ++ us
+    all_said = said_lent_next old.reader given us tokens
 
-      pub lent_may : OfEach (λ p. MayTakeSome stands p us) old.parts
-      lent_may = each_may old h us us_come
+    pub lent_may : OfEach (λ p. MayTakeSome stands p us) old.parts
+    lent_may = each_may old h us us_come
 
-      pub lent_feeds : (r : ReaderView) (parts : List (PartView C)) → r ≡ with_tokens old.reader [] → AtEach (λ p q. TakesTokens stands p q us) old.parts parts → FedSome stands old (record old { reader = r; parts = parts }) lim b ended given
-      lent_feeds r parts is takes =
-          feeds_some old h us us_come (map given_token us) (said_more given us) r (subst (λ (z : ReaderView). Stands z lim b ended (given ++ map given_token us)) (sym is) lent_taken) parts
-          (ap (λ (z : List Said). map given_token z ++ end_token old.reader.end_waits) (sym tokens) ∙ ap (λ (z : ReaderView). map given_token us ++ waiting z) (sym is)) takes
+    pub lent_feeds : (r : ReaderView) (parts : List (PartView C)) → TakesLent old.reader r → AtEach (λ p q. TakesTokens stands p q us) old.parts parts → FedSome stands old (record old { reader = r; parts = parts }) lim b ended given
+    lent_feeds r parts is takes =
+        feeds_some old h us us_come gs all_said r (subst (λ (z : ReaderView). Stands z lim b ended (given ++ gs)) (sym is) (stands_all old.reader lim b ended given h.reader)) parts
+        (waits_all old.reader ∙ ap (λ (z : ReaderView). gs ++ waiting z) (sym is)) takes
 
-      pub lent_breaks : (parts : List (PartView C)) → AtEach (λ p q. TakesSomeTokens stands p q us) old.parts parts → BreaksEach old (record old { parts = parts }) lim b ended given
-      lent_breaks parts takes = breaks_some old h us us_come (map given_token us) (said_more given us) (with_tokens old.reader []) lent_taken parts old.reader takes
-
-    -- ---- the end of the document
-
-    module _ (r : ReaderView) (last : old.reader.state.tokens ≡ []) (same : r ≡ record old.reader { end_waits = false }) where
-      none_now : waiting r ≡ []
-      none_now = none_waits old.reader r last same
-
-      module _ (waits : waiting old.reader ≡ EndOfDocument ∷ []) (reader : Stands r lim b ended (given ++ EndOfDocument ∷ [])) where
-        said_end : map said_of (given ++ EndOfDocument ∷ []) ≡ map said_of given ++ End ∷ []
-        said_end = map-append said_of given (EndOfDocument ∷ [])
-
-        end_low : IsLow (grow End (seen_tree (map said_of given)))
-        end_low = subst (λ (T : Tree). IsLow T) (tree_on given EndOfDocument) (all_come lim h.limits b ended [] r (given ++ EndOfDocument ∷ []) (ap (λ (z : ReaderView). z.state.tokens) same ∙ last) reader)
-
-        end_come : ComeBehind (map said_of given) (End ∷ [])
-        end_come = record { may = given_come old.reader lim b ended given h.reader; come = (next_comes old.reader lim b ended given h.reader h.limits EndOfDocument [] waits, end_low) }
-
-        pub end_may : OfEach (λ p. MayTakeSome stands p (End ∷ [])) old.parts
-        end_may = each_may old h (End ∷ []) end_come
-
-        pub end_feeds : (parts : List (PartView C)) → AtEach (λ p q. TakesTokens stands p q (End ∷ [])) old.parts parts → FedSome stands old (record old { reader = r; parts = parts }) lim b ended given
-        end_feeds parts takes = feeds_some old h (End ∷ []) end_come (EndOfDocument ∷ []) said_end r reader parts (waits ∙ ap (λ (z : List Token). EndOfDocument ∷ z) (sym none_now)) takes
-
-        pub end_breaks : (parts : List (PartView C)) → AtEach (λ p q. TakesSomeTokens stands p q (End ∷ [])) old.parts parts → BreaksEach old (record old { reader = r; parts = parts }) lim b ended given
-        end_breaks parts takes = breaks_some old h (End ∷ []) end_come (EndOfDocument ∷ []) said_end r reader parts r takes
-
-      -- it doesn't wait
-      pub end_none : waiting old.reader ≡ [] → Stands r lim b ended (given ++ []) → FedSome stands old (record old { reader = r }) lim b ended given
-      end_none none reader =
-          let e : map said_of given ≡ map said_of (given ++ []) = ap (map said_of) (sym (append-nil given)) in
-          record {
-            more = [];
-            waited = none ∙ sym none_now;
-            has = record { limits = h.limits; reader = reader; parts = subst (λ (z : List Said). OfEach (PartStands stands z) old.parts) e h.parts };
-            goes = each_same old.parts (PartGrew (λ plan. PartGoes plan (map said_of given) (map said_of (given ++ []))))
-                (λ p. record {
-                  plan = refl;
-                  grew = subst (λ (z : List Said). PartGoes (plan_tree p.plan) (map said_of given) z p.out p.out) e
-                      (goes_none (plan_tree p.plan) (seen_tree (map said_of given)) (all_of (plan_tree p.plan) (seen_tree (map said_of given))) p.out);
-                });
-          }
+    pub lent_breaks : (parts : List (PartView C)) → AtEach (λ p q. TakesSomeTokens stands p q us) old.parts parts → BreaksEach old (record old { parts = parts }) lim b ended given
+    lent_breaks parts takes = breaks_some old h us us_come gs all_said (behind_lent (length gs) old.reader) (stands_all old.reader lim b ended given h.reader) parts old.reader takes
 
   -- ---- one behind the other
 

@@ -5,6 +5,7 @@ ghost use Rattle.gcx_base.specs.declared.limits.Limits.{Limits};
 ghost use Rattle.gcx_model.specs.Tree.{opening};
 ghost use Rattle.gcx_model.specs.declared.fault.DocFault.{DocFault};
 ghost use Rattle.doc_reader.specs.Standing.{AllLieWithin, Keeps, answer_by, answer_of, waiting};
+ghost use Rattle.engine.specs.Calls.{TakesLent};
 ghost use Rattle.engine.specs.Engine.{OnAnswer, OnRefusal};
 ghost use Rattle.engine.specs.Going.{lacking};
 ghost use Rattle.engine.specs.Late.{said_lent};
@@ -244,7 +245,8 @@ impl<'p, N: NodeStore<Row>, C: Conds> Many<'p, N, C> {
         self.refused = lacking(refusal(read), fed);
     }
 
-    /// Feeds the tokens that wait to every plan, to one plan after the other.
+    /// Feeds the tokens that wait to every plan, to one plan after the other. The end of the document is lent once no token
+    /// of a tag is.
     fn feed_waiting(&mut self, alloc: Global) -> Result<(), Memory>
         requires { SomeTokensGiven C.stands self.old }
         ensures feeds { OnOk result (OfGiven C.stands self.old (FedSome C.stands self.old self.new)) }
@@ -253,15 +255,15 @@ impl<'p, N: NodeStore<Row>, C: Conds> Many<'p, N, C> {
         ensures keeps { Keeps self.old.reader self.new.reader }
         ensures rest { self.new ≡ record self.old { reader = self.new.reader; parts = self.new.parts } }
     {
-        self.feed_tags(alloc)?;
-        self.feed_end(alloc)
+        self.feed_lent(alloc)?;
+        self.feed_lent(alloc)
     }
 
     /// Feeds those that are lent.
-    fn feed_tags(&mut self, alloc: Global) -> Result<(), Memory>
+    fn feed_lent(&mut self, alloc: Global) -> Result<(), Memory>
         requires { SomeTokensGiven C.stands self.old }
         ensures feeds { OnOk result (OfGiven C.stands self.old (FedSome C.stands self.old self.new)) }
-        ensures none { OnOk result (self.new.reader.state.tokens ≡ []) }
+        ensures takes { OnOk result (TakesLent self.old.reader self.new.reader) }
         ensures breaks { OnErr result (OfGiven C.stands self.old (BreaksEach self.old self.new)) }
         ensures keeps { Keeps self.old.reader self.new.reader }
         ensures rest { self.new ≡ record self.old { reader = self.new.reader; parts = self.new.parts } }
@@ -270,22 +272,6 @@ impl<'p, N: NodeStore<Row>, C: Conds> Many<'p, N, C> {
         let count = tokens.len();
         feed_parts(alloc, &mut self.parts, tokens, bytes)?;
         self.reader.take_lent(count);
-        Ok(())
-    }
-
-    /// Feeds the end of the document, where it waits.
-    fn feed_end(&mut self, alloc: Global) -> Result<(), Memory>
-        requires some { SomeTokensGiven C.stands self.old }
-        requires last { self.old.reader.state.tokens ≡ [] }
-        ensures feeds { OnOk result (OfGiven C.stands self.old (FedSome C.stands self.old self.new)) }
-        ensures none { OnOk result (waiting self.new.reader ≡ []) }
-        ensures breaks { OnErr result (OfGiven C.stands self.old (BreaksEach self.old self.new)) }
-        ensures keeps { Keeps self.old.reader self.new.reader }
-        ensures rest { self.new ≡ record self.old { reader = self.new.reader; parts = self.new.parts } }
-    {
-        if self.reader.take_end() {
-            return feed_parts(alloc, &mut self.parts, &[Lent::End], &[]);
-        }
         Ok(())
     }
 

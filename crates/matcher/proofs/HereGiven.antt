@@ -6,6 +6,7 @@ use Rattle.std.specs.Cmp.{nat_cmp_total, unsigned_tied}
 use Rattle.std.specs.FinSet.{FinSet, contains, empty, from_list, contains-empty, contains-from_list, nat_cmp-IsAntisymmetric, same_set}
 use Rattle.std.specs.List.{list_any}
 use Rattle.std.proofs.lemmas.Bool.{false≢true, or_cases, or_left, or_right, eqb-true, eq-eqb}
+use Rattle.std.proofs.lemmas.Option.{same_Some}
 use Rattle.gcx_base.specs.declared.ids.Role.{Role}
 use Rattle.gcx_base.specs.declared.steps.Step.{Step}
 use Rattle.gcx_model.specs.Tree.{Node, serial_of, above}
@@ -23,10 +24,10 @@ use Rattle.tree_laws.proofs.Fed.{grown_from}
 use Rattle.tree_laws.proofs.Chains.{above_in, above_trans, above_self}
 use Rattle.need_laws.proofs.Frames.{hits-append}
 use Rattle.spread_laws.specs.Tops.{roles_newly_given}
-use Rattle.path_states.specs.Lists.{Climbs}
-use Rattle.path_states.specs.State.{StateView, IsMade}
+use Rattle.path_states.specs.Lists.{Climbs, Holds}
+use Rattle.path_states.specs.State.{GivenBy, IsMade, StateView}
 use Rattle.path_states.proofs.Looking.{some_at}
-use Rattle.matcher.specs.Calls.{GivesHere, GivesNewly, GivesSet}
+use Rattle.matcher.specs.Calls.{GivesCount, GivesHere, GivesNewly, GivesSet}
 use Rattle.matcher.specs.Entering.{GivesInside}
 use Rattle.matcher.specs.Frame.{IsFound, IsInside}
 use Rattle.matcher.specs.Frames.{AreBoth, AreRoles}
@@ -38,7 +39,7 @@ use Rattle.matcher.proofs.Aheads.{frame_node, here_frame, innermost_in, innermos
 use Rattle.matcher.proofs.Upwards.{lower_above}
 use Rattle.matcher.proofs.NewFrame.{end_of, ended, first_tail, whole_tail}
 use Rattle.matcher.proofs.Entering.{le_or_less}
-use Rattle.matcher.proofs.GivenRoles.{IsWholeMatch, both_alone, newly_told, roles_of_both, roles_told}
+use Rattle.matcher.proofs.GivenRoles.{IsWholeMatch, both_alone, climbs_same, newly_told, roles_of_both, roles_told}
 
 module _ (m : MatcherView) (past : Past) (text : Bool) (S : Stands m past text) where
   abbrev path : ℕ → List Step
@@ -175,9 +176,6 @@ set_is : (s : FinSet nat_cmp) (xs : List ℕ) → ((r : ℕ) → contains s r �
 set_is s xs h = same_set nat_cmp_total nat_cmp-IsAntisymmetric s (from_list xs) (λ q.
     same_bools _ _ (λ e. listed xs q ((h q).0 e)) (λ e. (h q).1 (in_listed xs q e)) ∙ sym (contains-from_list nat_cmp_total xs q))
 
-sets_by : (s : FinSet nat_cmp) (xs : List ℕ) → ((r : ℕ) → contains s r ≡ true ↔ In r xs) → s ≡ from_list (map (λ (r : Role). r.0) (roles_by xs))
-sets_by s xs h = set_is s xs h ∙ ap (λ (z : List ℕ). from_list {R = nat_cmp} z) (sym (numbers_by xs))
-
 -- of the roles of whole subtrees its state tells those whose paths lead to it
 whole_matched : (m : MatcherView) (x : StateView) (k : NodeMarks) → innermost_frame m.frames ≡ Some (frame_of x k) → IsMade m.tree.states.items x → m.idle ≡ 0 → (past : Past) (text : Bool) (S : Stands m past text) → (r : ℕ) → In r x.whole_here ↔ IsWholeMatch past.plan S.here r
 whole_matched m x k at made none past text S r =
@@ -211,25 +209,63 @@ newly_framed m x k at made none found s es past text n S here =
     ∙ (set_is x.kept (roles_newly_given past.plan past.tree S.here) (λ r. (λ h. (told r).0 ((made.kept r).0 h), λ i. (made.kept r).1 ((told r).1 i)))
     ∙ ap (λ (z : Node). from_list {R = nat_cmp} (roles_newly_given past.plan past.tree z)) (innermost_same past.tree text S.here n S.innermost here))
 
+-- ---- how many they are
+
+abbrev numbers : List Role → List ℕ
+numbers given = map (λ (r : Role). r.0) given
+
 -- where no path leads to it: the roles of the state's whole subtrees
-pub set_idle : (m : MatcherView) (x : StateView) (k : NodeMarks) → innermost_frame m.frames ≡ Some (frame_of x k) → IsMade m.tree.states.items x → 0 < m.idle → (s : FinSet nat_cmp) → s ≡ x.whole_set → (whole : List ℕ) → whole ≡ x.whole → GivesSet m s (length whole)
-set_idle m x k at made idle s es whole ew = record {
+pub count_idle : (m : MatcherView) (x : StateView) (k : NodeMarks) → innermost_frame m.frames ≡ Some (frame_of x k) → 0 < m.idle → m.signs ≡ [] → (whole : List ℕ) → whole ≡ x.whole → GivesCount m (length whole)
+count_idle m x k at some unsigned whole ew = record {
+  unsigned = unsigned;
   given = roles_by x.whole;
-  here = here_idle m (frame_of x k) at idle (roles_by x.whole) (λ c. numbers_by x.whole);
-  is = es ∙ sets_by x.whole_set x.whole made.wholes;
+  here = here_idle m (frame_of x k) at some (roles_by x.whole) (λ c. numbers_by x.whole);
+  told = record {
+    idle = λ f other i. numbers_by x.whole ∙ ap (λ (z : FrameView). z.whole) (same_Some (frame_of x k) f (sym at ∙ other));
+    framed = λ f other none. absurd (omega arith);
+  };
   many = many_by x.whole ∙ ap length (sym ew);
 }
 
 -- and where it has a frame and is no first match
-pub set_framed : (m : MatcherView) (x : StateView) (k : NodeMarks) → innermost_frame m.frames ≡ Some (frame_of x k) → IsMade m.tree.states.items x → m.idle ≡ 0 → k.found ≡ [] → (s : FinSet nat_cmp) → s ≡ x.roles → (given : List ℕ) → given ≡ x.given
-    → GivesSet m s (length given)
-set_framed m x k at made none found s es given eg = record {
-  given = roles_by x.given;
-  here = here_framed m (frame_of x k) at none (roles_by x.given)
-      (roles_of_both m.tree.states.items x.whole x.active x.given k.found (map (λ (r : Role). r.0) (roles_by x.given)) made.given (both_alone x.given k.found (map (λ (r : Role). r.0) (roles_by x.given)) found made.rising (numbers_by x.given)));
-  is = es ∙ sets_by x.roles x.given made.roles;
-  many = many_by x.given ∙ ap length (sym eg);
+pub count_framed : (m : MatcherView) (x : StateView) (k : NodeMarks) → innermost_frame m.frames ≡ Some (frame_of x k) → IsMade m.tree.states.items x → m.idle ≡ 0 → k.found ≡ [] → m.signs ≡ [] → (given : List ℕ) → given ≡ x.given → GivesCount m (length given)
+count_framed m x k at made none found unsigned given eg =
+    let rs = numbers (roles_by x.given) in
+    let is : x.given ≡ rs = sym (numbers_by x.given) in
+    let frame : (k.found ≡ []) × Climbs rs × Holds rs (GivenBy m.tree.states.items x.whole x.active) =
+    (found, subst Climbs is made.rising, subst (λ (zs : List ℕ). Holds zs (GivenBy m.tree.states.items x.whole x.active)) is made.given) in
+    record {
+      unsigned = unsigned;
+      given = roles_by x.given;
+      here = here_framed m (frame_of x k) at none (roles_by x.given)
+          (roles_of_both m.tree.states.items x.whole x.active x.given k.found rs made.given (both_alone x.given k.found rs found made.rising (numbers_by x.given)));
+      told = record {
+        idle = λ f other some. absurd (omega arith);
+        framed = λ f other e. subst (λ (z : FrameView). (z.found ≡ []) × Climbs rs × Holds rs (GivenBy m.tree.states.items z.whole z.active)) (same_Some (frame_of x k) f (sym at ∙ other)) frame;
+      };
+      many = many_by x.given ∙ ap length (sym eg);
+    }
+
+-- ---- their set
+
+pub set_idle : (m : MatcherView) (x : StateView) (k : NodeMarks) → innermost_frame m.frames ≡ Some (frame_of x k) → IsMade m.tree.states.items x → 0 < m.idle → (count : ℕ) → GivesCount m count → (s : FinSet nat_cmp) → s ≡ x.whole_set → GivesSet m s count
+set_idle m x k at made some count g s es = record {
+  given = g.given;
+  here = g.here;
+  is = es ∙ (set_is x.whole_set x.whole made.wholes ∙ ap (λ (z : List ℕ). from_list {R = nat_cmp} z) (sym (g.told.idle (frame_of x k) at some)));
+  many = g.many;
 }
+
+pub set_framed : (m : MatcherView) (x : StateView) (k : NodeMarks) → innermost_frame m.frames ≡ Some (frame_of x k) → IsMade m.tree.states.items x → m.idle ≡ 0 → (count : ℕ) → GivesCount m count → (s : FinSet nat_cmp) → s ≡ x.roles → GivesSet m s count
+set_framed m x k at made none count g s es =
+    let t = g.told.framed (frame_of x k) at none in
+    let same : x.given ≡ numbers g.given = climbs_same x.given (numbers g.given) made.rising t.1 (λ y i. (t.2.has y).1 ((made.given.has y).0 i)) (λ y i. (made.given.has y).1 ((t.2.has y).0 i)) in
+    record {
+      given = g.given;
+      here = g.here;
+      is = es ∙ (set_is x.roles x.given made.roles ∙ ap (λ (z : List ℕ). from_list {R = nat_cmp} z) same);
+      many = g.many;
+    }
 
 -- those of the state and of first matches together
 pub here_both : (m : MatcherView) (x : StateView) (k : NodeMarks) → innermost_frame m.frames ≡ Some (frame_of x k) → IsMade m.tree.states.items x → m.idle ≡ 0 → (roles : List ℕ) → roles ≡ x.given → (found : List Found) → found ≡ k.found

@@ -1,5 +1,5 @@
 -- What the calls of a matcher do, for each past for which it stood (this project's).
-use Rattle.std.specs.Prelude.{◌≡◌, ◌≤◌, ℕ, Bool, true, false, List, [], ◌∷◌, ◌++◌, length, map, Option, Some}
+use Rattle.std.specs.Prelude.{◌≡◌, ◌<◌, ◌≤◌, ℕ, Bool, true, false, List, [], ◌∷◌, ◌++◌, length, map, Option, Some}
 use Rattle.std.specs.FinSet as set
 use Rattle.std.specs.Ordering.{nat_cmp}
 use Rattle.gcx_base.specs.Kinds.{is_text}
@@ -17,10 +17,12 @@ use Rattle.gcx_model.specs.Held.{path_of, roles_given, signed, taken, roles_take
 use Rattle.gcx_model.specs.Past.{Past, IsLast, Opens, open_nodes, opening_past, past_acted, past_grown, token_for}
 use Rattle.spread_laws.specs.Tops.{roles_newly_given}
 use Rattle.gcx_model.specs.Steps.{Follows, StandsAsBefore}
+use Rattle.path_states.specs.Lists.{Climbs, Holds}
+use Rattle.path_states.specs.State.{GivenBy}
 use Rattle.matcher.specs.Ahead.{AreTaken, HasSign}
 use Rattle.matcher.specs.Entering.{GoesBy}
 use Rattle.matcher.specs.Matcher.{Stands}
-use Rattle.matcher.specs.View.{MatcherView}
+use Rattle.matcher.specs.View.{FrameView, MatcherView, innermost_frame}
 use Rattle.matcher.specs.declared.signs.Sign.{Sign}
 
 -- it stands for the plan's document node alone
@@ -80,10 +82,20 @@ pub record GivesSet (m : MatcherView) (roles : set.FinSet nat_cmp) (count : ℕ)
 abbrev pub GivesNewly : MatcherView → set.FinSet nat_cmp → Type 0
 GivesNewly m kept = (past : Past) (text : Bool) (n : Node) → Stands m past text → IsLast past.tree text n → kept ≡ set.from_list (roles_newly_given past.plan past.tree n)
 
--- both sets
-pub record GivesSets (m : MatcherView) (roles kept : set.FinSet nat_cmp) (count : ℕ) : Type 0 where
-  pub gives : GivesSet m roles count
-  pub newly : GivesNewly m kept
+-- These are the roles of the innermost node as the innermost frame tells them: those of its whole subtrees, where no path leads to the node.
+-- Otherwise no first match is among them, and they rise.
+pub record FrameTells (m : MatcherView) (roles : List ℕ) : Type 0 where
+  pub idle : (f : FrameView) → innermost_frame m.frames ≡ Some f → 0 < m.idle → roles ≡ f.whole
+  pub framed : (f : FrameView) → innermost_frame m.frames ≡ Some f → m.idle ≡ 0
+      → (f.found ≡ []) × Climbs roles × Holds roles (GivenBy m.tree.states.items f.whole f.active)
+
+-- So many roles has the innermost node. No statement is signed at an open node, and no first match is among them.
+pub record GivesCount (m : MatcherView) (count : ℕ) : Type 0 where
+  pub unsigned : m.signs ≡ []
+  pub given : List Role
+  pub here : GivesHere m given
+  pub told : FrameTells m (map (λ (r : Role). r.0) given)
+  pub many : length given ≡ count
 
 -- no statement is signed at the innermost node, nor at one above it
 abbrev pub HasNoneSigned : MatcherView → Type 0

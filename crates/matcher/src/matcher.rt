@@ -1,12 +1,12 @@
 //! The matcher: states and frames of the open nodes, the outermost first.
-ghost use Rattle.std.specs.Prelude.{◌≡◌, ℕ, List, Some, false, true, IfOk, IfSome, OnErr, OnOk};
+ghost use Rattle.std.specs.Prelude.{◌≡◌, ℕ, List, [], Some, false, true, IfOk, IfSome, OnErr, OnOk};
 ghost use Rattle.gcx_model.specs.Past.{IsNode};
 ghost use Rattle.gcx_model.specs.ItemView.{off_tree, role_kind};
 ghost use Rattle.gcx_model.specs.PlanView.{plan_tree};
 ghost use Rattle.path_states.specs.Lists.{Holds};
 ghost use Rattle.gcx_base.specs.declared.kind.Kind.TheVariants.{Element, Text};
 ghost use Rattle.matcher.specs.Ahead.{AreBases, AreVars, FirstTarget, HasWhole, OwnTarget, Target, WholeTarget};
-ghost use Rattle.matcher.specs.Calls.{GivesAhead, GivesHere, GivesNext, GivesNode, GivesPlainly, GivesRoot, GivesSets};
+ghost use Rattle.matcher.specs.Calls.{GivesAhead, GivesCount, GivesHere, GivesNext, GivesNode, GivesPlainly, GivesRoot};
 ghost use Rattle.matcher.specs.Calls.{KeepsStanding};
 ghost use Rattle.matcher.specs.Calls.{LeavesElement, LeavesText, SaysTaken, SignsAt, StandsAtStart, StandsBehind};
 ghost use Rattle.matcher.specs.Calls.{StandsNext, TakenHere, TellsSign};
@@ -249,31 +249,44 @@ impl Matcher {
         Ok(())
     }
 
-    /// The roles of the innermost node as a set, those of them that are kept at it where roles are spread, and how many
-    /// it has. None where first matches are among them, or where a statement is signed at an open node.
+    /// How many roles the innermost node has. None where first matches are among them, or where a statement is signed at
+    /// an open node.
     #[inline(always)]
-    pub fn plain(&self) -> Option<(&RoleSet, &RoleSet, usize)>
-        ensures { IfSome result (λ x. GivesPlainly self.now x.0.now x.1.now x.2) }
+    pub fn plain(&self) -> Option<usize>
+        ensures { IfSome result (GivesCount self.now) }
     {
         if !self.signs.as_slice().is_empty() {
             return None;
         }
-        self.roles_here()
+        self.count_here()
     }
 
-    /// The sets and the number that `plain` answers, whatever is signed. None where first matches are among the roles.
+    /// The number that `plain` answers, whatever is signed. None where first matches are among the roles.
     #[inline(always)]
-    fn roles_here(&self) -> Option<(&RoleSet, &RoleSet, usize)>
-        ensures { IfSome result (λ x. GivesSets self.now x.0.now x.1.now x.2) }
+    fn count_here(&self) -> Option<usize>
+        ensures { self.now.signs ≡ [] → IfSome result (GivesCount self.now) }
     {
         let state = self.states.here();
         if self.idle > 0 {
-            return Some((state.whole_set(), self.none.empty(), state.whole().len()));
+            return Some(state.whole().len());
         }
         if self.frames.is_first() {
             return None;
         }
-        Some((state.roles(), state.kept(), state.given().len()))
+        Some(state.given().len())
+    }
+
+    /// The roles of the innermost node as a set, and those of them that are kept at it where roles are spread. They are
+    /// its roles if `plain` answers how many it has.
+    #[inline(always)]
+    pub fn plain_sets(&self) -> (&RoleSet, &RoleSet)
+        ensures { (count : ℕ) → GivesCount self.now count → GivesPlainly self.now result.0.now result.1.now count }
+    {
+        let state = self.states.here();
+        if self.idle > 0 {
+            return (state.whole_set(), self.none.empty());
+        }
+        (state.roles(), state.kept())
     }
 
     /// The roles of the innermost node, by rising number.

@@ -1,9 +1,6 @@
 -- What tokens make of a projector and a buffer where rows are made late.
-use Rattle.std.proofs.Common.{◌≡◌, ℕ, ◌≤◌, ◌<◌, ◌⊎◌, true, false, List, [], ◌∷◌, ◌++◌, eqb, length, refl, sym, ◌∙◌, ap, subst, inl, inr, arith, Some, None, Option}
-use Rattle.std.specs.Prelude.{Result, Ok, Err, OnOk, OnErr, slice_range, ⊤}
-use Rattle.std.specs.FinSet.{FinSet}
-use Rattle.std.specs.Ordering.{nat_cmp}
-use Rattle.std.proofs.lemmas.Bool.{eqb-true}
+use Rattle.std.proofs.Common.{◌≡◌, ℕ, ◌≤◌, ◌<◌, ◌⊎◌, true, false, List, [], ◌∷◌, ◌++◌, length, refl, sym, ◌∙◌, ap, subst, inl, inr, arith, Some, None, Option}
+use Rattle.std.specs.Prelude.{IfSome, Result, Ok, Err, OnOk, OnErr, slice_range, ⊤}
 use Rattle.std.proofs.lemmas.List.{append-nil, map-append}
 use Rattle.gcx_base.specs.declared.ids.Role.{Role}
 use Rattle.gcx_base.specs.Kinds.{is_text}
@@ -17,7 +14,7 @@ use Rattle.gcx_model.specs.Past.{Past, IsPast, IsNode, past_fed, past_grown, tok
 use Rattle.tree_laws.proofs.Lists.{In-append, In-left, In-right}
 use Rattle.tree_laws.proofs.Matches.{added, grow_nodes}
 use Rattle.node_store.specs.declared.store.Place.{Place}
-use Rattle.matcher.specs.Calls.{GivesHere, GivesPlainly, LeavesElement, StandsBehind}
+use Rattle.matcher.specs.Calls.{GivesCount, GivesHere, LeavesElement, StandsBehind}
 use Rattle.matcher.specs.Matcher.{Stands}
 use Rattle.matcher.specs.View.{MatcherView}
 use Rattle.buf_tree.specs.declared.ahead.Ahead.{Ahead}
@@ -50,13 +47,16 @@ use Rattle.projector.proofs.LateRows.{made_none, rising_behind}
 use Rattle.projector.proofs.Pasts.{is_open}
 use Rattle.projector.proofs.Places.{innermost_at, open_row, shallow}
 
--- where so many roles are given as there are none, none is
-pub no_roles : (m : MatcherView) (roles kept : FinSet nat_cmp) (count : ℕ) → GivesPlainly m roles kept count → eqb count 0 ≡ true → GivesHere m []
-no_roles m roles kept count g e = subst (λ (given : List Role). GivesHere m given) (empty g.gives.given (g.gives.many ∙ eqb-true count 0 e)) g.gives.here
+-- where it is plain that no role is given, none is
+no_roles : (m : MatcherView) → GivesCount m 0 → GivesHere m []
+no_roles m g = subst (λ (given : List Role). GivesHere m given) (empty g.given g.many) g.here
   where
     empty : (rs : List Role) → length rs ≡ 0 → rs ≡ []
     empty [] h = refl
     empty (r ∷ rs) h = absurd (omega arith)
+
+pub plain_none : (m : MatcherView) (plain : Option ℕ) → plain ≡ Some 0 → IfSome plain (GivesCount m) → GivesHere m []
+plain_none m plain e h = no_roles m (subst (λ (o : Option ℕ). IfSome o (GivesCount m)) e h)
 
 pub no_items : (xs : List PassedName) → length xs ≡ 0 → xs ≡ []
 no_items [] e = refl

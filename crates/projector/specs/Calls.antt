@@ -41,7 +41,7 @@ abbrev pub tally_of : Fed → Tally
 tally_of (Opened s given) = tallies.Opened (length given)
 tally_of (Closed s) = tallies.Closed
 
--- `feed_tallied`: the same, with the tally of what the token did
+-- the same, with the tally of what the token did
 pub record Tallies (stood : Past → Type 0) (p : ProjectorView) (v w : View) (t : Token) (tally : Tally) : Type 0 where
   pub fed : Fed
   pub feeds : Feeds stood p v w t fed

@@ -48,12 +48,6 @@ pub record OpensBelow (m n : MatcherView) (v w : View) (q : ℕ) (kind : Kind) (
   pub stands : (past : Past) → StandsFor v past → HasHeard m past → may_come (token_for kind) past.tree ≡ true
       → StandsFor w (past_fed (token_for kind) past)
 
--- the same, where it is given so many roles
-pub record OpensSome (m n : MatcherView) (v w : View) (q : ℕ) (kind : Kind) (place : Option Place) (count : ℕ) : Type 0 where
-  pub given : List Role
-  pub many : length given ≡ count
-  pub opens : OpensBelow m n v w q kind (place, given)
-
 -- Its innermost node, which is of the kind, was opened below the place q in the buffer, and is given so many roles.
 pub record OpensEntered (m : MatcherView) (v w : View) (q : ℕ) (kind : Kind) (place : Option Place) (count : ℕ) : Type 0 where
   pub given : List Role

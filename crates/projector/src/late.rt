@@ -1,10 +1,11 @@
 //! Rows that are made late: an open element that is given no role gets its row once one is needed.
-ghost use Rattle.std.specs.Prelude.{◌≡◌, ◌++◌, ◌∷◌, ◌+◌, ◌≤◌, ◌^◌, ℕ, List, [], length, true, slice_range, IfOk, OnOk, OnErr};
+ghost use Rattle.std.specs.Prelude.{◌≡◌, ◌++◌, ◌∷◌, ◌+◌, ◌≤◌, ◌^◌, ℕ, List, [], length, true, slice_range, IsUtf8, Some, IfOk, IfSome, OnOk, OnErr};
+ghost use Rattle.gcx_base.specs.Name.{IsNameBytes};
 ghost use Rattle.gcx_base.specs.declared.kind.Kind.TheVariants as kinds;
 ghost use Rattle.gcx_model.specs.Tree.{Start, Chars, End};
 ghost use Rattle.gcx_model.specs.Past.{Past, IsNode};
 ghost use Rattle.doc_reader.specs.Standing.{LiesWithin, lent_token};
-ghost use Rattle.matcher.specs.Calls.{GivesHere};
+ghost use Rattle.matcher.specs.Calls.{GivesCount};
 ghost use Rattle.buf_tree.specs.Loose.{Loosely, StandsLoosely, one_passed};
 ghost use Rattle.buf_tree.specs.PassedCalls.{OpenedPassed, RestsLoosely};
 ghost use Rattle.projector.specs.Projector.{KeepsPlace, Places};
@@ -76,12 +77,14 @@ impl Projector {
         ensures loans { buffer.new.loans ≡ buffer.old.loans }
     {
         sign_all(&mut self.matcher, buffer.waiting())?;
-        self.matcher.go_name(alloc, &bytes[from..to])?;
-        if gives_none(&self.matcher) {
+        let name = &bytes[from..to];
+        self.matcher.go_name(alloc, name)?;
+        let plain = self.matcher.plain();
+        if gives_none(plain) {
             pass_element(&mut self.passed, buffer, from, to)?;
             return Ok(None);
         }
-        let count = self.open_named(alloc, buffer, bytes, from, to)?;
+        let count = self.open_named(alloc, buffer, bytes, name, plain)?;
         Ok(Some(Tally::Opened(count)))
     }
 
@@ -111,12 +114,13 @@ impl Projector {
     {
         sign_all(&mut self.matcher, buffer.waiting())?;
         self.matcher.go_text(alloc)?;
-        if gives_none(&self.matcher) {
+        let plain = self.matcher.plain();
+        if gives_none(plain) {
             pass_node(buffer);
             self.matcher.leave();
             return Ok(None);
         }
-        let count = self.open_text(alloc, buffer, bytes, from, to)?;
+        let count = self.open_text(alloc, buffer, bytes, &bytes[from..to], plain)?;
         Ok(Some(Tally::Opened(count)))
     }
 
@@ -185,23 +189,23 @@ impl Projector {
         alloc: Global,
         buffer: &mut Buffer<N>,
         bytes: &[u8],
-        from: usize,
-        to: usize,
+        name: &[u8],
+        plain: Option<usize>,
     ) -> Result<u64, Memory>
-        requires name { IsNamePart bytes.now from to }
+        requires name { IsNameBytes name.now }
+        requires plain { IfSome plain (GivesCount self.old.matcher) }
         requires place { Places self.old buffer.old }
-        requires may { MayOpenLate bytes.now self.old buffer.old
-            (kinds.Element (slice_range bytes.now from to)) }
+        requires may { MayOpenLate bytes.now self.old buffer.old (kinds.Element name.now) }
         requires nodes { buffer.old.nodes ≤ 2 ^ 40 + 1 }
         requires depth { Loosely IsShallow (passed_in bytes.now self.old.passed) buffer.old }
         ensures opens { IfOk result (OpensLate bytes.now self.old self.new buffer.old buffer.new
-            (kinds.Element (slice_range bytes.now from to))) }
+            (kinds.Element name.now)) }
         ensures err { OnErr result (MakesSome (passed_in bytes.now self.old.passed) buffer.old buffer.new) }
         ensures taken { buffer.new.taken ≤ buffer.old.taken + 2 ^ 64 }
         ensures loans { buffer.new.loans ≡ buffer.old.loans }
     {
-        let name = Name::of_name(alloc, &bytes[from..to])?;
-        self.open_below_rows(alloc, buffer, bytes, Kind::Element(name))
+        let name = Name::of_name(alloc, name)?;
+        self.open_below_rows(alloc, buffer, bytes, Kind::Element(name), plain)
     }
 
     /// Opens the matcher's innermost node, this text, below the rows of the passed elements. Out of line, so that where a
@@ -212,23 +216,23 @@ impl Projector {
         alloc: Global,
         buffer: &mut Buffer<N>,
         bytes: &[u8],
-        from: usize,
-        to: usize,
+        text: &[u8],
+        plain: Option<usize>,
     ) -> Result<u64, Memory>
-        requires text { IsTextPart bytes.now from to }
+        requires text { IsUtf8 text.now }
+        requires plain { IfSome plain (GivesCount self.old.matcher) }
         requires place { Places self.old buffer.old }
-        requires may { MayOpenLate bytes.now self.old buffer.old
-            (kinds.Text (slice_range bytes.now from to)) }
+        requires may { MayOpenLate bytes.now self.old buffer.old (kinds.Text text.now) }
         requires nodes { buffer.old.nodes ≤ 2 ^ 40 + 1 }
         requires depth { Loosely IsShallow (passed_in bytes.now self.old.passed) buffer.old }
         ensures opens { IfOk result (OpensLate bytes.now self.old self.new buffer.old buffer.new
-            (kinds.Text (slice_range bytes.now from to))) }
+            (kinds.Text text.now)) }
         ensures err { OnErr result (MakesSome (passed_in bytes.now self.old.passed) buffer.old buffer.new) }
         ensures taken { buffer.new.taken ≤ buffer.old.taken + 2 ^ 64 }
         ensures loans { buffer.new.loans ≡ buffer.old.loans }
     {
-        let text = Text::of_text(alloc, &bytes[from..to])?;
-        self.open_below_rows(alloc, buffer, bytes, Kind::Text(text))
+        let text = Text::of_text(alloc, text)?;
+        self.open_below_rows(alloc, buffer, bytes, Kind::Text(text), plain)
     }
 
     /// Opens the matcher's innermost node, which is of this kind, below the rows of the passed elements.
@@ -239,7 +243,9 @@ impl Projector {
         buffer: &mut Buffer<N>,
         bytes: &[u8],
         kind: Kind,
+        plain: Option<usize>,
     ) -> Result<u64, Memory>
+        requires plain { IfSome plain (GivesCount self.old.matcher) }
         requires place { Places self.old buffer.old }
         requires kind { IsNode kind }
         requires may { MayOpenLate bytes.now self.old buffer.old kind }
@@ -253,7 +259,7 @@ impl Projector {
         let text = kind.is_text();
         self.make_all(alloc, buffer, bytes)?;
         let parent = innermost(buffer, self.at).place;
-        let (place, count) = open_entered(&self.matcher, alloc, buffer, parent, kind)?;
+        let (place, count) = open_entered(&self.matcher, alloc, buffer, parent, kind, plain)?;
         clear_waiting(buffer);
         go_to(&mut self.matcher, &mut self.at, text, place);
         Ok(count)
@@ -284,13 +290,13 @@ impl Projector {
     }
 }
 
-/// Whether it is plain that the matcher's innermost node is given no role.
+/// Whether it is plain that a node has no role.
 #[inline(always)]
-fn gives_none(matcher: &Matcher) -> bool
-    ensures { result ≡ true → GivesHere matcher.now [] }
+fn gives_none(plain: Option<usize>) -> bool
+    ensures { result ≡ true → plain ≡ Some 0 }
 {
-    match matcher.plain() {
-        Some((_given, _kept, count)) => count == 0,
+    match plain {
+        Some(count) => count == 0,
         None => false,
     }
 }

@@ -7,6 +7,7 @@ ghost use Rattle.gcx_model.specs.Paths.{head};
 ghost use Rattle.gcx_model.specs.PlanView.{plan_tree};
 ghost use Rattle.gcx_model.specs.Past.{Past, IsNode, token_for};
 ghost use Rattle.doc_reader.specs.Standing.{said_of};
+ghost use Rattle.matcher.specs.Calls.{GivesCount};
 ghost use Rattle.matcher.specs.Matcher.{Stands};
 ghost use Rattle.node_store.specs.Rows.{parent_of};
 ghost use Rattle.buf_tree.specs.Shape.{Cell, Shape, at_place};
@@ -14,8 +15,8 @@ ghost use Rattle.buf_tree.specs.Spread.{SameButRoles};
 ghost use Rattle.buf_tree.specs.View.{Innermost, level_in};
 ghost use Rattle.buf_tree.specs.Stands.{StandsFor, past_told};
 ghost use Rattle.projector.specs.Projector.{Projects, KeepsPlace, Places, MayBeFed};
-ghost use Rattle.projector.specs.Calls.{BeginsFor, GivesDocument, Feeds, Tallies, tally_of};
-ghost use Rattle.projector.specs.Opening.{HasHeard, LeavesBelow, MayOpenEntered, TellsTaken, OpensBelow, OpensEntered, OpensSome, HasInnermost};
+ghost use Rattle.projector.specs.Calls.{BeginsFor, GivesDocument, Feeds, tally_of};
+ghost use Rattle.projector.specs.Opening.{HasHeard, LeavesBelow, MayOpenEntered, TellsTaken, OpensBelow, OpensEntered, HasInnermost};
 
 use crate::passed::PassedName;
 use crate::signing::sign_all;
@@ -127,60 +128,6 @@ impl Projector {
         }
     }
 
-    /// One token more, as `feed_token` takes it, where the number of the roles is wanted alone: no list of them is made as a
-    /// rule.
-    ///
-    /// After `Memory` the buffer is unchanged, and no further token may be fed.
-    #[inline(always)]
-    pub fn feed_tallied<N: NodeStore<Row>>(
-        &mut self,
-        alloc: Global,
-        buffer: &mut Buffer<N>,
-        token: Token,
-    ) -> Result<Tally, Memory>
-        requires place { Places self.old buffer.old }
-        requires may { MayBeFed (Projects self.old) buffer.old (said_of token) }
-        requires nodes { buffer.old.nodes ≤ 2 ^ 40 + 1 }
-        requires depth { (c : Cell) → In c buffer.old.rows → c.row.is_open ≡ true → c.row.level ≤ 1000 }
-        ensures feeds { IfOk result (Tallies (Projects self.old) self.new buffer.old buffer.new (said_of token)) }
-        ensures err { OnErr result (buffer.new ≡ buffer.old) }
-        ensures taken { buffer.new.taken ≤ buffer.old.taken + 2 ^ 64 }
-        ensures loans { buffer.new.loans ≡ buffer.old.loans }
-    {
-        sign_all(&mut self.matcher, buffer.waiting())?;
-        match token {
-            Token::Start(name) => self.tally_node(alloc, buffer, Kind::Element(name)),
-            Token::Text(text) => self.tally_node(alloc, buffer, Kind::Text(text)),
-            Token::End | Token::EndOfDocument => Ok(self.feed_end(buffer).tally()),
-        }
-    }
-
-    /// Opens a node, where the matcher has heard of all statements.
-    #[inline(never)]
-    fn tally_node<N: NodeStore<Row>>(
-        &mut self,
-        alloc: Global,
-        buffer: &mut Buffer<N>,
-        kind: Kind,
-    ) -> Result<Tally, Memory>
-        requires place { Places self.old buffer.old }
-        requires none { self.old.passed ≡ [] }
-        requires may { MayBeFed (HasHeard self.old.matcher) buffer.old (token_for kind) }
-        requires kind { IsNode kind }
-        requires nodes { buffer.old.nodes ≤ 2 ^ 40 + 1 }
-        requires depth { (c : Cell) → In c buffer.old.rows → c.row.is_open ≡ true → c.row.level ≤ 1000 }
-        ensures feeds { IfOk result (Tallies (HasHeard self.old.matcher) self.new buffer.old buffer.new (token_for kind)) }
-        ensures err { OnErr result (buffer.new ≡ buffer.old) }
-        ensures taken { buffer.new.taken ≤ buffer.old.taken + 2 ^ 64 }
-        ensures loans { buffer.new.loans ≡ buffer.old.loans }
-    {
-        let text = kind.is_text();
-        let parent = innermost(buffer, self.at).place;
-        let (place, count) = open_tallied(&mut self.matcher, alloc, buffer, parent, kind)?;
-        go_to(&mut self.matcher, &mut self.at, text, place);
-        Ok(Tally::Opened(count))
-    }
-
     /// Opens a node and answers its roles, where the matcher has heard of all statements.
     fn feed_node<N: NodeStore<Row>>(
         &mut self,
@@ -279,39 +226,14 @@ fn open_below<N: NodeStore<Row>>(
 {
     matcher.go(alloc, &kind)?;
     let given = matcher.given(alloc)?;
-    let (place, _count) = open_entered(matcher, alloc, buffer, parent, kind)?;
+    let plain = matcher.plain();
+    let (place, _count) = open_entered(matcher, alloc, buffer, parent, kind, plain)?;
     clear_waiting(buffer);
     Ok((place, given))
 }
 
-/// Opens the node in the matcher and below this place in the buffer, where nothing waits then. Answers its place, if it
-/// is held, and how many roles it is given.
-#[inline(always)]
-fn open_tallied<N: NodeStore<Row>>(
-    matcher: &mut Matcher,
-    alloc: Global,
-    buffer: &mut Buffer<N>,
-    parent: Place,
-    kind: Kind,
-) -> Result<(Option<Place>, u64), Memory>
-    requires parent { Innermost buffer.old.rows parent.0 }
-    requires kind { IsNode kind }
-    requires nodes { buffer.old.nodes ≤ 2 ^ 40 + 1 }
-    requires depth { level_in (at_place parent.0 buffer.old.rows) ≤ 1000 }
-    requires levels { (c : Cell) → In c buffer.old.rows → c.row.is_open ≡ true → c.row.level ≤ 1000 }
-    requires may { MayBeFed (HasHeard matcher.old) buffer.old (token_for kind) }
-    ensures opens { IfOk result (λ x. OpensSome matcher.old matcher.new buffer.old buffer.new parent.0 kind x.0 x.1) }
-    ensures err { OnErr result (buffer.new ≡ buffer.old) }
-    ensures taken { buffer.new.taken ≤ buffer.old.taken + 2 ^ 64 }
-    ensures loans { buffer.new.loans ≡ buffer.old.loans }
-{
-    matcher.go(alloc, &kind)?;
-    let (place, count) = open_entered(matcher, alloc, buffer, parent, kind)?;
-    clear_waiting(buffer);
-    Ok((place, count))
-}
-
-/// Opens the matcher's innermost node below this place. Answers its place, if it is held, and how many roles it is given.
+/// Opens the matcher's innermost node below this place. `plain` is how many roles it has, where that is plain. Answers its
+/// place, if it is held, and how many roles it is given.
 #[inline(always)]
 pub(crate) fn open_entered<N: NodeStore<Row>>(
     matcher: &Matcher,
@@ -319,7 +241,9 @@ pub(crate) fn open_entered<N: NodeStore<Row>>(
     buffer: &mut Buffer<N>,
     parent: Place,
     kind: Kind,
+    plain: Option<usize>,
 ) -> Result<(Option<Place>, u64), Memory>
+    requires plain { IfSome plain (GivesCount matcher.now) }
     requires parent { Innermost buffer.old.rows parent.0 }
     requires kind { IsNode kind }
     requires nodes { buffer.old.nodes ≤ 2 ^ 40 + 1 }
@@ -330,8 +254,9 @@ pub(crate) fn open_entered<N: NodeStore<Row>>(
     ensures taken { buffer.new.taken ≤ buffer.old.taken + 2 ^ 64 }
     ensures loans { buffer.new.loans ≡ buffer.old.loans }
 {
-    match matcher.plain() {
-        Some((given, kept, count)) => {
+    match plain {
+        Some(count) => {
+            let (given, kept) = matcher.plain_sets();
             let place = buffer.open_kept(alloc, parent, kind, given, kept)?;
             Ok((place, count as u64))
         }

@@ -25,14 +25,14 @@ pub(crate) fn single(alloc: Global, item: Item) -> Result<Body, Memory>
     Ok(body)
 }
 
-/// PutsItems an item at the end.
+/// Puts an item at the end.
 pub(crate) fn put_item(out: &mut Body, item: Item) -> Result<(), Memory>
     ensures { OnOk result (PutsItems out.old out.new (one (item_tree item))) }
 {
     out.push(item)
 }
 
-/// PutsItems the items at the end.
+/// Puts the items at the end.
 pub(crate) fn put_body(out: &mut Body, body: Body) -> Result<(), Memory>
     ensures { OnOk result (PutsItems out.old out.new (body_tree body)) }
 {
@@ -119,7 +119,7 @@ fn path_body(
     nested(alloc, from, steps, var, copy)
 }
 
-/// PutsItems what the expression becomes at the end. The next variable has the number `next`.
+/// Puts what the expression becomes at the end. The next variable has the number `next`.
 #[cycle(bodies)]
 fn put_expr<'q>(
     alloc: Global,
@@ -169,7 +169,7 @@ fn put_expr<'q>(
     }
 }
 
-/// PutsItems what the expressions become at the end, one behind another.
+/// Puts what the expressions become at the end, one behind another.
 #[cycle(bodies)]
 pub(crate) fn put_exprs<'q>(
     alloc: Global,
@@ -190,7 +190,7 @@ pub(crate) fn put_exprs<'q>(
     Ok(())
 }
 
-/// PutsItems a loop's body at the end, inside an `If` where there is a filter.
+/// Puts a loop's body at the end, inside an `If` where there is a filter.
 #[cycle(bodies)]
 fn put_filtered<'q>(
     alloc: Global,
@@ -218,7 +218,7 @@ fn put_filtered<'q>(
     }
 }
 
-/// PutsItems the loops of the clauses at the end, one inside the other.
+/// Puts the loops of the clauses at the end, one inside the other.
 #[cycle(bodies)]
 fn put_turns<'q>(
     alloc: Global,

@@ -45,7 +45,7 @@ fn half(alloc: Global, cond: &Cond, first: bool, body: Body) -> Result<Item, Mem
     }
 }
 
-/// PutsItems the run at the end as one branch of an `If`. There is none for an empty run.
+/// Puts the run at the end as one branch of an `If`. There is none for an empty run.
 fn flush(
     alloc: Global,
     cond: &Cond,
@@ -136,7 +136,7 @@ fn any_loop(then: &Body, other: &Body) -> bool
     has_loop(then) || has_loop(other)
 }
 
-/// PutsItems at the end what stands for an `If`: itself where its branches have no loop, else the items of
+/// Puts at the end what stands for an `If`: itself where its branches have no loop, else the items of
 /// the first branch and then those of the other.
 fn put_branch(
     alloc: Global,
@@ -158,7 +158,7 @@ fn put_branch(
     }
 }
 
-/// PutsItems at the end what the item becomes.
+/// Puts at the end what the item becomes.
 #[cycle(moves)]
 fn put_moved_item(alloc: Global, out: &mut Body, item: Item) -> Result<(), Memory>
     ensures { OnOk result (PutsItems out.old out.new (moved_item (item_tree item))) }

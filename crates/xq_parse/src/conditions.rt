@@ -158,7 +158,7 @@ fn any_in(members: QConds) -> QCond
 }
 
 impl<'a> Parser<'a> {
-    /// Proceeds the right side of a comparison.
+    /// Reads the right side of a comparison.
     fn operand(&mut self) -> Result<QOperand, Refusal>
         ensures moves { Parses (λ o. o) operand self.old self.new result }
         ensures scope { OnOk result (self.new.scope ≡ self.old.scope) }
@@ -174,7 +174,7 @@ impl<'a> Parser<'a> {
         }
     }
 
-    /// Proceeds what stands behind `true`.
+    /// Reads what stands behind `true`.
     fn always(&mut self) -> Result<QCond, Refusal>
         ensures moves { Parses cond_tree (λ sc. true_state) self.old self.new result }
         ensures scope { OnOk result (self.new.scope ≡ self.old.scope) }
@@ -185,7 +185,7 @@ impl<'a> Parser<'a> {
         Ok(QCond::True)
     }
 
-    /// Proceeds what stands behind `exists`.
+    /// Reads what stands behind `exists`.
     #[tactic(auto, unfolding(crate::specs::Machine::exists_state))]
     fn existing(&mut self) -> Result<QCond, Refusal>
         ensures moves { Parses cond_tree exists_state self.old self.new result }
@@ -199,7 +199,7 @@ impl<'a> Parser<'a> {
         Ok(QCond::Exists(route.path))
     }
 
-    /// Proceeds a comparison that begins with a path.
+    /// Reads a comparison that begins with a path.
     fn comparison(&mut self) -> Result<QCond, Refusal>
         ensures moves { Parses cond_tree (λ sc m k. path (compare_state sc m k)) self.old self.new result }
         ensures scope { OnOk result (self.new.scope ≡ self.old.scope) }
@@ -216,7 +216,7 @@ impl<'a> Parser<'a> {
         })
     }
 
-    /// Proceeds a comparison behind the literal that it begins with.
+    /// Reads a comparison behind the literal that it begins with.
     #[tactic(auto, unfolding(crate::specs::Machine::literal_state))]
     fn literal_comparison(&mut self, left: QOperand) -> Result<QCond, Refusal>
         ensures moves { Parses cond_tree (literal_state left) self.old self.new result }
@@ -233,7 +233,7 @@ impl<'a> Parser<'a> {
         })
     }
 
-    /// Proceeds an atom, with `depth` constructs open before it.
+    /// Reads an atom, with `depth` constructs open before it.
     #[cycle(conds)]
     fn atom(&mut self, depth: usize) -> Result<QCond, Refusal>
         requires { depth ≤ deepest }
@@ -269,7 +269,7 @@ impl<'a> Parser<'a> {
         }
     }
 
-    /// Proceeds what stands behind `not`.
+    /// Reads what stands behind `not`.
     #[tactic(auto, unfolding(crate::specs::Machine::not_state))]
     #[cycle(conds)]
     fn negation(&mut self, depth: usize) -> Result<QCond, Refusal>
@@ -283,7 +283,7 @@ impl<'a> Parser<'a> {
         Ok(QCond::Not(Box::new(self.cursor.alloc, cond)?))
     }
 
-    /// Proceeds a condition and the `)` behind it.
+    /// Reads a condition and the `)` behind it.
     #[tactic(auto, unfolding(crate::specs::Machine::group_state))]
     #[cycle(conds)]
     fn group(&mut self, depth: usize) -> Result<QCond, Refusal>
@@ -297,7 +297,7 @@ impl<'a> Parser<'a> {
         Ok(cond)
     }
 
-    /// Proceeds atoms with `and` between them.
+    /// Reads atoms with `and` between them.
     #[cycle(conds)]
     fn atoms(&mut self, depth: usize) -> Result<QConds, Refusal>
         requires { depth ≤ deepest }
@@ -315,7 +315,7 @@ impl<'a> Parser<'a> {
         Ok(conds)
     }
 
-    /// Proceeds what may stand between `or`s.
+    /// Reads what may stand between `or`s.
     #[tactic(auto, unfolding(crate::specs::Machine::all_state))]
     #[cycle(conds)]
     fn all(&mut self, depth: usize) -> Result<QCond, Refusal>
@@ -328,7 +328,7 @@ impl<'a> Parser<'a> {
         Ok(all_in(conds))
     }
 
-    /// Proceeds conditions with `or` between them.
+    /// Reads conditions with `or` between them.
     #[cycle(conds)]
     fn alls(&mut self, depth: usize) -> Result<QConds, Refusal>
         requires { depth ≤ deepest }
@@ -346,7 +346,7 @@ impl<'a> Parser<'a> {
         Ok(conds)
     }
 
-    /// Proceeds a condition.
+    /// Reads a condition.
     #[tactic(auto, unfolding(crate::specs::Machine::cond_state))]
     #[cycle(conds)]
     pub(crate) fn condition(&mut self, depth: usize) -> Result<QCond, Refusal>

@@ -161,7 +161,7 @@ fn in_parens(parts: Exprs) -> Expr
 }
 
 impl<'a> Parser<'a> {
-    /// Proceeds a variable and its path. The variable is in scope from then on.
+    /// Reads a variable and its path. The variable is in scope from then on.
     #[tactic(auto, unfolding(crate::specs::Machine::clause_state))]
     fn clause(&mut self) -> Result<Clause, Refusal>
         ensures moves { Parses (λ c. c) clause_state self.old self.new result }
@@ -179,7 +179,7 @@ impl<'a> Parser<'a> {
         })
     }
 
-    /// Proceeds the clauses of a loop.
+    /// Reads the clauses of a loop.
     #[tactic(auto, using(crate::proofs::ScopeLaws::extends_after, crate::proofs::ScopeLaws::extends_one))]
     fn clauses(&mut self) -> Result<Clauses, Refusal>
         ensures moves { ParsesClauses clauses_state self.old self.new result }
@@ -196,7 +196,7 @@ impl<'a> Parser<'a> {
         Ok(clauses)
     }
 
-    /// Proceeds the condition of a loop, if it has one.
+    /// Reads the condition of a loop, if it has one.
     fn filter(&mut self, depth: usize) -> Result<Option<QCond>, Refusal>
         requires { depth ≤ deepest }
         ensures moves { Parses (λ c. option_map cond_tree c) (condition depth) self.old self.new result }
@@ -210,7 +210,7 @@ impl<'a> Parser<'a> {
         Ok(Some(cond))
     }
 
-    /// Proceeds an expression, with `depth` constructs open before it.
+    /// Reads an expression, with `depth` constructs open before it.
     #[cycle(exprs)]
     fn expr(&mut self, depth: usize) -> Result<Expr, Refusal>
         requires { depth ≤ deepest }
@@ -243,7 +243,7 @@ impl<'a> Parser<'a> {
         }
     }
 
-    /// Proceeds the clauses of a loop and its condition, if it has one.
+    /// Reads the clauses of a loop and its condition, if it has one.
     fn loop_head(&mut self, depth: usize) -> Result<LoopHead, Refusal>
         requires { depth ≤ deepest }
         ensures moves { ParsesHead (loop_head_state depth) self.old self.new result }
@@ -255,7 +255,7 @@ impl<'a> Parser<'a> {
         Ok(LoopHead { clauses, filter })
     }
 
-    /// Proceeds an expression that stands inside another one.
+    /// Reads an expression that stands inside another one.
     #[cycle(exprs)]
     fn part(&mut self, depth: usize) -> Result<Box<Expr>, Refusal>
         requires { depth ≤ deepest }
@@ -267,7 +267,7 @@ impl<'a> Parser<'a> {
         Ok(Box::new(self.cursor.alloc, part)?)
     }
 
-    /// Proceeds `return` and the body of a loop.
+    /// Reads `return` and the body of a loop.
     #[cycle(exprs)]
     fn loop_body(&mut self, depth: usize) -> Result<Box<Expr>, Refusal>
         requires { depth ≤ deepest }
@@ -280,7 +280,7 @@ impl<'a> Parser<'a> {
         Ok(body)
     }
 
-    /// Proceeds what stands behind `for`.
+    /// Reads what stands behind `for`.
     #[tactic(auto, unfolding(crate::specs::Machine::for_state))]
     #[cycle(exprs)]
     fn for_expr(&mut self, depth: usize) -> Result<Expr, Refusal>
@@ -300,7 +300,7 @@ impl<'a> Parser<'a> {
         })
     }
 
-    /// Proceeds what stands between `if` and the first branch.
+    /// Reads what stands between `if` and the first branch.
     #[tactic(auto, unfolding(crate::specs::Machine::head_state))]
     fn head(&mut self, depth: usize) -> Result<QCond, Refusal>
         requires { depth ≤ deepest }
@@ -315,7 +315,7 @@ impl<'a> Parser<'a> {
         Ok(cond)
     }
 
-    /// Proceeds `else` and the other branch.
+    /// Reads `else` and the other branch.
     #[cycle(exprs)]
     fn other_branch(&mut self, depth: usize) -> Result<Box<Expr>, Refusal>
         requires { depth ≤ deepest }
@@ -328,7 +328,7 @@ impl<'a> Parser<'a> {
         Ok(other)
     }
 
-    /// Proceeds what stands behind `if`.
+    /// Reads what stands behind `if`.
     #[tactic(auto, unfolding(crate::specs::Machine::if_state))]
     #[cycle(exprs)]
     fn if_expr(&mut self, depth: usize) -> Result<Expr, Refusal>
@@ -343,7 +343,7 @@ impl<'a> Parser<'a> {
         Ok(Expr::If { cond, then, other })
     }
 
-    /// Proceeds what stands behind the `<` of a constructor.
+    /// Reads what stands behind the `<` of a constructor.
     #[tactic(auto, unfolding(crate::specs::Machine::elem_state))]
     #[cycle(exprs)]
     fn elem(&mut self, depth: usize) -> Result<Expr, Refusal>
@@ -357,7 +357,7 @@ impl<'a> Parser<'a> {
         Ok(Expr::Elem { name, body })
     }
 
-    /// Proceeds what stands behind the name of a start tag.
+    /// Reads what stands behind the name of a start tag.
     #[cycle(exprs)]
     fn tag(&mut self, depth: usize, name: &Name) -> Result<Exprs, Refusal>
         requires { depth ≤ deepest }
@@ -372,7 +372,7 @@ impl<'a> Parser<'a> {
         Ok(body)
     }
 
-    /// Proceeds the body of a constructor and its end tag.
+    /// Reads the body of a constructor and its end tag.
     #[cycle(exprs)]
     fn content(&mut self, depth: usize, name: &Name) -> Result<Exprs, Refusal>
         requires { depth ≤ deepest }
@@ -401,7 +401,7 @@ impl<'a> Parser<'a> {
         }
     }
 
-    /// Proceeds what stands behind the `(` of an expression.
+    /// Reads what stands behind the `(` of an expression.
     #[cycle(exprs)]
     fn inner(&mut self, depth: usize) -> Result<Expr, Refusal>
         requires { depth ≤ deepest }
@@ -417,7 +417,7 @@ impl<'a> Parser<'a> {
         Ok(in_parens(parts))
     }
 
-    /// Proceeds expressions with commas between them.
+    /// Reads expressions with commas between them.
     #[cycle(exprs)]
     pub(crate) fn list(&mut self, depth: usize) -> Result<Exprs, Refusal>
         requires { depth ≤ deepest }

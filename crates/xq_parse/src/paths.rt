@@ -105,7 +105,7 @@ impl<'a> Cursor<'a> {
         }
     }
 
-    /// Proceeds what stands behind the name of a test.
+    /// Reads what stands behind the name of a test.
     fn named_test(&mut self, axis: Axis, found: &Name) -> Result<Step, Refusal>
         ensures moves { ReadsOne (name_behind axis found.now) self.old.rest.now self.new.rest.now result }
         ensures shorter { length self.new.rest.now ≤ length self.old.rest.now }
@@ -125,7 +125,7 @@ impl<'a> Cursor<'a> {
         }
     }
 
-    /// Proceeds the test of a step.
+    /// Reads the test of a step.
     fn test(&mut self, axis: Axis) -> Result<Step, Refusal>
         ensures moves { ReadsOne (test axis) self.old.rest.now self.new.rest.now result }
         ensures shorter { length self.new.rest.now ≤ length self.old.rest.now }
@@ -204,7 +204,7 @@ impl<'a> Cursor<'a> {
         }
     }
 
-    /// Proceeds what stands behind the `/` of a step.
+    /// Reads what stands behind the `/` of a step.
     fn axis_step(&mut self) -> Result<Step, Refusal>
         ensures moves { ReadsOne axis self.old.rest.now self.new.rest.now result }
         ensures shorter { length self.new.rest.now ≤ length self.old.rest.now }
@@ -225,7 +225,7 @@ impl<'a> Cursor<'a> {
         }
     }
 
-    /// Proceeds a step.
+    /// Reads a step.
     fn step(&mut self) -> Result<PlacedStep, Refusal>
         ensures moves { Proceeds first_step (λ k s. k s.at s.step) self.old.rest.now self.new.rest.now result }
         ensures shorter { length self.new.rest.now ≤ length self.old.rest.now }
@@ -260,7 +260,7 @@ impl<'a> Cursor<'a> {
         }
     }
 
-    /// Proceeds one step or more.
+    /// Reads one step or more.
     fn steps(&mut self) -> Result<Trail, Refusal>
         ensures moves { ReadsOne steps_state self.old.rest.now self.new.rest.now result }
         ensures shorter { length self.new.rest.now ≤ length self.old.rest.now }
@@ -275,7 +275,7 @@ impl<'a> Cursor<'a> {
         Ok(trail)
     }
 
-    /// Proceeds any number of steps.
+    /// Reads any number of steps.
     fn later_steps(&mut self) -> Result<Trail, Refusal>
         ensures moves { ReadsOne (steps no_trail) self.old.rest.now self.new.rest.now result }
         ensures shorter { length self.new.rest.now ≤ length self.old.rest.now }
@@ -309,7 +309,7 @@ impl<'a> Cursor<'a> {
         }
     }
 
-    /// Proceeds a path.
+    /// Reads a path.
     pub(crate) fn path(&mut self) -> Result<Route, Refusal>
         ensures moves { ReadsOne path self.old.rest.now self.new.rest.now result }
         ensures shorter { length self.new.rest.now ≤ length self.old.rest.now }
@@ -326,7 +326,7 @@ impl<'a> Cursor<'a> {
         }
     }
 
-    /// Proceeds the path of a clause.
+    /// Reads the path of a clause.
     pub(crate) fn source(&mut self) -> Result<Route, Refusal>
         ensures moves { ReadsOne source self.old.rest.now self.new.rest.now result }
         ensures shorter { length self.new.rest.now ≤ length self.old.rest.now }
@@ -336,7 +336,7 @@ impl<'a> Cursor<'a> {
         Ok(trail.from(start))
     }
 
-    /// Proceeds the sign of a comparison.
+    /// Reads the sign of a comparison.
     pub(crate) fn rel(&mut self) -> Result<Rel, Refusal>
         ensures moves { ReadsOne rel self.old.rest.now self.new.rest.now result }
         ensures shorter { length self.new.rest.now ≤ length self.old.rest.now }

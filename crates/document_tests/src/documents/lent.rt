@@ -62,17 +62,32 @@ fn feed_each(
     Ok(())
 }
 
-/// Takes all tokens that wait, and the end of the document.
-fn take_all(alloc: Global, reader: &mut LentReader, out: &mut Vec<u8>) -> Result<(), Fail> {
-    let (tokens, bytes) = reader.lent();
+/// Takes the end of the document, where it is lent by itself.
+fn take_end(reader: &mut LentReader, out: &mut Vec<u8>) -> Result<(), Fail> {
+    let (tokens, _) = reader.lent();
     let count = tokens.len();
-    let put = put_first(alloc, out, tokens, bytes, count);
+    let ends = matches!(tokens, [Lent::End]);
     reader.take_lent(count);
-    put?;
-    if reader.take_end() {
+    if ends {
         out.push(b'$')?;
     }
     Ok(())
+}
+
+/// Ends the document, and takes all tokens that wait: those of tags first, and its end once.
+fn take_all(
+    alloc: Global,
+    reader: &mut LentReader,
+    out: &mut Vec<u8>,
+) -> Result<Option<DocFault>, Fail> {
+    let tags = reader.lent().0.len();
+    let fault = reader.finish().err();
+    if tags > 0 {
+        take_some(alloc, reader, usize::MAX, out)?;
+    }
+    take_end(reader, out)?;
+    take_end(reader, out)?;
+    Ok(fault)
 }
 
 /// The tokens that are lent of a document in these pieces, at most so many of them behind each, and the fault at its end.
@@ -88,8 +103,7 @@ fn told_lent(
     let mut reader = LentReader::new(alloc, limits);
     let mut out = Vec::new(alloc);
     feed_each(alloc, &mut reader, pieces, most, &mut out)?;
-    let fault = reader.finish().err();
-    take_all(alloc, &mut reader, &mut out)?;
+    let fault = take_all(alloc, &mut reader, &mut out)?;
     Ok((out, fault))
 }
 

@@ -38,7 +38,7 @@ returns-then-quiet-clause-feeds g c = λ lim b ended given p.
 
 pub act_all-requires : goal.act_all-requires
 act_all-requires g c =
-    let q = c.requires in
+    let q = c.requires.parts in
     let rest = c.feed_some.ensures.same.rest in
     some_fed g.C.Conds.stands q.limits q.read q.ended q.given c.args.self.now c.feed_some.new.self c.in_ok-any.quiet (c.in_ok-any.ensures.feeds q.limits q.read q.ended q.given q.of) (ap (λ (z : EngineView g.row.C.Denot). z.plan) rest)
 

@@ -24,11 +24,14 @@ groups-init g c = record {
   same = alone_none c.args.self.now;
 }
 
-pub feed_group-requires : goal.feed_group-requires
-feed_group-requires g c =
-    let q = c.requires in
+pub feed_group-requires-clause-parts : goal.feed_group-requires-clause-parts
+feed_group-requires-clause-parts g c =
+    let q = c.requires.parts in
     let f = c.groups.invariant.feeds q.limits q.read q.ended q.given q.of in
     record { limits = q.limits; read = q.read; ended = q.ended; given = q.given ++ f.more; of = f.parts }
+
+pub feed_group-requires-clause-traced : goal.feed_group-requires-clause-traced
+feed_group-requires-clause-traced g c = ap (λ (z : EngineView g.row.C.Denot). z.tracing) c.groups.invariant.same.rest ∙ c.requires.traced
 
 pub groups-preserved : goal.groups-preserved
 groups-preserved g c =

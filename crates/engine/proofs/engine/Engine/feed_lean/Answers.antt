@@ -1,29 +1,16 @@
-use Rattle.std.proofs.Common.{◌≡◌, ◌≤◌, ◌∙◌, false, [], length, drop, map, ap, refl, subst, sym, arith}
-use Rattle.std.proofs.lemmas.Bool.{true≢false}
-use Rattle.std.proofs.lemmas.List.{append-nil, drop_all}
+use Rattle.std.proofs.Common.{◌≡◌, ◌∙◌, length, map, ap, refl, subst, sym, arith}
 use Rattle.gcx_model.specs.PlanView.{plan_tree}
-use Rattle.doc_reader.specs.Standing.{said_of, with_tokens}
-use Rattle.doc_reader.proofs.Owning.{as_many}
+use Rattle.doc_reader.specs.Standing.{behind_lent, lent_next, said_of}
+use Rattle.doc_reader.proofs.Behind.{lent_many}
 use Rattle.engine.specs.View.{EngineView}
-use Rattle.engine.specs.Calls.{BreaksFrom, FeedsFrom, GoesAlone, TellsGroups, TellsWithin}
+use Rattle.engine.specs.Calls.{BreaksFrom, FeedsFrom, GoesAlone, TakesLent}
 use Rattle.engine.specs.Going.{SomeParts}
 use Rattle.engine.specs.Late.{said_lent}
 use Rattle.engine.proofs.Acting.{on_err}
-use Rattle.engine.proofs.Forms.{alone_none, keeps_none}
+use Rattle.engine.proofs.Forms.{keeps_none}
 use Rattle.engine.proofs.Grouping.{some_ahead}
-use Rattle.engine.proofs.Lending.{keeps_taken, lent_alone, lent_breaks, lent_feeds, parts_may}
-use Rattle.engine.proofs.Waiting.{feeds_none}
+use Rattle.engine.proofs.Lending.{keeps_behind, lent_alone, lent_breaks, lent_feeds, parts_may}
 use Rattle.engine.proofs.engine.Engine.feed_lean.Goals as goal
-
--- a trace is wanted
-pub returns-then-self-clause-feeds : goal.returns-then-self-clause-feeds
-returns-then-self-clause-feeds g c = λ lim b ended given p. feeds_none g.C.Conds.stands lim b ended given c.args.self.now p
-
-pub returns-then-self-clause-told : goal.returns-then-self-clause-told
-returns-then-self-clause-told g c = λ s lim b ended given p. record { more = []; waited = refl; told = sym (append-nil c.args.self.now.trace) }
-
-pub returns-then-self-clause-same : goal.returns-then-self-clause-same
-returns-then-self-clause-same g c = alone_none c.args.self.now
 
 pub feed_lent-requires-clause-ahead : goal.feed_lent-requires-clause-ahead
 feed_lent-requires-clause-ahead g c =
@@ -55,14 +42,6 @@ returns-in_err-feed_lent-clause-breaks g c =
     (c.in_err-feed_lent.ensures.breaks (plan_tree old.plan) (map said_of given) (parts_may g.C.Conds.stands lim b ended given old lent bytes p c.lent.ensures)) in
     on_err _ _ (subst (λ (z : EngineView g.row.C.Denot). BreaksFrom g.C.Conds.stands z d) c.self.view_is h)
 
-pub returns-in_err-feed_lent-clause-part : goal.returns-in_err-feed_lent-clause-part
-returns-in_err-feed_lent-clause-part g c =
-    let old : EngineView g.row.C.Denot = record { plan = c.self.inside.plan.now; ahead = c.self.inside.ahead; tracing = c.self.inside.tracing; reader = c.self.inside.reader; actors = c.self.inside.actors; out = c.self.inside.out.items; trace = c.self.inside.trace.items; bytes = c.self.inside.bytes; refused = c.self.inside.refused; ended = c.self.inside.ended } in
-    let d : EngineView g.row.C.Denot = record old { actors = c.feed_lent.new.self; out = c.feed_lent.new.out.items } in
-    let untold : c.args.self.now.tracing ≡ false = ap (λ (z : EngineView g.row.C.Denot). z.tracing) (sym c.self.view_is) ∙ c.if-self.false in
-    let h : TellsWithin g.C.Conds.stands c.args.self.now d = λ s lim b ended given p. absurd (true≢false (sym s.tracing ∙ untold)) in
-    on_err _ _ h
-
 pub returns-in_err-feed_lent-clause-same : goal.returns-in_err-feed_lent-clause-same
 returns-in_err-feed_lent-clause-same g c =
     let old : EngineView g.row.C.Denot = record { plan = c.self.inside.plan.now; ahead = c.self.inside.ahead; tracing = c.self.inside.tracing; reader = c.self.inside.reader; actors = c.self.inside.actors; out = c.self.inside.out.items; trace = c.self.inside.trace.items; bytes = c.self.inside.bytes; refused = c.self.inside.refused; ended = c.self.inside.ended } in
@@ -71,7 +50,7 @@ returns-in_err-feed_lent-clause-same g c =
 
 pub take_lent-requires : goal.take_lent-requires
 take_lent-requires g c =
-    let many = as_many c.lent.result.0.now c.lent.result.1.now c.self.inside.reader.state.tokens c.lent.ensures in
+    let many = lent_many (lent_next c.self.inside.reader) c.lent.result.0.now c.lent.result.1.now c.lent.ensures in
     omega arith
 
 pub returns-clause-feeds : goal.returns-clause-feeds
@@ -80,26 +59,21 @@ returns-clause-feeds g c =
     let d : EngineView g.row.C.Denot = record old { reader = c.take_lent.new.self; actors = c.feed_lent.new.self; out = c.feed_lent.new.out.items } in
     let lent = c.lent.result.0.now in
     let bytes = c.lent.result.1.now in
-    let tokens = old.reader.state.tokens in
-    let many = as_many lent bytes tokens c.lent.ensures in
-    let few : length tokens ≤ length lent = omega arith in
-    let none : c.take_lent.new.self ≡ with_tokens old.reader [] = c.take_lent.ensures.takes ∙ ap (with_tokens old.reader) (drop_all (length lent) tokens few) in
+    let many = lent_many (lent_next old.reader) lent bytes c.lent.ensures in
+    let takes : TakesLent old.reader d.reader = c.take_lent.ensures.takes ∙ ap (λ n. behind_lent n old.reader) (sym many) in
     let h : FeedsFrom g.C.Conds.stands old d = λ lim b ended given p.
-    lent_feeds g.C.Conds.stands lim b ended given old d (said_lent bytes lent) p c.lent.ensures.tokens_are none refl refl
+    lent_feeds g.C.Conds.stands lim b ended given old d (said_lent bytes lent) p c.lent.ensures.tokens_are takes refl refl
     (c.in_ok-feed_lent.ensures.feeds (plan_tree old.plan) (map said_of given) (parts_may g.C.Conds.stands lim b ended given old lent bytes p c.lent.ensures)) in
     subst (λ (z : EngineView g.row.C.Denot). FeedsFrom g.C.Conds.stands z d) c.self.view_is h
 
-pub returns-clause-told : goal.returns-clause-told
-returns-clause-told g c =
-    let old : EngineView g.row.C.Denot = record { plan = c.self.inside.plan.now; ahead = c.self.inside.ahead; tracing = c.self.inside.tracing; reader = c.self.inside.reader; actors = c.self.inside.actors; out = c.self.inside.out.items; trace = c.self.inside.trace.items; bytes = c.self.inside.bytes; refused = c.self.inside.refused; ended = c.self.inside.ended } in
-    let d : EngineView g.row.C.Denot = record old { reader = c.take_lent.new.self; actors = c.feed_lent.new.self; out = c.feed_lent.new.out.items } in
-    let untold : c.args.self.now.tracing ≡ false = ap (λ (z : EngineView g.row.C.Denot). z.tracing) (sym c.self.view_is) ∙ c.if-self.false in
-    let h : TellsGroups g.C.Conds.stands c.args.self.now d = λ s lim b ended given p. absurd (true≢false (sym s.tracing ∙ untold)) in
-    h
+pub returns-clause-takes : goal.returns-clause-takes
+returns-clause-takes g c =
+    let r = c.self.inside.reader in
+    let many = lent_many (lent_next r) c.lent.result.0.now c.lent.result.1.now c.lent.ensures in
+    subst (λ (z : EngineView g.row.C.Denot). TakesLent z.reader c.take_lent.new.self) c.self.view_is (c.take_lent.ensures.takes ∙ ap (λ n. behind_lent n r) (sym many))
 
 pub returns-clause-same : goal.returns-clause-same
 returns-clause-same g c =
     let old : EngineView g.row.C.Denot = record { plan = c.self.inside.plan.now; ahead = c.self.inside.ahead; tracing = c.self.inside.tracing; reader = c.self.inside.reader; actors = c.self.inside.actors; out = c.self.inside.out.items; trace = c.self.inside.trace.items; bytes = c.self.inside.bytes; refused = c.self.inside.refused; ended = c.self.inside.ended } in
-    let d : EngineView g.row.C.Denot = record old { reader = c.take_lent.new.self; actors = c.feed_lent.new.self; out = c.feed_lent.new.out.items } in
-    let keeps = keeps_taken old.reader c.take_lent.new.self (drop (length c.lent.result.0.now) old.reader.state.tokens) c.take_lent.ensures.takes in
-    subst (λ (z : EngineView g.row.C.Denot). GoesAlone z d) c.self.view_is (lent_alone old c.feed_lent.new.self c.feed_lent.new.out.items c.take_lent.new.self keeps c.feed_lent.ensures.loans)
+    subst (λ (z : EngineView g.row.C.Denot). GoesAlone z (record old { reader = c.take_lent.new.self; actors = c.feed_lent.new.self; out = c.feed_lent.new.out.items })) c.self.view_is
+    (lent_alone old c.feed_lent.new.self c.feed_lent.new.out.items c.take_lent.new.self (keeps_behind old.reader c.take_lent.new.self (length c.lent.result.0.now) c.take_lent.ensures.takes) c.feed_lent.ensures.loans)

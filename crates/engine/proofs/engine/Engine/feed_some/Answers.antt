@@ -1,6 +1,7 @@
 use Rattle.std.proofs.Common.{◌≡◌, ◌∙◌, ◌+◌, ◌<◌, ◌≤◌, ◌++◌, ℕ, Bool, true, [], ◌∷◌, ◌&&◌, List, length, Some, None, ap, subst, sym, refl, arith}
 use Rattle.gcx_base.specs.declared.limits.Limits.{Limits}
 use Rattle.gcx_model.specs.PlanView.{plan_tree}
+use Rattle.gcx_model.specs.Tree.{Token as Said}
 use Rattle.gcx_model.specs.Seen.{seen_tree}
 use Rattle.doc_reader.specs.Standing.{Token, ReaderView, Stands, said_of, waiting}
 use Rattle.std.specs.Prelude.{map}
@@ -9,7 +10,7 @@ use Rattle.std.proofs.lemmas.List.{append-nil}
 use Rattle.engine.specs.View.{EngineView}
 use Rattle.gcx_model.specs.Points.{actions, so_far}
 use Rattle.gcx_model.specs.Demand.{Line, text_of_lines}
-use Rattle.engine.specs.Engine.{Balanced, IsTold, PartsStand, IsSilent}
+use Rattle.engine.specs.Engine.{Balanced, IsTold, PartsStand}
 use Rattle.engine.specs.Going.{FeedsSome}
 use Rattle.engine.specs.Actors.{all_of, BalancesEach, FeedsEach, IsQuietFor, MayFeed}
 use Rattle.engine.specs.Telling.{GrewPart, ToldOne, fed_lines, more_lines, TellsEach, TellsPart}
@@ -73,7 +74,7 @@ returns-in_err-next-clause-same g c =
 
 pub feed_one-requires : goal.feed_one-requires
 feed_one-requires g c =
-    let q = c.requires in
+    let q = c.requires.parts in
     let inv = c.tokens.invariant in
     let e = c.tokens.self in
     let e1 = c.next_token.new.self in
@@ -83,7 +84,8 @@ feed_one-requires g c =
     let x = inv.group q.limits q.read q.ended q.given q.of in
     let plan = ap (λ (z : EngineView g.row.C.Denot). z.plan) inv.same.rest in
     subst (λ (z : EngineView g.row.C.Denot). MayFeed g.C.Conds.stands z.actors (said_of c.in-Some.token)) (sym step)
-    (may_next g.C.Conds.stands q.limits q.read q.ended q.given c.args.self.now e e r c.in-Some.token c.tokens.quiet true x.0 plan gave.takes (gave.stands q.limits q.read q.ended (q.given ++ x.0.more) x.0.reader))
+    (subst (λ (z : Said). MayFeed g.C.Conds.stands e.actors z) (sym gave.says)
+    (may_next g.C.Conds.stands q.limits q.read q.ended q.given c.args.self.now e e r gave.next c.tokens.quiet true x.0 plan gave.takes (gave.stands q.limits q.read q.ended (q.given ++ x.0.more) x.0.reader)))
 
 pub returns-in_err-still-clause-balance : goal.returns-in_err-still-clause-balance
 returns-in_err-still-clause-balance g c =
@@ -96,8 +98,8 @@ returns-in_err-still-clause-balance g c =
     let plan = ap (λ (z : EngineView g.row.C.Denot). z.plan) inv.same.rest in
     let h : (lim : Limits) (b : List ℕ) (ended : Bool) (given : List Token) → PartsStand g.C.Conds.stands lim c.args.self.now b ended given → Balanced c.feed_one.new.self = λ lim b ended given p.
     let x = inv.group lim b ended given p in
-    let comes = comes_next g.C.Conds.stands lim b ended given c.args.self.now e e r c.in-Some.token c.tokens.quiet true x.0 plan gave.takes (gave.stands lim b ended (given ++ x.0.more) x.0.reader) in
-    subst (λ (z : EngineView g.row.C.Denot). BalancesEach g.C.Conds.stands z.actors c.feed_one.new.self.actors (said_of c.in-Some.token)) step c.in_err-still.ensures.balance (plan_tree e.plan) (seen_tree (map said_of (given ++ x.0.more))) (all_of (plan_tree c.args.self.now.plan) (seen_tree (map said_of given))) x.0.actors comes (group_given g.C.Conds.stands lim b ended given c.args.self.now e c.tokens.quiet x.0 plan) in
+    let comes = comes_next g.C.Conds.stands lim b ended given c.args.self.now e e r gave.next c.tokens.quiet true x.0 plan gave.takes (gave.stands lim b ended (given ++ x.0.more) x.0.reader) in
+    subst (λ (z : Said). BalancesEach g.C.Conds.stands e.actors c.feed_one.new.self.actors z) gave.says (subst (λ (z : EngineView g.row.C.Denot). BalancesEach g.C.Conds.stands z.actors c.feed_one.new.self.actors (said_of c.in-Some.token)) step c.in_err-still.ensures.balance) (plan_tree e.plan) (seen_tree (map said_of (given ++ x.0.more))) (all_of (plan_tree c.args.self.now.plan) (seen_tree (map said_of given))) x.0.actors comes (group_given g.C.Conds.stands lim b ended given c.args.self.now e c.tokens.quiet x.0 plan) in
     on_err _ _ h
 
 pub tokens-preserved : goal.tokens-preserved
@@ -109,13 +111,15 @@ tokens-preserved g c =
     let r = e1.reader in
     let step : e1 ≡ record e { reader = r } = c.next_token.ensures.rest in
     let gave : TakesNext e.reader r (Some c.in-Some.token) = subst (TakesNext e.reader r) c.in-Some.is c.in_ok-next.ensures.gives in
-    let t = c.in-Some.token in
+    let t = gave.next in
     let d = c.feed_one.new.self in
     let o = c.in_ok-still.ensures in
+    let u = said_of c.in-Some.token in
     let form : d ≡ one_form (record e { reader = r }) d = subst (λ (z : EngineView g.row.C.Denot). d ≡ one_form z d) step c.feed_one.ensures.rest in
-    let feeds = subst (λ (z : EngineView g.row.C.Denot). FeedsEach g.C.Conds.stands z.actors d.actors (said_of t)) step o.feeds in
-    let quietly = subst (λ (z : EngineView g.row.C.Denot). c.in_ok-still.still ≡ true → IsQuietFor g.C.Conds.stands z.actors (said_of t)) step o.quiet in
-    let tells = subst (λ (z : EngineView g.row.C.Denot). z.tracing ≡ true → TellsEach g.C.Conds.stands z.actors (said_of t) z.trace d.trace) step o.told in
+    let feeds = subst (λ (z : Said). FeedsEach g.C.Conds.stands e.actors d.actors z) gave.says (subst (λ (z : EngineView g.row.C.Denot). FeedsEach g.C.Conds.stands z.actors d.actors u) step o.feeds) in
+    let quietly = subst (λ (z : Said). c.in_ok-still.still ≡ true → IsQuietFor g.C.Conds.stands e.actors z) gave.says (subst (λ (z : EngineView g.row.C.Denot). c.in_ok-still.still ≡ true → IsQuietFor g.C.Conds.stands z.actors u) step o.quiet) in
+    let tells = subst (λ (z : Said). TellsEach g.C.Conds.stands e.actors z e.trace d.trace) gave.says (subst (λ (z : EngineView g.row.C.Denot). TellsEach g.C.Conds.stands z.actors u z.trace d.trace) step o.told) in
+    let traced : e.tracing ≡ true = ap (λ (z : EngineView g.row.C.Denot). z.tracing) inv.same.rest ∙ c.requires.traced in
     let plan = ap (λ (z : EngineView g.row.C.Denot). z.plan) inv.same.rest in
     let same : d.reader ≡ r = ap (λ (z : EngineView g.row.C.Denot). z.reader) form in
     let same_plan : d.plan ≡ e.plan = ap (λ (z : EngineView g.row.C.Denot). z.plan) form in
@@ -154,17 +158,16 @@ tokens-preserved g c =
           let none : f.more ≡ [] = nil_of f.more (omega arith) in
           let Q = seen_tree (map said_of (given ++ f.more)) in
           let was : (waiting old.reader ≡ waiting e.reader) × (e.trace ≡ old.trace) = subst (λ (z : Bool). ToldOne plan' P (actions plan' P) (waiting old.reader) (waiting e.reader) old.trace e.trace z) (inv.first zero) (inv.told s lim b ended given p) in
-          let tr : e.tracing ≡ true = ap (λ (z : EngineView g.row.C.Denot). z.tracing) inv.same.rest ∙ s.tracing in
           let pe = ap (λ (z : EngineView g.row.C.Denot). plan_tree z.plan) inv.same.rest in
           let text = one_text plan' (plan_tree e.plan) pe given f.more none t in
           let reads = gave.stands lim b ended (given ++ f.more) f.reader in
           let comes = comes_next g.C.Conds.stands lim b ended given old e d r t c.tokens.quiet c.in_ok-still.still f plan takes reads in
-          let one : d.trace ≡ e.trace ++ text_of_lines (fed_lines (plan_tree e.plan) (said_of t) Q (so_far (plan_tree e.plan) Q k)) = tells tr (plan_tree e.plan) Q k f.actors comes in (
+          let one : d.trace ≡ e.trace ++ text_of_lines (fed_lines (plan_tree e.plan) (said_of t) Q (so_far (plan_tree e.plan) Q k)) = tells (plan_tree e.plan) Q k f.actors comes in (
             t,
             was.0 ∙ (takes ∙ ap (λ (z : ReaderView). t ∷ waiting z) (sym same)),
             one ∙ (ap (λ (z : List Line). e.trace ++ text_of_lines z) text ∙ ap (λ (z : List ℕ). z ++ text_of_lines (fed_lines plan' (said_of t) P (actions plan' P))) was.1),
           );
-      same = fed_alone_on old e d r inv.same c.next_token.ensures.keeps form (c.feed_one.ensures.machine ∙ ap (λ (z : EngineView g.row.C.Denot). z.actors.machine) step) (subst (λ (z : EngineView g.row.C.Denot). IsSilent z → IsSilent d) step c.feed_one.ensures.silent) (c.feed_one.ensures.loans ∙ ap (λ (z : EngineView g.row.C.Denot). z.actors.buffer.loans) step);
+      same = fed_alone_on old e d r inv.same c.next_token.ensures.keeps form (c.feed_one.ensures.machine ∙ ap (λ (z : EngineView g.row.C.Denot). z.actors.machine) step) (λ h. absurd (true≢false (sym traced ∙ h.untold))) (c.feed_one.ensures.loans ∙ ap (λ (z : EngineView g.row.C.Denot). z.actors.buffer.loans) step);
     }
 
 pub returns-in_err-still-clause-same : goal.returns-in_err-still-clause-same
@@ -175,7 +178,8 @@ returns-in_err-still-clause-same g c =
     let step : e1 ≡ record e { reader = r } = c.next_token.ensures.rest in
     let d = c.feed_one.new.self in
     let form : d ≡ one_form (record e { reader = r }) d = subst (λ (z : EngineView g.row.C.Denot). d ≡ one_form z d) step c.feed_one.ensures.rest in
-    fed_alone_on c.args.self.now e d r c.tokens.invariant.same c.next_token.ensures.keeps form (c.feed_one.ensures.machine ∙ ap (λ (z : EngineView g.row.C.Denot). z.actors.machine) step) (subst (λ (z : EngineView g.row.C.Denot). IsSilent z → IsSilent d) step c.feed_one.ensures.silent) (c.feed_one.ensures.loans ∙ ap (λ (z : EngineView g.row.C.Denot). z.actors.buffer.loans) step)
+    let traced : e.tracing ≡ true = ap (λ (z : EngineView g.row.C.Denot). z.tracing) c.tokens.invariant.same.rest ∙ c.requires.traced in
+    fed_alone_on c.args.self.now e d r c.tokens.invariant.same c.next_token.ensures.keeps form (c.feed_one.ensures.machine ∙ ap (λ (z : EngineView g.row.C.Denot). z.actors.machine) step) (λ h. absurd (true≢false (sym traced ∙ h.untold))) (c.feed_one.ensures.loans ∙ ap (λ (z : EngineView g.row.C.Denot). z.actors.buffer.loans) step)
 
 pub returns-in_default-clause-feeds : goal.returns-in_default-clause-feeds
 returns-in_default-clause-feeds g c = λ lim b ended given p.
@@ -185,8 +189,8 @@ returns-in_default-clause-feeds g c = λ lim b ended given p.
     let step : e1 ≡ record e { reader = r } = c.next_token.ensures.rest in
     let gave : TakesNext e.reader r None = subst (TakesNext e.reader r) c.in_default.is c.in_ok-next.ensures.gives in
     let x = c.tokens.invariant.group lim b ended given p in
-    let t : (waiting e.reader ≡ []) × (waiting r ≡ []) = gave.takes in
-    let s : Stands r lim b ended ((given ++ x.0.more) ++ []) = gave.stands lim b ended (given ++ x.0.more) x.0.reader in
+    let t : (waiting e.reader ≡ []) × (waiting r ≡ []) = (gave.0, ap waiting gave.1 ∙ gave.0) in
+    let s : Stands r lim b ended ((given ++ x.0.more) ++ []) = subst (λ (z : ReaderView). Stands z lim b ended ((given ++ x.0.more) ++ [])) (sym gave.1) (subst (λ (z : List Token). Stands e.reader lim b ended z) (sym (append-nil (given ++ x.0.more))) x.0.reader) in
     subst (λ (z : EngineView g.row.C.Denot). FeedsSome g.C.Conds.stands lim c.args.self.now z b ended given c.tokens.quiet) (sym step)
     (group_stops g.C.Conds.stands lim b ended given c.args.self.now e c.tokens.quiet r x.0 t.0 t.1 s)
 
@@ -195,7 +199,7 @@ returns-in_default-clause-none g c = λ y.
     let e = c.tokens.self in
     let r = c.next_token.new.self.reader in
     let gave : TakesNext e.reader r None = subst (TakesNext e.reader r) c.in_default.is c.in_ok-next.ensures.gives in
-    let t : (waiting e.reader ≡ []) × (waiting r ≡ []) = gave.takes in
+    let t : (waiting e.reader ≡ []) × (waiting r ≡ []) = (gave.0, ap waiting gave.1 ∙ gave.0) in
     t.1
 
 pub returns-in_default-clause-fewer : goal.returns-in_default-clause-fewer
@@ -203,7 +207,7 @@ returns-in_default-clause-fewer g c = λ y.
     let e = c.tokens.self in
     let r = c.next_token.new.self.reader in
     let gave : TakesNext e.reader r None = subst (TakesNext e.reader r) c.in_default.is c.in_ok-next.ensures.gives in
-    let t : (waiting e.reader ≡ []) × (waiting r ≡ []) = gave.takes in
+    let t : (waiting e.reader ≡ []) × (waiting r ≡ []) = (gave.0, ap waiting gave.1 ∙ gave.0) in
     let before = ap length t.0 in
     let now = ap length t.1 in
     let less = c.tokens.invariant.some y in
@@ -219,7 +223,7 @@ returns-clause-feeds g c = λ lim b ended given p. (c.tokens.invariant.group lim
 
 pub returns-clause-none : goal.returns-clause-none
 returns-clause-none g c = λ y.
-    let q = c.requires in
+    let q = c.requires.parts in
     let n = c.tokens.invariant.none y in
     let l = c.tokens-test.false in
     let bound = ap (λ (z : EngineView g.row.C.Denot). z.ahead) c.self.view_is in
@@ -238,7 +242,8 @@ returns-in_err-still-clause-part g c =
     let r = e1.reader in
     let step : e1 ≡ record e { reader = r } = c.next_token.ensures.rest in
     let gave : TakesNext e.reader r (Some c.in-Some.token) = subst (TakesNext e.reader r) c.in-Some.is c.in_ok-next.ensures.gives in
-    let t = c.in-Some.token in
+    let t = gave.next in
+    let u = said_of c.in-Some.token in
     let d = c.feed_one.new.self in
     let plan = ap (λ (z : EngineView g.row.C.Denot). z.plan) inv.same.rest in
     let takes : waiting e.reader ≡ t ∷ waiting r = gave.takes in
@@ -257,12 +262,11 @@ returns-in_err-still-clause-part g c =
     let none : f.more ≡ [] = nil_of f.more (omega arith) in
     let Q = seen_tree (map said_of (given ++ f.more)) in
     let was : (waiting old.reader ≡ waiting e.reader) × (e.trace ≡ old.trace) = subst (λ (z : Bool). ToldOne plan' P (actions plan' P) (waiting old.reader) (waiting e.reader) old.trace e.trace z) (inv.first zero) (inv.told s lim b ended given p) in
-    let tr : e.tracing ≡ true = ap (λ (z : EngineView g.row.C.Denot). z.tracing) inv.same.rest ∙ s.tracing in
     let pe = ap (λ (z : EngineView g.row.C.Denot). plan_tree z.plan) inv.same.rest in
     let text = one_text plan' (plan_tree e.plan) pe given f.more none t in
     let reads = gave.stands lim b ended (given ++ f.more) f.reader in
     let comes = comes_next g.C.Conds.stands lim b ended given old e e r t c.tokens.quiet true f plan takes reads in
-    let one : GrewPart e.trace d.trace (text_of_lines (fed_lines (plan_tree e.plan) (said_of t) Q (so_far (plan_tree e.plan) Q k))) = subst (λ (z : EngineView g.row.C.Denot). z.tracing ≡ true → TellsPart g.C.Conds.stands z.actors (said_of t) z.trace d.trace) step c.in_err-still.ensures.part tr (plan_tree e.plan) Q k f.actors comes in
+    let one : GrewPart e.trace d.trace (text_of_lines (fed_lines (plan_tree e.plan) (said_of t) Q (so_far (plan_tree e.plan) Q k))) = subst (λ (z : Said). TellsPart g.C.Conds.stands e.actors z e.trace d.trace) gave.says (subst (λ (z : EngineView g.row.C.Denot). TellsPart g.C.Conds.stands z.actors u z.trace d.trace) step c.in_err-still.ensures.part) (plan_tree e.plan) Q k f.actors comes in
     one_part plan' P t (waiting r) (waiting old.reader) old.trace d.trace (was.0 ∙ takes)
     (subst (λ (z : List ℕ). GrewPart z d.trace (text_of_lines (fed_lines plan' (said_of t) P (actions plan' P)))) was.1
     (subst (λ (z : List Line). GrewPart e.trace d.trace (text_of_lines z)) text one)) in
@@ -276,7 +280,7 @@ returns-in_default-clause-told g c = λ s lim b ended given p.
     let P = seen_tree (map said_of given) in
     let r = c.next_token.new.self.reader in
     let gave : TakesNext e.reader r None = subst (TakesNext e.reader r) c.in_default.is c.in_ok-next.ensures.gives in
-    let t : (waiting e.reader ≡ []) × (waiting r ≡ []) = gave.takes in
+    let t : (waiting e.reader ≡ []) × (waiting r ≡ []) = (gave.0, ap waiting gave.1 ∙ gave.0) in
     subst (λ (z : List ℕ). ToldOne plan P (actions plan P) (waiting old.reader) (waiting r) old.trace z c.tokens.any) (sym (ap (λ (z : EngineView g.row.C.Denot). z.trace) c.next_token.ensures.rest))
     (subst (λ (z : List Token). ToldOne plan P (actions plan P) (waiting old.reader) z old.trace e.trace c.tokens.any) (t.0 ∙ sym t.1) (c.tokens.invariant.told s lim b ended given p))
 

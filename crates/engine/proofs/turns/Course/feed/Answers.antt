@@ -12,8 +12,8 @@ returns-in_default-clause-fed g c = λ plan ts s h.
     let few : length a.tokens.items ≡ 0 = omega arith in
     feeds_none g.C.Conds.stands plan ts s a h (nil_from_length a.tokens.items few) d refl (sym c.in_default.ensures.items)
 
-pub feed_one-requires : goal.feed_one-requires
-feed_one-requires g c = let m = c.requires in feed_may g.C.Conds.stands m.plan m.tokens m.state c.args.self.now m.of c.in-Some.token c.pop_front.new.self.items c.in-Some.ensures.items
+pub feed-requires : goal.feed-requires
+feed-requires g c = let m = c.requires in feed_may g.C.Conds.stands m.plan m.tokens m.state c.args.self.now m.of c.in-Some.token c.pop_front.new.self.items c.in-Some.ensures.items
 
 pub overflow_add-self : goal.overflow_add-self
 overflow_add-self g c = let m = c.requires in let l = feed_fits g.C.Conds.stands m.plan m.tokens m.state c.args.self.now m.of c.in-Some.token c.pop_front.new.self.items c.in-Some.ensures.items in omega arith
@@ -21,5 +21,5 @@ overflow_add-self g c = let m = c.requires in let l = feed_fits g.C.Conds.stands
 pub returns-clause-fed : goal.returns-clause-fed
 returns-clause-fed g c = λ plan ts s h.
     let a = c.args.self.now in
-    let d : Course g.row.N.Denot g.row.C.Denot = record { actors = c.feed_one.new.self; tokens = c.pop_front.new.self; fed = a.fed + 1; acted = a.acted } in
-    feeds g.C.Conds.stands plan ts s a h c.in-Some.token c.pop_front.new.self.items c.in-Some.ensures.items d c.in_ok-feed_one.ensures.feeds refl refl refl
+    let d : Course g.row.N.Denot g.row.C.Denot = record { actors = c.feed.new.self; tokens = c.pop_front.new.self; fed = a.fed + 1; acted = a.acted } in
+    feeds g.C.Conds.stands plan ts s a h c.in-Some.token c.pop_front.new.self.items c.in-Some.ensures.items d c.in_ok-feed.ensures refl refl refl

@@ -1,6 +1,7 @@
 use Rattle.std.proofs.Common.{◌∙◌, [], ap, arith, refl, subst, sym}
+use Rattle.std.specs.Prelude.{IfSome}
 use Rattle.gcx_model.specs.Past.{token_for}
-use Rattle.matcher.specs.Calls.{StandsBehind}
+use Rattle.matcher.specs.Calls.{GivesCount, StandsBehind}
 use Rattle.matcher.specs.View.{MatcherView}
 use Rattle.buf_tree.specs.View.{View}
 use Rattle.buf_tree.proofs.KeptReading.{seen_stand_apart}
@@ -33,6 +34,10 @@ innermost-requires-clause-rows g c =
     let m = c.requires.may in
     let a = is_open m.past.tree (token_for c.args.kind) m.may in
     has_innermost c.make_all.new.buffer m.past (made_stands (passed_in c.args.bytes.now c.args.self.now.passed) c.args.buffer.now c.make_all.new.buffer c.in_ok-make_all.ensures.makes c.requires.may.past c.requires.may.buffer) a.0 a.1
+
+pub open_entered-requires-clause-plain : goal.open_entered-requires-clause-plain
+open_entered-requires-clause-plain g c =
+    subst (λ (n : MatcherView). IfSome c.args.plain (GivesCount n)) (sym (ap (λ (p : ProjectorView). p.matcher) c.self.view_is ∙ c.in_ok-make_all.ensures.matcher)) c.requires.plain
 
 pub open_entered-requires-clause-nodes : goal.open_entered-requires-clause-nodes
 open_entered-requires-clause-nodes g c = let n = c.in_ok-make_all.ensures.makes.rows.nodes in let m = c.requires.nodes in omega arith

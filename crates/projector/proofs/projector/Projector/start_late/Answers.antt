@@ -9,7 +9,7 @@ use Rattle.projector.specs.LateRows.{OpensBehind}
 use Rattle.projector.specs.Projector.{Places}
 use Rattle.projector.specs.Signing.{HearsOf}
 use Rattle.projector.specs.View.{ProjectorView}
-use Rattle.projector.proofs.Loosely.{late_opened, may_open_late, passes_start}
+use Rattle.projector.proofs.Loosely.{late_opened, may_open_late, passes_start, plain_none}
 use Rattle.projector.proofs.LateRows.{err_holds, makes_none}
 use Rattle.projector.proofs.projector.Projector.start_late.Goals as goal
 
@@ -26,10 +26,16 @@ returns-in_err-pass_element-clause-err g c =
 
 pub returns-then-gives_none-clause-feeds : goal.returns-then-gives_none-clause-feeds
 returns-then-gives_none-clause-feeds g c =
-    passes_start c.args.bytes.now c.args.self.now c.sign_all.new.matcher c.go_name.new.self c.args.buffer.now c.waiting.result.now c.waiting.ensures (subst (λ (m : MatcherView). HearsOf m c.sign_all.new.matcher c.waiting.result.now) (ap (λ (p : ProjectorView). p.matcher) c.self.view_is) c.in_ok-sign_all.ensures) c.requires.depth (c.gives_none.ensures c.if-gives_none.true)
+    passes_start c.args.bytes.now c.args.self.now c.sign_all.new.matcher c.go_name.new.self c.args.buffer.now c.waiting.result.now c.waiting.ensures (subst (λ (m : MatcherView). HearsOf m c.sign_all.new.matcher c.waiting.result.now) (ap (λ (p : ProjectorView). p.matcher) c.self.view_is) c.in_ok-sign_all.ensures) c.requires.depth (plain_none c.go_name.new.self c.plain-plain.result (c.gives_none.ensures c.if-gives_none.true) c.plain-plain.ensures)
     c.args.from c.args.to c.requires.name c.in_ok-go_name.ensures.stands _ c.pass_element.new.buffer refl (ap (λ (p : ProjectorView). p.at) c.self.view_is)
     (c.in_ok-pass_element.ensures.passed ∙ ap (λ (p : ProjectorView). p.passed ++ record { from = c.args.from; to = c.args.to; serial = c.args.buffer.now.nodes } ∷ []) c.self.view_is)
     c.in_ok-pass_element.ensures.buffer
+
+pub open_named-requires-clause-name : goal.open_named-requires-clause-name
+open_named-requires-clause-name g c = c.requires.name.named
+
+pub open_named-requires-clause-plain : goal.open_named-requires-clause-plain
+open_named-requires-clause-plain g c = c.plain-plain.ensures
 
 pub open_named-requires-clause-place : goal.open_named-requires-clause-place
 open_named-requires-clause-place g c = subst (λ (p : ProjectorView). Places p c.args.buffer.now) (sym c.self.view_is) c.requires.place

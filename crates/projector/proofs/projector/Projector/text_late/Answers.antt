@@ -8,7 +8,7 @@ use Rattle.projector.specs.LateRows.{OpensBehind}
 use Rattle.projector.specs.Projector.{Places}
 use Rattle.projector.specs.Signing.{HearsOf}
 use Rattle.projector.specs.View.{ProjectorView}
-use Rattle.projector.proofs.Loosely.{late_opened, may_open_late, passes_chars}
+use Rattle.projector.proofs.Loosely.{late_opened, may_open_late, passes_chars, plain_none}
 use Rattle.projector.proofs.LateRows.{err_holds, makes_none}
 use Rattle.projector.proofs.projector.Projector.text_late.Goals as goal
 
@@ -20,9 +20,15 @@ returns-in_err-go_text-clause-err g c = err_holds c.from_residual-in_err-go_text
 
 pub returns-then-gives_none-clause-feeds : goal.returns-then-gives_none-clause-feeds
 returns-then-gives_none-clause-feeds g c =
-    passes_chars c.args.bytes.now c.args.self.now c.sign_all.new.matcher c.go_text.new.self c.args.buffer.now c.waiting.result.now c.waiting.ensures (subst (λ (m : MatcherView). HearsOf m c.sign_all.new.matcher c.waiting.result.now) (ap (λ (p : ProjectorView). p.matcher) c.self.view_is) c.in_ok-sign_all.ensures) c.requires.depth (c.gives_none.ensures c.if-gives_none.true)
+    passes_chars c.args.bytes.now c.args.self.now c.sign_all.new.matcher c.go_text.new.self c.args.buffer.now c.waiting.result.now c.waiting.ensures (subst (λ (m : MatcherView). HearsOf m c.sign_all.new.matcher c.waiting.result.now) (ap (λ (p : ProjectorView). p.matcher) c.self.view_is) c.in_ok-sign_all.ensures) c.requires.depth (plain_none c.go_text.new.self c.plain-plain.result (c.gives_none.ensures c.if-gives_none.true) c.plain-plain.ensures)
     (slice_range c.args.bytes.now c.args.from c.args.to) (c.in_ok-go_text.ensures.stands (slice_range c.args.bytes.now c.args.from c.args.to)) _ c.pass_node.new.buffer c.leave.ensures.text (ap (λ (p : ProjectorView). p.at) c.self.view_is) (ap (λ (p : ProjectorView). p.passed) c.self.view_is)
     c.pass_node.ensures
+
+pub open_text-requires-clause-text : goal.open_text-requires-clause-text
+open_text-requires-clause-text g c = c.requires.text.utf8
+
+pub open_text-requires-clause-plain : goal.open_text-requires-clause-plain
+open_text-requires-clause-plain g c = c.plain-plain.ensures
 
 pub open_text-requires-clause-place : goal.open_text-requires-clause-place
 open_text-requires-clause-place g c = subst (λ (p : ProjectorView). Places p c.args.buffer.now) (sym c.self.view_is) c.requires.place

@@ -1,15 +1,15 @@
-use Rattle.std.proofs.Common.{◌≡◌, ◌∙◌, ◌≤◌, [], length, drop, ap, sym, subst, arith}
-use Rattle.std.proofs.lemmas.List.{drop_all}
-use Rattle.doc_reader.specs.Standing.{Keeps, ReaderView, with_tokens}
-use Rattle.doc_reader.proofs.Owning.{as_many}
+use Rattle.std.proofs.Common.{◌∙◌, length, ap, sym, subst, arith}
+use Rattle.doc_reader.specs.Standing.{Keeps, behind_lent, lent_next}
+use Rattle.doc_reader.proofs.Behind.{lent_many}
+use Rattle.engine.specs.Calls.{TakesLent}
 use Rattle.engine.specs.Late.{said_lent}
 use Rattle.engine.proofs.Acting.{on_err}
 use Rattle.engine.proofs.Forms.{keeps_none}
-use Rattle.engine.proofs.Lending.{keeps_taken}
+use Rattle.engine.proofs.Lending.{keeps_behind}
 use Rattle.many_run.specs.Parts.{BreaksEach, FedSome, OfGiven, SomeTokensGiven}
 use Rattle.many_run.specs.View.{ManyView}
 use Rattle.many_run.proofs.Going.{lent_breaks, lent_feeds, lent_may}
-use Rattle.many_run.proofs.many.Many.feed_tags.Goals as goal
+use Rattle.many_run.proofs.many.Many.feed_lent.Goals as goal
 
 pub feed_parts-requires-clause-within : goal.feed_parts-requires-clause-within
 feed_parts-requires-clause-within g c = c.lent.ensures.parts
@@ -35,7 +35,7 @@ returns-in_err-feed_parts-clause-keeps g c = subst (λ (z : ManyView g.row.C.Den
 
 pub take_lent-requires : goal.take_lent-requires
 take_lent-requires g c =
-    let many = as_many c.lent.result.0.now c.lent.result.1.now c.self.inside.reader.state.tokens c.lent.ensures in
+    let many = lent_many (lent_next c.self.inside.reader) c.lent.result.0.now c.lent.result.1.now c.lent.ensures in
     omega arith
 
 pub returns-clause-feeds : goal.returns-clause-feeds
@@ -44,22 +44,19 @@ returns-clause-feeds g c =
     let us = said_lent c.lent.result.1.now c.lent.result.0.now in
     let r = c.take_lent.new.self in
     let d : ManyView g.row.C.Denot = record old { reader = r; parts = c.feed_parts.new.parts.items } in
-    let tokens = old.reader.state.tokens in
-    let many = as_many c.lent.result.0.now c.lent.result.1.now tokens c.lent.ensures in
-    let few : length tokens ≤ length c.lent.result.0.now = omega arith in
-    let is : r ≡ with_tokens old.reader [] = c.take_lent.ensures.takes ∙ ap (with_tokens old.reader) (drop_all (length c.lent.result.0.now) tokens few) in
+    let many = lent_many (lent_next old.reader) c.lent.result.0.now c.lent.result.1.now c.lent.ensures in
+    let is : TakesLent old.reader r = c.take_lent.ensures.takes ∙ ap (λ n. behind_lent n old.reader) (sym many) in
     let takes = c.in_ok-feed_parts.ensures.feeds in
     subst (λ (z : ManyView g.row.C.Denot). OfGiven g.C.Conds.stands z (FedSome g.C.Conds.stands z d)) c.self.view_is (λ lim b ended given h.
     lent_feeds g.C.Conds.stands lim b ended given old h us c.lent.ensures.tokens_are r c.feed_parts.new.parts.items is takes)
 
-pub returns-clause-none : goal.returns-clause-none
-returns-clause-none g c =
-    let tokens = c.self.inside.reader.state.tokens in
-    let many = as_many c.lent.result.0.now c.lent.result.1.now tokens c.lent.ensures in
-    let few : length tokens ≤ length c.lent.result.0.now = omega arith in
-    ap (λ (z : ReaderView). z.state.tokens) c.take_lent.ensures.takes ∙ drop_all (length c.lent.result.0.now) tokens few
+pub returns-clause-takes : goal.returns-clause-takes
+returns-clause-takes g c =
+    let r = c.self.inside.reader in
+    let many = lent_many (lent_next r) c.lent.result.0.now c.lent.result.1.now c.lent.ensures in
+    subst (λ (z : ManyView g.row.C.Denot). TakesLent z.reader c.take_lent.new.self) c.self.view_is (c.take_lent.ensures.takes ∙ ap (λ n. behind_lent n r) (sym many))
 
 pub returns-clause-keeps : goal.returns-clause-keeps
 returns-clause-keeps g c =
     let r = c.self.inside.reader in
-    subst (λ (z : ManyView g.row.C.Denot). Keeps z.reader c.take_lent.new.self) c.self.view_is (keeps_taken r c.take_lent.new.self (drop (length c.lent.result.0.now) r.state.tokens) c.take_lent.ensures.takes)
+    subst (λ (z : ManyView g.row.C.Denot). Keeps z.reader c.take_lent.new.self) c.self.view_is (keeps_behind r c.take_lent.new.self (length c.lent.result.0.now) c.take_lent.ensures.takes)
