@@ -18,8 +18,10 @@ use std::str::from_utf8;
 pub fn read_line(alloc: Global, text: &[u8]) -> Result<Option<Line>, Memory>
     ensures some { IfOk result (λ read. IfSome read (λ line. line_text (line_tree line) ≡ text.now)) }
     ensures held { IfOk result (λ read. IfSome read IsLine) }
-    ensures only { IfOk result (λ read. (line : Line) → IsLine line → line_text (line_tree line) ≡ text.now → read ≡ Some line) }
-    ensures none { IfOk result (λ read. IsNone read → (line : Line) → IsLine line → line_text (line_tree line) ≡ text.now → ⊥) }
+    ensures only { IfOk result (λ read. (line : Line) → IsLine line
+        → line_text (line_tree line) ≡ text.now → read ≡ Some line) }
+    ensures none { IfOk result (λ read. IsNone read → (line : Line) → IsLine line
+        → line_text (line_tree line) ≡ text.now → ⊥) }
 {
     match text {
         [sign, b' ', rest @ ..] => read_signed(alloc, *sign, rest),

@@ -40,6 +40,11 @@ pub record Recounted (s : Option SpreadView) (m0 m : Store) (loses : Cell → Bo
   pub covers : TellsCovered s (cells m)
   pub taken : count ≡ length (filter (is_lost k (seen_rows s (cells m))) (seen_rows s (cells m0)))
 
+-- and so for each test that tells which rows keep the statement's role no more
+abbrev pub RecountedBy : Option SpreadView → (m0 m : Store) → (top : Off) → (others : Bool) → (place count : ℕ) → Type 0
+RecountedBy s m0 m top others place count =
+    (T : Tree) (c : Cell) (loses : Cell → Bool) → TreeOf (cells m0) T → In c (cells m0) → c.place ≡ place → LosesBy (cells m0) T top others c loses → Recounted s m0 m loses top.role.0 count
+
 -- From m0 to m: those rows below the base at this place that nothing keeps went, their serials falling.
 pub record Dropped (m0 m : Store) (place : ℕ) (g0 g : List ℕ) : Type 0 where
   pub shape : Shaped m

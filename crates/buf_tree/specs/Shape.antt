@@ -1,5 +1,5 @@
 -- The rows of a store as a list in document order.
-use Rattle.std.specs.Prelude.{◌≡◌, ◌==◌, ◌<◌, ◌⊎◌, ℕ, Bool, cond, not, ◌&&◌, List, [], ◌∷◌, Option, Some, None, filter, option_map, map, ltb}
+use Rattle.std.specs.Prelude.{◌≡◌, ◌==◌, ◌<◌, ◌⊎◌, ℕ, Bool, cond, not, ◌&&◌, List, [], ◌∷◌, Option, Some, None, filter, length, option_map, map, ltb}
 use Rattle.std.specs.Ordering.{nat_cmp}
 use Rattle.std.specs.FinMap.{FinMap, get, keys}
 use Rattle.node_store.specs.Rows.{Entry}
@@ -32,6 +32,10 @@ gather m (p ∷ ps) = put_entry p (get m p) (gather m ps)
 -- the rows of a store by rising serials
 unfoldable pub cells : Store → List Cell
 cells m = gather m (keys m)
+
+-- their number
+abbrev pub row_count : Store → ℕ
+row_count m = length (cells m)
 
 abbrev pub Rising : List Cell → Type 0
 Rising [] = Unit {0}

@@ -1,15 +1,17 @@
 -- What a statement takes from the rows of its base's subtree. This follows the code: private functions alone speak of it.
-use Rattle.std.specs.Prelude.{◌≡◌, ◌↔◌, ◌⊎◌, ◌+◌, ℕ, Bool, true, cond, List, [], ◌∷◌, ◌++◌, length, filter, map, Some, IsSome}
+use Rattle.std.specs.Prelude.{◌≡◌, ◌↔◌, ◌⊎◌, ◌+◌, ℕ, Bool, true, cond, List, [], ◌∷◌, ◌++◌, length, filter, map, Some, IsSome, vec_len}
 use Rattle.std.specs.FinMap.{get}
 use Rattle.std.specs.FinSet as set
+use Rattle.std.specs.Global.{Vec}
+use Rattle.gcx_base.specs.declared.ids.Serial.{Serial}
 use Rattle.gcx_model.specs.declared.item.Off.{Off}
 use Rattle.gcx_model.specs.Members.{In}
 use Rattle.gcx_model.specs.Tree.{Tree, Node}
 use Rattle.node_store.specs.Rows.{Entry, unlinked, changed_at, paid_by}
 use Rattle.buf_tree.specs.Row.{Row}
-use Rattle.buf_tree.specs.Rows.{IsSpare, untaken}
-use Rattle.buf_tree.specs.Shape.{Store, Cell, cells, Shaped}
-use Rattle.buf_tree.specs.Purge.{PurgedBut}
+use Rattle.buf_tree.specs.Rows.{IsSpare, serials, untaken}
+use Rattle.buf_tree.specs.Shape.{Store, Cell, cells, Shaped, AtEntry}
+use Rattle.buf_tree.specs.Purge.{Keeps, PurgedBut}
 use Rattle.buf_tree.specs.Walk.{Within}
 use Rattle.buf_tree.specs.Ways.{Tells, NodeOf, TreeOf, IsKept}
 
@@ -41,6 +43,15 @@ pub record LosesBy (xs : List Cell) (T : Tree) (off : Off) (others : Bool) (c : 
 abbrev pub Shed : Entry Row → (m0 m : Store) → (place : ℕ) → (g0 g : List ℕ) → (len0 len : ℕ) → Type 0
 Shed e m0 m place g0 g len0 len =
     (IsSpare e × (m ≡ unlinked m0 place) × (g ≡ g0 ++ e.payload.serial ∷ []) × (len ≡ len0 + 1)) ⊎ ((IsSpare e → ⊥) × (m ≡ m0) × (g ≡ g0) × (len ≡ len0))
+
+-- the row at the place went so from m0 to m, and its serial joined the departures
+abbrev pub DropsSpare : (m0 m : Store) → (place : ℕ) → (before after : Vec Serial) → Type 0
+DropsSpare m0 m place before after =
+    AtEntry m0 place (λ e. Shed e m0 m place (serials before.items) (serials after.items) (vec_len before) (vec_len after))
+
+-- something keeps each row that doesn't lie in the subtree of the row at the place
+abbrev pub TidyOutside : List Cell → (place : ℕ) → Type 0
+TidyOutside xs place = (c d : Cell) → In c xs → c.place ≡ place → In d xs → (Within xs c d → ⊥) → Keeps xs d
 
 -- From m0 to m: the role k went from the rows that lose it, and those rows below the base at this place that nothing keeps any more went, their serials falling.
 pub record Swept (m0 m : Store) (place : ℕ) (loses : Cell → Bool) (k : ℕ) (g0 g : List ℕ) (count : ℕ) : Type 0 where

@@ -66,6 +66,21 @@ abbrev pub kept_by : Option Off → (stays : ℕ → Bool) → set.FinSet nat_cm
 kept_by None stays roles = roles
 kept_by (Some top) stays roles = cond (stays top.role.0) roles (set.remove roles top.role.0)
 
+-- for each new child of the row at the place, of this kind: of its roles those that are kept at it stay
+abbrev pub KeepsTops : List Cell → (place : ℕ) → Kind → List (Option Off) → (before after : set.FinSet nat_cmp) → Type 0
+KeepsTops xs place kind tops before after =
+    ForNew xs place kind (λ p n. (stays : ℕ → Bool) → StaysAt xs tops before p n stays → after ≡ set.retain before stays)
+
+-- the statement's role stays if it is kept at it, by a test of all roles
+abbrev pub KeepsSlot : List Cell → (place : ℕ) → Kind → Option Off → (before after : set.FinSet nat_cmp) → Type 0
+KeepsSlot xs place kind slot before after =
+    ForNew xs place kind (λ p n. (stays : ℕ → Bool) → ((top : Off) → slot ≡ Some top → (stays top.role.0 ≡ true) ↔ IsNewTop xs top before p n) → after ≡ kept_by slot stays before)
+
+-- the same by a test of this role alone
+abbrev pub KeepsTop : List Cell → (place : ℕ) → Kind → Off → (before after : set.FinSet nat_cmp) → Type 0
+KeepsTop xs place kind top before after =
+    ForNew xs place kind (λ p n. (stays : Bool) → (stays ≡ true) ↔ IsNewTop xs top before p n → after ≡ cond stays before (set.remove before top.role.0))
+
 -- the roles with the statement's too
 abbrev pub role_given : Option Off → set.FinSet nat_cmp → set.FinSet nat_cmp
 role_given None roles = roles

@@ -1,19 +1,23 @@
 -- What a statement takes back at a node. This follows the code: private functions alone speak of it.
 use Rattle.std.specs.Prelude.{◌≡◌, ◌↔◌, ◌⊎◌, ◌+◌, ◌++◌, ℕ, Bool, true, false, List, Option, Some, None, length, filter, map, slice_index_or}
 use Rattle.std.specs.FinSet as set
+use Rattle.std.specs.Global.{Vec}
+use Rattle.gcx_base.specs.declared.ids.Serial.{Serial}
 use Rattle.gcx_model.specs.declared.item.Off.{Off}
 use Rattle.gcx_model.specs.ItemView.{off_tree}
 use Rattle.gcx_model.specs.Members.{In}
 use Rattle.gcx_model.specs.Placed.{is_own}
 use Rattle.gcx_model.specs.Tree.{Tree}
+use Rattle.node_store.specs.declared.store.Place.{Place}
+use Rattle.buf_tree.specs.Rows.{serials}
 use Rattle.buf_tree.specs.Shape.{Store, Cell, cells}
 use Rattle.buf_tree.specs.Purge.{Purged}
-use Rattle.buf_tree.specs.Recount.{Recounting, uncovered, is_lost}
+use Rattle.buf_tree.specs.Recount.{Recounting, SpreadSwept, uncovered, is_lost}
 use Rattle.buf_tree.specs.Spread.{SpreadView, TellsCovered, seen_rows}
 use Rattle.buf_tree.specs.Ways.{TreeOf, BaseAbove, BaseBelow}
 use Rattle.buf_tree.specs.View.{View, capped}
 use Rattle.buf_tree.specs.Calls.{Left}
-use Rattle.buf_tree.specs.Sweep.{LosesBy, taken_by}
+use Rattle.buf_tree.specs.Sweep.{LosesBy, Swept, taken_by}
 
 -- the test tells which rows lose the role: where the statement reaches its base alone, the base's row c, if it has it
 pub record TakesBy (xs : List Cell) (T : Tree) (off : Off) (others : Bool) (c : Cell) (loses : Cell → Bool) : Type 0 where
@@ -65,6 +69,42 @@ pub record SpreadBack (s : Option SpreadView) (m0 m : Store) (loses : Cell → B
   pub covers : TellsCovered s between
   pub left : (left : List ℕ) × (g ≡ g0 ++ left) × Purged between (cells m) left
   pub taken : count ≡ length (filter (is_lost k (seen_rows s between)) (seen_rows s (cells m0)))
+
+-- R holds of each test that tells which rows lose the role
+abbrev pub ForLosing : List Cell → Place → Off → (others : Bool) → ((Cell → Bool) → Type 0) → Type 0
+ForLosing xs place off others R = (t : Taking xs place.0 off others) → R t.loses
+
+-- the role is spread, and R holds of each test that tells which rows keep it no more
+abbrev pub ForSpread : Option SpreadView → List Cell → Place → Off → (others : Bool) → ((Cell → Bool) → Type 0) → Type 0
+ForSpread s xs place off others R = (top : Off) → top_for s off ≡ Some top → (t : Recounting xs place.0 top others) → R t.loses
+
+-- the role of a statement is taken, and what nothing keeps below the base goes: a role that is kept at each row that has it
+abbrev pub TakesPlain : Off → (others : Bool) → Place → (m0 m : Store) → (before after : Vec Serial) → (count : ℕ) → Type 0
+TakesPlain off others place m0 m before after count =
+    ForLosing (cells m0) place off others (λ loses. Swept m0 m place.0 loses off.role.0 (serials before.items) (serials after.items) count)
+
+-- so if the role isn't spread
+abbrev pub TakesIf : Option SpreadView → Off → (others : Bool) → Place → (m0 m : Store) → (before after : Vec Serial) → (count : ℕ) → Type 0
+TakesIf s off others place m0 m before after count = top_for s off ≡ None → TakesPlain off others place m0 m before after count
+
+-- the same, where some roles are spread
+abbrev pub TakesIn : SpreadView → Off → (others : Bool) → Place → (m0 m : Store) → (before after : Vec Serial) → (count : ℕ) → Type 0
+TakesIn s off others place m0 m before after count = TakesIf (Some s) off others place m0 m before after count
+
+-- and if it is spread
+abbrev pub TakesSpread : Option SpreadView → Off → (others : Bool) → Place → (m0 m : Store) → (before after : Vec Serial) → (count : ℕ) → Type 0
+TakesSpread s off others place m0 m before after count =
+    ForSpread s (cells m0) place off others (λ loses. SpreadSwept s m0 m place.0 loses off.role.0 (serials before.items) (serials after.items) count)
+
+-- the role is taken, and all goes that nothing keeps then: of a role that isn't spread
+abbrev pub Withdraws : Option SpreadView → Off → (others : Bool) → Place → (m0 m : Store) → (before after : Vec Serial) → (count : ℕ) → Type 0
+Withdraws s off others place m0 m before after count =
+    top_for s off ≡ None → ForLosing (cells m0) place off others (λ loses. TakenBack m0 m loses off.role.0 (serials before.items) (serials after.items) count)
+
+-- and of one that is
+abbrev pub WithdrawsSpread : Option SpreadView → Off → (others : Bool) → Place → (m0 m : Store) → (before after : Vec Serial) → (count : ℕ) → Type 0
+WithdrawsSpread s off others place m0 m before after count =
+    ForSpread s (cells m0) place off others (λ loses. SpreadBack s m0 m loses off.role.0 (serials before.items) (serials after.items) count)
 
 -- what is taken back from the rows that contracts see
 pub record SeenTaken (s : Option SpreadView) (m0 m : Store) (loses : Cell → Bool) (k : ℕ) (g0 g : List ℕ) (count : ℕ) : Type 0 where

@@ -1,17 +1,14 @@
 //! A statement that takes its role from whole subtrees, where roles are spread: which tops it leaves, and how many rows
 //! lose the role with the others; and whether a row has a role, with those from above.
-ghost use Rattle.std.specs.Prelude.{◌≡◌, ◌+◌, ◌≤◌, ◌<◌, ◌^◌, ℕ, Bool, true, Option, Some, None, IsSome, length, option_map, is_some, is_none, ◌&&◌};
+ghost use Rattle.std.specs.Prelude.{◌≡◌, ◌+◌, ◌≤◌, ◌<◌, ◌^◌, ℕ, true, Option, Some, None, IsSome, length, option_map, is_some, is_none, ◌&&◌};
 ghost use Rattle.std.specs.FinMap as map;
 ghost use Rattle.std.specs.FinSet as set;
 ghost use Rattle.gcx_model.specs.Members.{In};
-ghost use Rattle.gcx_model.specs.Tree.{Tree};
-ghost use Rattle.buf_tree.specs.Recount.{Recounted, KeptAbove, CoveredAnew, TellsParent, span_on};
+ghost use Rattle.buf_tree.specs.Recount.{KeptAbove, CoveredAnew, TellsParent, span_on, RecountedBy};
 ghost use Rattle.buf_tree.specs.Shape.{AtPlace, Cell, cells, Shaped};
 ghost use Rattle.buf_tree.specs.Spread.{TellsCovered, is_spread_in, seen_rows};
-ghost use Rattle.buf_tree.specs.Sweep.{LosesBy};
 ghost use Rattle.buf_tree.specs.Trail.{HasTrailRoom};
 ghost use Rattle.buf_tree.specs.Walk.{Nested, Within};
-ghost use Rattle.buf_tree.specs.Ways.{TreeOf};
 
 use crate::edits::cover;
 use crate::row::Row;
@@ -154,10 +151,7 @@ pub(crate) fn recount<N: NodeStore<Row>>(
     requires rows { length (cells (N.rows nodes.old)) < 2 ^ 64 }
     requires covers { TellsCovered (Some spread.now) (cells (N.rows nodes.old)) }
     requires room { others ≡ true → HasTrailRoom top.now trail.old }
-    ensures recounted { (T : Tree) (c : Cell) (loses : Cell → Bool) → TreeOf (cells (N.rows nodes.old)) T
-        → In c (cells (N.rows nodes.old)) → c.place ≡ place.0
-        → LosesBy (cells (N.rows nodes.old)) T top.now others c loses
-        → Recounted (Some spread.now) (N.rows nodes.old) (N.rows nodes.new) loses top.now.role.0 result }
+    ensures recounted { RecountedBy (Some spread.now) (N.rows nodes.old) (N.rows nodes.new) top.now others place.0 result }
     ensures outside { (c d : Cell) → In c (cells (N.rows nodes.new)) → c.place ≡ place.0 → In d (cells (N.rows nodes.new))
         → (Within (cells (N.rows nodes.new)) c d → ⊥) → In d (cells (N.rows nodes.old)) }
     ensures few { result ≤ length (cells (N.rows nodes.old)) }

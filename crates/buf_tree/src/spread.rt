@@ -1,5 +1,5 @@
 //! What a buffer keeps of a plan, so as to keep the roles of whole subtrees at the tops alone.
-ghost use Rattle.std.specs.Prelude.{◌≡◌, ◌↔◌, ◌+◌, ◌≤◌, ◌&&◌, ◌++◌, ◌∷◌, [], ℕ, Bool, true, Option, Some, None, IfOk, OnOk, IsSome, length, map as list_map, option_map, is_some, replicate, set as list_set, slice_index_or, vec_capacity};
+ghost use Rattle.std.specs.Prelude.{◌≡◌, ◌↔◌, ◌+◌, ◌≤◌, ◌&&◌, ◌++◌, ◌∷◌, [], ℕ, true, Option, Some, None, IfOk, OnOk, IsSome, length, map as list_map, option_map, is_some, replicate, set as list_set, slice_index_or, vec_capacity};
 ghost use Rattle.std.specs.FinMap as map;
 ghost use Rattle.std.specs.FinSet as set;
 ghost use Rattle.gcx_base.specs.declared.ids.VarId.{VarId};
@@ -13,7 +13,7 @@ ghost use Rattle.gcx_model.specs.Variables.{is_child};
 ghost use Rattle.spread_laws.specs.Tops.{put_tops, top_off};
 ghost use Rattle.buf_tree.specs.Shape.{cells, Shaped};
 ghost use Rattle.buf_tree.specs.Spread.{IsSpreadOf, is_spread_in, SpreadView};
-ghost use Rattle.buf_tree.specs.Tops.{alone_by, ForNew, HasRoomFor, KeepsSpread, OwnApart, role_given, StaysAt, trees_of};
+ghost use Rattle.buf_tree.specs.Tops.{alone_by, HasRoomFor, KeepsSpread, OwnApart, role_given, trees_of, KeepsTops};
 
 use crate::row::Row;
 use crate::tops::keep_tops;
@@ -110,8 +110,7 @@ impl Spread {
         requires shape { Shaped (N.rows nodes.now) }
         requires there { IsSome (map.get (N.rows nodes.now) parent.0) }
         requires own { OwnApart self.old.tops }
-        ensures held { let xs = cells (N.rows nodes.now) in ForNew xs parent.0 kind.now (λ p n. (stays : ℕ → Bool)
-            → StaysAt xs self.old.tops roles.old.held p n stays → roles.new.held ≡ set.retain roles.old.held stays) }
+        ensures held { KeepsTops (cells (N.rows nodes.now)) parent.0 kind.now self.old.tops roles.old.held roles.new.held }
         ensures signed { roles.new.signed ≡ roles.old.signed }
         ensures same { self.new ≡ self.old }
     {

@@ -1,19 +1,13 @@
 //! The statements that a buffer carries out.
-ghost use Rattle.std.specs.Prelude.{◌≡◌, ◌↔◌, ◌⊎◌, ◌+◌, ◌<◌, ◌≤◌, ◌^◌, true, false, ℕ, Some, None, OnOk, OnErr, IsSome, length, vec_len, vec_capacity};
-ghost use Rattle.gcx_model.specs.Members.{In};
+ghost use Rattle.std.specs.Prelude.{◌≡◌, ◌+◌, ◌<◌, ◌≤◌, ◌^◌, true, ℕ, Some, None, OnOk, OnErr, IsSome, length, vec_len, vec_capacity};
 ghost use Rattle.gcx_model.specs.ItemView.{off_tree};
 ghost use Rattle.buf_tree.specs.Rows.{serials};
-ghost use Rattle.buf_tree.specs.Shape.{cells, Shaped};
+ghost use Rattle.buf_tree.specs.Shape.{cells, Shaped, row_count};
 ghost use Rattle.buf_tree.specs.Walk.{Nested};
 ghost use Rattle.buf_tree.specs.Purge.{Tidy};
-ghost use Rattle.buf_tree.specs.Sweep.{Swept};
-ghost use Rattle.buf_tree.specs.Withdraw.{Taking, TakingFrom, TakenBack, SpreadBack, top_for, walked_from};
-ghost use Rattle.buf_tree.specs.Recount.{Recounting, SpreadSwept};
+ghost use Rattle.buf_tree.specs.Withdraw.{Taking, TakingFrom, top_for, walked_from, TellsKeepers, TakesPlain, TakesIf, TakesIn, TakesSpread, Withdraws, WithdrawsSpread};
 ghost use Rattle.buf_tree.specs.Spread.{TellsCovered, is_alone_in};
-ghost use Rattle.buf_tree.specs.Ways.{BaseAbove, BaseBelow};
 ghost use Rattle.gcx_model.specs.Placed.{is_own};
-ghost use Rattle.gcx_model.specs.declared.item.Off.{Off};
-ghost use Rattle.buf_tree.specs.Shape.{Cell};
 ghost use Rattle.std.specs.FinMap as map;
 ghost use Rattle.buf_tree.specs.Trail.{HasTrailRoom};
 ghost use Rattle.buf_tree.specs.View.{Kept};
@@ -118,13 +112,10 @@ fn withdraw<N: NodeStore<Row>>(
     requires room { others ≡ true → HasTrailRoom (walked_from (top_for spread.now off.now) off.now) trail.old }
     ensures kept { (n : ℕ) → Kept (N.rows nodes.old) (serials gone.old.items) (vec_capacity gone.old) held.old n
         → Kept (N.rows nodes.new) (serials gone.new.items) (vec_capacity gone.new) held.new n }
-    ensures withdrawn { let gone0 = serials gone.old.items in let gone1 = serials gone.new.items in
-        top_for spread.now off.now ≡ None → (t : Taking (cells (N.rows nodes.old)) place.0 off.now others)
-        → TakenBack (N.rows nodes.old) (N.rows nodes.new) t.loses off.now.role.0 gone0 gone1 result }
-    ensures spread { let gone0 = serials gone.old.items in let gone1 = serials gone.new.items in
-        (top : Off) → top_for spread.now off.now ≡ Some top
-        → (t : Recounting (cells (N.rows nodes.old)) place.0 top others)
-        → SpreadBack spread.now (N.rows nodes.old) (N.rows nodes.new) t.loses off.now.role.0 gone0 gone1 result }
+    ensures withdrawn { Withdraws spread.now off.now others place (N.rows nodes.old) (N.rows nodes.new)
+        gone.old gone.new result }
+    ensures spread { WithdrawsSpread spread.now off.now others place (N.rows nodes.old) (N.rows nodes.new)
+        gone.old gone.new result }
     ensures most { N.most_held nodes.new ≡ N.most_held nodes.old }
     ensures loans { N.loans nodes.new ≡ N.loans nodes.old }
 {
@@ -156,15 +147,10 @@ fn take<N: NodeStore<Row>>(
     requires taking { TakingFrom (top_for spread.now off.now) (cells (N.rows nodes.old)) place.0 off.now others }
     requires departures { vec_len gone.old + length (cells (N.rows nodes.old)) ≤ vec_capacity gone.old }
     requires room { others ≡ true → HasTrailRoom (walked_from (top_for spread.now off.now) off.now) trail.old }
-    ensures swept { let gone0 = serials gone.old.items in let gone1 = serials gone.new.items in
-        top_for spread.now off.now ≡ None → (t : Taking (cells (N.rows nodes.old)) place.0 off.now others)
-        → Swept (N.rows nodes.old) (N.rows nodes.new) place.0 t.loses off.now.role.0 gone0 gone1 result }
-    ensures spread { let gone0 = serials gone.old.items in let gone1 = serials gone.new.items in
-        (top : Off) → top_for spread.now off.now ≡ Some top
-        → (t : Recounting (cells (N.rows nodes.old)) place.0 top others)
-        → SpreadSwept spread.now (N.rows nodes.old) (N.rows nodes.new) place.0 t.loses off.now.role.0 gone0 gone1 result }
-    ensures count { vec_len gone.new + length (cells (N.rows nodes.new))
-        ≡ vec_len gone.old + length (cells (N.rows nodes.old)) }
+    ensures swept { TakesIf spread.now off.now others place (N.rows nodes.old) (N.rows nodes.new) gone.old gone.new result }
+    ensures spread { TakesSpread spread.now off.now others place (N.rows nodes.old) (N.rows nodes.new)
+        gone.old gone.new result }
+    ensures count { vec_len gone.new + row_count (N.rows nodes.new) ≡ vec_len gone.old + row_count (N.rows nodes.old) }
     ensures capacity { vec_capacity gone.old ≤ vec_capacity gone.new }
     ensures most { N.most_held nodes.new ≡ N.most_held nodes.old }
     ensures loans { N.loans nodes.new ≡ N.loans nodes.old }
@@ -209,15 +195,10 @@ fn take_all<N: NodeStore<Row>>(
     requires taking { TakingFrom (top_for spread.now off.now) (cells (N.rows nodes.old)) place.0 off.now others }
     requires departures { vec_len gone.old + length (cells (N.rows nodes.old)) ≤ vec_capacity gone.old }
     requires room { others ≡ true → HasTrailRoom (walked_from (top_for spread.now off.now) off.now) trail.old }
-    ensures swept { let gone0 = serials gone.old.items in let gone1 = serials gone.new.items in
-        top_for spread.now off.now ≡ None → (t : Taking (cells (N.rows nodes.old)) place.0 off.now others)
-        → Swept (N.rows nodes.old) (N.rows nodes.new) place.0 t.loses off.now.role.0 gone0 gone1 result }
-    ensures spread { let gone0 = serials gone.old.items in let gone1 = serials gone.new.items in
-        (top : Off) → top_for spread.now off.now ≡ Some top
-        → (t : Recounting (cells (N.rows nodes.old)) place.0 top others)
-        → SpreadSwept spread.now (N.rows nodes.old) (N.rows nodes.new) place.0 t.loses off.now.role.0 gone0 gone1 result }
-    ensures count { vec_len gone.new + length (cells (N.rows nodes.new))
-        ≡ vec_len gone.old + length (cells (N.rows nodes.old)) }
+    ensures swept { TakesIf spread.now off.now others place (N.rows nodes.old) (N.rows nodes.new) gone.old gone.new result }
+    ensures spread { TakesSpread spread.now off.now others place (N.rows nodes.old) (N.rows nodes.new)
+        gone.old gone.new result }
+    ensures count { vec_len gone.new + row_count (N.rows nodes.new) ≡ vec_len gone.old + row_count (N.rows nodes.old) }
     ensures capacity { vec_capacity gone.old ≤ vec_capacity gone.new }
     ensures most { N.most_held nodes.new ≡ N.most_held nodes.old }
     ensures loans { N.loans nodes.new ≡ N.loans nodes.old }
@@ -244,11 +225,8 @@ fn take_back<N: NodeStore<Row>>(
     requires taking { Taking (cells (N.rows nodes.old)) place.0 off.now others }
     requires departures { vec_len gone.old + length (cells (N.rows nodes.old)) ≤ vec_capacity gone.old }
     requires room { others ≡ true → HasTrailRoom off.now trail.old }
-    ensures swept { let old_gone = serials gone.old.items in let new_gone = serials gone.new.items in
-        (t : Taking (cells (N.rows nodes.old)) place.0 off.now others)
-        → Swept (N.rows nodes.old) (N.rows nodes.new) place.0 t.loses off.now.role.0 old_gone new_gone result }
-    ensures count { vec_len gone.new + length (cells (N.rows nodes.new))
-        ≡ vec_len gone.old + length (cells (N.rows nodes.old)) }
+    ensures swept { TakesPlain off.now others place (N.rows nodes.old) (N.rows nodes.new) gone.old gone.new result }
+    ensures count { vec_len gone.new + row_count (N.rows nodes.new) ≡ vec_len gone.old + row_count (N.rows nodes.old) }
     ensures capacity { vec_capacity gone.old ≤ vec_capacity gone.new }
     ensures few { result ≤ length (cells (N.rows nodes.old)) }
     ensures most { N.most_held nodes.new ≡ N.most_held nodes.old }
@@ -278,16 +256,10 @@ fn take_spread<N: NodeStore<Row>>(
     requires taking { TakingFrom (top_for (Some spread.now) off.now) (cells (N.rows nodes.old)) place.0 off.now others }
     requires departures { vec_len gone.old + length (cells (N.rows nodes.old)) ≤ vec_capacity gone.old }
     requires room { others ≡ true → HasTrailRoom (walked_from (top_for (Some spread.now) off.now) off.now) trail.old }
-    ensures swept { let gone0 = serials gone.old.items in let gone1 = serials gone.new.items in
-        top_for (Some spread.now) off.now ≡ None → (t : Taking (cells (N.rows nodes.old)) place.0 off.now others)
-        → Swept (N.rows nodes.old) (N.rows nodes.new) place.0 t.loses off.now.role.0 gone0 gone1 result }
-    ensures spread { let gone0 = serials gone.old.items in let gone1 = serials gone.new.items in
-        (top : Off) → top_for (Some spread.now) off.now ≡ Some top
-        → (t : Recounting (cells (N.rows nodes.old)) place.0 top others)
-        → SpreadSwept (Some spread.now) (N.rows nodes.old) (N.rows nodes.new) place.0 t.loses off.now.role.0 gone0 gone1
-        result }
-    ensures count { vec_len gone.new + length (cells (N.rows nodes.new))
-        ≡ vec_len gone.old + length (cells (N.rows nodes.old)) }
+    ensures swept { TakesIn spread.now off.now others place (N.rows nodes.old) (N.rows nodes.new) gone.old gone.new result }
+    ensures spread { TakesSpread (Some spread.now) off.now others place (N.rows nodes.old) (N.rows nodes.new)
+        gone.old gone.new result }
+    ensures count { vec_len gone.new + row_count (N.rows nodes.new) ≡ vec_len gone.old + row_count (N.rows nodes.old) }
     ensures capacity { vec_capacity gone.old ≤ vec_capacity gone.new }
     ensures most { N.most_held nodes.new ≡ N.most_held nodes.old }
     ensures loans { N.loans nodes.new ≡ N.loans nodes.old }
@@ -314,9 +286,7 @@ fn may_be_kept<N: NodeStore<Row>>(
     requires shape { Shaped (N.rows nodes.now) }
     requires nested { Nested (cells (N.rows nodes.now)) }
     requires there { IsSome (map.get (N.rows nodes.now) place.0) }
-    ensures { (c : Cell) → In c (cells (N.rows nodes.now)) → c.place ≡ place.0
-        → (result ≡ true) ↔ ((is_alone_in spread.now off.now.base.0 ≡ false) × (is_own (off_tree off.now) ≡ false)
-        × (BaseAbove (cells (N.rows nodes.now)) off.now c ⊎ BaseBelow (cells (N.rows nodes.now)) off.now c)) }
+    ensures { TellsKeepers (is_alone_in spread.now off.now.base.0) (cells (N.rows nodes.now)) place.0 off.now result }
 {
     if is_alone(spread, off.base) {
         return false;

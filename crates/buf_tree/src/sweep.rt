@@ -2,13 +2,12 @@
 ghost use Rattle.std.specs.Prelude.{◌≡◌, ◌==◌, ◌+◌, ◌≤◌, ◌<◌, true, cond, length, vec_capacity, vec_len, IsSome};
 ghost use Rattle.std.specs.FinMap as map;
 ghost use Rattle.std.specs.FinSet as set;
-ghost use Rattle.gcx_model.specs.Members.{In};
-ghost use Rattle.buf_tree.specs.Purge.{Keeps, Tidy};
+ghost use Rattle.buf_tree.specs.Purge.{Tidy};
 ghost use Rattle.buf_tree.specs.Recount.{Dropped};
 ghost use Rattle.buf_tree.specs.Rows.{serials};
-ghost use Rattle.buf_tree.specs.Sweep.{taken_at, TakesAt, Shed, SweptBy};
-ghost use Rattle.buf_tree.specs.Shape.{Cell, cells, Shaped, AtEntry};
-ghost use Rattle.buf_tree.specs.Walk.{Nested, Within};
+ghost use Rattle.buf_tree.specs.Sweep.{taken_at, TakesAt, SweptBy, DropsSpare, TidyOutside};
+ghost use Rattle.buf_tree.specs.Shape.{cells, Shaped, AtEntry, row_count};
+ghost use Rattle.buf_tree.specs.Walk.{Nested};
 ghost use Rattle.buf_tree.specs.Trail.{HasTrailRoom};
 ghost use Rattle.buf_tree.specs.Ways.{BaseAbove, BaseBelow, TellsOf, TellsOthers};
 
@@ -113,9 +112,7 @@ pub(crate) fn withdraw<N: NodeStore<Row>>(
 fn drop_spare<N: NodeStore<Row>>(nodes: &mut N, gone: &mut Vec<Serial>, place: Place)
     requires there { IsSome (map.get (N.rows nodes.old) place.0) }
     requires room { vec_len gone.old < vec_capacity gone.old }
-    ensures dropped { let old_gone = serials gone.old.items in let new_gone = serials gone.new.items in
-        AtEntry (N.rows nodes.old) place.0 (λ e.
-        Shed e (N.rows nodes.old) (N.rows nodes.new) place.0 old_gone new_gone (vec_len gone.old) (vec_len gone.new)) }
+    ensures dropped { DropsSpare (N.rows nodes.old) (N.rows nodes.new) place.0 gone.old gone.new }
     ensures capacity { vec_capacity gone.old ≤ vec_capacity gone.new }
     ensures most { N.most_held nodes.new ≡ N.most_held nodes.old }
     ensures loans { N.loans nodes.new ≡ N.loans nodes.old }
@@ -144,8 +141,7 @@ pub(crate) fn sweep<N: NodeStore<Row>>(
     requires room { others ≡ true → HasTrailRoom off.now trail.old }
     ensures swept { let old_gone = serials gone.old.items in let new_gone = serials gone.new.items in
         SweptBy (N.rows nodes.old) (N.rows nodes.new) off.now others place.0 old_gone new_gone result }
-    ensures count { vec_len gone.new + length (cells (N.rows nodes.new))
-        ≡ vec_len gone.old + length (cells (N.rows nodes.old)) }
+    ensures count { vec_len gone.new + row_count (N.rows nodes.new) ≡ vec_len gone.old + row_count (N.rows nodes.old) }
     ensures capacity { vec_capacity gone.old ≤ vec_capacity gone.new }
     ensures few { result ≤ length (cells (N.rows nodes.old)) }
     ensures most { N.most_held nodes.new ≡ N.most_held nodes.old }
@@ -166,8 +162,7 @@ pub(crate) fn drop_below<N: NodeStore<Row>>(nodes: &mut N, gone: &mut Vec<Serial
     requires shape { Shaped (N.rows nodes.old) }
     requires nested { Nested (cells (N.rows nodes.old)) }
     requires there { IsSome (map.get (N.rows nodes.old) place.0) }
-    requires tidy { (c d : Cell) → In c (cells (N.rows nodes.old)) → c.place ≡ place.0 → In d (cells (N.rows nodes.old))
-        → (Within (cells (N.rows nodes.old)) c d → ⊥) → Keeps (cells (N.rows nodes.old)) d }
+    requires tidy { TidyOutside (cells (N.rows nodes.old)) place.0 }
     requires departures { vec_len gone.old + length (cells (N.rows nodes.old)) ≤ vec_capacity gone.old }
     ensures dropped { let gone0 = serials gone.old.items in let gone1 = serials gone.new.items in
         Dropped (N.rows nodes.old) (N.rows nodes.new) place.0 gone0 gone1 }

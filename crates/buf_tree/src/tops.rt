@@ -1,10 +1,9 @@
 //! Whether a new node is a top of a statement: a node to which its steps lead from a base that isn't signed.
-ghost use Rattle.std.specs.Prelude.{◌≡◌, ◌↔◌, ◌+◌, ◌≤◌, ℕ, Bool, true, Some, IsSome, cond, length, vec_capacity};
+ghost use Rattle.std.specs.Prelude.{◌≡◌, ◌↔◌, ◌+◌, ◌≤◌, true, Some, IsSome, length, vec_capacity};
 ghost use Rattle.std.specs.FinMap as map;
-ghost use Rattle.std.specs.FinSet as set;
 ghost use Rattle.buf_tree.specs.Shape.{cells, Shaped};
 ghost use Rattle.gcx_model.specs.declared.item.Off.{Off};
-ghost use Rattle.buf_tree.specs.Tops.{ForNew, HasTopRoom, HitFromAbove, IsNewTop, OwnApart, StaysAt, kept_by};
+ghost use Rattle.buf_tree.specs.Tops.{ForNew, HasTopRoom, HitFromAbove, IsNewTop, OwnApart, KeepsTops, KeepsSlot, KeepsTop};
 
 use crate::row::Row;
 use crate::upward::{begin, go_up, has_flag, is_waiting};
@@ -27,8 +26,7 @@ pub(crate) fn keep_tops<N: NodeStore<Row>>(
     requires there { IsSome (map.get (N.rows nodes.now) parent.0) }
     requires room { HasTopRoom tops.now (vec_capacity flags.old) }
     requires own { OwnApart tops.now }
-    ensures held { let xs = cells (N.rows nodes.now) in ForNew xs parent.0 kind.now (λ p n. (stays : ℕ → Bool)
-        → StaysAt xs tops.now roles.old.held p n stays → roles.new.held ≡ set.retain roles.old.held stays) }
+    ensures held { KeepsTops (cells (N.rows nodes.now)) parent.0 kind.now tops.now roles.old.held roles.new.held }
     ensures signed { roles.new.signed ≡ roles.old.signed }
     ensures room { vec_capacity flags.old ≤ vec_capacity flags.new }
 {
@@ -51,9 +49,7 @@ fn keep_slot<N: NodeStore<Row>>(
     requires shape { Shaped (N.rows nodes.now) }
     requires there { IsSome (map.get (N.rows nodes.now) parent.0) }
     requires room { (top : Off) → slot.now ≡ Some top → length top.rel + 1 ≤ vec_capacity flags.old }
-    ensures held { let xs = cells (N.rows nodes.now) in ForNew xs parent.0 kind.now (λ p n. (stays : ℕ → Bool)
-        → ((top : Off) → slot.now ≡ Some top → (stays top.role.0 ≡ true) ↔ IsNewTop xs top roles.old.held p n)
-        → roles.new.held ≡ kept_by slot.now stays roles.old.held) }
+    ensures held { KeepsSlot (cells (N.rows nodes.now)) parent.0 kind.now slot.now roles.old.held roles.new.held }
     ensures signed { roles.new.signed ≡ roles.old.signed }
     ensures room { vec_capacity flags.old ≤ vec_capacity flags.new }
 {
@@ -75,9 +71,7 @@ fn keep_top<N: NodeStore<Row>>(
     requires shape { Shaped (N.rows nodes.now) }
     requires there { IsSome (map.get (N.rows nodes.now) parent.0) }
     requires room { length top.now.rel + 1 ≤ vec_capacity flags.old }
-    ensures held { let xs = cells (N.rows nodes.now) in ForNew xs parent.0 kind.now (λ p n. (stays : Bool)
-        → (stays ≡ true) ↔ IsNewTop xs top.now roles.old.held p n
-        → roles.new.held ≡ cond stays roles.old.held (set.remove roles.old.held top.now.role.0)) }
+    ensures held { KeepsTop (cells (N.rows nodes.now)) parent.0 kind.now top.now roles.old.held roles.new.held }
     ensures signed { roles.new.signed ≡ roles.old.signed }
     ensures room { vec_capacity flags.old ≤ vec_capacity flags.new }
 {

@@ -27,6 +27,11 @@ pub record IsFed (plan : PlanTree) (r : ReaderView) (p : Projector) (v : View) :
   pub projects : Projects p past
   pub place : Places p v
 
+-- A buffer to which tokens were fed is one when a statement of the plan was carried out, whatever fed it.
+abbrev pub StaysFed : Off → (before after : View) → Type 0
+StaysFed off v w = (plan : PlanTree) (reader : ReaderView) (projector : Projector) → IsFed plan reader projector v → In (off_tree off) (offs_in plan.body)
+    → IsFed plan reader projector w
+
 -- No role of a base of the plan is spread.
 abbrev pub OwnPlain : PlanTree → View → Type 0
 OwnPlain plan v = (off : Off) → In (off_tree off) (offs_in plan.body) → is_spread_in v.spread off.own.0 ≡ false

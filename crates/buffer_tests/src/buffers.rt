@@ -16,7 +16,7 @@ ghost use Rattle.projector.specs.declared.projector.Projector.{Projector};
 ghost use Rattle.buf_tree.specs.Calls.{Started, numbers};
 ghost use Rattle.buf_tree.specs.Stands.{StandsFor};
 ghost use Rattle.buf_tree.specs.View.{InUse};
-ghost use Rattle.buffer_tests.specs.Buffers.{IsFed, OwnPlain};
+ghost use Rattle.buffer_tests.specs.Buffers.{IsFed, OwnPlain, StaysFed};
 
 mod given;
 mod kept;
@@ -176,7 +176,8 @@ fn feed_one<N: NodeStore<Row>>(
     buffer: &mut Buffer<N>,
 ) -> Result<(), Fail>
     requires { (plan : PlanTree) × IsFed plan reader.old projector.old buffer.old }
-    ensures { OnOk result ((plan : PlanTree) → IsFed plan reader.old projector.old buffer.old → IsFed plan reader.new projector.new buffer.new) }
+    ensures { OnOk result ((plan : PlanTree) → IsFed plan reader.old projector.old buffer.old →
+        IsFed plan reader.new projector.new buffer.new) }
 {
     let taken = buffer.taken();
     if buffer.nodes() > MANY {
@@ -201,7 +202,8 @@ fn feed<N: NodeStore<Row>>(
     count: u32,
 ) -> Result<(), Fail>
     requires { (plan : PlanTree) × IsFed plan reader.old projector.old buffer.old }
-    ensures { OnOk result ((plan : PlanTree) → IsFed plan reader.old projector.old buffer.old → IsFed plan reader.new projector.new buffer.new) }
+    ensures { OnOk result ((plan : PlanTree) → IsFed plan reader.old projector.old buffer.old →
+        IsFed plan reader.new projector.new buffer.new) }
 {
     for _ in 0..count {
         feed_one(alloc, out, reader, projector, buffer)?;
@@ -217,8 +219,9 @@ fn carry_out<N: NodeStore<Row>>(
     off: &Off,
 ) -> Result<(), Fail>
     requires place { InUse buffer.old.rows place.0 }
-    requires fed { (plan : PlanTree) × (reader : ReaderView) × (projector : Projector) × IsFed plan reader projector buffer.old × In (off_tree off.now) (offs_in plan.body) }
-    ensures { OnOk result ((plan : PlanTree) (reader : ReaderView) (projector : Projector) → IsFed plan reader projector buffer.old → In (off_tree off.now) (offs_in plan.body) → IsFed plan reader projector buffer.new) }
+    requires fed { (plan : PlanTree) × (reader : ReaderView) × (projector : Projector) ×
+        IsFed plan reader projector buffer.old × In (off_tree off.now) (offs_in plan.body) }
+    ensures { OnOk result (StaysFed off.now buffer.old buffer.new) }
 {
     if !buffer.is_due(place, off) {
         return Err("not due")?;
@@ -246,7 +249,8 @@ fn sign<N: NodeStore<Row>>(
     word: &str,
 ) -> Result<(), Fail>
     requires { (reader : ReaderView) × (projector : Projector) × IsFed (plan_tree plan.now) reader projector buffer.old }
-    ensures { OnOk result ((reader : ReaderView) (projector : Projector) → IsFed (plan_tree plan.now) reader projector buffer.old → IsFed (plan_tree plan.now) reader projector buffer.new) }
+    ensures { OnOk result ((reader : ReaderView) (projector : Projector) →
+        IsFed (plan_tree plan.now) reader projector buffer.old → IsFed (plan_tree plan.now) reader projector buffer.new) }
 {
     let (role, serial) = role_and_node(word)?;
     let Some(off) = off_of(&plan.body, role) else {
@@ -346,7 +350,8 @@ fn begin<N: NodeStore<Row> + Drop>(
 ) -> Result<(Projector, Buffer<N>), Fail>
     requires empty { N.rows nodes ≡ map.empty }
     requires placed { (core : BodyTree) × Good core × Placed core (plan_tree plan.now) }
-    ensures { IfOk result (λ x. (reader : ReaderView) (document : List ℕ) → Stands reader full_limits document true [] → IsFed (plan_tree plan.now) reader x.0 x.1) }
+    ensures { IfOk result (λ x. (reader : ReaderView) (document : List ℕ) →
+        Stands reader full_limits document true [] → IsFed (plan_tree plan.now) reader x.0 x.1) }
 {
     let projector = Projector::new(alloc, plan)?;
     let given = projector.document(alloc)?;

@@ -15,4 +15,3 @@ pub mod Takings
 mod PairSides
 mod PairTruths
 mod PairAsks
-mod Pairing

@@ -14,7 +14,7 @@ use Rattle.gcx_model.specs.declared.truth.Truth.{Truth}
 use Rattle.base_laws.proofs.Members.{in_map}
 use Rattle.tree_laws.proofs.Lists.{In-filter, In-kept}
 use Rattle.buf_tree.specs.View.{View}
-use Rattle.cond_memo.proofs.Pairing.{some_pair_from, some_pair_to}
+use Rattle.cond_eval.proofs.Pairing.{some_pair_from, some_pair_to}
 use Rattle.value_pairs.specs.Pairs.{SomePair}
 use Rattle.value_pairs.specs.Taken.{TookBoth, TookBy}
 use Rattle.value_pairs.specs.declared.compared.Compared.{Compared}

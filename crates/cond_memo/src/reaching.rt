@@ -1,8 +1,7 @@
 //! The row of a serial, below a row.
 ghost use Rattle.std.specs.Prelude.{◌≡◌, MatchOption};
-ghost use Rattle.gcx_model.specs.Members.{In};
-ghost use Rattle.buf_tree.specs.Shape.{Cell, cells, Shaped};
-ghost use Rattle.cond_memo.specs.Reaching.{NoChildUpTo, LastChildUpTo, NotBelow, HasSerial};
+ghost use Rattle.buf_tree.specs.Shape.{cells, Shaped};
+ghost use Rattle.cond_memo.specs.Reaching.{FindsChildUpTo, NotBelow, HasSerial};
 
 use buf_tree::Row;
 use gcx_base::Serial;
@@ -11,10 +10,8 @@ use node_store::{At, NodeStore};
 /// The last child with a serial up to this one.
 fn last_up_to<'a, N: NodeStore<Row>>(row: At<'a, N, Row>, serial: Serial) -> Option<At<'a, N, Row>>
     requires shape { Shaped (N.rows row.store.now) }
-    ensures { (c : Cell) → In c (cells (N.rows row.entry.store.now)) → c.place ≡ row.entry.place.0
-        → MatchOption result (NoChildUpTo (cells (N.rows row.entry.store.now)) c serial.0)
-        (λ a. (a.store.now ≡ row.entry.store.now)
-        × LastChildUpTo (cells (N.rows row.entry.store.now)) c serial.0 a.place.0) }
+    ensures { FindsChildUpTo (cells (N.rows row.entry.store.now)) row.entry.place.0 serial.0 result
+        (λ a. a.store.now ≡ row.entry.store.now) (λ a. a.place.0) }
 {
     let mut at = row.last();
     'back: while let Some(here) = at {
@@ -32,9 +29,8 @@ pub(crate) fn row_below<'a, N: NodeStore<Row>>(
     serial: Serial,
 ) -> Option<At<'a, N, Row>>
     requires shape { Shaped (N.rows row.store.now) }
-    ensures { MatchOption result (NotBelow (cells (N.rows row.entry.store.now)) row.entry.place.0 serial.0)
-        (λ a. (a.store.now ≡ row.entry.store.now)
-        × HasSerial (cells (N.rows row.entry.store.now)) serial.0 a.place.0) }
+    ensures { let xs = cells (N.rows row.entry.store.now) in MatchOption result (NotBelow xs row.entry.place.0 serial.0)
+        (λ a. (a.store.now ≡ row.entry.store.now) × HasSerial xs serial.0 a.place.0) }
 {
     let mut at = Some(row);
     'down: while let Some(here) = at {

@@ -1,7 +1,6 @@
 -- Characters that aren't Chars, found by their bytes.
 use Rattle.std.proofs.Common.{ℕ, zero, suc, ◌≡◌, ◌+◌, ◌-◌, ◌/◌, ◌<◌, ◌≤◌, Bool, true, false, not, ◌&&◌, cond, eqb, List, [], ◌∷◌, ◌++◌, length, take, drop, get_or, refl, sym, ap, ◌∙◌, subst, arith, length-append, length-take, length-drop, append_assoc, inl, inr}
 use Rattle.std.specs.Prelude.{nat_le}
-use Rattle.std.specs.Char.{IsScalar, encode_utf8}
 use Rattle.std.specs.List.{list_all}
 use Rattle.std.specs.Str.{IsUtf8}
 use Rattle.std.proofs.lemmas.Bool.{true≢false, cases_lt, and_parts, and_from, not-false}
@@ -12,7 +11,7 @@ use Rattle.std.proofs.str.Laws.{one, two, three, four}
 use lib.Utf8.{scalar, scalars, encode, encodes, next}
 use Rattle.gcx_base.specs.Characters.{is_char}
 use Rattle.doc_chars.specs.Blocks.{is_plain_byte, is_other_at, HasNoOther, IsFirstOther}
-use Rattle.doc_chars.specs.Scan.{AreChars}
+use Rattle.doc_chars.specs.Scan.{AreChars, IsOther}
 
 -- ---- the bytes of one character
 
@@ -211,10 +210,6 @@ found (c ∷ cs) at s l h f = by (is_char c) refl (λ k. found cs k (and_parts (
               (sym (shift (encode c) (encodes cs) k) ∙ ap (is_other_at (encode c ++ encodes cs)) is ∙ f))
               p
         ]
-
-abbrev pub IsOther : List ℕ → ℕ → Type 0
-IsOther text at = (at < length text) × AreChars (take at text)
-    × ((c : ℕ) × (after : List ℕ) × (drop at text ≡ encode_utf8 c ++ after) × IsScalar c × (is_char c ≡ false))
 
 pub first_is : (text : List ℕ) (from to at : ℕ) → IsUtf8 text → to ≤ length text → HasNoOther 0 from text → IsFirstOther from to at text → IsOther text at
 first_is text from to at u l h f =

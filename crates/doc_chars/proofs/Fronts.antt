@@ -2,7 +2,7 @@
 use Rattle.std.proofs.Common.{◌≡◌, ◌++◌, ◌∷◌, [], ◌&&◌, ◌<◌, ◌+◌, ℕ, List, length, take, drop, true, false, refl, sym, ap, subst, ◌∙◌, append-nil, arith, append_assoc, None, Some, take-add, length-drop, length-take, take-take, take-append-drop}
 use Rattle.std.specs.Prelude.{Option, is_some}
 use Rattle.std.specs.List.{list_all}
-use Rattle.std.specs.Char.{IsScalar, encode_utf8}
+use Rattle.std.specs.Char.{encode_utf8}
 use Rattle.std.specs.Str.{IsUtf8, IsValidUpTo, IsErrorLen}
 use Rattle.std.specs.Str.Lossy.{utf8_error_len}
 use Rattle.std.proofs.Math.Seq.{take-append_seam, drop-append_seam, drop-length, take-length}
@@ -12,7 +12,7 @@ use Rattle.std.proofs.lemmas.Str.{encodes-append, length-le-encodes, IsUtf8-appe
 use Rattle.gcx_base.specs.Characters.{is_char}
 use Rattle.doc_chars.specs.Stream.{IsCharFront, IsNotUtf8}
 use Rattle.doc_chars.specs.declared.scan.Cause.TheVariants.{NotUtf8, NotChar}
-use Rattle.doc_chars.specs.Scan.{AreChars, Scanned}
+use Rattle.doc_chars.specs.Scan.{AreChars, IsOther, Scanned}
 use Rattle.doc_chars.proofs.Bytes.{front_nil, cut_front, is_not_utf8}
 
 all_push : (cs : List ℕ) (c : ℕ) → list_all is_char cs ≡ true → is_char c ≡ true → list_all is_char (cs ++ c ∷ []) ≡ true
@@ -81,11 +81,6 @@ scanned_whole bs text is chars = record {
   chars = subst AreChars (is ∙ sym (take-length bs)) chars;
   ends = front_end bs;
 }
-
--- the place of the first character that isn't a Char
-abbrev pub IsOther : List ℕ → ℕ → Type 0
-IsOther text at = (at < length text) × AreChars (take at text)
-    × ((c : ℕ) × (after : List ℕ) × (drop at text ≡ encode_utf8 c ++ after) × IsScalar c × (is_char c ≡ false))
 
 pub scanned_other : (bs text : List ℕ) (n at : ℕ) → text ≡ take n bs → IsOther text at → Scanned bs at (Some NotChar)
 scanned_other bs text n at is (short, chars, (c, after, parts, scalar, other)) =

@@ -1,6 +1,6 @@
 -- These definitions follow the code; no public clause speaks of them.
 -- What the front of bytes is.
-use Rattle.std.specs.Prelude.{◌≡◌, ◌≤◌, ℕ, true, List, ◌++◌, length, take, drop, Option, Some, None}
+use Rattle.std.specs.Prelude.{◌≡◌, ◌<◌, ◌≤◌, ℕ, true, false, List, ◌++◌, length, take, drop, Option, Some, None}
 use Rattle.std.specs.Char.{IsScalar, encode_utf8}
 use Rattle.std.specs.List.{list_all}
 use Rattle.std.specs.Str.{encode_utf8_all}
@@ -23,6 +23,11 @@ pub record Scanned (bs : List ℕ) (whole : ℕ) (cause : Option Cause) : Type 0
   pub within : whole ≤ length bs
   pub chars : AreChars (take whole bs)
   pub ends : Ends cause (drop whole bs)
+
+-- the place of the first character that isn't a Char
+abbrev pub IsOther : List ℕ → ℕ → Type 0
+IsOther text at = (at < length text) × AreChars (take at text)
+    × ((c : ℕ) × (after : List ℕ) × (drop at text ≡ encode_utf8 c ++ after) × IsScalar c × (is_char c ≡ false))
 
 -- what the bytes begin with
 abbrev pub BeginsWith : First → List ℕ → Type 0

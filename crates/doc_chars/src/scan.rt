@@ -1,10 +1,9 @@
 //! The characters at the front of bytes.
-ghost use Rattle.std.specs.Prelude.{◌≡◌, ◌<◌, ◌≤◌, ◌+◌, ◌++◌, ℕ, List, MatchOption, length, take, drop, false};
+ghost use Rattle.std.specs.Prelude.{◌≡◌, ◌<◌, ◌≤◌, ◌+◌, ◌++◌, ℕ, List, MatchOption, length};
 ghost use Rattle.std.specs.List.{list_all};
 ghost use Rattle.std.specs.Char.{IsScalar, encode_utf8};
-ghost use Rattle.gcx_base.specs.Characters.{is_char};
 ghost use Rattle.doc_chars.specs.Blocks.{is_plain_byte, is_other_at, HasNoOther, IsFirstOther};
-ghost use Rattle.doc_chars.specs.Scan.{AreChars, BeginsWith, Scanned};
+ghost use Rattle.doc_chars.specs.Scan.{AreChars, BeginsWith, IsOther, Scanned};
 
 use simdutf8::compat;
 
@@ -86,7 +85,8 @@ fn other_between(bytes: &[u8], from: usize, to: usize) -> Option<usize>
 /// The same in the block of bytes from this place on.
 fn other_in_block(bytes: &[u8], at: usize) -> Option<usize>
     requires { at + BLOCK ≤ length bytes.now }
-    ensures { MatchOption result (HasNoOther at (at + BLOCK) bytes.now) (λ found. IsFirstOther at (at + BLOCK) found bytes.now) }
+    ensures { MatchOption result (HasNoOther at (at + BLOCK) bytes.now)
+        (λ found. IsFirstOther at (at + BLOCK) found bytes.now) }
 {
     if are_plain(&bytes[at..at + BLOCK]) {
         return None;
@@ -96,8 +96,7 @@ fn other_in_block(bytes: &[u8], at: usize) -> Option<usize>
 
 /// The place of the first character that isn't a Char.
 fn first_other(text: &str) -> Option<usize>
-    ensures { MatchOption result (AreChars text.now) (λ at. (at < length text.now) × AreChars (take at text.now)
-        × ((c : ℕ) × (after : List ℕ) × (drop at text.now ≡ encode_utf8 c ++ after) × IsScalar c × (is_char c ≡ false))) }
+    ensures { MatchOption result (AreChars text.now) (λ at. IsOther text.now at) }
 {
     let bytes = text.as_bytes();
     let mut at = 0;

@@ -3,8 +3,7 @@ ghost use Rattle.gcx_model.specs.declared.fault.DocFault.TheVariants.{Memory as 
 ghost use Rattle.doc_tokens.specs.Parts.{AreLent};
 ghost use Rattle.doc_reader.specs.Piece.{char_fault as fault_of_char};
 
-use crate::machine::{Machine, has_whole, lent_whole, new_machine, take_whole};
-use crate::piece::read_split;
+use crate::machine::Machine;
 use doc_chars::{CharFault, Chars};
 use doc_tokens::Lent;
 use gcx_base::Limits;
@@ -64,7 +63,7 @@ impl LentReader {
         ensures nothing { waiting result ≡ [] }
     {
         LentReader {
-            machine: new_machine(alloc),
+            machine: Machine::new(alloc),
             chars: Chars::new(),
             limits,
             place: 0,
@@ -141,7 +140,7 @@ impl LentReader {
     pub(crate) fn lent_tags(&self) -> (&[Lent], &[u8])
         ensures { AreLent result.0.now result.1.now self.now.state.tokens }
     {
-        lent_whole(&self.machine)
+        self.machine.lent_whole()
     }
 
     /// Takes so many of the tokens of tags.
@@ -150,7 +149,7 @@ impl LentReader {
         requires { count ≤ length self.old.state.tokens }
         ensures { self.new ≡ with_tokens self.old (drop count self.old.state.tokens) }
     {
-        take_whole(&mut self.machine, count)
+        self.machine.take_whole(count)
     }
 
     /// Takes the token that says that the document ended, where no other one waits. True where there is it.
@@ -250,7 +249,9 @@ impl LentReader {
     {
         let split = self.chars.split(piece);
         self.count += piece.len() as u64;
-        let place = read_split(&mut self.machine, self.limits, self.place, split, piece)?;
+        let place = self
+            .machine
+            .read_split(self.limits, self.place, split, piece)?;
         match split.fault {
             Some(fault) => Err(char_fault(fault)),
             None => {
@@ -267,7 +268,7 @@ impl LentReader {
         if let Err(fault) = self.chars.finish() {
             return Err(char_fault(fault));
         }
-        if has_whole(&self.machine) {
+        if self.machine.has_whole() {
             Ok(())
         } else {
             Err(DocFault::Truncated(self.count))

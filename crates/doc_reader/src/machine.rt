@@ -34,64 +34,66 @@ impl Model for Machine {
     ghost invariant = { λ m. IsSound (scan_state m.scan) };
 }
 
-/// A machine that has read nothing.
-pub(crate) fn new_machine(alloc: Global) -> Machine
-    ensures { result ≡ start }
-{
-    Machine {
-        scan: Scan {
-            mode: Mode::Opening,
-            names: OpenNames::new(alloc),
-            rooted: false,
-            typed: false,
-            name: Vec::new(alloc),
-            attrs: AttrNames::new(alloc),
-            attr: Vec::new(alloc),
-            tokens: Tokens::new(alloc),
-        },
+impl Machine {
+    /// A machine that has read nothing.
+    pub(crate) fn new(alloc: Global) -> Machine
+        ensures { result ≡ start }
+    {
+        Machine {
+            scan: Scan {
+                mode: Mode::Opening,
+                names: OpenNames::new(alloc),
+                rooted: false,
+                typed: false,
+                name: Vec::new(alloc),
+                attrs: AttrNames::new(alloc),
+                attr: Vec::new(alloc),
+                tokens: Tokens::new(alloc),
+            },
+        }
     }
-}
 
-/// Whether a whole document was read.
-pub(crate) fn has_whole(m: &Machine) -> bool
-    ensures { result ≡ is_whole m.now }
-{
-    match m.scan.mode {
-        Mode::Between => !m.scan.names.has_open() && m.scan.rooted,
-        _ => false,
+    /// Whether a whole document was read.
+    pub(crate) fn has_whole(&self) -> bool
+        ensures { result ≡ is_whole self.now }
+    {
+        match self.scan.mode {
+            Mode::Between => !self.scan.names.has_open() && self.scan.rooted,
+            _ => false,
+        }
     }
-}
 
-/// The tokens of the whole tags, with their bytes.
-#[inline(always)]
-pub(crate) fn lent_whole(m: &Machine) -> (&[Lent], &[u8])
-    ensures { AreLent result.0.now result.1.now m.now.tokens }
-{
-    m.scan.tokens.lent()
-}
+    /// The tokens of the whole tags, with their bytes.
+    #[inline(always)]
+    pub(crate) fn lent_whole(&self) -> (&[Lent], &[u8])
+        ensures { AreLent result.0.now result.1.now self.now.tokens }
+    {
+        self.scan.tokens.lent()
+    }
 
-/// Takes so many of them.
-#[inline(always)]
-pub(crate) fn take_whole(m: &mut Machine, count: usize)
-    requires { count ≤ length m.old.tokens }
-    ensures { m.new ≡ record m.old { tokens = drop count m.old.tokens } }
-{
-    m.scan.tokens.take(count);
-}
+    /// Takes so many of them.
+    #[inline(always)]
+    pub(crate) fn take_whole(&mut self, count: usize)
+        requires { count ≤ length self.old.tokens }
+        ensures { self.new ≡ record self.old { tokens = drop count self.old.tokens } }
+    {
+        self.scan.tokens.take(count);
+    }
 
-/// Reads characters, the first of which stands at byte `place` of the document.
-pub(crate) fn read_text(m: &mut Machine, limits: Limits, place: u64, text: &str) -> Result<(), Stop>
-    requires room { place + length text.now < 2 ^ 64 }
-    requires chars { AreChars text.now }
-    ensures { Judged result limits place m.old (chars text.now) m.new }
-{
-    match read(&mut m.scan, limits, place, text) {
-        Ok(()) => Ok(()),
-        Err(stop) => {
-            // Only the tokens of the whole tags are wanted of it then.
-            m.scan.tokens.forget_pending();
-            m.scan.mode = Mode::Between;
-            Err(stop)
+    /// Reads characters, the first of which stands at byte `place` of the document.
+    pub(crate) fn read_text(&mut self, limits: Limits, place: u64, text: &str) -> Result<(), Stop>
+        requires room { place + length text.now < 2 ^ 64 }
+        requires chars { AreChars text.now }
+        ensures { Judged result limits place self.old (chars text.now) self.new }
+    {
+        match read(&mut self.scan, limits, place, text) {
+            Ok(()) => Ok(()),
+            Err(stop) => {
+                // Only the tokens of the whole tags are wanted of it then.
+                self.scan.tokens.forget_pending();
+                self.scan.mode = Mode::Between;
+                Err(stop)
+            }
         }
     }
 }

@@ -16,7 +16,7 @@ use Rattle.run_words.specs.Ends.{EndsRun, RunEnd, Whole, Refused, ReadFailed, Wr
 use Rattle.run_words.specs.Reading.{SourceGave, ReadsOn, AreClean}
 use Rattle.run_words.specs.Stops.{Stop, More, is_end}
 use Rattle.run_words.specs.Writing.{Sinks, Traces}
-use Rattle.engine.specs.Engine.{IsSilent, IsTold, IsTrace, Peaks, Settles, StandsOf}
+use Rattle.engine.specs.Engine.{IsSilent, IsTold, IsTrace, Peaks, Settles, StandsOf, Starts}
 use Rattle.engine.specs.View.{EngineView}
 use Rattle.engine.specs.declared.report.Report.{Report}
 use Rattle.engine.specs.declared.report.Ended.{Ended}
@@ -98,6 +98,11 @@ pub record Ran {C : Type 0} (stands : C → Tree → Type 0) (lim : Limits) (t :
   pub ends : EndsRun (Settles (plan_tree e.plan) lim) (TracedBy t (plan_tree e.plan) lim) lim (is_traced t) (run_end ended_by) pieces stop before after
   pub stand : UnlessMemory ended_by (StandsOf stands lim e (joined pieces) (is_end stop))
 
+-- what a run from an engine at its start makes, of each limits and of what is told of a trace
+abbrev pub RanFrom : {C : Type 0} → (C → Tree → Type 0) → (old new : EngineView C) → Ended → (left now : SourceView) → (before after : Sinks) → Type 0
+RanFrom stands old new end left now before after = (lim : Limits) (t : Traced) → Starts stands lim old → TellsBy t old
+    → Ran stands lim t new end left now before after
+
 -- It is an engine of the same plan, of groups as long, over the same loans.
 pub record SamePlan {C : Type 0} (old new : EngineView C) : Type 0 where
   pub plan : new.plan ≡ old.plan
@@ -173,3 +178,8 @@ UnlessLost (Some ended_by) X = UnlessMemory ended_by X
 abbrev pub TurnsTo : {C : Type 0} → (C → Tree → Type 0) → Limits → Traced → EngineView C → Option Ended → (left now : SourceView) → (a b : Sinks) → Type 0
 TurnsTo stands lim t e None left now a b = Between stands lim t e left now a b
 TurnsTo stands lim t e (Some ended_by) left now a b = Ran stands lim t e ended_by left now a b
+
+-- what a turn makes of each engine between two reads
+abbrev pub TurnsFrom : {C : Type 0} → (C → Tree → Type 0) → (old new : EngineView C) → Option Ended → (read now : SourceView) → (a b : Sinks) → Type 0
+TurnsFrom stands old new r read now a b = (lim : Limits) (t : Traced) (left : SourceView) (before : Sinks)
+    → Between stands lim t old left read before a → TurnsTo stands lim t new r left now before b

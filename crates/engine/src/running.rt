@@ -1,11 +1,9 @@
 //! A whole run, from a source to a sink.
 ghost use Rattle.std.specs.Prelude.{◌≡◌, ◌≤◌, ◌<◌, ℕ, List, Option, [], Bool, None, Some, Ok, Err, length, OnOk, OnErr};
 ghost use Rattle.gcx_base.specs.declared.limits.Limits.{Limits};
-ghost use Rattle.gcx_io.specs.Views.{SourceView};
 ghost use Rattle.gcx_model.specs.PlanView.{plan_tree};
-ghost use Rattle.run_words.specs.Writing.{Sinks};
 ghost use Rattle.engine.specs.Engine.{Balanced, IsSilent, MostIs, Starts, StandsOf};
-ghost use Rattle.engine.specs.Runs.{Between, EndsWaiting, GoesOnFrom, KeepsPorts, Numbers, Ran, Reports, SamePlan, StopsInWaiting, TellsBy, Traced, TurnsTo, UnlessLost, UnlessMemory, WroteWaiting, ended_by, sinks};
+ghost use Rattle.engine.specs.Runs.{EndsWaiting, GoesOnFrom, KeepsPorts, Numbers, RanFrom, Reports, SamePlan, StopsInWaiting, TurnsFrom, UnlessLost, UnlessMemory, WroteWaiting, ended_by, sinks};
 
 use crate::engine::Engine;
 use crate::report::{Ended, Report, few_roles};
@@ -91,10 +89,8 @@ fn turn<N: NodeStore<Row>, C: Conds, D: Source, O: Sink, E: Sink>(
     requires stands { (lim : Limits) × GoesOnFrom C.stands lim engine.old }
     requires size { length buf.old ≡ 65536 }
     ensures size { length buf.new ≡ 65536 }
-    ensures goes { (lim : Limits) (t : Traced) (left : SourceView) (before : Sinks) →
-        Between C.stands lim t engine.old left (D.seen doc.old) before (sinks (O.seen out.old) (E.seen err.old)) →
-        TurnsTo C.stands lim t engine.new result left (D.seen doc.new)
-        before (sinks (O.seen out.new) (E.seen err.new)) }
+    ensures goes { TurnsFrom C.stands engine.old engine.new result (D.seen doc.old) (D.seen doc.new)
+        (sinks (O.seen out.old) (E.seen err.old)) (sinks (O.seen out.new) (E.seen err.new)) }
     ensures stands { result ≡ None → (lim : Limits) → GoesOnFrom C.stands lim engine.old →
         GoesOnFrom C.stands lim engine.new }
     ensures balanced { result ≡ Some Ended.Ok → engine.new.actors.counts.given ≡ engine.new.actors.buffer.taken }
@@ -130,8 +126,7 @@ fn run<N: NodeStore<Row>, C: Conds, D: Source, O: Sink, E: Sink>(
     err: &mut E,
 ) -> Ended
     requires starts { (lim : Limits) × Starts C.stands lim engine.old }
-    ensures ran { (lim : Limits) (t : Traced) → Starts C.stands lim engine.old → TellsBy t engine.old →
-        Ran C.stands lim t engine.new result (D.seen doc.old) (D.seen doc.new)
+    ensures ran { RanFrom C.stands engine.old engine.new result (D.seen doc.old) (D.seen doc.new)
         (sinks (O.seen out.old) (E.seen err.old)) (sinks (O.seen out.new) (E.seen err.new)) }
     ensures balanced { result ≡ Ended.Ok → engine.new.actors.counts.given ≡ engine.new.actors.buffer.taken }
     ensures most { (lent : ℕ) → MostIs lent engine.old → UnlessMemory result (MostIs lent engine.new) }
@@ -159,8 +154,7 @@ pub fn run_query<N: NodeStore<Row>, C: Conds, D: Source, O: Sink, E: Sink>(
     err: &mut E,
 ) -> Report
     requires starts { (lim : Limits) × Starts C.stands lim engine.old }
-    ensures ran { (lim : Limits) (t : Traced) → Starts C.stands lim engine.old → TellsBy t engine.old →
-        Ran C.stands lim t engine.new result.ended (D.seen doc.old) (D.seen doc.new)
+    ensures ran { RanFrom C.stands engine.old engine.new result.ended (D.seen doc.old) (D.seen doc.new)
         (sinks (O.seen out.old) (E.seen err.old)) (sinks (O.seen out.new) (E.seen err.new)) }
     ensures balanced { result.ended ≡ Ended.Ok → result.given ≡ result.taken }
     ensures most { (lent : ℕ) → MostIs lent engine.old → UnlessMemory result.ended (MostIs lent engine.new) }

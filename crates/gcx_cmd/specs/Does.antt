@@ -2,7 +2,7 @@
 use Rattle.std.specs.Prelude.{◌≡◌, ◌⊎◌, ℕ, List, []}
 use Rattle.std.specs.declared.option.Option.{Option}
 use Rattle.std.specs.declared.option.Option.TheVariants.{Some, None}
-use Rattle.gcx_io.specs.Views.{SinkView}
+use Rattle.gcx_io.specs.Views.{ShelfView, SinkView}
 use Rattle.gcx_io.specs.Writing.{Takes, Owes}
 use Rattle.gcx_words.specs.Words.{command_of}
 use Rattle.gcx_words.specs.declared.command.Command.{Command}
@@ -13,7 +13,7 @@ use Rattle.gcx_cmd.specs.ExplainDoes.{ExplainDoes}
 use Rattle.gcx_cmd.specs.GenDoes.{GenDoes}
 use Rattle.gcx_cmd.specs.Keeps.{Keeps}
 use Rattle.gcx_cmd.specs.ManyDoes.{ManyDoes}
-use Rattle.gcx_cmd.specs.Outside.{Outside}
+use Rattle.gcx_cmd.specs.Outside.{Outside, StoreView, beside}
 use Rattle.gcx_cmd.specs.PeakDoes.{PeakDoes}
 use Rattle.gcx_cmd.specs.RunDoes.{RunDoes}
 use Rattle.gcx_cmd.specs.SelfrunDoes.{SelfrunDoes}
@@ -36,6 +36,18 @@ Obeys (Check query document trace) s a b = CheckDoes query document trace s a b
 abbrev pub DoesIf : Option Command → Status → Outside → Outside → Type 0
 DoesIf None s a b = ((s ≡ status.Usage) ⊎ (s ≡ status.Memory)) × (b ≡ a)
 DoesIf (Some c) s a b = Keeps c s a b × Obeys c s a b
+
+-- this command was obeyed
+abbrev pub DoesCommand : Command → Status → Outside → Outside → Type 0
+DoesCommand c s a b = DoesIf (Some c) s a b
+
+-- a command was obeyed that lends files and the output alone, whatever else is outside
+abbrev pub DoesBeside : Command → Status → (shelf shelf_now : ShelfView) → (out out_now : SinkView) → Type 0
+DoesBeside c s f g o p = (err : SinkView) (store : StoreView) → DoesIf (Some c) s (beside f o err store) (beside g p err store)
+
+-- and one that lends the output alone
+abbrev pub DoesOutput : Command → Status → (out out_now : SinkView) → Type 0
+DoesOutput c s o p = (files : ShelfView) (err : SinkView) (store : StoreView) → DoesIf (Some c) s (beside files o err store) (beside files p err store)
 
 -- The line of a status was taken, or a prefix of it, and then a write of what comes next of it failed. At Ok there is none, and no
 -- call.

@@ -1,14 +1,14 @@
--- What the OUTs of `many` hold at Ok, and that each is what `run` writes (this project's).
+-- What `run` writes at Ok, what the OUTs of `many` hold, and that each is what `run` writes (this project's).
 use Rattle.std.specs.Prelude.{◌≡◌, ℕ, Bool, List, slice_get, Some, ⊤}
 use Rattle.gcx_base.specs.Limits.{full_limits}
-use Rattle.gcx_io.specs.Shelf.{IsTelling, content_of}
+use Rattle.gcx_io.specs.Shelf.{IsTelling, Names, content_of}
 use Rattle.gcx_io.specs.Views.{SinkView}
 use Rattle.gcx_io.specs.Writing.{Takes, joined}
 use Rattle.gcx_model.specs.Answer.{answer}
 use Rattle.gcx_model.specs.Document.{Nodes}
 use Rattle.gcx_model.specs.Query.{ExprTree}
 use Rattle.gcx_words.specs.Words.{command_of}
-use Rattle.gcx_words.specs.declared.command.Command.TheVariants.{Many}
+use Rattle.gcx_words.specs.declared.command.Command.TheVariants.{Many, Run}
 use Rattle.gcx_words.specs.declared.pairs.Pair.{Pair}
 use Rattle.run_words.specs.Ends.{EndsRun, NoMemory, ReadFailed, Refused, RunEnd, Whole, WriteFailed}
 use Rattle.run_words.specs.Stops.{Stop}
@@ -21,6 +21,13 @@ use Rattle.gcx_cmd.specs.Running.{Settles}
 use Rattle.gcx_cmd.specs.Tracing.{IsTrace}
 use Rattle.gcx_cmd.specs.declared.status.Status.{Status}
 use Rattle.gcx_cmd.specs.declared.status.Status.TheVariants as status
+
+-- At Ok of `run` exactly the answer was written, where the shelf tells the bytes of QUERY and DOC.
+abbrev pub AnswersRun : List (List ℕ) → Status → Names → (out out_now : SinkView) → Type 0
+AnswersRun words s names a b = (trace : Bool) (ahead : ℕ) (query document query_bytes document_bytes : List ℕ)
+    → command_of words ≡ Some (Run trace ahead query document) → s ≡ status.Ok
+    → content_of names query ≡ Some query_bytes → content_of names document ≡ Some document_bytes
+    → (q : List ExprTree) (d : Nodes) → Accepts query_bytes q → BytesSpell document_bytes d → Takes a b (answer q d)
 
 -- At Ok each OUT holds the answer of its QUERY over DOC, where the shelf tells its names before and afterwards.
 abbrev pub AnswersMany : List (List ℕ) → Status → Outside → Outside → Type 0

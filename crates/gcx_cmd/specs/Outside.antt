@@ -1,5 +1,7 @@
 -- What is seen outside: the files, the two sinks and the lent store (this project's).
 use Rattle.std.specs.Prelude.{◌≡◌, ℕ}
+use Rattle.gcx_io.specs.FileShelf.{FileShelfState, file_shelf_seen}
+use Rattle.gcx_io.specs.StdSink.{StreamState, stream_seen}
 use Rattle.gcx_io.specs.Views.{ShelfView, SinkView}
 use Rattle.node_store.specs.Rows.{Rows}
 use Rattle.buf_tree.specs.Row.{Row}
@@ -40,3 +42,19 @@ pub record WritesAlone (a b : Outside) : Type 0 where
   pub shelf : b.shelf ≡ a.shelf
   pub err : b.err ≡ a.err
   pub store : b.store ≡ a.store
+
+-- This relates what is seen of the lent things before and after: of the files, the two sinks and the store.
+abbrev pub IsSeen : {F O E N : Type 0} → (Outside → Outside → Type 0) → (F → ShelfView) → (O → SinkView) → (E → SinkView) → (N → Rows Row) → (N → ℕ)
+    → (files : F) → (out : O) → (err : E) → (nodes : N) → (files_now : F) → (out_now : O) → (err_now : E) → (nodes_now : N) → Type 0
+IsSeen relates shelf taken told rows most f o e n f1 o1 e1 n1 =
+    relates (outside (shelf f) (taken o) (told e) (rows n) (most n)) (outside (shelf f1) (taken o1) (told e1) (rows n1) (most n1))
+
+-- And it relates them whatever the diagnoses took, to which nothing is lent.
+abbrev pub IsSeenBeside : {F O N : Type 0} → (Outside → Outside → Type 0) → (F → ShelfView) → (O → SinkView) → (N → Rows Row) → (N → ℕ)
+    → (files : F) → (out : O) → (nodes : N) → (files_now : F) → (out_now : O) → (nodes_now : N) → Type 0
+IsSeenBeside relates shelf taken rows most f o n f1 o1 n1 = (err : SinkView)
+    → relates (outside (shelf f) (taken o) err (rows n) (most n)) (outside (shelf f1) (taken o1) err (rows n1) (most n1))
+
+-- what is seen of the real files, the standard streams and a store
+abbrev pub real_outside : FileShelfState → (out err : StreamState) → Rows Row → (most : ℕ) → Outside
+real_outside files out err rows most = outside (file_shelf_seen files) (stream_seen out) (stream_seen err) rows most

@@ -10,10 +10,12 @@ use Rattle.gcx_model.specs.Demand.{peak_of}
 use Rattle.gcx_model.specs.Held.{sum_given, sum_taken}
 use Rattle.gcx_model.specs.Normal.{normal}
 use Rattle.gcx_model.specs.Placed.{plan_of}
+use Rattle.gcx_model.specs.PlanView.{plan_tree}
 use Rattle.gcx_model.specs.Points.{actions}
 use Rattle.gcx_model.specs.Query.{ExprTree}
 use Rattle.gcx_model.specs.Seen.{SeenIs, seen_tree}
 use Rattle.gcx_model.specs.Tree.{Token}
+use Rattle.gcx_model.specs.declared.plan.Plan.{Plan}
 use Rattle.node_store.specs.Rows.{Rows}
 use Rattle.buf_tree.specs.Row.{Row}
 use Rattle.run_words.specs.Reading.{SourceGave, ReadsOn}
@@ -23,7 +25,7 @@ use Rattle.engine.specs.declared.report.Report.{Report}
 use Rattle.gcx_cmd.specs.DocumentDoes.{DocDoes, HasFault, IsClean, IsCut, OverDoc}
 use Rattle.gcx_cmd.specs.Outside.{Outside, StoreView, Untouched, both_sinks, sinks_of}
 use Rattle.gcx_cmd.specs.RunDoes.{EndsBy, HoldsSeen}
-use Rattle.gcx_cmd.specs.Running.{UnlessMemory}
+use Rattle.gcx_cmd.specs.Running.{IsPlanOf, UnlessMemory}
 use Rattle.gcx_cmd.specs.SelfInput.{SelfInput}
 use Rattle.gcx_cmd.specs.Status.{ended_status}
 use Rattle.gcx_cmd.specs.declared.status.Status.{Status}
@@ -88,3 +90,18 @@ status_in (result.Err s) = s
 abbrev pub SelfRuns : (seed count answer_bytes : ℕ) → Report → Type 0
 SelfRuns seed count answer_bytes report =
     (i : SelfInput seed count) × (answer_bytes ≡ length (answer i.query i.nodes)) × NumbersOf i.query i.tokens report
+
+-- a run of a plan over DOC, as of each query whose plan it is
+abbrev pub PlanRuns : Bool → (ahead : ℕ) → Plan → (d : List ℕ) → Status → Outside → Outside → Type 0
+PlanRuns tracing ahead plan d s a b = (q : List ExprTree) → IsPlanOf q (plan_tree plan) → DocumentRuns tracing ahead q d s a b
+
+-- and over what a source gave
+abbrev pub PlanRunsOver : {S O E : Type 0} → Bool → (ahead : ℕ) → Plan → Report → (S → SourceView) → (O → SinkView) → (E → SinkView)
+    → (source source_now : S) → (out out_now : O) → (err err_now : E) → Rows Row → (most : ℕ) → Type 0
+PlanRunsOver tracing ahead plan report given taken told s s1 o o1 e e1 rows most = (q : List ExprTree) → IsPlanOf q (plan_tree plan)
+    → SourceRuns tracing ahead q report (given s) (given s1) (taken o) (taken o1) (told e) (told e1) (stored rows most)
+
+-- and one whose answer isn't written
+abbrev pub PlanMeasures : Plan → (d : List ℕ) → Result Report Status → (a b : ShelfView) → Rows Row → (most : ℕ) → Rows Row → (most_now : ℕ) → Type 0
+PlanMeasures plan d r a b rows most rows1 most1 = (q : List ExprTree) → IsPlanOf q (plan_tree plan)
+    → DocumentMeasures q d r a b (stored rows most) (stored rows1 most1)

@@ -1,6 +1,5 @@
 //! `check`: whether TRACE is the trace of QUERY over DOC.
-ghost use Rattle.std.specs.Prelude.{◌≡◌, ◌≤◌, true, map, Some, IfErr, IsErrOf};
-ghost use Rattle.gcx_io.specs.Views.{SinkView};
+ghost use Rattle.std.specs.Prelude.{◌≡◌, ◌≤◌, true, map, IfErr, IsErrOf};
 ghost use Rattle.gcx_model.specs.Growth.{may_all};
 ghost use Rattle.gcx_model.specs.PlanView.{plan_tree};
 ghost use Rattle.gcx_model.specs.Tree.{opening};
@@ -8,9 +7,8 @@ ghost use Rattle.gcx_words.specs.declared.command.Command.TheVariants.{Check};
 ghost use Rattle.doc_reader.specs.Standing.{said_of};
 ghost use Rattle.trace_check.specs.Judging.{trace_of};
 ghost use Rattle.gcx_cmd.specs.CheckDoes.{TraceDoes};
-ghost use Rattle.gcx_cmd.specs.Does.{DoesIf};
+ghost use Rattle.gcx_cmd.specs.Does.{DoesBeside};
 ghost use Rattle.gcx_cmd.specs.Main.{HasNoMemory};
-ghost use Rattle.gcx_cmd.specs.Outside.{StoreView, beside};
 ghost use Rattle.gcx_cmd.specs.ReadEnd.{verdict};
 ghost use Rattle.gcx_cmd.specs.Reads.{CausesFault, KeepsShelf};
 ghost use Rattle.gcx_cmd.specs.Running.{IsPlaced};
@@ -85,9 +83,8 @@ pub(crate) fn write_check<F: Shelf, O: Sink>(
     files: &mut F,
     out: &mut O,
 ) -> Status
-    ensures does { (err : SinkView) (store : StoreView) →
-        DoesIf (Some (Check query.now document.now trace.now)) result
-        (beside (F.seen files.old) (O.seen out.old) err store) (beside (F.seen files.new) (O.seen out.new) err store) }
+    ensures does { DoesBeside (Check query.now document.now trace.now) result
+        (F.seen files.old) (F.seen files.new) (O.seen out.old) (O.seen out.new) }
 {
     let accepted = match read_query(alloc, files, query) {
         Ok(accepted) => accepted,

@@ -1,20 +1,12 @@
 //! The commands.
-ghost use Rattle.std.specs.Prelude.{◌≡◌, ℕ, List, Bool, Some, None};
+ghost use Rattle.std.specs.Prelude.{◌≡◌, None};
 ghost use Rattle.std.specs.FinMap as map;
-ghost use Rattle.gcx_io.specs.Shelf.{content_of};
-ghost use Rattle.gcx_io.specs.Writing.{Takes};
-ghost use Rattle.gcx_model.specs.Answer.{answer};
-ghost use Rattle.gcx_model.specs.Document.{Nodes};
-ghost use Rattle.gcx_model.specs.Query.{ExprTree};
 ghost use Rattle.gcx_words.specs.Within.{IsWithin};
 ghost use Rattle.gcx_words.specs.Words.{command_of, named};
-ghost use Rattle.gcx_words.specs.declared.command.Command.TheVariants as it;
-ghost use Rattle.tree_read.specs.Document.{BytesSpell};
 ghost use Rattle.gcx_cmd.specs.Completes.{Completes};
-ghost use Rattle.gcx_cmd.specs.Does.{Does, DoesIf};
-ghost use Rattle.gcx_cmd.specs.Main.{Accepts};
-ghost use Rattle.gcx_cmd.specs.ManyAnswers.{AnswersMany};
-ghost use Rattle.gcx_cmd.specs.Outside.{outside};
+ghost use Rattle.gcx_cmd.specs.Does.{Does, DoesCommand, DoesIf};
+ghost use Rattle.gcx_cmd.specs.ManyAnswers.{AnswersMany, AnswersRun};
+ghost use Rattle.gcx_cmd.specs.Outside.{IsSeen};
 
 use crate::Status;
 use crate::checking::write_check;
@@ -44,9 +36,8 @@ fn obey<F: Shelf, O: Sink, E: Sink, N: NodeStore<Row> + Drop>(
 ) -> Status
     requires within { IsWithin command.now }
     requires new { (N.rows nodes.old ≡ map.empty) × (N.most_held nodes.old ≡ 0) }
-    ensures does { DoesIf (Some command.now) result
-        (outside (F.seen files.old) (O.seen out.old) (E.seen err.old) (N.rows nodes.old) (N.most_held nodes.old))
-        (outside (F.seen files.new) (O.seen out.new) (E.seen err.new) (N.rows nodes.new) (N.most_held nodes.new)) }
+    ensures does { IsSeen (DoesCommand command.now result) F.seen O.seen E.seen N.rows N.most_held
+        files.old out.old err.old nodes.old files.new out.new err.new nodes.new }
 {
     match command {
         Command::Run {
@@ -83,9 +74,8 @@ fn perform<F: Shelf, O: Sink, E: Sink, N: NodeStore<Row> + Drop>(
     nodes: &mut N,
 ) -> Status
     requires new { (N.rows nodes.old ≡ map.empty) × (N.most_held nodes.old ≡ 0) }
-    ensures does { DoesIf (command_of words.now) result
-        (outside (F.seen files.old) (O.seen out.old) (E.seen err.old) (N.rows nodes.old) (N.most_held nodes.old))
-        (outside (F.seen files.new) (O.seen out.new) (E.seen err.new) (N.rows nodes.new) (N.most_held nodes.new)) }
+    ensures does { IsSeen (DoesIf (command_of words.now) result) F.seen O.seen E.seen N.rows N.most_held
+        files.old out.old err.old nodes.old files.new out.new err.new nodes.new }
     ensures unnamed { named words.now ≡ None → result ≡ Status.Usage }
 {
     match command_of(alloc, words) {
@@ -109,21 +99,14 @@ pub fn gcx_main<F: Shelf, O: Sink, E: Sink, N: NodeStore<Row> + Drop>(
     nodes: &mut N,
 ) -> Status
     requires new { (N.rows nodes.old ≡ map.empty) × (N.most_held nodes.old ≡ 0) }
-    ensures does { Does words.now result
-        (outside (F.seen files.old) (O.seen out.old) (E.seen err.old) (N.rows nodes.old) (N.most_held nodes.old))
-        (outside (F.seen files.new) (O.seen out.new) (E.seen err.new) (N.rows nodes.new) (N.most_held nodes.new)) }
+    ensures does { IsSeen (Does words.now result) F.seen O.seen E.seen N.rows N.most_held
+        files.old out.old err.old nodes.old files.new out.new err.new nodes.new }
     ensures unnamed { named words.now ≡ None → result ≡ Status.Usage }
-    ensures complete { Completes words.now result
-        (outside (F.seen files.old) (O.seen out.old) (E.seen err.old) (N.rows nodes.old) (N.most_held nodes.old))
-        (outside (F.seen files.new) (O.seen out.new) (E.seen err.new) (N.rows nodes.new) (N.most_held nodes.new)) }
-    ensures answers { AnswersMany words.now result
-        (outside (F.seen files.old) (O.seen out.old) (E.seen err.old) (N.rows nodes.old) (N.most_held nodes.old))
-        (outside (F.seen files.new) (O.seen out.new) (E.seen err.new) (N.rows nodes.new) (N.most_held nodes.new)) }
-    ensures written { (trace : Bool) (ahead : ℕ) (query document query_bytes document_bytes : List ℕ) →
-        command_of words.now ≡ Some (it.Run trace ahead query document) → result ≡ Status.Ok →
-        content_of (F.names files.old) query ≡ Some query_bytes →
-        content_of (F.names files.old) document ≡ Some document_bytes → (q : List ExprTree) (d : Nodes) →
-        Accepts query_bytes q → BytesSpell document_bytes d → Takes (O.seen out.old) (O.seen out.new) (answer q d) }
+    ensures complete { IsSeen (Completes words.now result) F.seen O.seen E.seen N.rows N.most_held
+        files.old out.old err.old nodes.old files.new out.new err.new nodes.new }
+    ensures answers { IsSeen (AnswersMany words.now result) F.seen O.seen E.seen N.rows N.most_held
+        files.old out.old err.old nodes.old files.new out.new err.new nodes.new }
+    ensures written { AnswersRun words.now result (F.names files.old) (O.seen out.old) (O.seen out.new) }
 {
     let status = perform(alloc, words, files, out, err, nodes);
     diagnose(err, status);

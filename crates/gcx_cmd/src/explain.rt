@@ -1,9 +1,6 @@
 //! `explain`: the plan of QUERY.
-ghost use Rattle.std.specs.Prelude.{Some};
-ghost use Rattle.gcx_io.specs.Views.{SinkView};
 ghost use Rattle.gcx_words.specs.declared.command.Command.TheVariants.{Explain};
-ghost use Rattle.gcx_cmd.specs.Does.{DoesIf};
-ghost use Rattle.gcx_cmd.specs.Outside.{StoreView, beside};
+ghost use Rattle.gcx_cmd.specs.Does.{DoesBeside};
 
 use crate::Status;
 use crate::query::read_query;
@@ -20,8 +17,8 @@ pub(crate) fn write_plan<F: Shelf, O: Sink>(
     files: &mut F,
     out: &mut O,
 ) -> Status
-    ensures does { (err : SinkView) (store : StoreView) → DoesIf (Some (Explain query.now)) result
-        (beside (F.seen files.old) (O.seen out.old) err store) (beside (F.seen files.new) (O.seen out.new) err store) }
+    ensures does { DoesBeside (Explain query.now) result
+        (F.seen files.old) (F.seen files.new) (O.seen out.old) (O.seen out.new) }
 {
     let accepted = match read_query(alloc, files, query) {
         Ok(accepted) => accepted,

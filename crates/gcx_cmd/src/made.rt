@@ -1,9 +1,6 @@
 //! `gen`: a document that is made from two numbers.
-ghost use Rattle.std.specs.Prelude.{Some};
-ghost use Rattle.gcx_io.specs.Views.{ShelfView, SinkView};
 ghost use Rattle.gcx_words.specs.declared.command.Command.TheVariants.{Gen};
-ghost use Rattle.gcx_cmd.specs.Does.{DoesIf};
-ghost use Rattle.gcx_cmd.specs.Outside.{StoreView, beside};
+ghost use Rattle.gcx_cmd.specs.Does.{DoesOutput};
 
 use crate::Status;
 use gcx_gen::{WriteEnd, write_document};
@@ -12,8 +9,7 @@ use std::alloc::Global;
 
 /// Runs `gen SEED N`: writes the document that is made from the numbers.
 pub(crate) fn write_made<O: Sink>(alloc: Global, seed: u32, count: u32, out: &mut O) -> Status
-    ensures does { (files : ShelfView) (err : SinkView) (store : StoreView) → DoesIf (Some (Gen seed count)) result
-        (beside files (O.seen out.old) err store) (beside files (O.seen out.new) err store) }
+    ensures does { DoesOutput (Gen seed count) result (O.seen out.old) (O.seen out.new) }
 {
     match write_document(alloc, out, seed, count) {
         Ok(()) => Status::Ok,

@@ -1,16 +1,14 @@
 //! `peak`: the numbers of a run of QUERY over DOC.
-ghost use Rattle.std.specs.Prelude.{◌≡◌, ◌≤◌, List, Some, IfErr, IfOk, IsErrOf};
+ghost use Rattle.std.specs.Prelude.{◌≡◌, ◌≤◌, IfErr, IfOk, IsErrOf};
 ghost use Rattle.std.specs.FinMap as map;
-ghost use Rattle.gcx_io.specs.Views.{SinkView};
 ghost use Rattle.gcx_model.specs.PlanView.{plan_tree};
-ghost use Rattle.gcx_model.specs.Query.{ExprTree};
 ghost use Rattle.gcx_words.specs.declared.command.Command.TheVariants.{Peak};
-ghost use Rattle.gcx_cmd.specs.Does.{DoesIf};
+ghost use Rattle.gcx_cmd.specs.Does.{DoesCommand};
 ghost use Rattle.gcx_cmd.specs.Main.{HasNoMemory};
-ghost use Rattle.gcx_cmd.specs.Outside.{outside};
+ghost use Rattle.gcx_cmd.specs.Outside.{IsSeenBeside};
 ghost use Rattle.gcx_cmd.specs.Reads.{CausesFault, KeepsShelf};
-ghost use Rattle.gcx_cmd.specs.Running.{IsPlaced, IsPlanOf};
-ghost use Rattle.gcx_cmd.specs.Runs.{DocumentMeasures, status_in, stored};
+ghost use Rattle.gcx_cmd.specs.Running.{IsPlaced};
+ghost use Rattle.gcx_cmd.specs.Runs.{PlanMeasures, status_in};
 ghost use Rattle.gcx_cmd.specs.Texts.{peak_line};
 ghost use Rattle.gcx_cmd.specs.Writes.{PrintsText};
 
@@ -37,9 +35,8 @@ fn measure_document<F: Shelf, N: NodeStore<Row> + Drop>(
 ) -> Result<Report, Status>
     requires placed { IsPlaced (plan_tree plan.now) }
     requires new { (N.rows nodes.old ≡ map.empty) × (N.most_held nodes.old ≡ 0) }
-    ensures measures { (q : List ExprTree) → IsPlanOf q (plan_tree plan.now) → DocumentMeasures q name.now result
-        (F.seen files.old) (F.seen files.new)
-        (stored (N.rows nodes.old) (N.most_held nodes.old)) (stored (N.rows nodes.new) (N.most_held nodes.new)) }
+    ensures measures { PlanMeasures plan.now name.now result (F.seen files.old) (F.seen files.new)
+        (N.rows nodes.old) (N.most_held nodes.old) (N.rows nodes.new) (N.most_held nodes.new) }
     ensures emptied { status_in result ≡ Status.Ok → N.rows nodes.new ≡ map.empty }
     ensures keeps { KeepsShelf (F.seen files.old) (F.seen files.new) }
     ensures cause { IsErrOf result Status.ReadFault → CausesFault name.now (F.seen files.old) (F.seen files.new) }
@@ -88,9 +85,8 @@ pub(crate) fn write_peak<F: Shelf, O: Sink, N: NodeStore<Row> + Drop>(
     nodes: &mut N,
 ) -> Status
     requires new { (N.rows nodes.old ≡ map.empty) × (N.most_held nodes.old ≡ 0) }
-    ensures does { (err : SinkView) → DoesIf (Some (Peak query.now document.now)) result
-        (outside (F.seen files.old) (O.seen out.old) err (N.rows nodes.old) (N.most_held nodes.old))
-        (outside (F.seen files.new) (O.seen out.new) err (N.rows nodes.new) (N.most_held nodes.new)) }
+    ensures does { IsSeenBeside (DoesCommand (Peak query.now document.now) result) F.seen O.seen N.rows N.most_held
+        files.old out.old nodes.old files.new out.new nodes.new }
 {
     let accepted = match read_query(alloc, files, query) {
         Ok(accepted) => accepted,

@@ -1,11 +1,9 @@
 //! The call of the program, at the types of the real shelf and streams.
 ghost use Rattle.std.specs.Prelude.{◌≡◌, None};
 ghost use Rattle.std.specs.FinMap as map;
-ghost use Rattle.gcx_io.specs.FileShelf.{file_shelf_seen};
-ghost use Rattle.gcx_io.specs.StdSink.{stream_seen};
 ghost use Rattle.gcx_words.specs.Words.{named};
 ghost use Rattle.gcx_cmd.specs.Does.{Does};
-ghost use Rattle.gcx_cmd.specs.Outside.{outside};
+ghost use Rattle.gcx_cmd.specs.Outside.{real_outside};
 
 use crate::{Status, gcx_main};
 use buf_tree::Row;
@@ -27,10 +25,8 @@ pub fn gcx_files(
 ) -> Status
     requires new { (nodes.old.rows ≡ map.empty) × (nodes.old.most ≡ 0) }
     ensures does { Does words.now result
-        (outside (file_shelf_seen files.old) (stream_seen out.old) (stream_seen err.old)
-        nodes.old.rows nodes.old.most)
-        (outside (file_shelf_seen files.new) (stream_seen out.new) (stream_seen err.new)
-        nodes.new.rows nodes.new.most) }
+        (real_outside files.old out.old err.old nodes.old.rows nodes.old.most)
+        (real_outside files.new out.new err.new nodes.new.rows nodes.new.most) }
     ensures unnamed { named words.now ≡ None → result ≡ Status.Usage }
 {
     gcx_main(alloc, words, files, out, err, nodes)

@@ -1,16 +1,15 @@
 //! `run`: the answer of QUERY over DOC, written while DOC is read.
-ghost use Rattle.std.specs.Prelude.{◌≡◌, ◌≤◌, List, Some, true};
+ghost use Rattle.std.specs.Prelude.{◌≡◌, ◌≤◌, true};
 ghost use Rattle.std.specs.FinMap as map;
 ghost use Rattle.gcx_io.specs.Causes.{Rose};
 ghost use Rattle.gcx_model.specs.PlanView.{plan_tree};
-ghost use Rattle.gcx_model.specs.Query.{ExprTree};
 ghost use Rattle.gcx_words.specs.declared.command.Command.TheVariants.{Run};
-ghost use Rattle.gcx_cmd.specs.Does.{DoesIf};
+ghost use Rattle.gcx_cmd.specs.Does.{DoesCommand};
 ghost use Rattle.gcx_cmd.specs.Main.{HasNoMemory};
-ghost use Rattle.gcx_cmd.specs.Outside.{outside};
+ghost use Rattle.gcx_cmd.specs.Outside.{IsSeen};
 ghost use Rattle.gcx_cmd.specs.Reads.{CausesFault, KeepsShelf};
-ghost use Rattle.gcx_cmd.specs.Running.{IsPlaced, IsPlanOf};
-ghost use Rattle.gcx_cmd.specs.Runs.{DocumentRuns, SourceRuns, stored};
+ghost use Rattle.gcx_cmd.specs.Running.{IsPlaced};
+ghost use Rattle.gcx_cmd.specs.Runs.{PlanRuns, PlanRunsOver};
 ghost use Rattle.gcx_cmd.specs.Status.{ended_status};
 
 use crate::Status;
@@ -67,10 +66,8 @@ pub(crate) fn run_plan<S: Source, O: Sink, E: Sink, N: NodeStore<Row> + Drop>(
     requires placed { IsPlaced (plan_tree plan.now) }
     requires ahead { (1 ≤ ahead) × (ahead ≤ 1000) × (tracing ≡ true → ahead ≡ 1) }
     requires new { (N.rows nodes.old ≡ map.empty) × (N.most_held nodes.old ≡ 0) }
-    ensures runs { (q : List ExprTree) → IsPlanOf q (plan_tree plan.now) →
-        SourceRuns tracing ahead q result (S.seen source.old) (S.seen source.new)
-        (O.seen out.old) (O.seen out.new) (E.seen err.old) (E.seen err.new)
-        (stored (N.rows nodes.new) (N.most_held nodes.new)) }
+    ensures runs { PlanRunsOver tracing ahead plan.now result S.seen O.seen E.seen
+        source.old source.new out.old out.new err.old err.new (N.rows nodes.new) (N.most_held nodes.new) }
     ensures emptied { result.ended ≡ Ended.Ok → N.rows nodes.new ≡ map.empty }
     ensures memory { HasNoMemory (ended_status result.ended) }
     ensures cause { result.ended ≡ Ended.ReadFault → Rose (S.faults source.old) (S.faults source.new) }
@@ -105,9 +102,8 @@ fn run_document<F: Shelf, O: Sink, E: Sink, N: NodeStore<Row> + Drop>(
     requires placed { IsPlaced (plan_tree plan.now) }
     requires ahead { (1 ≤ ahead) × (ahead ≤ 1000) × (tracing ≡ true → ahead ≡ 1) }
     requires new { (N.rows nodes.old ≡ map.empty) × (N.most_held nodes.old ≡ 0) }
-    ensures runs { (q : List ExprTree) → IsPlanOf q (plan_tree plan.now) → DocumentRuns tracing ahead q name.now result
-        (outside (F.seen files.old) (O.seen out.old) (E.seen err.old) (N.rows nodes.old) (N.most_held nodes.old))
-        (outside (F.seen files.new) (O.seen out.new) (E.seen err.new) (N.rows nodes.new) (N.most_held nodes.new)) }
+    ensures runs { IsSeen (PlanRuns tracing ahead plan.now name.now result) F.seen O.seen E.seen N.rows N.most_held
+        files.old out.old err.old nodes.old files.new out.new err.new nodes.new }
     ensures emptied { result ≡ Status.Ok → N.rows nodes.new ≡ map.empty }
     ensures keeps { KeepsShelf (F.seen files.old) (F.seen files.new) }
     ensures cause { result ≡ Status.ReadFault → CausesFault name.now (F.seen files.old) (F.seen files.new) }
@@ -138,9 +134,8 @@ pub(crate) fn write_run<F: Shelf, O: Sink, E: Sink, N: NodeStore<Row> + Drop>(
 ) -> Status
     requires ahead { (1 ≤ ahead) × (ahead ≤ 1000) × (tracing ≡ true → ahead ≡ 1) }
     requires new { (N.rows nodes.old ≡ map.empty) × (N.most_held nodes.old ≡ 0) }
-    ensures does { DoesIf (Some (Run tracing ahead query.now document.now)) result
-        (outside (F.seen files.old) (O.seen out.old) (E.seen err.old) (N.rows nodes.old) (N.most_held nodes.old))
-        (outside (F.seen files.new) (O.seen out.new) (E.seen err.new) (N.rows nodes.new) (N.most_held nodes.new)) }
+    ensures does { IsSeen (DoesCommand (Run tracing ahead query.now document.now) result) F.seen O.seen E.seen
+        N.rows N.most_held files.old out.old err.old nodes.old files.new out.new err.new nodes.new }
 {
     let accepted = match read_query(alloc, files, query) {
         Ok(accepted) => accepted,

@@ -1,9 +1,7 @@
 //! `selfrun`: the numbers of a run over a document that is made from two numbers.
-ghost use Rattle.std.specs.Prelude.{Some, IfOk};
-ghost use Rattle.gcx_io.specs.Views.{ShelfView, SinkView};
+ghost use Rattle.std.specs.Prelude.{IfOk};
 ghost use Rattle.gcx_words.specs.declared.command.Command.TheVariants.{Selfrun};
-ghost use Rattle.gcx_cmd.specs.Does.{DoesIf};
-ghost use Rattle.gcx_cmd.specs.Outside.{StoreView, beside};
+ghost use Rattle.gcx_cmd.specs.Does.{DoesOutput};
 ghost use Rattle.gcx_cmd.specs.Runs.{SelfRuns};
 
 use crate::Status;
@@ -64,8 +62,7 @@ fn run_self(alloc: Global, seed: u32, count: u32) -> Result<SelfRun, Memory>
 
 /// Runs `selfrun SEED N`: makes a document, runs a query over it and writes a line of the run's numbers.
 pub(crate) fn write_selfrun<O: Sink>(alloc: Global, seed: u32, count: u32, out: &mut O) -> Status
-    ensures does { (files : ShelfView) (err : SinkView) (store : StoreView) → DoesIf (Some (Selfrun seed count)) result
-        (beside files (O.seen out.old) err store) (beside files (O.seen out.new) err store) }
+    ensures does { DoesOutput (Selfrun seed count) result (O.seen out.old) (O.seen out.new) }
 {
     let Ok(run) = run_self(alloc, seed, count) else {
         return Status::Memory;

@@ -1,9 +1,6 @@
 //! `whole`: the answer of QUERY over the whole tree of DOC.
-ghost use Rattle.std.specs.Prelude.{Some};
-ghost use Rattle.gcx_io.specs.Views.{SinkView};
 ghost use Rattle.gcx_words.specs.declared.command.Command.TheVariants.{Whole};
-ghost use Rattle.gcx_cmd.specs.Does.{DoesIf};
-ghost use Rattle.gcx_cmd.specs.Outside.{StoreView, beside};
+ghost use Rattle.gcx_cmd.specs.Does.{DoesBeside};
 
 use crate::Status;
 use crate::document::read_document;
@@ -22,8 +19,8 @@ pub(crate) fn write_whole<F: Shelf, O: Sink>(
     files: &mut F,
     out: &mut O,
 ) -> Status
-    ensures does { (err : SinkView) (store : StoreView) → DoesIf (Some (Whole query.now document.now)) result
-        (beside (F.seen files.old) (O.seen out.old) err store) (beside (F.seen files.new) (O.seen out.new) err store) }
+    ensures does { DoesBeside (Whole query.now document.now) result
+        (F.seen files.old) (F.seen files.new) (O.seen out.old) (O.seen out.new) }
 {
     let accepted = match read_query(alloc, files, query) {
         Ok(accepted) => accepted,

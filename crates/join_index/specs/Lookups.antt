@@ -1,5 +1,5 @@
 -- What each call on an equality tells. Private functions alone speak of it, but for the names.
-use Rattle.std.specs.Prelude.{◌≡◌, ◌⊎◌, ℕ, Bool, true, false, not, List, map, Option, Some, None}
+use Rattle.std.specs.Prelude.{◌≡◌, ◌⊎◌, ℕ, Bool, true, false, not, List, map, Option, Some, None, slice_get}
 use Rattle.gcx_base.specs.declared.ids.Serial.{Serial}
 use Rattle.gcx_base.specs.declared.rel.Rel.{Rel}
 use Rattle.gcx_base.specs.declared.rel.Rel.TheVariants.{Eq}
@@ -25,7 +25,7 @@ use Rattle.cond_memo.specs.declared.taken.Taken.{Taken}
 use Rattle.join_index.specs.declared.equality.Side.{Side}
 use Rattle.join_index.specs.declared.equality.Listed.{Listed}
 use Rattle.join_index.specs.declared.equality.Equality.{Equality}
-use Rattle.join_index.specs.Equalities.{HasEquality, path_of_side}
+use Rattle.join_index.specs.Equalities.{HasEquality, NothingKept, VariablesDiffer, path_of_side}
 use Rattle.join_index.specs.Index.{IndexView, IsIndex, IsLooked, IsOuterClosed, NoneListed, ReachesEquality, TellsTruthOf, outer_of, same_serial, serial_kept}
 
 -- the texts are the values of the members' nodes
@@ -35,6 +35,14 @@ AreValues rows ms vs = (P : Tree) (keep : Node → Bool) (ns : List Node) → Re
 -- it is the equality of these two
 abbrev pub IsOf : Equality → (left right : OperandTree) → Type 0
 IsOf q l r = (path_of_side q.left ≡ l) × (path_of_side q.right ≡ r)
+
+-- it is, of paths whose variables differ, and nothing is kept yet
+abbrev pub IsMadeOf : Equality → (left right : OperandTree) → Type 0
+IsMadeOf q l r = IsOf q l r × VariablesDiffer l r × NothingKept q
+
+-- the one at this place of the list is
+abbrev pub IsListedAt : List Equality → (i : ℕ) → (left right : OperandTree) → Type 0
+IsListedAt qs i l r = (q : Equality) × (slice_get qs i ≡ Some q) × IsOf q l r
 
 -- the list is that of the values at the node of the row at the place, where that is closed
 abbrev pub ListsAt : List Cell → (p : ℕ) → List Step → (vs : List (List ℕ)) → Type 0

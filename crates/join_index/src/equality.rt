@@ -1,12 +1,12 @@
 //! An equality of two paths, and the list that is kept for it.
-ghost use Rattle.std.specs.Prelude.{◌≡◌, ◌↔◌, cond, ltb, true, Some, None, IfOk, MatchOption, slice_get};
+ghost use Rattle.std.specs.Prelude.{◌≡◌, ◌↔◌, cond, ltb, true, Some, None, IfOk, MatchOption};
 ghost use Rattle.gcx_model.specs.CondView.{operand_tree};
 ghost use Rattle.cond_eval.specs.Comparing.{AreInUse, IsNodeRow};
 ghost use Rattle.cond_memo.specs.Taking.{MayTake, TakesMore};
 ghost use Rattle.cond_memo.specs.Waiting.{Fits};
-ghost use Rattle.join_index.specs.Equalities.{VariablesDiffer, HasEquality, NothingKept, inner_of, path_of_side};
+ghost use Rattle.join_index.specs.Equalities.{VariablesDiffer, HasEquality, inner_of, path_of_side};
 ghost use Rattle.join_index.specs.Index.{outer_of, same_serial, serial_kept};
-ghost use Rattle.join_index.specs.Lookups.{AreValues, FindsIn, IsOf, ListsAt, LooksOn, KeepsList, KeepsSeen, MayFindIn, TurnsSeen};
+ghost use Rattle.join_index.specs.Lookups.{AreValues, FindsIn, IsListedAt, IsMadeOf, IsOf, ListsAt, LooksOn, KeepsList, KeepsSeen, MayFindIn, TurnsSeen};
 
 use crate::values::{Probes, Values};
 use buf_tree::{Buffer, Row};
@@ -80,8 +80,7 @@ impl Equality {
     ) -> Result<Option<Equality>, Memory>
         ensures { IfOk result (λ made. MatchOption made
             (VariablesDiffer (operand_tree left.now) (operand_tree right.now) → ⊥)
-            (λ q. IsOf q (operand_tree left.now) (operand_tree right.now)
-            × VariablesDiffer (operand_tree left.now) (operand_tree right.now) × NothingKept q)) }
+            (λ q. IsMadeOf q (operand_tree left.now) (operand_tree right.now))) }
     {
         let (
             Operand::Path { var, steps },
@@ -238,8 +237,7 @@ fn look_up<N: NodeStore<Row>>(
 /// The number of the equality of these two.
 pub(crate) fn find(equalities: &[Equality], left: &Operand, right: &Operand) -> Option<usize>
     ensures { MatchOption result (HasEquality equalities.now (operand_tree left.now) (operand_tree right.now) → ⊥)
-        (λ i. (q : Equality) × (slice_get equalities.now i ≡ Some q)
-        × IsOf q (operand_tree left.now) (operand_tree right.now)) }
+        (λ i. IsListedAt equalities.now i (operand_tree left.now) (operand_tree right.now)) }
 {
     let mut index = 0;
     'equalities: while index < equalities.len() {

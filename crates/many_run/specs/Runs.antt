@@ -166,3 +166,8 @@ pub record ManyGoOnFrom {C : Type 0} (stands : C → Tree → Type 0) (lim : Lim
 abbrev pub ManyTurnTo : {C : Type 0} → (C → Tree → Type 0) → Limits → ManyView C → Option Ended → Handle → List Handle → (a b : ShelfView) → Type 0
 ManyTurnTo stands lim m None doc outs a b = ManyBetween stands lim m doc outs a b
 ManyTurnTo stands lim m (Some by) doc outs a b = RanMany (plans_of m) lim by m.bytes doc outs a b
+
+-- what a turn makes of the plans between two reads
+abbrev pub ManyTurnsFrom : {C : Type 0} → (C → Tree → Type 0) → (old new : ManyView C) → Option Ended → Handle → List Handle → (a b : ShelfView) → Type 0
+ManyTurnsFrom stands old new r doc outs a b = (lim : Limits) (begun : ShelfView)
+    → ManyTurnTo stands lim old None doc outs begun a → ManyTurnTo stands lim new r doc outs begun b

@@ -3,7 +3,6 @@ ghost use Rattle.std.specs.Prelude.{◌≡◌, ◌<◌, ◌≤◌, [], length, N
 ghost use Rattle.std.specs.FinMap as map_of;
 ghost use Rattle.gcx_base.specs.declared.limits.Limits.{Limits};
 ghost use Rattle.gcx_io.specs.Causes.{Rose};
-ghost use Rattle.gcx_io.specs.Views.{ShelfView};
 ghost use Rattle.gcx_io.specs.Writing.{Owes, Takes};
 ghost use Rattle.gcx_model.specs.Tree.{opening};
 ghost use Rattle.gcx_model.specs.declared.fault.DocFault.{DocFault};
@@ -11,7 +10,7 @@ ghost use Rattle.gcx_model.specs.declared.fault.DocFault.TheVariants.{Memory as 
 ghost use Rattle.many_run.specs.Each.{OfEach};
 ghost use Rattle.many_run.specs.Files.{HandlesApart, LeavesTheRest, sink_at};
 ghost use Rattle.many_run.specs.Many.{IsOfCore, ManyStart, plans_of};
-ghost use Rattle.many_run.specs.Runs.{EndsEach, ManyGoOnFrom, ManyTurnTo, MayWrite, OnlyWritten, RanMany, StopsInEach, WritesOnly, WroteEach};
+ghost use Rattle.many_run.specs.Runs.{EndsEach, ManyGoOnFrom, ManyTurnsFrom, MayWrite, OnlyWritten, RanMany, StopsInEach, WritesOnly, WroteEach};
 
 use crate::many::Many;
 use buf_tree::Row;
@@ -107,9 +106,7 @@ fn turn<N: NodeStore<Row>, C: Conds, F: Shelf>(
     requires stands { (lim : Limits) × ManyGoOnFrom C.stands lim many.old }
     requires size { length buf.old ≡ 65536 }
     ensures size { length buf.new ≡ 65536 }
-    ensures goes { (lim : Limits) (begun : ShelfView) →
-        ManyTurnTo C.stands lim many.old None doc outs.now begun (F.seen files.old) →
-        ManyTurnTo C.stands lim many.new result doc outs.now begun (F.seen files.new) }
+    ensures goes { ManyTurnsFrom C.stands many.old many.new result doc outs.now (F.seen files.old) (F.seen files.new) }
     ensures may { MayWrite many.new (F.seen files.new) doc outs.now }
     ensures stands { result ≡ None → (lim : Limits) →
         ManyGoOnFrom C.stands lim many.old → ManyGoOnFrom C.stands lim many.new }

@@ -142,10 +142,10 @@ module _ (plan : PlanTree) (t : PathTree) (s : IsPathTree plan t) where
       let z = zero_only f.of f.member in
       let same : 0 ≡ c = z ∙ w.same in
       let at : slice_get tree 0 ≡ Some w.state = subst (λ (k : ℕ). slice_get tree k ≡ Some w.state) (sym z) w.at in
-      let y = in_some w.state.below.items w.some in
+      let y = in_some w.state.descendant_edges.items w.some in
       record {
         below = y.0;
-        stands = subst (λ (k : ℕ). IsBelow tree Descendant k y.0) same (((s.linked 0 w.state at).below y.0).0 y.1);
+        stands = subst (λ (k : ℕ). IsBelow tree Descendant k y.0) same (((s.linked 0 w.state at).descendant_edges y.0).0 y.1);
         hit = root_at (hits 0 (s.path c)) (subst (λ (k : ℕ). hits 0 (s.path k) Root ≡ true) same zero_hit);
       }
 
@@ -158,7 +158,7 @@ module _ (plan : PlanTree) (t : PathTree) (s : IsPathTree plan t) where
       let z = hit_zero c (omega arith) (at_root (hits 0 (s.path c)) p.hit) in
       let q = first_state in
       let stands : IsBelow tree Descendant 0 p.below = subst (λ (k : ℕ). IsBelow tree Descendant k p.below) z b in
-      record { of = 0; member = inl refl; is = record { state = q.0; at = q.1; some = in_not_none q.0.below.items p.below (((s.linked 0 q.0 q.1).below p.below).1 stands); same = sym z } }
+      record { of = 0; member = inl refl; is = record { state = q.0; at = q.1; some = in_not_none q.0.descendant_edges.items p.below (((s.linked 0 q.0 q.1).descendant_edges p.below).1 stands); same = sym z } }
 
   whole_to : (r : ℕ) → From (0 ∷ []) (Tells (λ x. x.whole.items) tree) r → IsInside plan Root r
   whole_to r f =

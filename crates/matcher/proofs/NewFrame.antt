@@ -83,28 +83,28 @@ module _ (plan : PlanTree) (t : PathTree) (A : IsPathTree plan t) where
         (subst (λ (z : ℕ). z < count) is.same l, subst (λ (z : ℕ). hits 0 (A.path z) new ≡ true) is.same r)
 
     module _ (above_hits above_pending : List ℕ) (0-new : 0 < s)
-        (kids_hit : (c : ℕ) → In c above_hits → (c < count) × (hits 0 (A.path c) a ≡ true))
-        (hit_kids : (c : ℕ) → c < count → hits 0 (A.path c) a ≡ true → In c above_hits)
+        (active_hits : (c : ℕ) → In c above_hits → (c < count) × (hits 0 (A.path c) a ≡ true))
+        (hits_active : (c : ℕ) → c < count → hits 0 (A.path c) a ≡ true → In c above_hits)
         (waits : (c : ℕ) → In c above_pending → IsPending t.states.items A.path a c)
         (waiting : (c : ℕ) → IsPending t.states.items A.path a c → In c above_pending) where
       hits_to : (c : ℕ) → ActiveBelow t.states.items above_hits above_pending k c → (c < count) × (hits 0 (A.path c) new ≡ true)
       hits_to c (inl f) =
           let u = f.is in
-          let b = (A.linked f.of u.state u.at).kids u.from.of in
-          passed Child f.of c (kids_hit f.of f.member).1 u.from.of (b.0 u.from.member) u.from.is
+          let b = (A.linked f.of u.state u.at).child_edges u.from.of in
+          passed Child f.of c (active_hits f.of f.member).1 u.from.of (b.0 u.from.member) u.from.is
       hits_to c (inr f) =
           let u = f.is in
-          let b = (A.linked f.of u.state u.at).below u.from.of in
+          let b = (A.linked f.of u.state u.at).descendant_edges u.from.of in
           passed Descendant f.of c (waits f.of f.member).hit u.from.of (b.0 u.from.member) u.from.is
 
       by_axis : (axis : Axis) (c : ℕ) (sp q : PathState) → slice_get t.states.items c ≡ Some sp → 0 < c → slice_get t.states.items sp.parent ≡ Some q → sp.step.axis ≡ axis → passes sp.step.test k ≡ true → Led axis 0 (A.path sp.parent) a → ActiveBelow t.states.items above_hits above_pending k c
       by_axis Child c sp q e l f x p h = inl (record {
         of = sp.parent;
-        member = hit_kids sp.parent (slice_get_within t.states.items sp.parent q f) h;
+        member = hits_active sp.parent (slice_get_within t.states.items sp.parent q f) h;
         is = record {
           state = q;
           at = f;
-          from = record { of = c; member = ((A.linked sp.parent q f).kids c).1 (record { state = sp; at = e; behind = l; parent = refl; same = x }); is = record { state = sp; at = e; is = p; same = refl } };
+          from = record { of = c; member = ((A.linked sp.parent q f).child_edges c).1 (record { state = sp; at = e; behind = l; parent = refl; same = x }); is = record { state = sp; at = e; is = p; same = refl } };
         };
       })
       by_axis Descendant c sp q e l f x p h =
@@ -112,7 +112,7 @@ module _ (plan : PlanTree) (t : PathTree) (A : IsPathTree plan t) where
           inr (record {
             of = sp.parent;
             member = waiting sp.parent (record { below = c; stands = b; hit = h });
-            is = record { state = q; at = f; from = record { of = c; member = ((A.linked sp.parent q f).below c).1 b; is = record { state = sp; at = e; is = p; same = refl } } };
+            is = record { state = q; at = f; from = record { of = c; member = ((A.linked sp.parent q f).descendant_edges c).1 b; is = record { state = sp; at = e; is = p; same = refl } } };
           })
 
       hits_from : (c : ℕ) → c < count → hits 0 (A.path c) new ≡ true → ActiveBelow t.states.items above_hits above_pending k c
@@ -135,8 +135,8 @@ module _ (plan : PlanTree) (t : PathTree) (A : IsPathTree plan t) where
         (λ j. elim ((g.has c).0 j) [
           | inl o ↦ (let r = waits c o in record { below = r.below; stands = r.stands; hit = or_right (hits 0 (A.path c) new) (any (hits 0 (A.path c)) (above a)) r.hit })
           | inr f ↦ (let v = f.is in
-              let b = in_some v.state.below.items v.some in
-              let st : IsBelow t.states.items Descendant c b.0 = subst (λ (z : ℕ). IsBelow t.states.items Descendant z b.0) v.same (((A.linked f.of v.state v.at).below b.0).0 b.1) in
+              let b = in_some v.state.descendant_edges.items v.some in
+              let st : IsBelow t.states.items Descendant c b.0 = subst (λ (z : ℕ). IsBelow t.states.items Descendant z b.0) v.same (((A.linked f.of v.state v.at).descendant_edges b.0).0 b.1) in
               let h : hits 0 (A.path c) new ≡ true = subst (λ (z : ℕ). hits 0 (A.path z) new ≡ true) v.same (to f.of f.member).1 in
               record { below = b.0; stands = st; hit = or_left (hits 0 (A.path c) new) (any (hits 0 (A.path c)) (above a)) h })
         ]),
@@ -147,8 +147,8 @@ module _ (plan : PlanTree) (t : PathTree) (A : IsPathTree plan t) where
               let e = st.parent in
               let l : c < count = omega arith in
               let r = some_at t.states.items c l in
-              let y : In d.below r.0.below.items = ((A.linked c r.0 r.1).below d.below).1 st in
-              inr (record { of = c; member = from c l h; is = record { state = r.0; at = r.1; some = in_not_none r.0.below.items d.below y; same = refl } }))
+              let y : In d.below r.0.descendant_edges.items = ((A.linked c r.0 r.1).descendant_edges d.below).1 st in
+              inr (record { of = c; member = from c l h; is = record { state = r.0; at = r.1; some = in_not_none r.0.descendant_edges.items d.below y; same = refl } }))
           | inr h ↦ inl (waiting c (record { below = d.below; stands = d.stands; hit = h }))
         ])),
       )

@@ -53,7 +53,8 @@ impl<'a, N: NodeStore<T>, T> At<'a, N, T> {
     /// The first child, or None where there is no child.
     pub fn first(&self) -> Option<At<'a, N, T>>
         ensures store { IfSome result (λ a. a.store.now ≡ self.now.store.now) }
-        ensures place { option_map (λ a. a.place.0) result ≡ head_of (children_in (map.get (N.rows self.now.store.now) self.now.place.0)) }
+        ensures place { option_map (λ a. a.place.0) result
+            ≡ head_of (children_in (map.get (N.rows self.now.store.now) self.now.place.0)) }
     {
         match self.store.first(self.place) {
             Some(place) => Some(At::new(self.store, place)),
@@ -64,7 +65,8 @@ impl<'a, N: NodeStore<T>, T> At<'a, N, T> {
     /// The last child, or None where there is no child.
     pub fn last(&self) -> Option<At<'a, N, T>>
         ensures store { IfSome result (λ a. a.store.now ≡ self.now.store.now) }
-        ensures place { option_map (λ a. a.place.0) result ≡ last_of (children_in (map.get (N.rows self.now.store.now) self.now.place.0)) }
+        ensures place { option_map (λ a. a.place.0) result
+            ≡ last_of (children_in (map.get (N.rows self.now.store.now) self.now.place.0)) }
     {
         match self.store.last(self.place) {
             Some(place) => Some(At::new(self.store, place)),

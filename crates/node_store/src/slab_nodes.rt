@@ -188,7 +188,8 @@ fn add<T>(
     payload: T,
 ) -> Result<Place, Refused<T>>
     ensures free { IfOk result (λ p. links cells.old p.0 ≡ None) }
-    ensures ok { IfOk result (λ p. links cells.new ≡ put p.0 (Some (fresh_cell (index_of parent) (index_of prev) payload)) (links cells.old)) }
+    ensures ok { IfOk result (λ p. links cells.new
+        ≡ put p.0 (Some (fresh_cell (index_of parent) (index_of prev) payload)) (links cells.old)) }
     ensures len { OnOk result (slab_len cells.new ≡ slab_len cells.old + 1) }
     ensures err { OnErr result (cells.new.slots ≡ cells.old.slots) }
     ensures payload { IfErr result (λ e. e.payload ≡ payload) }

@@ -41,7 +41,8 @@ pub trait NodeStore<T> {
         ensures ok { IfOk result (λ p. rows self.new ≡ planted (rows self.old) p.0 payload) }
         ensures most { OnOk result (most_held self.new ≡ max (most_held self.old) 1) }
         ensures root { IfOk result (λ p. root_of self.new ≡ Some p.0) }
-        ensures err { IfErr result (λ e. (e.payload ≡ payload) × (rows self.new ≡ rows self.old) × (most_held self.new ≡ most_held self.old)) }
+        ensures err { IfErr result (λ e. (e.payload ≡ payload)
+            × (rows self.new ≡ rows self.old) × (most_held self.new ≡ most_held self.old)) }
         ensures root_kept { OnErr result (root_of self.new ≡ root_of self.old) }
         ensures loans { loans self.new ≡ loans self.old };
 
@@ -55,7 +56,8 @@ pub trait NodeStore<T> {
         ensures ok { IfOk result (λ p. rows self.new ≡ appended (rows self.old) parent.0 p.0 payload) }
         ensures most { OnOk result (most_held self.new ≡ max (most_held self.old) (map.len (rows self.new))) }
         ensures root { root_of self.new ≡ root_of self.old }
-        ensures err { IfErr result (λ e. (e.payload ≡ payload) × (rows self.new ≡ rows self.old) × (most_held self.new ≡ most_held self.old)) }
+        ensures err { IfErr result (λ e. (e.payload ≡ payload)
+            × (rows self.new ≡ rows self.old) × (most_held self.new ≡ most_held self.old)) }
         ensures loans { loans self.new ≡ loans self.old };
 
     /// Takes a row without children out, and hands out its payload. The cell links to both siblings, so at most four

@@ -77,7 +77,7 @@ module _ (tree : List PathState) (names : List (List ℕ)) where
   }
 
   -- those below a path state by either axis
-  pub below_both : (s : PathState) (bs : Branches) → AreSorted tree names s.kids.items bs.kids.items → AreSorted tree names s.below.items bs.below.items → BranchesAreBelow tree names s bs
+  pub below_both : (s : PathState) (bs : Branches) → AreSorted tree names s.child_edges.items bs.child_edges.items → AreSorted tree names s.descendant_edges.items bs.descendant_edges.items → BranchesAreBelow tree names s bs
   below_both s bs k b Child = k
   below_both s bs k b Descendant = b
 

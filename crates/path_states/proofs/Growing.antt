@@ -359,18 +359,18 @@ list_push told number xs ys e = gains_push xs ys number (λ y. (told ≡ told) �
 
 -- a path state tells more where its lists do
 pub lists_more : (this told : Told) (number : ℕ) (s t : PathState) → told ≡ this → t.parent ≡ s.parent → t.step ≡ s.step
-    → Gains s.kids.items t.kids.items (λ y. (told ≡ Below Child) × (number ≡ y))
-    → Gains s.below.items t.below.items (λ y. (told ≡ Below Descendant) × (number ≡ y))
+    → Gains s.child_edges.items t.child_edges.items (λ y. (told ≡ Below Child) × (number ≡ y))
+    → Gains s.descendant_edges.items t.descendant_edges.items (λ y. (told ≡ Below Descendant) × (number ≡ y))
     → Gains s.own.items t.own.items (λ y. (told ≡ Ends Own) × (number ≡ y))
     → Gains s.whole.items t.whole.items (λ y. (told ≡ Ends Whole) × (number ≡ y))
     → Gains s.first.items t.first.items (λ y. (told ≡ Ends First) × (number ≡ y))
     → Gains s.context.items t.context.items (λ y. (told ≡ Contexts) × (number ≡ y))
     → TellsMore this number s t
-lists_more this told number s t e p st kids below own whole first context = subst (λ (z : Told). TellsMore z number s t) e (record { parent = p; step = st; gains = go })
+lists_more this told number s t e p st child_edges descendant_edges own whole first context = subst (λ (z : Told). TellsMore z number s t) e (record { parent = p; step = st; gains = go })
   where
     go : (k : Told) → Gains (told_by k s) (told_by k t) (λ y. (told ≡ k) × (number ≡ y))
-    go (Below Child) = kids
-    go (Below Descendant) = below
+    go (Below Child) = child_edges
+    go (Below Descendant) = descendant_edges
     go (Ends Own) = own
     go (Ends First) = first
     go (Ends Whole) = whole

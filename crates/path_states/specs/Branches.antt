@@ -15,12 +15,12 @@ use Rattle.path_states.specs.declared.paths.PathState.{PathState}
 
 -- those below a path state by a step of the axis
 abbrev pub steps_by : Axis → PathState → List ℕ
-steps_by Child s = s.kids.items
-steps_by Descendant s = s.below.items
+steps_by Child s = s.child_edges.items
+steps_by Descendant s = s.descendant_edges.items
 
 abbrev pub branches_by : Axis → Branches → List Branch
-branches_by Child bs = bs.kids.items
-branches_by Descendant bs = bs.below.items
+branches_by Child bs = bs.child_edges.items
+branches_by Descendant bs = bs.descendant_edges.items
 
 -- the number of the name that the test asks for: their count, where it asks for none
 abbrev pub IsAskedNumber : List (List ℕ) → Test → ℕ → Type 0

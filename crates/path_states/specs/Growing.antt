@@ -19,8 +19,8 @@ pub data Told : Type 0 where
   Contexts : Told
 
 abbrev pub told_by : Told → PathState → List ℕ
-told_by (Below Child) s = s.kids.items
-told_by (Below Descendant) s = s.below.items
+told_by (Below Child) s = s.child_edges.items
+told_by (Below Descendant) s = s.descendant_edges.items
 told_by (Ends Own) s = s.own.items
 told_by (Ends First) s = s.first.items
 told_by (Ends Whole) s = s.whole.items
@@ -75,6 +75,21 @@ pub record Reached (tree : List PathState) (paths : List (List Step)) (ways : Li
   pub growing : Growing tree (paths ++ more) ways
   pub within : end < length tree
   pub is : path_at (paths ++ more) end ≡ path
+
+-- below the path state `parent` there is one more, by this step
+abbrev pub GrowsBelow : (before now : List PathState) → (parent : ℕ) → Step → Type 0
+GrowsBelow before now parent step = (paths : List (List Step)) (ways : List Way)
+    → parent < length before → Growing before paths ways → Growing now (paths ++ (path_at paths parent ++ step ∷ []) ∷ []) ways
+
+-- from the path state `start` these steps lead to the path state `end`
+abbrev pub ReachesEnd : (before now : List PathState) → (start end : ℕ) → List Step → Type 0
+ReachesEnd before now start end steps = (paths : List (List Step)) (ways : List Way)
+    → start < length before → Growing before paths ways → Reached now paths ways end (path_at paths start ++ steps)
+
+-- the way of this role, the next one, is among the ways too
+abbrev pub GainsWay : (before now : List PathState) → (role : ℕ) → Way → Type 0
+GainsWay before now role way = (paths : List (List Step)) (ways : List Way)
+    → length ways ≡ role → way.end < length before → way.var < length before → Growing before paths ways → Growing now paths (ways ++ way ∷ [])
 
 -- there are those of these roles of the plan too, and these are the ways of the roles
 pub record Ended (plan : PlanTree) (tree : List PathState) (ways : List Way) (rows : List RoleRowTree) : Type 0 where

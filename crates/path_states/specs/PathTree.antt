@@ -38,8 +38,8 @@ pub record IsContext (ways : List Way) (p r : ℕ) : Type 0 where
 
 -- what the path state p tells of those below it and of the roles
 pub record IsLinked (tree : List PathState) (ways : List Way) (p : ℕ) (s : PathState) : Type 0 where
-  pub kids : (c : ℕ) → In c s.kids.items ↔ IsBelow tree Child p c
-  pub below : (c : ℕ) → In c s.below.items ↔ IsBelow tree Descendant p c
+  pub child_edges : (c : ℕ) → In c s.child_edges.items ↔ IsBelow tree Child p c
+  pub descendant_edges : (c : ℕ) → In c s.descendant_edges.items ↔ IsBelow tree Descendant p c
   pub own : (r : ℕ) → In r s.own.items ↔ IsEnd ways Own p r
   pub whole : (r : ℕ) → In r s.whole.items ↔ IsEnd ways Whole p r
   pub first : (r : ℕ) → In r s.first.items ↔ IsEnd ways First p r

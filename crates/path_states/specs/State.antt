@@ -5,7 +5,7 @@ use Rattle.std.specs.Ordering.{nat_cmp}
 use Rattle.std.specs.FinSet as set
 use Rattle.gcx_base.specs.declared.kind.Kind.{Kind}
 use Rattle.gcx_model.specs.Members.{In}
-use Rattle.path_states.specs.Active.{ActiveBelow, Tells, Waits, kids_of}
+use Rattle.path_states.specs.Active.{ActiveBelow, Tells, Waits, child_edges_of}
 use Rattle.path_states.specs.Lists.{Climbs, From, Gains, Holds}
 use Rattle.path_states.specs.declared.paths.PathState.{PathState}
 
@@ -54,7 +54,7 @@ GivenBy tree whole active r = In r whole ⊎ From active (Tells own_roles tree) 
 -- no path leads below a node where these path states are active and pending
 pub record AreDead (tree : List PathState) (active waiting : List ℕ) : Type 0 where
   pub pending : waiting ≡ []
-  pub kids : (c : ℕ) → From active (Tells kids_of tree) c → ⊥
+  pub child_edges : (c : ℕ) → From active (Tells child_edges_of tree) c → ⊥
 
 -- A state is the one that its parts make: what it gives follows from its active path states and its roles of whole subtrees.
 pub record IsMade (tree : List PathState) (s : StateView) : Type 0 where

@@ -1,8 +1,8 @@
 //! Which path states are active at a node below another one, by the number of its name.
-ghost use Rattle.std.specs.Prelude.{◌≡◌, ℕ, List, true, IfOk, OnOk};
+ghost use Rattle.std.specs.Prelude.{◌≡◌, ℕ, true, IfOk, OnOk};
 ghost use Rattle.path_states.specs.Lists.{From};
-ghost use Rattle.path_states.specs.Active.{ActiveBelow, GainsBy, HoldsBy, Passes, PassesTo, Tells, Under, kids_of};
-ghost use Rattle.path_states.specs.Branches.{AreSorted, steps_by};
+ghost use Rattle.path_states.specs.Active.{ActiveBelow, GainsBy, GainsPassing, HoldsBy, Passes, PassesTo, Tells, Under, child_edges_of};
+ghost use Rattle.path_states.specs.Branches.{steps_by};
 
 use crate::branches::{Branch, StepIndex, asking};
 use crate::names::takes;
@@ -60,8 +60,8 @@ fn try_asking(
     name: usize,
     branches: &[Branch],
 ) -> Result<(), Memory>
-    ensures { OnOk result ((numbers : List ℕ) → AreSorted tree.now steps.now.names.items numbers branches.now →
-        GainsBy tree.now steps.now name active.old.items active.new.items (λ kind. From numbers (Passes tree.now kind))) }
+    ensures { OnOk result
+        (GainsPassing tree.now steps.now name active.old.items active.new.items branches.now) }
 {
     let named = asking(branches, name);
     try_all(active, tree, steps, name, named)?;
@@ -112,21 +112,21 @@ fn try_below_all(
 }
 
 /// Whether no path state stands below this one by a child step.
-fn has_no_kids(tree: &[PathState], number: u32) -> bool
-    ensures { result ≡ true → (c : ℕ) → Tells kids_of tree.now number c → ⊥ }
+fn has_no_child_edges(tree: &[PathState], number: u32) -> bool
+    ensures { result ≡ true → (c : ℕ) → Tells child_edges_of tree.now number c → ⊥ }
 {
     match tree.get(number as usize) {
-        Some(state) => state.kids.as_slice().is_empty(),
+        Some(state) => state.child_edges.as_slice().is_empty(),
         None => true,
     }
 }
 
 /// Whether none stands below these by a child step.
-pub(crate) fn have_no_kids(tree: &[PathState], active: &[u32]) -> bool
-    ensures { result ≡ true → (c : ℕ) → From active.now (Tells kids_of tree.now) c → ⊥ }
+pub(crate) fn have_no_child_edges(tree: &[PathState], active: &[u32]) -> bool
+    ensures { result ≡ true → (c : ℕ) → From active.now (Tells child_edges_of tree.now) c → ⊥ }
 {
     for number in active {
-        if !has_no_kids(tree, *number) {
+        if !has_no_child_edges(tree, *number) {
             return false;
         }
     }

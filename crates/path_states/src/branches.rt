@@ -19,11 +19,11 @@ pub(crate) struct Branch {
     pub state: u32,
 }
 
-/// Those below one path state by child steps and by descendant steps, in the order of their names.
+/// The edges from one path state, by child steps and by descendant steps, in the order of their names.
 #[derive(Drop)]
 pub(crate) struct Branches {
-    pub kids: Vec<Branch>,
-    pub below: Vec<Branch>,
+    pub child_edges: Vec<Branch>,
+    pub descendant_edges: Vec<Branch>,
 }
 
 /// The names that steps ask for, and the branches of each path state.
@@ -118,9 +118,12 @@ fn branches_below(
 ) -> Result<Branches, Memory>
     ensures { IfOk result (λ branches. AreOrdered names.now → BranchesAreBelow tree.now names.now state.now branches) }
 {
-    let kids = sorted_branches(alloc, tree, names, &state.kids)?;
-    let below = sorted_branches(alloc, tree, names, &state.below)?;
-    Ok(Branches { kids, below })
+    let child_edges = sorted_branches(alloc, tree, names, &state.child_edges)?;
+    let descendant_edges = sorted_branches(alloc, tree, names, &state.descendant_edges)?;
+    Ok(Branches {
+        child_edges,
+        descendant_edges,
+    })
 }
 
 /// Those below each of the path states.
@@ -150,8 +153,8 @@ impl Branches {
         ensures { result.now ≡ branches_by axis self.now }
     {
         match axis {
-            Axis::Child => &self.kids,
-            Axis::Descendant => &self.below,
+            Axis::Child => &self.child_edges,
+            Axis::Descendant => &self.descendant_edges,
         }
     }
 }

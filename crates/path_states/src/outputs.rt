@@ -27,7 +27,7 @@ fn put_pending(pending: &mut Vec<u32>, tree: &[PathState], number: u32) -> Resul
 {
     match tree.get(number as usize) {
         Some(state) => {
-            if !state.below.as_slice().is_empty() {
+            if !state.descendant_edges.as_slice().is_empty() {
                 rise(pending, number)?;
             }
             Ok(())

@@ -1,5 +1,5 @@
 //! The paths of a plan as one tree, flat: a path state for each variable, and behind them one for each step of the tails.
-ghost use Rattle.std.specs.Prelude.{◌≡◌, ◌<◌, ◌++◌, ◌∷◌, ℕ, [], false, List, length, map, Some, slice_get, IfOk, OnOk};
+ghost use Rattle.std.specs.Prelude.{◌≡◌, ◌<◌, ◌∷◌, ℕ, [], false, List, length, map, Some, slice_get, IfOk, OnOk};
 ghost use Rattle.gcx_base.specs.declared.kind.Kind.TheVariants.{Text};
 ghost use Rattle.gcx_base.specs.declared.steps.Step.{Step};
 ghost use Rattle.gcx_model.specs.Core.{PlanTree};
@@ -7,7 +7,7 @@ ghost use Rattle.gcx_model.specs.Held.{paths_from};
 ghost use Rattle.gcx_model.specs.ItemView.{role_kind};
 ghost use Rattle.gcx_base.specs.Tests.{passes};
 ghost use Rattle.gcx_model.specs.PlanView.{plan_tree, role_row_tree, var_row_tree};
-ghost use Rattle.path_states.specs.Growing.{Below, Ends, Contexts, IsFresh, TellsMore, TellMore, Growing, Reached, Ended, path_at};
+ghost use Rattle.path_states.specs.Growing.{Below, Ends, Contexts, IsFresh, TellsMore, TellMore, Growing, GrowsBelow, ReachesEnd, GainsWay, Ended, path_at};
 ghost use Rattle.path_states.specs.PathTree.{IsPathTree, kind_with, tail_with};
 ghost use Rattle.path_states.specs.declared.paths.PathState.{PathState};
 ghost use Rattle.path_states.specs.declared.paths.Way.{Way};
@@ -23,10 +23,10 @@ pub struct PathState {
     pub parent: u32,
     /// The last step of its path.
     pub step: Step,
-    /// Those below by a child step.
-    pub kids: Vec<u32>,
-    /// Those below by a descendant step.
-    pub below: Vec<u32>,
+    /// The edges by child steps: the path states to which they lead.
+    pub child_edges: Vec<u32>,
+    /// The edges by descendant steps.
+    pub descendant_edges: Vec<u32>,
     /// The roles that each match of the path is given.
     pub own: Vec<u32>,
     /// The roles that each match of the path is given with its subtree.
@@ -67,8 +67,8 @@ fn new_path_state(alloc: Global, parent: u32, step: Step) -> PathState
     PathState {
         parent,
         step,
-        kids: Vec::new(alloc),
-        below: Vec::new(alloc),
+        child_edges: Vec::new(alloc),
+        descendant_edges: Vec::new(alloc),
         own: Vec::new(alloc),
         whole: Vec::new(alloc),
         first: Vec::new(alloc),
@@ -105,8 +105,8 @@ fn note_below(state: &mut PathState, axis: Axis, number: u32) -> Result<(), Memo
     ensures { OnOk result (TellsMore (Below axis) number state.old state.new) }
 {
     match axis {
-        Axis::Child => state.kids.push(number)?,
-        Axis::Descendant => state.below.push(number)?,
+        Axis::Child => state.child_edges.push(number)?,
+        Axis::Descendant => state.descendant_edges.push(number)?,
     }
     Ok(())
 }
@@ -167,9 +167,7 @@ fn link_context(tree: &mut [PathState], var: u32, role: u32) -> Result<(), Memor
 /// Adds a path state, and answers its number.
 fn put(alloc: Global, tree: &mut Vec<PathState>, parent: u32, step: &Step) -> Result<u32, Memory>
     ensures number { IfOk result (λ number. number ≡ length tree.old.items) }
-    ensures grows { OnOk result ((paths : List (List Step)) (ways : List Way) → parent < length tree.old.items →
-        Growing tree.old.items paths ways →
-        Growing tree.new.items (paths ++ (path_at paths parent ++ step.now ∷ []) ∷ []) ways) }
+    ensures grows { OnOk result (GrowsBelow tree.old.items tree.new.items parent step.now) }
 {
     let number = next_number(tree)?;
     let step = step.copy(alloc)?;
@@ -206,9 +204,7 @@ fn put_tail(
     var: u32,
     tail: &[Step],
 ) -> Result<u32, Memory>
-    ensures { IfOk result (λ end. (paths : List (List Step)) (ways : List Way) → var < length tree.old.items →
-        Growing tree.old.items paths ways →
-        Reached tree.new.items paths ways end (path_at paths var ++ tail.now)) }
+    ensures { IfOk result (λ end. ReachesEnd tree.old.items tree.new.items var end tail.now) }
 {
     let mut end = var;
     for step in tail {
@@ -242,10 +238,8 @@ fn put_way(alloc: Global, tree: &mut Vec<PathState>, var: u32, row: &RoleRow) ->
     ensures kind { IfOk result (λ way. role_kind way.kind ≡ kind_with (role_kind row.now.kind) row.now.tail) }
     ensures var { IfOk result (λ way. way.var ≡ var) }
     ensures steps { IfOk result (λ way. way.steps ≡ length (tail_with (role_kind row.now.kind) row.now.tail)) }
-    ensures reached { IfOk result (λ way. (paths : List (List Step)) (ways : List Way) →
-        var < length tree.old.items → Growing tree.old.items paths ways →
-        Reached tree.new.items paths ways way.end
-        (path_at paths var ++ tail_with (role_kind row.now.kind) row.now.tail)) }
+    ensures reached { IfOk result (λ way. ReachesEnd tree.old.items tree.new.items var way.end
+        (tail_with (role_kind row.now.kind) row.now.tail)) }
 {
     let tail = tail_of(row);
     let end = put_tail(alloc, tree, var, tail)?;
@@ -259,9 +253,7 @@ fn put_way(alloc: Global, tree: &mut Vec<PathState>, var: u32, row: &RoleRow) ->
 
 /// Notes the role at its path states.
 fn note(tree: &mut [PathState], role: u32, way: Way) -> Result<(), Memory>
-    ensures { OnOk result ((paths : List (List Step)) (ways : List Way) → length ways ≡ role →
-        way.end < length tree.old → way.var < length tree.old → Growing tree.old paths ways →
-        Growing tree.new paths (ways ++ way ∷ [])) }
+    ensures { OnOk result (GainsWay tree.old tree.new role way) }
 {
     link_end(tree, way.end, role, way.kind)?;
     match way.kind {

@@ -3,7 +3,7 @@ ghost use Rattle.std.specs.Prelude.{◌≡◌, true, IfOk};
 ghost use Rattle.path_states.specs.Lists.{Climbs};
 ghost use Rattle.path_states.specs.State.{AreDead, Gathers, HaveSameParts, IsMade};
 
-use crate::active::have_no_kids;
+use crate::active::have_no_child_edges;
 use crate::outputs::{
     contexts_with, given_with, have_firsts, kept_with, pending_with, set_of, whole_with,
 };
@@ -56,7 +56,7 @@ impl Model for State {
 fn lead_nowhere(tree: &[PathState], active: &[u32], pending: &[u32]) -> bool
     ensures { result ≡ true → AreDead tree.now active.now pending.now }
 {
-    pending.is_empty() && have_no_kids(tree, active)
+    pending.is_empty() && have_no_child_edges(tree, active)
 }
 
 /// The state of a node where these path states are active, below one with these pending and these roles of whole

@@ -18,6 +18,14 @@ pub(crate) enum Next {
     NoneUpTo(Watermark),
 }
 
+/// A loop of the plan: its variable, the step to its matches and its body.
+#[derive(Clone, Copy, Debug)]
+pub(crate) struct ForLoop<'p> {
+    pub var: VarId,
+    pub step: &'p Step,
+    pub body: &'p [Item],
+}
+
 /// A loop at one of its matches.
 #[derive(Clone, Copy, Debug)]
 pub(crate) struct Round<'p> {

@@ -7,7 +7,7 @@ ghost use Rattle.pull_eval.specs.Guards.{IsGuardOf};
 ghost use Rattle.pull_eval.specs.Leaps.{AddsTurns, HasLoop, HasNoTurns, IsTurnsOf, KeepsTheirs, LeapsTo, GoesWith, StayTurns, Looks, IsClosedAt};
 ghost use Rattle.pull_eval.specs.declared.turns.Turns.{Turns as ItsTurns};
 
-use crate::block::ends_with_off;
+use crate::block::{ForLoop, ends_with_off};
 use crate::guard::{Guard, guard_of, is_settled};
 use crate::position::Position;
 use crate::turns::{Leap, Turns};
@@ -24,25 +24,24 @@ impl<'p> Position<'p> {
     pub(crate) fn leap<N: NodeStore<Row>>(
         &mut self,
         alloc: Global,
-        var: VarId,
+        for_loop: ForLoop<'p>,
         context: Place,
-        step: &'p Step,
-        body: &'p [Item],
         from: Option<Serial>,
         buffer: &Buffer<N>,
     ) -> Result<Leap, Memory>
         requires begun { self.old.is_begun ≡ true }
         requires no_copy { self.old.copying ≡ None }
         requires used { InUse buffer.now.rows context.0 }
-        requires there { HasLoop self.old buffer.now var.0 step.now (items body.now) context.0 }
+        requires there { HasLoop self.old buffer.now
+            for_loop.var.0 for_loop.step.now (items for_loop.body.now) context.0 }
         ensures frame { IfOk result (λ _. self.new ≡ record self.old { turns = self.new.turns }) }
         ensures leaps { IfOk result (LeapsTo self.old self.new buffer.now
-            var.0 step.now (items body.now) context.0 from) }
+            for_loop.var.0 for_loop.step.now (items for_loop.body.now) context.0 from) }
     {
-        if !self.may_leap(context, body, buffer) {
+        if !self.may_leap(context, for_loop.body, buffer) {
             return Ok(Leap::Stay);
         }
-        let leap = self.leap_closed(alloc, var, context, step, body, from, buffer)?;
+        let leap = self.leap_closed(alloc, for_loop, context, from, buffer)?;
         Ok(leap)
     }
 
@@ -64,23 +63,22 @@ impl<'p> Position<'p> {
     fn leap_closed<N: NodeStore<Row>>(
         &mut self,
         alloc: Global,
-        var: VarId,
+        for_loop: ForLoop<'p>,
         context: Place,
-        step: &'p Step,
-        body: &'p [Item],
         from: Option<Serial>,
         buffer: &Buffer<N>,
     ) -> Result<Leap, Memory>
         requires begun { self.old.is_begun ≡ true }
         requires no_copy { self.old.copying ≡ None }
         requires closed { IsClosedAt buffer.now.rows context.0 }
-        requires there { HasLoop self.old buffer.now var.0 step.now (items body.now) context.0 }
+        requires there { HasLoop self.old buffer.now
+            for_loop.var.0 for_loop.step.now (items for_loop.body.now) context.0 }
         ensures frame { IfOk result (λ _. self.new ≡ record self.old { turns = self.new.turns }) }
         ensures leaps { IfOk result (LeapsTo self.old self.new buffer.now
-            var.0 step.now (items body.now) context.0 from) }
+            for_loop.var.0 for_loop.step.now (items for_loop.body.now) context.0 from) }
     {
-        match guard_of(body, var) {
-            Some(guard) => self.leap_by(alloc, var, context, step, body, &guard, from, buffer),
+        match guard_of(for_loop.body, for_loop.var) {
+            Some(guard) => self.leap_by(alloc, for_loop, context, &guard, from, buffer),
             None => Ok(Leap::Stay),
         }
     }
@@ -89,58 +87,57 @@ impl<'p> Position<'p> {
     fn leap_by<N: NodeStore<Row>>(
         &mut self,
         alloc: Global,
-        var: VarId,
+        for_loop: ForLoop<'p>,
         context: Place,
-        step: &'p Step,
-        body: &'p [Item],
         guard: &Guard<'p>,
         from: Option<Serial>,
         buffer: &Buffer<N>,
     ) -> Result<Leap, Memory>
         requires begun { self.old.is_begun ≡ true }
         requires no_copy { self.old.copying ≡ None }
-        requires guard { IsGuardOf guard.now var.0 (items body.now) }
+        requires guard { IsGuardOf guard.now for_loop.var.0 (items for_loop.body.now) }
         requires closed { IsClosedAt buffer.now.rows context.0 }
-        requires there { HasLoop self.old buffer.now var.0 step.now (items body.now) context.0 }
+        requires there { HasLoop self.old buffer.now
+            for_loop.var.0 for_loop.step.now (items for_loop.body.now) context.0 }
         ensures frame { IfOk result (λ _. self.new ≡ record self.old { turns = self.new.turns }) }
         ensures leaps { IfOk result (LeapsTo self.old self.new buffer.now
-            var.0 step.now (items body.now) context.0 from) }
+            for_loop.var.0 for_loop.step.now (items for_loop.body.now) context.0 from) }
     {
-        if !is_settled(body, var, &self.env, buffer) {
+        if !is_settled(for_loop.body, for_loop.var, &self.env, buffer) {
             return Ok(Leap::Stay);
         }
         let Some((node, outer)) = self.env.get(guard.other_var) else {
             unreachable!()
         };
-        let index = turns_of(alloc, &mut self.turns, step, guard)?;
-        let leap = self.turns[index].look(alloc, buffer, context, node, outer, from)?;
+        let index = turns_of(alloc, &mut self.turns, for_loop.step, guard)?;
+        let leap = self.turns[index].look(alloc, buffer, context, (node, outer), from)?;
         Ok(leap)
     }
 }
 
 impl<'p> Turns<'p> {
-    /// Looks at the loop's matches and chooses, for these two nodes: from which match on the loop goes on. One that begins does
-    /// so at its first one.
+    /// Looks at the loop's matches and chooses, for the node from which it takes its step and the one of the outer variable
+    /// with its serial: from which match on the loop goes on. One that begins does so at its first one.
     fn look<N: NodeStore<Row>>(
         &mut self,
         alloc: Global,
         buffer: &Buffer<N>,
         context: Place,
-        node: Place,
-        outer: Serial,
+        outer: (Place, Serial),
         from: Option<Serial>,
     ) -> Result<Leap, Memory>
         requires context { IsNodeRow buffer.now.rows context.0 }
-        requires node { IsNodeRow buffer.now.rows node.0 }
+        requires node { IsNodeRow buffer.now.rows outer.0.0 }
         ensures var { self.new.var ≡ self.old.var }
-        ensures looks { IfOk result (Looks buffer.now.rows self.old self.new context.0 node.0 outer.0 from) }
+        ensures looks { IfOk result (Looks buffer.now.rows self.old self.new context.0 outer.0.0 outer.1.0 from) }
     {
         self.turn_to(alloc, buffer, context)?;
         match from {
             None => Ok(self.first_of_all()),
-            Some(serial) => {
-                self.choose(alloc, buffer, node, outer)?;
-                Ok(self.first_from(serial))
+            Some(first) => {
+                let (node, serial) = outer;
+                self.choose(alloc, buffer, node, serial)?;
+                Ok(self.first_from(first))
             }
         }
     }

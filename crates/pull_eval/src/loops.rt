@@ -14,7 +14,7 @@ ghost use Rattle.cond_eval.specs.Searches.{Finds};
 ghost use Rattle.pull_eval.specs.Rounds.{from_seen, Learnt, Began};
 ghost use Rattle.pull_eval.specs.declared.block.Next.TheVariants.{Unsought};
 
-use crate::block::{Block, Next, Round, ends_with_off};
+use crate::block::{Block, ForLoop, Next, Round, ends_with_off};
 use crate::machine::Acted;
 use crate::position::Position;
 use crate::turns::Leap;
@@ -71,20 +71,20 @@ impl<'p> Position<'p> {
     pub(crate) fn enter<N: NodeStore<Row>>(
         &mut self,
         alloc: Global,
-        vars: (VarId, VarId),
-        step: &'p Step,
-        body: &'p [Item],
+        from: VarId,
+        for_loop: ForLoop<'p>,
         rest: &'p [Item],
         buffer: &Buffer<N>,
     ) -> Result<Option<Acted>, Memory>
-        requires next { IsNextItem self.old (For vars.0.0 vars.1.0 step.now (items body.now)) (items rest.now) }
+        requires next { IsNextItem self.old
+            (For for_loop.var.0 from.0 for_loop.step.now (items for_loop.body.now)) (items rest.now) }
         requires begun { self.old.is_begun ≡ true }
         requires beside { (past : Past) × (k : ℕ) × Beside self.old buffer.now past k }
         ensures begun { IfOk result (λ _. self.new.is_begun ≡ true) }
         ensures moved { IfOk result (λ a. MovesSilently self.old self.new buffer.now buffer.now a) }
     {
-        let first = self.first_there(alloc, vars, step, body, rest, buffer)?;
-        let acted = self.enter_at(first, vars, step, body, rest, buffer)?;
+        let first = self.first_there(alloc, from, for_loop, rest, buffer)?;
+        let acted = self.enter_at(first, from, for_loop, rest, buffer)?;
         Ok(acted)
     }
 
@@ -93,25 +93,24 @@ impl<'p> Position<'p> {
     fn first_there<N: NodeStore<Row>>(
         &mut self,
         alloc: Global,
-        vars: (VarId, VarId),
-        step: &'p Step,
-        body: &'p [Item],
+        from: VarId,
+        for_loop: ForLoop<'p>,
         rest: &'p [Item],
         buffer: &Buffer<N>,
     ) -> Result<Option<Place>, Memory>
-        requires next { IsNextItem self.old (For vars.0.0 vars.1.0 step.now (items body.now)) (items rest.now) }
+        requires next { IsNextItem self.old
+            (For for_loop.var.0 from.0 for_loop.step.now (items for_loop.body.now)) (items rest.now) }
         requires begun { self.old.is_begun ≡ true }
         requires beside { (past : Past) × (k : ℕ) × Beside self.old buffer.now past k }
         ensures frame { IfOk result (λ _. self.new ≡ record self.old { turns = self.new.turns }) }
         ensures first { IfOk result (FindsFirst self.old self.new buffer.now
-            vars.0.0 vars.1.0 step.now (items body.now) (items rest.now)) }
+            for_loop.var.0 from.0 for_loop.step.now (items for_loop.body.now) (items rest.now)) }
     {
-        let (var, from) = vars;
         let context = place_of(&self.env, from);
         let seen = self.top.seen;
-        let leap = self.leap(alloc, var, context, step, body, None, buffer)?;
+        let leap = self.leap(alloc, for_loop, context, None, buffer)?;
         match leap {
-            Leap::Stay => Ok(first_match(buffer, context, step, seen)),
+            Leap::Stay => Ok(first_match(buffer, context, for_loop.step, seen)),
             Leap::To(place) => Ok(Some(place)),
             Leap::Over => Ok(None),
         }
@@ -122,27 +121,27 @@ impl<'p> Position<'p> {
     fn enter_at<N: NodeStore<Row>>(
         &mut self,
         first: Option<Place>,
-        vars: (VarId, VarId),
-        step: &'p Step,
-        body: &'p [Item],
+        from: VarId,
+        for_loop: ForLoop<'p>,
         rest: &'p [Item],
         buffer: &Buffer<N>,
     ) -> Result<Option<Acted>, Memory>
-        requires next { IsNextItem self.old (For vars.0.0 vars.1.0 step.now (items body.now)) (items rest.now) }
+        requires next { IsNextItem self.old
+            (For for_loop.var.0 from.0 for_loop.step.now (items for_loop.body.now)) (items rest.now) }
         requires begun { self.old.is_begun ≡ true }
-        requires first { MayBegin self.old buffer.now vars.0.0 vars.1.0 step.now (items body.now) (items rest.now) first }
+        requires first { MayBegin self.old buffer.now
+            for_loop.var.0 from.0 for_loop.step.now (items for_loop.body.now) (items rest.now) first }
         ensures begun { IfOk result (λ _. self.new.is_begun ≡ true) }
         ensures moved { IfOk result (λ a. EntersAt self.old self.new buffer.now
-            vars.0.0 vars.1.0 step.now (items body.now) (items rest.now) first a) }
+            for_loop.var.0 from.0 for_loop.step.now (items for_loop.body.now) (items rest.now) first a) }
     {
-        let (var, from) = vars;
         let context = place_of(&self.env, from);
         match first {
             Some(place) => {
                 let round = Round {
-                    var,
-                    step,
-                    body,
+                    var: for_loop.var,
+                    step: for_loop.step,
+                    body: for_loop.body,
                     context,
                     present: place,
                     next: Next::Unsought,
@@ -275,15 +274,12 @@ impl<'p> Position<'p> {
             Next::Unsought => unreachable!(),
         };
         let from = buffer.serial(place);
-        let leap = self.leap(
-            alloc,
-            round.var,
-            round.context,
-            round.step,
-            round.body,
-            Some(from),
-            buffer,
-        )?;
+        let for_loop = ForLoop {
+            var: round.var,
+            step: round.step,
+            body: round.body,
+        };
+        let leap = self.leap(alloc, for_loop, round.context, Some(from), buffer)?;
         match leap {
             Leap::Stay => Ok(Some(place)),
             Leap::To(later) => Ok(Some(later)),

@@ -11,6 +11,7 @@ ghost use Rattle.pull_eval.specs.Acting.{Beside, MayAct, Acts, MovesOn, IsNextIt
 ghost use Rattle.cond_eval.specs.Asking.{AnswersOver, MayAskOver};
 ghost use Rattle.pull_eval.specs.Calls.{WasAsked, MovesAsking};
 
+use crate::block::ForLoop;
 use crate::position::Position;
 use buf_tree::{Buffer, Row};
 use cond_eval::{Conds, Env};
@@ -211,7 +212,14 @@ impl<'p, C: Conds> Runner<'p, C> {
                     from,
                     step,
                     body,
-                } => position.enter(alloc, (*var, *from), step, body.items(), rest, buffer),
+                } => {
+                    let for_loop = ForLoop {
+                        var: *var,
+                        step,
+                        body: body.items(),
+                    };
+                    position.enter(alloc, *from, for_loop, rest, buffer)
+                }
                 Item::If { cond, then, other } => {
                     let branches = (then.items(), other.items());
                     self.choose(alloc, again, asked, cond, branches, rest, buffer)

@@ -77,7 +77,8 @@ impl<N> Arena<N> {
     pub(crate) fn adopt(&mut self, cells: Cells<N>) -> Run<N>
         requires { IsFull cells.slots × (0 < type_size N.row) }
         ensures cells { self.new.cells ≡ self.old.cells ++ spots (type_size N.row) cells.at (somes cells.slots) }
-        ensures run { IsApart self.new.cells × (result.at ≡ cells.at) × (result.places ≡ places (spots (type_size N.row) cells.at (somes cells.slots))) }
+        ensures run { IsApart self.new.cells × (result.at ≡ cells.at)
+            × (result.places ≡ places (spots (type_size N.row) cells.at (somes cells.slots))) }
     {
         let Cells { mark: _ } = cells;
         Run { mark: PhantomData }
@@ -87,7 +88,8 @@ impl<N> Arena<N> {
     pub(crate) fn release(&mut self, run: Run<N>) -> Cells<N>
         requires { IsLast run.places self.old.cells × (0 < length run.places) }
         ensures cells { self.new.cells ≡ take (length self.old.cells - length run.places) self.old.cells }
-        ensures result { (result.at ≡ run.at) × (result.slots ≡ map (λ s. Some s.held) (drop (length self.old.cells - length run.places) self.old.cells)) }
+        ensures result { (result.at ≡ run.at) × (result.slots
+            ≡ map (λ s. Some s.held) (drop (length self.old.cells - length run.places) self.old.cells)) }
     {
         let Run { mark: _ } = run;
         Cells { mark: PhantomData }

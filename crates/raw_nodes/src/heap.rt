@@ -40,8 +40,10 @@ fn new_block<N>(
     links: &mut Vec<Link>,
     count: usize,
 ) -> Result<(Base<N>, Cells<N>, Deed<N, Global>), AllocError>
-    ensures links { IfOk result (λ r. addresses links.new.items ≡ addresses links.old.items ++ run_places (type_size N.row) r.0.ptr count) }
-    ensures block { IfOk result (λ r. (r.1.at ≡ r.0.ptr) × (r.1.slots ≡ replicate count None) × (r.2.at ≡ r.0.ptr) × (r.2.len ≡ count) × (r.2.alloc ≡ alloc)) }
+    ensures links { IfOk result (λ r. addresses links.new.items
+        ≡ addresses links.old.items ++ run_places (type_size N.row) r.0.ptr count) }
+    ensures block { IfOk result (λ r. (r.1.at ≡ r.0.ptr) × (r.1.slots ≡ replicate count None)
+        × (r.2.at ≡ r.0.ptr) × (r.2.len ≡ count) × (r.2.alloc ≡ alloc)) }
     ensures placed { IfOk result (λ r. AllByRecursion IsInSomeBlock (run_places (type_size N.row) r.0.ptr count)) }
     ensures size { OnOk result (0 < type_size N.row) }
     ensures len { OnOk result (vec_len links.new ≡ vec_len links.old + count) }

@@ -84,7 +84,8 @@ impl<T> NodeStore<T> for RawNodes<T> {
         ensures ok { IfOk result (λ p. self.new.rows ≡ planted self.old.rows p.0 payload) }
         ensures most { OnOk result (self.new.most ≡ max self.old.most 1) }
         ensures root { IfOk result (λ p. self.new.root ≡ Some p.0) }
-        ensures err { IfErr result (λ e. (e.payload ≡ payload) × (self.new.rows ≡ self.old.rows) × (self.new.most ≡ self.old.most)) }
+        ensures err { IfErr result (λ e. (e.payload ≡ payload)
+            × (self.new.rows ≡ self.old.rows) × (self.new.most ≡ self.old.most)) }
         ensures root_kept { OnErr result (self.new.root ≡ self.old.root) }
         ensures cells { OnOk result (Spares self.old self.new.cells) }
         ensures cells_kept { OnErr result (self.new.cells ≡ self.old.cells) }
@@ -102,7 +103,8 @@ impl<T> NodeStore<T> for RawNodes<T> {
         ensures ok { IfOk result (λ p. self.new.rows ≡ appended self.old.rows parent.0 p.0 payload) }
         ensures most { OnOk result (self.new.most ≡ max self.old.most (map.len self.new.rows)) }
         ensures root { self.new.root ≡ self.old.root }
-        ensures err { IfErr result (λ e. (e.payload ≡ payload) × (self.new.rows ≡ self.old.rows) × (self.new.most ≡ self.old.most)) }
+        ensures err { IfErr result (λ e. (e.payload ≡ payload)
+            × (self.new.rows ≡ self.old.rows) × (self.new.most ≡ self.old.most)) }
         ensures cells { OnOk result (Spares self.old self.new.cells) }
         ensures cells_kept { OnErr result (self.new.cells ≡ self.old.cells) }
         ensures spare { map.len self.old.rows < self.old.cells → IsOk result }

@@ -225,7 +225,8 @@ impl<T> RawRows<T> {
     pub(crate) fn node(&self, place: Place) -> &Node<T>
         requires raw { IsRaw self.now }
         requires used { IsSome (fin.get (raw_of self.now).rows place.0) }
-        ensures { (e : Entry T) → fin.get (raw_of self.now).rows place.0 ≡ Some e → Keeps self.now.heap.arena.cells result.now (linked_at (raw_of self.now).rows place.0 e) }
+        ensures { (e : Entry T) → fin.get (raw_of self.now).rows place.0 ≡ Some e
+            → Keeps self.now.heap.arena.cells result.now (linked_at (raw_of self.now).rows place.0 e) }
     {
         self.heap.arena.follow(self.link(place))
     }

@@ -2,8 +2,8 @@ use Rattle.std.proofs.Common.{ap, ◌+◌, subst, length, List, ℕ, Option, Non
 use Rattle.std.specs.Prelude.{MatchOption}
 use Rattle.std.specs.Str.{IsUtf8}
 use Rattle.doc_chars.specs.Blocks.{HasNoOther, IsFirstOther}
-use Rattle.doc_chars.specs.Scan.{AreChars}
-use Rattle.doc_chars.proofs.Blocks.{IsOther, none_other, first_is, no_more}
+use Rattle.doc_chars.specs.Scan.{AreChars, IsOther}
+use Rattle.doc_chars.proofs.Blocks.{none_other, first_is, no_more}
 use Rattle.doc_chars.proofs.scan.first_other.Goals as goal
 
 pub returns-in-Some : goal.returns-in-Some

@@ -8,7 +8,7 @@ pub returns : goal.returns
 returns c = λ up.
     let tree = c.args.tree.now in
     let names = c.args.names.now in
-    let bs : Branches = record { kids = c.in_ok-kids.kids; below = c.in_ok-below.below } in
+    let bs : Branches = record { child_edges = c.in_ok-child_edges.child_edges; descendant_edges = c.in_ok-descendant_edges.descendant_edges } in
     below_both tree names c.args.state.now bs
-    (record { rise = c.in_ok-kids.ensures.rise; have = subst (λ (z : List ℕ). HaveBranches tree names z c.in_ok-kids.kids.items) c.deref.ensures.value (c.in_ok-kids.ensures.have up) })
-    (record { rise = c.in_ok-below.ensures.rise; have = subst (λ (z : List ℕ). HaveBranches tree names z c.in_ok-below.below.items) c.deref-2.ensures.value (c.in_ok-below.ensures.have up) })
+    (record { rise = c.in_ok-child_edges.ensures.rise; have = subst (λ (z : List ℕ). HaveBranches tree names z c.in_ok-child_edges.child_edges.items) c.deref.ensures.value (c.in_ok-child_edges.ensures.have up) })
+    (record { rise = c.in_ok-descendant_edges.ensures.rise; have = subst (λ (z : List ℕ). HaveBranches tree names z c.in_ok-descendant_edges.descendant_edges.items) c.deref-2.ensures.value (c.in_ok-descendant_edges.ensures.have up) })

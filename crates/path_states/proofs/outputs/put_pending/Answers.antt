@@ -17,7 +17,7 @@ pub returns-else-not-is_empty : goal.returns-else-not-is_empty
 returns-else-not-is_empty c =
     let at = read_at c.args.tree.now c.args.number c.in-Some.state.now c.in-Some.ensures.lookup.3.0 c.in-Some.ensures.lookup.1 in
     gains_none c.args.pending.now.items (Waits c.args.tree.now c.args.number)
-    (λ y w. subst (λ (z : PathState). (z.below.items ≡ []) → ⊥) (one_at c.args.tree.now c.args.number w.state c.in-Some.state.now w.at at) w.some (sym c.as_slice.ensures.value ∙ none_of c.as_slice.result.now (sym c.is_empty.ensures ∙ c.if-not-is_empty.false)))
+    (λ y w. subst (λ (z : PathState). (z.descendant_edges.items ≡ []) → ⊥) (one_at c.args.tree.now c.args.number w.state c.in-Some.state.now w.at at) w.some (sym c.as_slice.ensures.value ∙ none_of c.as_slice.result.now (sym c.is_empty.ensures ∙ c.if-not-is_empty.false)))
 
 pub returns-in-None : goal.returns-in-None
 returns-in-None c = gains_none c.args.pending.now.items (Waits c.args.tree.now c.args.number) (λ y u. none_at c.args.tree.now c.args.number u.state c.in-None.ensures.lookup.3 u.at)

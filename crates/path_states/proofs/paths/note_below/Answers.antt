@@ -10,8 +10,8 @@ returns-in_ok-push-in-Child c =
     let s = c.args.state.now in
     let n = c.args.number in
     lists_more (Below c.args.axis) (Below Child) n s _ (ap Below (sym c.in-Child.is)) refl refl
-    (list_push (Below Child) n s.kids.items c.push.new.self.items c.in_ok-push-in-Child.ensures.items)
-    (list_same (Below Child) (Below Descendant) n s.below.items (λ e. cc))
+    (list_push (Below Child) n s.child_edges.items c.push.new.self.items c.in_ok-push-in-Child.ensures.items)
+    (list_same (Below Child) (Below Descendant) n s.descendant_edges.items (λ e. cc))
     (list_same (Below Child) (Ends Own) n s.own.items (λ e. cc))
     (list_same (Below Child) (Ends Whole) n s.whole.items (λ e. cc))
     (list_same (Below Child) (Ends First) n s.first.items (λ e. cc))
@@ -22,8 +22,8 @@ returns-in_ok-push-in-Descendant c =
     let s = c.args.state.now in
     let n = c.args.number in
     lists_more (Below c.args.axis) (Below Descendant) n s _ (ap Below (sym c.in-Descendant.is)) refl refl
-    (list_same (Below Descendant) (Below Child) n s.kids.items (λ e. cc))
-    (list_push (Below Descendant) n s.below.items c.push-in-Descendant.new.self.items c.in_ok-push-in-Descendant.ensures.items)
+    (list_same (Below Descendant) (Below Child) n s.child_edges.items (λ e. cc))
+    (list_push (Below Descendant) n s.descendant_edges.items c.push-in-Descendant.new.self.items c.in_ok-push-in-Descendant.ensures.items)
     (list_same (Below Descendant) (Ends Own) n s.own.items (λ e. cc))
     (list_same (Below Descendant) (Ends Whole) n s.whole.items (λ e. cc))
     (list_same (Below Descendant) (Ends First) n s.first.items (λ e. cc))

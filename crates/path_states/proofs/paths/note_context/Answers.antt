@@ -10,8 +10,8 @@ returns c =
     let s = c.args.state.now in
     let n = c.args.role in
     lists_more Contexts Contexts n s _ refl refl refl
-    (list_same Contexts (Below Child) n s.kids.items (λ e. cc))
-    (list_same Contexts (Below Descendant) n s.below.items (λ e. cc))
+    (list_same Contexts (Below Child) n s.child_edges.items (λ e. cc))
+    (list_same Contexts (Below Descendant) n s.descendant_edges.items (λ e. cc))
     (list_same Contexts (Ends Own) n s.own.items (λ e. cc))
     (list_same Contexts (Ends Whole) n s.whole.items (λ e. cc))
     (list_same Contexts (Ends First) n s.first.items (λ e. cc))

@@ -12,8 +12,8 @@ returns-in_ok-push-in-Own c =
     let s = c.args.state.now in
     let n = c.args.role in
     lists_more (Ends (role_kind c.args.kind)) (Ends Own) n s _ (ap (λ (z : CodeKind). Ends (role_kind z)) (sym c.in-Own.is)) refl refl
-    (list_same (Ends Own) (Below Child) n s.kids.items (λ e. cc))
-    (list_same (Ends Own) (Below Descendant) n s.below.items (λ e. cc))
+    (list_same (Ends Own) (Below Child) n s.child_edges.items (λ e. cc))
+    (list_same (Ends Own) (Below Descendant) n s.descendant_edges.items (λ e. cc))
     (list_push (Ends Own) n s.own.items c.push.new.self.items c.in_ok-push-in-Own.ensures.items)
     (list_same (Ends Own) (Ends Whole) n s.whole.items (λ e. cc))
     (list_same (Ends Own) (Ends First) n s.first.items (λ e. cc))
@@ -24,8 +24,8 @@ returns-in_ok-push-in-First c =
     let s = c.args.state.now in
     let n = c.args.role in
     lists_more (Ends (role_kind c.args.kind)) (Ends First) n s _ (ap (λ (z : CodeKind). Ends (role_kind z)) (sym c.in-First.is)) refl refl
-    (list_same (Ends First) (Below Child) n s.kids.items (λ e. cc))
-    (list_same (Ends First) (Below Descendant) n s.below.items (λ e. cc))
+    (list_same (Ends First) (Below Child) n s.child_edges.items (λ e. cc))
+    (list_same (Ends First) (Below Descendant) n s.descendant_edges.items (λ e. cc))
     (list_same (Ends First) (Ends Own) n s.own.items (λ e. cc))
     (list_same (Ends First) (Ends Whole) n s.whole.items (λ e. cc))
     (list_push (Ends First) n s.first.items c.push-in-First.new.self.items c.in_ok-push-in-First.ensures.items)
@@ -36,8 +36,8 @@ returns-in_ok-push-in-Whole c =
     let s = c.args.state.now in
     let n = c.args.role in
     lists_more (Ends (role_kind c.args.kind)) (Ends Whole) n s _ (ap (λ (z : CodeKind). Ends (role_kind z)) (sym c.in-Whole.is)) refl refl
-    (list_same (Ends Whole) (Below Child) n s.kids.items (λ e. cc))
-    (list_same (Ends Whole) (Below Descendant) n s.below.items (λ e. cc))
+    (list_same (Ends Whole) (Below Child) n s.child_edges.items (λ e. cc))
+    (list_same (Ends Whole) (Below Descendant) n s.descendant_edges.items (λ e. cc))
     (list_same (Ends Whole) (Ends Own) n s.own.items (λ e. cc))
     (list_push (Ends Whole) n s.whole.items c.push-in-Whole.new.self.items c.in_ok-push-in-Whole.ensures.items)
     (list_same (Ends Whole) (Ends First) n s.first.items (λ e. cc))

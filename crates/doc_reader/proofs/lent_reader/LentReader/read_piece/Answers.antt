@@ -40,7 +40,7 @@ returns-in_err-place-clause-took c b before r =
     let piece = c.args.piece.now in
     let split = c.split-split.result in
     let ds = given split piece in
-    let new : ReaderView = record { limits = a.limits; state = c.read_split.new.m; carry = c.split-split.new.self; place = a.place; count = a.count + length piece; refused = a.refused; finished = a.finished; end_waits = a.end_waits } in
+    let new : ReaderView = record { limits = a.limits; state = c.read_split.new.self; carry = c.split-split.new.self; place = a.place; count = a.count + length piece; refused = a.refused; finished = a.finished; end_waits = a.end_waits } in
     let reading : IsReading old a.limits b before = subst (λ (v : ReaderView). IsReading v v.limits b before) (sym c.self.view_is) r in
     let fits : a.count + length piece ≤ a.limits.bytes = subst (λ (v : ReaderView). v.count + length piece ≤ v.limits.bytes) (sym c.self.view_is) c.requires in
     let within : length (b ++ piece) ≤ a.limits.bytes = omega (arith, length-append b piece, fits, reading.count) in
@@ -57,7 +57,7 @@ returns-in-Some-clause-took c b before r =
     let piece = c.args.piece.now in
     let split = c.split-split.result in
     let ds = given split piece in
-    let new : ReaderView = record { limits = a.limits; state = c.read_split.new.m; carry = c.split-split.new.self; place = a.place; count = a.count + length piece; refused = a.refused; finished = a.finished; end_waits = a.end_waits } in
+    let new : ReaderView = record { limits = a.limits; state = c.read_split.new.self; carry = c.split-split.new.self; place = a.place; count = a.count + length piece; refused = a.refused; finished = a.finished; end_waits = a.end_waits } in
     let reading : IsReading old a.limits b before = subst (λ (v : ReaderView). IsReading v v.limits b before) (sym c.self.view_is) r in
     let fits : a.count + length piece ≤ a.limits.bytes = subst (λ (v : ReaderView). v.count + length piece ≤ v.limits.bytes) (sym c.self.view_is) c.requires in
     let within : length (b ++ piece) ≤ a.limits.bytes = omega (arith, length-append b piece, fits, reading.count) in
@@ -73,7 +73,7 @@ returns-in-None-clause-took c b before r =
     let piece = c.args.piece.now in
     let split = c.split-split.result in
     let ds = given split piece in
-    let new : ReaderView = record { limits = a.limits; state = c.read_split.new.m; carry = c.split-split.new.self; place = c.in_ok-place.place; count = a.count + length piece; refused = a.refused; finished = a.finished; end_waits = a.end_waits } in
+    let new : ReaderView = record { limits = a.limits; state = c.read_split.new.self; carry = c.split-split.new.self; place = c.in_ok-place.place; count = a.count + length piece; refused = a.refused; finished = a.finished; end_waits = a.end_waits } in
     let reading : IsReading old a.limits b before = subst (λ (v : ReaderView). IsReading v v.limits b before) (sym c.self.view_is) r in
     let fits : a.count + length piece ≤ a.limits.bytes = subst (λ (v : ReaderView). v.count + length piece ≤ v.limits.bytes) (sym c.self.view_is) c.requires in
     let within : length (b ++ piece) ≤ a.limits.bytes = omega (arith, length-append b piece, fits, reading.count) in

@@ -20,7 +20,7 @@ returns c = λ h.
           let pending : frame.pending ≡ [] = ap (λ (z : FrameView). z.pending) l.2.2 ∙ (ap (λ (z : StateView). z.pending) same ∙ dead.pending) in
           elim b [
             | inl f ↦ (let u = f.is in
-                dead.kids u.from.of (record { of = f.of; member = subst (λ (z : List ℕ). In f.of z) active f.member; is = record { state = u.state; at = u.at; member = u.from.member } }))
+                dead.child_edges u.from.of (record { of = f.of; member = subst (λ (z : List ℕ). In f.of z) active f.member; is = record { state = u.state; at = u.at; member = u.from.member } }))
             | inr f ↦ subst (λ (z : List ℕ). In f.of z) pending f.member
           ];
       pending = λ frame at.

@@ -8,7 +8,7 @@ use Rattle.pull_eval.proofs.position.Position.enter.Goals as goal
 
 pub enter_at-requires-clause-next : goal.enter_at-requires-clause-next
 enter_at-requires-clause-next g c =
-    subst (λ (z : Position). IsNextItem z (For c.args.vars.0.0 c.args.vars.1.0 c.args.step.now (items c.args.body.now)) (items c.args.rest.now)) (sym c.in_ok-first.ensures.frame)
+    subst (λ (z : Position). IsNextItem z (For c.args.for_loop.var.0 c.args.from.0 c.args.for_loop.step.now (items c.args.for_loop.body.now)) (items c.args.rest.now)) (sym c.in_ok-first.ensures.frame)
     (record { next = c.requires.next.next; no_copy = c.requires.next.no_copy })
 
 pub enter_at-requires-clause-begun : goal.enter_at-requires-clause-begun

@@ -9,7 +9,7 @@ use Rattle.doc_machine.specs.declared.stop.Stop.{Stop}
 use Rattle.doc_reader.specs.Piece.{ReadTo}
 use Rattle.doc_parts.proofs.Reading.{size_append}
 use Rattle.doc_reader.proofs.Judgings.{text_size, reads_both, stops_before, stops_behind}
-use Rattle.doc_reader.proofs.piece.read_split.Goals as goal
+use Rattle.doc_reader.proofs.machine.Machine.read_split.Goals as goal
 
 pub from_utf8_unchecked-text-requires : goal.from_utf8_unchecked-text-requires
 from_utf8_unchecked-text-requires c = are_text (slice_range c.args.piece.now c.args.split.used c.args.split.whole) c.requires.chars
@@ -20,8 +20,8 @@ returns-in_err-behind c =
     let s : Stop = c.in_err-behind.field-0.0 in
     let all = given c.args.split c.args.piece.now in
     let text = chars (slice_range c.args.piece.now c.args.split.used c.args.split.whole) in
-    subst (λ (r : Result ℕ Stop). ReadTo r c.args.limits c.args.place c.args.m.now all c.read_first.new.m) (sym (p.1 ∙ ap Err p.2))
-    (stops_before c.args.limits c.args.place c.args.m.now (optional c.args.split.first) text s c.read_first.new.m c.in_err-behind.ensures.read)
+    subst (λ (r : Result ℕ Stop). ReadTo r c.args.limits c.args.place c.args.self.now all c.read_first.new.self) (sym (p.1 ∙ ap Err p.2))
+    (stops_before c.args.limits c.args.place c.args.self.now (optional c.args.split.first) text s c.read_first.new.self c.in_err-behind.ensures.read)
 
 pub returns-in_err-read_text : goal.returns-in_err-read_text
 returns-in_err-read_text c =
@@ -31,9 +31,9 @@ returns-in_err-read_text c =
     let first = optional c.args.split.first in
     let at = c.in_ok-behind.behind in
     let text = chars c.from_utf8_unchecked-text.result.now in
-    let two = stops_behind c.args.limits c.args.place c.args.m.now first text c.read_first.new.m at c.in_ok-behind.ensures.read.1 c.in_ok-behind.ensures.read.0 s c.read_text.new.m c.in_err-read_text.ensures in
-    subst (λ (r : Result ℕ Stop). ReadTo r c.args.limits c.args.place c.args.m.now all c.read_text.new.m) (sym (p.1 ∙ ap Err p.2))
-    (subst (λ (l : List ℕ). ReadTo (Err s) c.args.limits c.args.place c.args.m.now (first ++ chars l) c.read_text.new.m) c.from_utf8_unchecked-text.ensures two)
+    let two = stops_behind c.args.limits c.args.place c.args.self.now first text c.read_first.new.self at c.in_ok-behind.ensures.read.1 c.in_ok-behind.ensures.read.0 s c.read_text.new.self c.in_err-read_text.ensures in
+    subst (λ (r : Result ℕ Stop). ReadTo r c.args.limits c.args.place c.args.self.now all c.read_text.new.self) (sym (p.1 ∙ ap Err p.2))
+    (subst (λ (l : List ℕ). ReadTo (Err s) c.args.limits c.args.place c.args.self.now (first ++ chars l) c.read_text.new.self) c.from_utf8_unchecked-text.ensures two)
 
 pub returns : goal.returns
 returns c =
@@ -44,6 +44,6 @@ returns c =
     let same : chars bytes ≡ text = ap chars c.from_utf8_unchecked-text.ensures in
     let long : length bytes ≡ size text = text_size bytes c.from_utf8_unchecked-text.utf8 ∙ ap size same in (
       omega (arith, c.in_ok-behind.ensures.read.0, long, size_append first text),
-      reads_both c.args.limits c.args.place c.args.m.now first text c.read_first.new.m at (Ok c.read_text.new.m) c.in_ok-behind.ensures.read.1 c.in_ok-behind.ensures.read.0
-          (ap (λ l. judged_steps c.args.limits at c.read_first.new.m l) (sym same) ∙ c.in_ok-read_text.ensures),
+      reads_both c.args.limits c.args.place c.args.self.now first text c.read_first.new.self at (Ok c.read_text.new.self) c.in_ok-behind.ensures.read.1 c.in_ok-behind.ensures.read.0
+          (ap (λ l. judged_steps c.args.limits at c.read_first.new.self l) (sym same) ∙ c.in_ok-read_text.ensures),
     )
