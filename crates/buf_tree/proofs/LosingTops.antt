@@ -17,7 +17,7 @@ use Rattle.base_laws.proofs.Members.{in_map, from_map}
 use Rattle.past_laws.specs.Pasts.{bases}
 use Rattle.tree_laws.proofs.Lists.{In, In-filter}
 use Rattle.tree_laws.proofs.Matches.{Numbered-same}
-use Rattle.need_laws.proofs.Local.{within_is}
+use Rattle.placed_laws.proofs.Local.{within_is}
 use Rattle.past_laws.proofs.Ahead.{open_above}
 use Rattle.past_laws.proofs.Bases.{is_grown}
 use Rattle.spread_laws.specs.Tops.{is_top, top_off}

@@ -16,7 +16,7 @@ use Rattle.base_laws.proofs.Lists.{nil_cons, cons_head, cons_tail}
 use Rattle.base_laws.proofs.Members.{from_map, in_drop, map_same}
 use Rattle.tree_laws.proofs.Lists.{In, In-append, In-filter, In-kept, In-left, In-right, filter_none}
 use Rattle.tree_laws.proofs.Matches.{Grown, Numbered-high, Numbered-same, added, grow_nodes}
-use Rattle.need_laws.proofs.Stays.{new_serial}
+use Rattle.placed_laws.proofs.Stays.{new_serial}
 use Rattle.past_laws.proofs.Awaited.{waiting_law}
 use Rattle.past_laws.proofs.PastForms.{past_feeds}
 use Rattle.past_laws.proofs.Bases.{is_grown}

@@ -19,7 +19,7 @@ use Rattle.tree_laws.proofs.Lists.{In-filter, In-append}
 use Rattle.tree_laws.proofs.Matches.{Numbered-high, Matches-in}
 use Rattle.placed_laws.proofs.PointNeeds.{turn_law}
 use Rattle.move_laws.proofs.CopyMoves.{fine_point_stays, copy_frames_stand, inside_held}
-use Rattle.need_laws.proofs.Evaluator as over
+use Rattle.placed_laws.proofs.Evaluator as over
 use Rattle.tree_laws.proofs.Fed.{root_from, grown_from}
 use Rattle.placed_laws.proofs.FromPlans.{from_state}
 use Rattle.run_laws.proofs.Feeds.{nodes_grow, matches_grow}

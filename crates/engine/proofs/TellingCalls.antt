@@ -9,7 +9,7 @@ use Rattle.gcx_model.specs.Core.{PlanTree}
 use Rattle.gcx_model.specs.PlanView.{plan_tree}
 use Rattle.gcx_model.specs.Seen.{SeenIs, seen_tree}
 use Rattle.gcx_model.specs.Demand.{demand, text_of_lines, trace_lines}
-use Rattle.trace_laws.proofs.Goes.{demand-append, trace_lines-append}
+use Rattle.run_laws.proofs.Goes.{demand-append, trace_lines-append}
 use Rattle.doc_laws.proofs.Found.{found_seen}
 use Rattle.doc_laws.proofs.Growing.{seen_more}
 use Rattle.doc_laws.proofs.LastTag.{seen_one}

@@ -14,7 +14,7 @@ use Rattle.gcx_model.specs.Growth.{Leads}
 use Rattle.gcx_model.specs.Points.{actions, so_far}
 use Rattle.gcx_model.specs.Seen.{seen_tree}
 use Rattle.gcx_model.specs.Demand.{Line, left, act_lines, feed_line, demand, text_of_lines}
-use Rattle.trace_laws.proofs.Goes.{demand-append}
+use Rattle.run_laws.proofs.Goes.{demand-append}
 use Rattle.tree_laws.proofs.Growing.{grow_all-append}
 use Rattle.move_laws.proofs.Keeping.{so_far_stays}
 use Rattle.doc_reader.specs.Standing.{Token, said_of}

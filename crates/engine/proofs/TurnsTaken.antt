@@ -13,7 +13,7 @@ use Rattle.gcx_model.specs.Points.{actions, so_far, CoreState}
 use Rattle.gcx_model.specs.Turning.{Turn, Feed, Act, Turned, tree_fed, turn, turned, one_up_to}
 use Rattle.tree_laws.proofs.Growing.{grow_all-append, grows, leads}
 use Rattle.move_laws.proofs.Keeping.{taken_are_there}
-use Rattle.trace_laws.proofs.TurnsReached.{one_turn_more, turns_reach}
+use Rattle.run_laws.proofs.TurnsReached.{one_turn_more, turns_reach}
 use Rattle.doc_reader.specs.Standing.{said_of}
 use Rattle.buf_tree.specs.View.{capped}
 use Rattle.engine.specs.declared.turns.Course.{Course}

@@ -18,7 +18,7 @@ use Rattle.tree_laws.proofs.Lists.{In, any_in, any_from}
 use Rattle.tree_laws.proofs.Matches.{Grown-grow}
 use Rattle.tree_laws.proofs.Fed.{grown_from}
 use Rattle.tree_laws.proofs.Chains.{above_in, above_trans, above_self}
-use Rattle.need_laws.proofs.Frames.{hits-append}
+use Rattle.placed_laws.proofs.Frames.{hits-append}
 use Rattle.past_laws.proofs.Ahead.{first_behind, new_unsigned}
 use Rattle.path_states.specs.Lists.{From, Gains, Holds}
 use Rattle.matcher.specs.Frame.{IsFound, IsFrame, IsInside, IsPending}

@@ -14,7 +14,7 @@ use Rattle.gcx_model.specs.Past.{Past, open_nodes}
 use Rattle.tree_laws.proofs.Lists.{In}
 use Rattle.tree_laws.proofs.Fed.{grown_from}
 use Rattle.tree_laws.proofs.Chains.{above_in, above_self}
-use Rattle.need_laws.proofs.Frames.{hits-append}
+use Rattle.placed_laws.proofs.Frames.{hits-append}
 use Rattle.past_laws.proofs.Ahead.{first_behind}
 use Rattle.path_states.specs.Lists.{From, Gains}
 use Rattle.path_states.specs.PathTree.{kind_with}

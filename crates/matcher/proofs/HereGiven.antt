@@ -22,7 +22,7 @@ use Rattle.tree_laws.proofs.Lists.{In, any_in, any_from}
 use Rattle.tree_laws.proofs.Matches.{Matches-in}
 use Rattle.tree_laws.proofs.Fed.{grown_from}
 use Rattle.tree_laws.proofs.Chains.{above_in, above_trans, above_self}
-use Rattle.need_laws.proofs.Frames.{hits-append}
+use Rattle.placed_laws.proofs.Frames.{hits-append}
 use Rattle.spread_laws.specs.Tops.{roles_newly_given}
 use Rattle.path_states.specs.Lists.{Climbs, Holds}
 use Rattle.path_states.specs.State.{GivenBy, IsMade, StateView}

@@ -13,7 +13,7 @@ use Rattle.tree_laws.proofs.Lists.{In, any_in, any_from}
 use Rattle.tree_laws.proofs.Matches.{Numbered-same}
 use Rattle.tree_laws.proofs.Freeze.{within_self, within_above, hits_within}
 use Rattle.tree_laws.proofs.Chains.{above_in, hits_above, hits_one, hits_one_from}
-use Rattle.need_laws.proofs.Frames.{hits-append}
+use Rattle.placed_laws.proofs.Frames.{hits-append}
 
 pub within_in : (n : ℕ) (m : Node) → within n m ≡ true → (j : Node) × In j (above m) × (serial_of j ≡ n)
 within_in n Root h = (Root, inl refl, eqb-true _ _ h)

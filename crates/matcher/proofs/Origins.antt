@@ -17,7 +17,7 @@ use Rattle.tree_laws.proofs.Lists.{In}
 use Rattle.tree_laws.proofs.Matches.{Numbered-same}
 use Rattle.tree_laws.proofs.Chains.{above_in, above_trans, hits_one, hits_one_from}
 use Rattle.tree_laws.proofs.Growing.{level_above}
-use Rattle.need_laws.proofs.Frames.{hits-append}
+use Rattle.placed_laws.proofs.Frames.{hits-append}
 use Rattle.path_states.specs.Lists.{Holds}
 use Rattle.path_states.specs.PathTree.{IsPathTree}
 use Rattle.matcher.specs.Frames.{Hit, Over, StepsUp, Up, arrived, stepped, nowhere}

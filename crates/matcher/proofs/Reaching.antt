@@ -11,7 +11,7 @@ use Rattle.base_laws.proofs.Members.{head_in}
 use Rattle.tree_laws.proofs.Lists.{In, any_in, any_from}
 use Rattle.tree_laws.proofs.Matches.{Numbered-same, Matches-in, Matches-from}
 use Rattle.tree_laws.proofs.Chains.{above_in, above_trans, above_self, hits_above}
-use Rattle.need_laws.proofs.Frames.{hits-append}
+use Rattle.placed_laws.proofs.Frames.{hits-append}
 use Rattle.past_laws.proofs.Bases.{node_is}
 use Rattle.path_states.specs.PathTree.{kind_with}
 use Rattle.matcher.proofs.Leading.{split}

@@ -16,7 +16,7 @@ use Rattle.gcx_model.specs.Past.{Past, IsLast}
 use Rattle.tree_laws.proofs.Lists.{In, In-left, In-right, In-append}
 use Rattle.tree_laws.proofs.Matches.{Matches-in, Matches-from}
 use Rattle.tree_laws.proofs.Chains.{above_in, above_trans}
-use Rattle.need_laws.proofs.Stays.{all_in, all_from}
+use Rattle.placed_laws.proofs.Stays.{all_in, all_from}
 use Rattle.past_laws.proofs.Bases.{or_not}
 use Rattle.tree_laws.proofs.Fed.{grown_from}
 use Rattle.placed_laws.proofs.Told.{Told, told, given_told, taken_told}

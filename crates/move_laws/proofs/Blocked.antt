@@ -13,9 +13,9 @@ use Rattle.gcx_model.specs.declared.truth.Truth.TheVariants.{True, False, Unknow
 use Rattle.gcx_model.specs.Truth.{Env, bind_var, truth}
 use Rattle.gcx_model.specs.Run.{Action, Out, idle, seq, loop, copy, choose, run_item, run}
 use Rattle.tree_laws.proofs.Matches.{Grown, Rising, Rising-filter}
-use Rattle.need_laws.proofs.Balance.{seq_both}
-use Rattle.point_laws.proofs.PointForms.{Frame, Rest, Round, Part, IsPoint, Begins, Past, InLoop, InYes, InNo, InCopy, body_at, later, later_is, behind, seq-done}
-use Rattle.point_laws.proofs.Prefix.{seq_wait}
+use Rattle.placed_laws.proofs.AllTaken.{seq_both}
+use Rattle.placed_laws.proofs.PointForms.{Frame, Rest, Round, Part, IsPoint, Begins, Past, InLoop, InYes, InNo, InCopy, body_at, later, later_is, behind, seq-done}
+use Rattle.placed_laws.proofs.Prefix.{seq_wait}
 
 -- the top frame waits: for a condition, for the first match of a loop, for a later one, or within a copy
 pub data IsBlocked (P : Tree) (fs : List Frame) : Type 0 where

@@ -14,10 +14,10 @@ use Rattle.gcx_model.specs.Copying.{CopyFrame, Inside, has_inside, begun, ended,
 use Rattle.move_laws.specs.Copying.{Cut, AtStart, AtEnd, Amid, CopyIsCut}
 use Rattle.tree_laws.proofs.Lists.{In, In-left}
 use Rattle.tree_laws.proofs.Matches.{Grown, Grown-grow, Numbered-high, Matches-grow, Matches-in, added}
-use Rattle.point_laws.proofs.Prefix.{Before, loop_mono, item_grows}
-use Rattle.need_laws.proofs.Balance.{seq_both}
-use Rattle.point_laws.proofs.PointForms.{same_when_done}
-use Rattle.point_laws.proofs.Points as points
+use Rattle.placed_laws.proofs.Prefix.{Before, loop_mono, item_grows}
+use Rattle.placed_laws.proofs.AllTaken.{seq_both}
+use Rattle.placed_laws.proofs.PointForms.{same_when_done}
+use Rattle.placed_laws.proofs.Points as points
 use Rattle.move_laws.proofs.CopyFrames.{at_once, step_over, IsCopyPoint-trans, child_above, child_in, mid_in, copy_is, copy_parts, closes}
 
 -- a loop that is done is over

@@ -15,9 +15,9 @@ use Rattle.move_laws.specs.Copying.{CopyGoesOn}
 use Rattle.tree_laws.proofs.Lists.{In, any_in, In-right}
 use Rattle.tree_laws.proofs.Matches.{Grown, Rising, Rising-filter, Numbered-high, Matches-in}
 use Rattle.tree_laws.proofs.Freeze.{hits_within}
-use Rattle.need_laws.proofs.Pruned.{loop_same}
-use Rattle.point_laws.proofs.PointForms.{after, after-after, seq-idle, seq-assoc, seq-done, seq-after, loop-append, later_is}
-use Rattle.point_laws.proofs.Turns.{loop_to}
+use Rattle.placed_laws.proofs.Pruned.{loop_same}
+use Rattle.placed_laws.proofs.PointForms.{after, after-after, seq-idle, seq-assoc, seq-done, seq-after, loop-append, later_is}
+use Rattle.placed_laws.proofs.Turns.{loop_to}
 
 -- some actions, and over
 abbrev pub at_once : List Action → Out

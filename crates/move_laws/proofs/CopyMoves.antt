@@ -23,12 +23,12 @@ use Rattle.tree_laws.proofs.Matches.{Grown, Matches-in}
 use Rattle.tree_laws.proofs.Freeze.{within_self, within_trans}
 use Rattle.std.proofs.lemmas.Bool.{eq-eqb}
 use Rattle.std.proofs.Math.Seq.{drop-append_seam}
-use Rattle.point_laws.proofs.PointForms.{resume, after, after-after, seq-after}
-use Rattle.point_laws.proofs.Turns.{enter_copy}
-use Rattle.point_laws.proofs.Copies.{copying, copy_on, copy_over}
+use Rattle.placed_laws.proofs.PointForms.{resume, after, after-after, seq-after}
+use Rattle.placed_laws.proofs.Turns.{enter_copy}
+use Rattle.placed_laws.proofs.Copies.{copying, copy_on, copy_over}
 use Rattle.tree_laws.proofs.Growing.{fed_all}
 use Rattle.tree_laws.proofs.Fed.{grown_from, root_from}
-use Rattle.point_laws.proofs.RunForms.{reached_leads, point_law}
+use Rattle.placed_laws.proofs.RunForms.{reached_leads, point_law}
 use Rattle.placed_laws.proofs.PointNeeds.{need_law}
 use Rattle.move_laws.proofs.Keeping.{point_stays, matches_kept}
 use Rattle.move_laws.proofs.Moving.{take_next, no_more, one_action, points_are_stacks}

@@ -12,17 +12,17 @@ use Rattle.gcx_model.specs.Growth.{Leads, stays, more}
 use Rattle.gcx_model.specs.Points.{actions, so_far, here, fed, acted, later, IsPoint}
 use Rattle.base_laws.proofs.Members.{filter_all}
 use Rattle.move_laws.specs.Kept.{TruthKept, CopyKept, MatchesKept, LaterKept, FirstKept, ClosedStays, ReachedGrows, TakenAreThere, SoFarStays, PointStays}
-use Rattle.point_laws.proofs.Prefix.{Before, Same, More}
-use Rattle.point_laws.proofs.Whole.{run_grows_all}
+use Rattle.placed_laws.proofs.Prefix.{Before, Same, More}
+use Rattle.placed_laws.proofs.Whole.{run_grows_all}
 use Rattle.tree_laws.proofs.Lists.{In}
 use Rattle.tree_laws.proofs.Matches.{Grown, Grown-grow, Numbered-high}
 use Rattle.tree_laws.proofs.Freeze.{stays_closed, Matches-closed, value_closed}
 use Rattle.tree_laws.proofs.Held.{filter_comm}
-use Rattle.need_laws.proofs.Pruned as pruned
-use Rattle.need_laws.proofs.Waits.{stands_all, root_bound}
+use Rattle.placed_laws.proofs.Pruned as pruned
+use Rattle.placed_laws.proofs.Waits.{stands_all, root_bound}
 use Rattle.tree_laws.proofs.Fed.{nodes_stay, grown_from, root_from}
 use Rattle.tree_laws.proofs.Growing.{fed_all}
-use Rattle.point_laws.proofs.RunForms.{reached_leads}
+use Rattle.placed_laws.proofs.RunForms.{reached_leads}
 
 -- over fewer nodes
 

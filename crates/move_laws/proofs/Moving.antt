@@ -11,8 +11,8 @@ use Rattle.gcx_model.specs.Run.{Action, Wrote, Offed, Out, idle, seq, loop, choo
 use Rattle.gcx_model.specs.Points.{actions, so_far, Frame, Rest, Round, Part, later, body_at, to_come, IsPoint, Begins, Past, InLoop, InYes, InNo, PointAt}
 use Rattle.gcx_model.specs.Points as points
 use Rattle.move_laws.specs.Moves.{IsNext, NoneLeft, AtPoint, OpeningPoint, WriteMove, OffMove, BranchMove, FirstRound, NoRound, NextRound, LastRound, EmptyRest, BranchWaits, LoopWaits, RoundWaits, AllEmpty, RunIsDone, IsStack, Bottom, InBranch, InRound, InCopy, PointsAreStacks}
-use Rattle.point_laws.proofs.PointForms.{resume, after, seq-assoc}
-use Rattle.point_laws.proofs.Turns.{next_turn, leave_loop, leave_branch, pass_item, enter_loop, enter_yes, enter_no}
+use Rattle.placed_laws.proofs.PointForms.{resume, after, seq-assoc}
+use Rattle.placed_laws.proofs.Turns.{next_turn, leave_loop, leave_branch, pass_item, enter_loop, enter_yes, enter_no}
 use Rattle.tree_laws.proofs.Fed.{grown_from}
 
 -- the next element of a list behind its first k

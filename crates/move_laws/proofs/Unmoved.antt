@@ -26,23 +26,23 @@ use Rattle.base_laws.proofs.Members.{filter_all}
 use Rattle.move_laws.specs.Quiet.{by_opening, by_closing, QuietToken}
 use Rattle.tree_laws.proofs.Lists.{In-left, In-append, In-filter, In-kept, any_in, filter_none}
 use Rattle.tree_laws.proofs.Matches.{Numbered-same, Numbered-high, Matches-in, added, grow_nodes}
-use Rattle.need_laws.proofs.Pruned.{pruned}
-use Rattle.need_laws.proofs.Need.{needs_live}
-use Rattle.need_laws.proofs.CoreStates as states
+use Rattle.placed_laws.proofs.Pruned.{pruned}
+use Rattle.placed_laws.proofs.Need.{needs_live}
+use Rattle.placed_laws.proofs.CoreStates as states
 use Rattle.tree_laws.proofs.Fed.{tree, grown, root_in, grown_from, root_from}
 use Rattle.placed_laws.proofs.Bridge.{is_live_is}
-use Rattle.need_laws.proofs.Evaluator as over
+use Rattle.placed_laws.proofs.Evaluator as over
 use Rattle.tree_laws.proofs.Growing.{grows, fed_all}
 use Rattle.move_laws.proofs.CopyFrames.{copy_enough}
 use Rattle.placed_laws.proofs.FromPlans.{from_state}
-use Rattle.point_laws.proofs.RunForms.{prefix_law}
-use Rattle.point_laws.proofs.DemandStates.{demand_is_reached}
+use Rattle.placed_laws.proofs.RunForms.{prefix_law}
+use Rattle.placed_laws.proofs.DemandStates.{demand_is_reached}
 use Rattle.placed_laws.proofs.PointNeeds.{bound_law}
 use Rattle.placed_laws.proofs.Bindings.{copy_bound_law}
 use Rattle.move_laws.proofs.Keeping.{truth_kept, copy_kept, matches_kept, later_kept, so_far_stays, point_stays}
 use Rattle.move_laws.proofs.Moving.{none_left, branch_waits, loop_waits, round_waits}
 use Rattle.move_laws.proofs.Blocked.{IsBlocked, AtBranch, AtLoop, AtRound, AtCopy, blocked}
-use Rattle.need_laws.proofs.Reopened.{open_as, truth_same, copy_same, added_serial, added_one, open_kept, others_kept, end_nodes}
+use Rattle.placed_laws.proofs.Reopened.{open_as, truth_same, copy_same, added_serial, added_one, open_kept, others_kept, end_nodes}
 
 -- At what a point needs a role is live.
 live_need : (core : BodyTree) → Good core → (plan : PlanTree) → Placed core plan → (P : Tree) (k : ℕ) → CoreState plan P k → (fs : List Frame) → PointAt plan P k fs

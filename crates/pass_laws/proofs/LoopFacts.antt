@@ -18,13 +18,13 @@ use Rattle.gcx_model.specs.Points as points
 use Rattle.tree_laws.proofs.Reading.{reading, is_live, is_held, held}
 use Rattle.tree_laws.proofs.Lists.{In, In-left, In-right, In-kept}
 use Rattle.tree_laws.proofs.Matches.{Matches-in}
-use Rattle.point_laws.proofs.PointForms.{Frame, Rest, Round, IsPoint}
-use Rattle.need_laws.proofs.Plans.{in_end, cond_rows_in}
-use Rattle.need_laws.proofs.Waits.{Has}
-use Rattle.need_laws.proofs.Frames.{Bound_in, Ready, ready_over, ready_under, ready_far, LoopScope, Loop, Turn, Facts, facts}
-use Rattle.need_laws.proofs.Need.{Solid_one, solid_last, row_statement, site_live, bound_live, live_held}
+use Rattle.placed_laws.proofs.PointForms.{Frame, Rest, Round, IsPoint}
+use Rattle.placed_laws.proofs.CorePlans.{in_end, cond_rows_in}
+use Rattle.placed_laws.proofs.Waits.{Has}
+use Rattle.placed_laws.proofs.Frames.{Bound_in, Ready, ready_over, ready_under, ready_far, LoopScope, Loop, Turn, Facts, facts}
+use Rattle.placed_laws.proofs.Need.{Solid_one, solid_last, row_statement, site_live, bound_live, live_held}
 use Rattle.tree_laws.proofs.Fed.{tree, grown, root_in}
-use Rattle.need_laws.proofs.CoreStates.{so_far}
+use Rattle.placed_laws.proofs.CoreStates.{so_far}
 use Rattle.placed_laws.proofs.Bridge.{held_is}
 use Rattle.placed_laws.proofs.FromPlans.{from_state}
 use Rattle.pass_laws.specs.Idle.{FreeIn}

@@ -14,7 +14,7 @@ use Rattle.move_laws.specs.Moves.{AtPoint}
 use Rattle.tree_laws.proofs.Lists.{In-filter}
 use Rattle.tree_laws.proofs.Matches.{Matches-rising}
 use Rattle.tree_laws.proofs.Departures.{rising_filter}
-use Rattle.point_laws.proofs.PointForms.{later_is}
+use Rattle.placed_laws.proofs.PointForms.{later_is}
 use Rattle.move_laws.proofs.Moving.{no_action, next_round, last_round}
 use Rattle.tree_laws.proofs.Fed.{grown_from}
 use Rattle.pass_laws.specs.Idle.{IsQuiet}

@@ -20,8 +20,8 @@ use Rattle.past_laws.specs.Pasts.{NewNode, FirstBehind, OpenNodes, NewUnsigned, 
 use Rattle.tree_laws.proofs.Lists.{In-append, In-filter, In-kept, any_in, filter_none}
 use Rattle.tree_laws.proofs.Matches.{Grown-grow, Numbered-high, Numbered-same, Matches-in, added, added_at, grow_nodes, Matches-grow}
 use Rattle.tree_laws.proofs.Freeze.{within_self, within_above, within_trans, hits_within, stays_closed}
-use Rattle.need_laws.proofs.Local.{within_is}
-use Rattle.need_laws.proofs.Stays.{all_in, all_from}
+use Rattle.placed_laws.proofs.Local.{within_is}
+use Rattle.placed_laws.proofs.Stays.{all_in, all_from}
 use Rattle.tree_laws.proofs.Fed.{grown_from}
 use Rattle.tree_laws.proofs.OffsSigned.{signed_is_off}
 use Rattle.placed_laws.proofs.Told.{taken_told}

@@ -20,8 +20,8 @@ use Rattle.tree_laws.proofs.Matches.{Numbered-same, Matches-in, Matches-from}
 use Rattle.tree_laws.proofs.Freeze.{within_self, within_above, within_trans, open_up_at}
 use Rattle.tree_laws.proofs.Held.{filter_comm}
 use Rattle.tree_laws.proofs.Chains.{above_in, hits_above}
-use Rattle.need_laws.proofs.Stays.{all_in}
-use Rattle.need_laws.proofs.Frames.{gives_behind}
+use Rattle.placed_laws.proofs.Stays.{all_in}
+use Rattle.placed_laws.proofs.Frames.{gives_behind}
 use Rattle.tree_laws.proofs.Fed.{grown_from}
 use Rattle.placed_laws.proofs.PlanStatements.{one_statement_law}
 use Rattle.tree_laws.proofs.OffsSigned.{signed_is_off}

@@ -19,7 +19,7 @@ use Rattle.past_laws.specs.Pasts.{bases, LiveByFeed, RowsByFeed, RowsByAct, Live
 use Rattle.tree_laws.proofs.Lists.{In-filter, filter_same}
 use Rattle.tree_laws.proofs.Matches.{Matches-grow, added}
 use Rattle.tree_laws.proofs.Equal.{off_refl, off_same}
-use Rattle.need_laws.proofs.Stays.{any-append, any_same, all_from, gives_same, gives_new, new_serial}
+use Rattle.placed_laws.proofs.Stays.{any-append, any_same, all_from, gives_same, gives_new, new_serial}
 use Rattle.placed_laws.proofs.PlanStatements.{one_statement_law}
 use Rattle.placed_laws.proofs.HeldChanges.{held_by_feed, held_by_act}
 use Rattle.past_laws.proofs.PastForms.{past_acts}

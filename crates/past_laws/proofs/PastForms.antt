@@ -14,7 +14,7 @@ use Rattle.past_laws.specs.Pasts.{CoreStatePast, PastOpens, PastFeeds, PastActs}
 use Rattle.tree_laws.proofs.Lists.{In-left, In-append}
 use Rattle.tree_laws.proofs.Matches.{Matches-grow}
 use Rattle.tree_laws.proofs.Growing.{grows}
-use Rattle.point_laws.proofs.RunForms.{prefix_law, reached_leads}
+use Rattle.placed_laws.proofs.RunForms.{prefix_law, reached_leads}
 use Rattle.tree_laws.proofs.Fed.{root_from}
 use Rattle.placed_laws.proofs.Balances.{offs_at_matches}
 

@@ -17,7 +17,7 @@ use Rattle.past_laws.specs.Pasts.{bases, NewRoles, KeptByRows, RowTells, HeldLoc
 use Rattle.tree_laws.proofs.Lists.{In-filter, In-kept, any_in, any_from}
 use Rattle.tree_laws.proofs.Matches.{Numbered-same, Matches-in}
 use Rattle.tree_laws.proofs.Freeze.{within_self}
-use Rattle.need_laws.proofs.Local.{child_way, within_is}
+use Rattle.placed_laws.proofs.Local.{child_way, within_is}
 use Rattle.tree_laws.proofs.Chains.{above_self, above_in, above_same, all_child_depth}
 use Rattle.tree_laws.proofs.Fed.{root_in, from_tokens}
 use Rattle.placed_laws.proofs.PlanStatements.{one_statement_law}

@@ -17,16 +17,16 @@ use Rattle.gcx_model.specs.Points.{actions, so_far, ReachedFrom}
 use Rattle.tree_laws.specs.Growth.{AllClosed}
 use Rattle.placed_laws.specs.Balance.{BalanceLaw, EmptyAtEnd, is_taking, OnceLaw, OffsAtMatches, TakenStays, GoneStays}
 use Rattle.tree_laws.proofs.Fed.{tree, grown, from_tokens}
-use Rattle.need_laws.proofs.CoreStates.{once, once_at, taken_stays, balanced, empty_at_end, so_far_stays}
+use Rattle.placed_laws.proofs.CoreStates.{once, once_at, taken_stays, balanced, empty_at_end, so_far_stays}
 use Rattle.tree_laws.proofs.Growing.{fed_all}
 use Rattle.placed_laws.proofs.Bridge.{path_is, given_is, taken_is, held_is, row_places}
 use Rattle.placed_laws.proofs.Unique.{placed, in_plan}
-use Rattle.point_laws.proofs.RunForms.{reached_leads}
+use Rattle.placed_laws.proofs.RunForms.{reached_leads}
 use Rattle.placed_laws.proofs.FromPlans.{from_plan, from_state}
 use Rattle.tree_laws.proofs.Reading as old
 use Rattle.tree_laws.proofs.Reading.{Reading, reading}
 use Rattle.tree_laws.proofs.Lists.{In-filter, In-kept}
-use Rattle.need_laws.proofs.Lasting.{held_acted, held_back_all}
+use Rattle.placed_laws.proofs.Lasting.{held_acted, held_back_all}
 
 balanced_at : (core : BodyTree) (good : Good core) (ts : List Token) → AllClosed (tree ts) → (n : Node) (r : ℕ) → taken (plan_of core) (tree ts) (actions (plan_of core) (tree ts)) n r ≡ given (plan_of core) (tree ts) n r
 balanced_at core good ts c n r = go (row_at (roles_of core) r) refl

@@ -9,9 +9,9 @@ use Rattle.gcx_model.specs.Held.{path_of}
 use Rattle.gcx_model.specs.Points.{Part, PointAt, Bound_in}
 use Rattle.placed_laws.specs.Binding.{CopyBoundLaw}
 use Rattle.tree_laws.proofs.Matches.{Matches-from}
-use Rattle.need_laws.proofs.Frames.{Here}
+use Rattle.placed_laws.proofs.Frames.{Here}
 use Rattle.tree_laws.proofs.Fed.{tree, grown}
-use Rattle.need_laws.proofs.Evaluator as over
+use Rattle.placed_laws.proofs.Evaluator as over
 use Rattle.placed_laws.proofs.Bridge.{path_is}
 use Rattle.placed_laws.proofs.FromPlans.{from_state}
 

@@ -18,7 +18,7 @@ use Rattle.base_laws.proofs.Numbers.{count_high}
 use Rattle.tree_laws.proofs.Reading as old
 use Rattle.tree_laws.proofs.Reading.{reading}
 use Rattle.tree_laws.proofs.Lists.{filter_same}
-use Rattle.need_laws.proofs.Plans.{At_row, Fits, good_fits, good_zero, away_body}
+use Rattle.placed_laws.proofs.CorePlans.{At_row, Fits, good_fits, good_zero, away_body}
 use Rattle.placed_laws.proofs.Placed.{one_statement}
 
 -- lists of paths

@@ -10,7 +10,7 @@ use Rattle.gcx_model.specs.Cores.{BodyIn, Good}
 use Rattle.gcx_model.specs.Placed.{row_at, IsStatement, InOrder, is_own_kind, own_number, statement, statements, offs_of, is_empty, is_own, at_end}
 use Rattle.gcx_model.specs.Members.{In, Once}
 use Rattle.tree_laws.proofs.Lists.{In-append, In-filter}
-use Rattle.need_laws.proofs.Plans.{Fits, good_fits, good_once, good_not_zero, good_based, good_zero, Based, roles_known, no_vars}
+use Rattle.placed_laws.proofs.CorePlans.{Fits, good_fits, good_once, good_not_zero, good_based, good_zero, Based, roles_known, no_vars}
 use Rattle.placed_laws.proofs.Bridge.{row_places}
 
 -- The Own rows

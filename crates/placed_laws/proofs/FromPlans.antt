@@ -8,7 +8,7 @@ use Rattle.gcx_model.specs.Points.{CoreState}
 use Rattle.placed_laws.specs.Plans.{PlacedOnce}
 use Rattle.tree_laws.proofs.Fed.{tree, from_tokens}
 use Rattle.placed_laws.proofs.Unique.{placed, unique}
-use Rattle.point_laws.proofs.RunForms.{reached_leads}
+use Rattle.placed_laws.proofs.RunForms.{reached_leads}
 
 pub placed_once : PlacedOnce
 placed_once core good = (placed core good, λ plan pl. unique core good plan pl)

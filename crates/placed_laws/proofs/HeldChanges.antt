@@ -16,11 +16,11 @@ use Rattle.tree_laws.proofs.Reading as old
 use Rattle.tree_laws.proofs.Reading.{Reading, reading}
 use Rattle.tree_laws.proofs.Lists.{In-left, filter_same}
 use Rattle.tree_laws.proofs.Matches.{added, grow_nodes}
-use Rattle.need_laws.proofs.Stays.{held_feed}
+use Rattle.placed_laws.proofs.Stays.{held_feed}
 use Rattle.tree_laws.proofs.Fed.{grown, from_tokens}
 use Rattle.placed_laws.proofs.Bridge.{held_is, is_held_is}
 use Rattle.placed_laws.proofs.FromPlans.{from_plan}
-use Rattle.need_laws.proofs.Lasting.{held_acted}
+use Rattle.placed_laws.proofs.Lasting.{held_acted}
 
 filter_sub : (p q : Node → Bool) (xs : List Node) → ((x : Node) → q x ≡ true → p x ≡ true) → filter q (filter p xs) ≡ filter q xs
 filter_sub p q [] h = refl

@@ -37,8 +37,8 @@ use Rattle.placed_laws.specs.Normal.{NormalLaw}
 use Rattle.tree_laws.proofs.Lists.{In-left, In-right}
 use Rattle.tree_laws.proofs.Matches.{Matches-in, Matches-from, Numbered-high, Grown-opening}
 use Rattle.tree_laws.proofs.Order.{chain_is}
-use Rattle.point_laws.proofs.Whole.{run_is_done, item_is_done, copy_is_done, child_above}
-use Rattle.need_laws.proofs.Plans.{In-count}
+use Rattle.placed_laws.proofs.Whole.{run_is_done, item_is_done, copy_is_done, child_above}
+use Rattle.placed_laws.proofs.CorePlans.{In-count}
 use Rattle.placed_laws.proofs.Moved.{vars-expr, cond_scoped}
 use Rattle.tree_laws.proofs.Fed.{root_in, ordered_all, ordered_opening}
 use Rattle.tree_laws.proofs.Documents.{whole_closed}

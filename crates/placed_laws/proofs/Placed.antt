@@ -11,9 +11,9 @@ use Rattle.gcx_model.specs.Roles.{roles_of}
 use Rattle.gcx_model.specs.Variables.{var_tree}
 use Rattle.gcx_model.specs.Cores.{BodyIn, Good}
 use Rattle.tree_laws.proofs.Lists.{In, In-append, In-filter}
-use Rattle.need_laws.proofs.Needed.{quiet, quiet_item, Own, Before, Itself, Way, Top, Skip, Here}
-use Rattle.need_laws.proofs.Plans.{same_role}
-use Rattle.need_laws.proofs.CoreStates.{Only, Only_item, plan_only, role_way}
+use Rattle.placed_laws.proofs.Needed.{quiet, quiet_item, Own, Before, Itself, Way, Top, Skip, Here}
+use Rattle.placed_laws.proofs.CorePlans.{same_role}
+use Rattle.placed_laws.proofs.CoreStates.{Only, Only_item, plan_only, role_way}
 
 -- Without its statements the plan is the core.
 

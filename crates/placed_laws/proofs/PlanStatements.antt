@@ -15,7 +15,7 @@ use Rattle.gcx_model.specs.Placed.{offs_in, of_role, offs_of, plan_of}
 use Rattle.gcx_model.specs.Held.{path_of, statement_of}
 use Rattle.placed_laws.specs.Plans.{SignedByRole, OneStatement, PathsByRows}
 use Rattle.tree_laws.proofs.Lists.{In-filter}
-use Rattle.need_laws.proofs.Plans.{same_role}
+use Rattle.placed_laws.proofs.CorePlans.{same_role}
 use Rattle.placed_laws.proofs.Placed.{one_statement, statements_only}
 use Rattle.placed_laws.proofs.Bridge.{path_is}
 use Rattle.placed_laws.proofs.FromPlans.{from_plan}

@@ -5,9 +5,9 @@ use Rattle.std.proofs.lemmas.Grind.{flat_map-append}
 use Rattle.gcx_model.specs.Run.{Action, Offed, run, env0, Wrote, bytes_of}
 use Rattle.gcx_model.specs.Points.{actions}
 use Rattle.placed_laws.specs.Plans.{is_write, PlanWrites, PlanBytes}
-use Rattle.need_laws.proofs.Writes.{written}
+use Rattle.placed_laws.proofs.Writes.{written}
 use Rattle.tree_laws.proofs.Fed.{root_from}
-use Rattle.point_laws.proofs.RunForms.{prefix_law}
+use Rattle.placed_laws.proofs.RunForms.{prefix_law}
 use Rattle.placed_laws.proofs.FromPlans.{from_plan}
 use Rattle.placed_laws.proofs.Meaning.{normal_law}
 use Rattle.placed_laws.proofs.Moved.{normal_good}

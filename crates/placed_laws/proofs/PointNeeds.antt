@@ -14,8 +14,8 @@ use Rattle.gcx_model.specs.Needs.{Needs, Uses}
 use Rattle.placed_laws.specs.Needs.{NeedLaw, TruthHeld, TurnsHeld, LoopHeld, CopyHeld, BoundLaw, TurnLaw, UnsignedLaw}
 use Rattle.tree_laws.proofs.Matches.{Matches-in, Matches-from}
 use Rattle.tree_laws.proofs.Fed.{tree}
-use Rattle.need_laws.proofs.CoreStates.{need}
-use Rattle.need_laws.proofs.Evaluator as over
+use Rattle.placed_laws.proofs.CoreStates.{need}
+use Rattle.placed_laws.proofs.Evaluator as over
 use Rattle.placed_laws.proofs.Bridge.{path_is, held_is}
 use Rattle.placed_laws.proofs.FromPlans.{from_state}
 use Rattle.gcx_model.specs.Variables.{path_in}

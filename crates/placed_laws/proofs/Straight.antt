@@ -8,7 +8,7 @@ use Rattle.gcx_model.specs.Variables.{Var, is_child, all_child, one_desc, is_str
 use Rattle.gcx_model.specs.Cores.{BodyIn, Good}
 use Rattle.placed_laws.specs.LoopRules.{BodyOf, whole, behind, inner, this_side, other_side, LoopIn, VariablesOfLoops, descents, PathByLoop, StraightByLoop, FsaByLoop}
 use Rattle.tree_laws.proofs.Lists.{In-left, In-right, In-append}
-use Rattle.need_laws.proofs.Plans.{Fits, good_fits, good_zero}
+use Rattle.placed_laws.proofs.CorePlans.{Fits, good_fits, good_zero}
 
 -- variables and loops
 

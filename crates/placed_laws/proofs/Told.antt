@@ -13,7 +13,7 @@ use Rattle.gcx_model.specs.Cores.{Good}
 use Rattle.gcx_model.specs.Placed.{offs_in, of_role, row_at, Placed}
 use Rattle.gcx_model.specs.Held.{path_of, statement_of, gives, on_row, given_row, given, all_signed, on_off, taken}
 use Rattle.tree_laws.proofs.Lists.{In-filter}
-use Rattle.need_laws.proofs.Plans.{good_based, roles_known}
+use Rattle.placed_laws.proofs.CorePlans.{good_based, roles_known}
 use Rattle.placed_laws.proofs.Ends.{cancel, row_in}
 use Rattle.placed_laws.proofs.Unique.{row_below}
 use Rattle.placed_laws.proofs.PlanStatements.{paths_by_rows, one_statement_law}

@@ -10,7 +10,7 @@ use Rattle.gcx_model.specs.Placed.{without, offs_in, of_role, row_at, InOrder, O
 use Rattle.gcx_model.specs.Members.{In, Once}
 use Rattle.base_laws.proofs.Members.{in_map}
 use Rattle.tree_laws.proofs.Lists.{In-left, In-right, In-append, In-filter}
-use Rattle.need_laws.proofs.Plans.{good_once, good_not_zero, same_role, end_in, in_end}
+use Rattle.placed_laws.proofs.CorePlans.{good_once, good_not_zero, same_role, end_in, in_end}
 use Rattle.placed_laws.proofs.Placed.{without_is, one_statement, statements_only}
 use Rattle.placed_laws.proofs.Bridge.{row_places}
 use Rattle.placed_laws.proofs.Ends.{is_statement, statement_in, ends_order, order_same}

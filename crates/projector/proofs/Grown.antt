@@ -14,7 +14,7 @@ use Rattle.gcx_model.specs.Past.{Past, IsPast, past_fed, is_ahead, reopen, reope
 use Rattle.tree_laws.proofs.Lists.{In-right, In-append, filter_same}
 use Rattle.tree_laws.proofs.Matches.{Numbered-high, added, added_at, grow_nodes}
 use Rattle.tree_laws.proofs.Growing.{tree_same}
-use Rattle.need_laws.proofs.Reopened.{added_serial}
+use Rattle.placed_laws.proofs.Reopened.{added_serial}
 use Rattle.past_laws.proofs.Ahead.{ahead_takes, ahead_before}
 use Rattle.past_laws.proofs.Bases.{is_grown}
 use Rattle.past_laws.proofs.PastForms.{past_feeds}

@@ -18,7 +18,7 @@ use Rattle.tree_laws.proofs.Lists.{In-filter, any_from}
 use Rattle.tree_laws.proofs.Matches.{Matches-in}
 use Rattle.tree_laws.proofs.Fed.{grown_from}
 use Rattle.tree_laws.proofs.Freeze.{closed_below, hits_within}
-use Rattle.need_laws.proofs.Local.{within_is}
+use Rattle.placed_laws.proofs.Local.{within_is}
 use Rattle.pass_laws.specs.Idle.{IsQuiet, FreeIn}
 use Rattle.pass_laws.specs.Scopes.{UsesIn, HasNoOff, AtLoop}
 use Rattle.pass_laws.specs.ValueLists.{IsValueAt}

@@ -15,7 +15,7 @@ use Rattle.gcx_model.specs.Placed.{Placed}
 use Rattle.gcx_model.specs.Past.{Past}
 use Rattle.gcx_model.specs.Points.{CoreState, Frame, Rest, Round, later, PointAt, Bound_in}
 use Rattle.move_laws.specs.Moves.{AtPoint}
-use Rattle.need_laws.proofs.Evaluator as over
+use Rattle.placed_laws.proofs.Evaluator as over
 use Rattle.placed_laws.proofs.FromPlans.{from_state}
 use Rattle.buf_tree.specs.Shape.{Cell}
 use Rattle.buf_tree.specs.View.{View}

@@ -14,8 +14,8 @@ use Rattle.run_laws.proofs.Free.{some_acts}
 use Rattle.tree_laws.proofs.Matches.{Matches-in}
 use Rattle.past_laws.proofs.Bases.{is_grown}
 use Rattle.tree_laws.proofs.Chains.{hits_one}
-use Rattle.point_laws.proofs.PointForms.{seq-idle}
-use Rattle.need_laws.proofs.Waits.{Has}
+use Rattle.placed_laws.proofs.PointForms.{seq-idle}
+use Rattle.placed_laws.proofs.Waits.{Has}
 use Rattle.buf_tree.specs.Shape.{Cell, num}
 use Rattle.buf_tree.specs.Match.{GoesFrom}
 use Rattle.buf_tree.specs.View.{View}

@@ -18,7 +18,7 @@ use Rattle.gcx_model.specs.Past.{Past, past_acted, parent_serial}
 use Rattle.move_laws.specs.Moves.{IsNext}
 use Rattle.past_laws.proofs.Awaited.{waiting_law}
 use Rattle.past_laws.proofs.PastForms.{past_acts}
-use Rattle.need_laws.proofs.Stays.{any-append}
+use Rattle.placed_laws.proofs.Stays.{any-append}
 use Rattle.spread_laws.specs.Tops.{roles_kept}
 use Rattle.spread_laws.proofs.Acted.{kept_by_write}
 use Rattle.buf_tree.specs.View.{View, capped}

@@ -15,7 +15,7 @@ use Rattle.base_laws.proofs.Lists.{filter_few}
 use Rattle.tree_laws.proofs.Matches.{added, added_at, grow_nodes}
 use Rattle.tree_laws.proofs.Growing.{grows, leads}
 use Rattle.placed_laws.proofs.HeldChanges.{held_by_feed, held_by_act}
-use Rattle.point_laws.proofs.RunForms.{prefix_law}
+use Rattle.placed_laws.proofs.RunForms.{prefix_law}
 use Rattle.tree_laws.proofs.Fed.{root_from}
 use Rattle.run_laws.specs.Peaks.{PeakStep, HeldCounts, PeakWithin}
 

@@ -16,12 +16,12 @@ use Rattle.gcx_model.specs.declared.truth.Truth.TheVariants.{Unknown}
 use Rattle.gcx_model.specs.Truth.{Env, settled_values, is_over, settle, negate, both, either, truth, truth_all, truth_any}
 use Rattle.gcx_model.specs.Growth.{Leads}
 use Rattle.gcx_model.specs.Past.{open_from}
-use Rattle.trace_laws.proofs.Traces.{numbered_rest}
+use Rattle.run_laws.proofs.Traces.{numbered_rest}
 use Rattle.tree_laws.proofs.Lists.{In-left, In-right, In-filter}
 use Rattle.tree_laws.proofs.Matches.{Numbered-low, Numbered-high, Numbered-same, added, grow_nodes, Grown-grow, Grown-all}
 use Rattle.tree_laws.proofs.Chains.{above_self, above_in}
-use Rattle.point_laws.proofs.Prefix.{truth_firmer}
-use Rattle.point_laws.proofs.PointForms.{firm_true}
+use Rattle.placed_laws.proofs.Prefix.{truth_firmer}
+use Rattle.placed_laws.proofs.PointForms.{firm_true}
 use Rattle.tree_laws.proofs.Growing.{fed_all}
 use Rattle.tree_laws.proofs.Fed.{grown_from, root_from}
 use Rattle.past_laws.proofs.Ahead.{open_nodes_are}

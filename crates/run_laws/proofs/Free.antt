@@ -17,14 +17,14 @@ use Rattle.gcx_model.specs.Needs.{Needs}
 use Rattle.gcx_model.specs.Points.{actions, so_far, here, fed, CoreState, Frame, Rest, Round, Part, to_come, IsPoint, Begins, Past, InLoop, InYes, InNo, InCopy, PointAt, Bound_in}
 use Rattle.tree_laws.proofs.Lists.{In-left, In-right}
 use Rattle.tree_laws.proofs.Fed.{root_from}
-use Rattle.point_laws.proofs.PointForms.{seq-idle}
-use Rattle.need_laws.proofs.Plans.{Once-left, Once-right, good_once, good_not_zero, good_zero, in_end}
-use Rattle.need_laws.proofs.Waits.{Has}
-use Rattle.need_laws.proofs.Frames.{Has-end}
+use Rattle.placed_laws.proofs.PointForms.{seq-idle}
+use Rattle.placed_laws.proofs.CorePlans.{Once-left, Once-right, good_once, good_not_zero, good_zero, in_end}
+use Rattle.placed_laws.proofs.Waits.{Has}
+use Rattle.placed_laws.proofs.Frames.{Has-end}
 use Rattle.move_laws.proofs.Moving.{opening_point}
 use Rattle.move_laws.proofs.Keeping.{reached_grows}
 use Rattle.placed_laws.proofs.FromPlans.{placed_once}
-use Rattle.point_laws.proofs.RunForms.{point_law, resume_law}
+use Rattle.placed_laws.proofs.RunForms.{point_law, resume_law}
 use Rattle.placed_laws.proofs.PointNeeds.{need_law}
 use Rattle.placed_laws.proofs.Unique.{vars_without}
 use Rattle.run_laws.specs.Bindings.{IsFree, LoopVariableFree, RoundVariableFree, PlanActs}

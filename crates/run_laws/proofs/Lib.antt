@@ -1,4 +1,8 @@
 pub mod Counts
 pub mod Feeds
 pub mod Free
+pub mod Goes
+pub mod Rows
 pub mod Summing
+pub mod Traces
+pub mod TurnsReached

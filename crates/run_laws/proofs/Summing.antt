@@ -23,11 +23,11 @@ use Rattle.tree_laws.proofs.Lists.{In-filter, any_from, filter_same}
 use Rattle.tree_laws.proofs.Matches.{added, grow_nodes}
 use Rattle.tree_laws.proofs.Growing.{grows}
 use Rattle.tree_laws.proofs.Freeze.{within_self}
-use Rattle.need_laws.proofs.Plans.{Once-filter}
+use Rattle.placed_laws.proofs.CorePlans.{Once-filter}
 use Rattle.placed_laws.proofs.Bridge.{length-count}
-use Rattle.need_laws.proofs.Lasting.{given_stays}
+use Rattle.placed_laws.proofs.Lasting.{given_stays}
 use Rattle.past_laws.proofs.Ahead.{new_node, all_same}
-use Rattle.need_laws.proofs.Stays.{any-append}
+use Rattle.placed_laws.proofs.Stays.{any-append}
 use Rattle.std.proofs.Math.Bool.{or-false}
 use Rattle.past_laws.proofs.Changes.{live_by_feed, roles_by_act}
 use Rattle.past_laws.proofs.RowFacts.{row_tells}

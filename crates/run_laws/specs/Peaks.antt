@@ -9,7 +9,7 @@ use Rattle.gcx_model.specs.Held.{held}
 use Rattle.gcx_model.specs.Growth.{Leads, may_all}
 use Rattle.gcx_model.specs.Points.{actions, so_far}
 use Rattle.gcx_model.specs.Demand.{peak_of}
-use Rattle.trace_laws.specs.Trace.{held_at}
+use Rattle.run_laws.specs.Trace.{held_at}
 
 -- One token more: the peak is that so far, or the nodes that are held behind the token, if these are more. Of more tokens it isn't less.
 abbrev pub PeakStep : Type 0

@@ -16,7 +16,7 @@ use Rattle.base_laws.proofs.Bools.{same_bools}
 use Rattle.tree_laws.proofs.Lists.{In-filter, filter_same}
 use Rattle.tree_laws.proofs.Chains.{hits_above}
 use Rattle.tree_laws.proofs.Matches.{Numbered-same, Matches-in}
-use Rattle.need_laws.proofs.Stays.{any-append, any_same}
+use Rattle.placed_laws.proofs.Stays.{any-append, any_same}
 use Rattle.past_laws.specs.Pasts.{bases}
 use Rattle.past_laws.proofs.Bases.{is_grown, tells, reached_live}
 use Rattle.past_laws.proofs.Changes.{filter_both, live_by_act, signed_by_act}

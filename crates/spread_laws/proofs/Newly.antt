@@ -16,7 +16,7 @@ use Rattle.base_laws.proofs.Numbers.{count_high}
 use Rattle.tree_laws.proofs.Lists.{In-filter, In-kept, any_in, any_from, filter_same}
 use Rattle.tree_laws.proofs.Chains.{above_in, hits_above}
 use Rattle.tree_laws.proofs.Matches.{Grown-grow, Matches-in, Matches-from}
-use Rattle.need_laws.proofs.Frames.{hits-append}
+use Rattle.placed_laws.proofs.Frames.{hits-append}
 use Rattle.past_laws.proofs.Ahead.{new_node, new_unsigned}
 use Rattle.past_laws.proofs.Bases.{is_grown, tells}
 use Rattle.spread_laws.specs.Tops.{is_whole_kind, is_top, is_kept_at, gives_newly, is_newly_given}

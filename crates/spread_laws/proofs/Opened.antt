@@ -19,7 +19,7 @@ use Rattle.gcx_model.specs.Past.{Past, past_fed, IsPast, Opens, open_from, open_
 use Rattle.tree_laws.proofs.Lists.{In-left, In-filter, any_in, filter_same}
 use Rattle.tree_laws.proofs.Chains.{above_in, hits_above}
 use Rattle.tree_laws.proofs.Matches.{Grown-grow, Matches-in, Matches-from, added, Matches-grow}
-use Rattle.need_laws.proofs.Stays.{any-append, any_none, gives_new, new_serial}
+use Rattle.placed_laws.proofs.Stays.{any-append, any_none, gives_new, new_serial}
 use Rattle.placed_laws.proofs.Told.{given_told}
 use Rattle.past_laws.specs.Pasts.{bases}
 use Rattle.past_laws.proofs.Ahead.{open_above, new_node, new_unsigned}

@@ -25,10 +25,10 @@ use Rattle.placed_laws.specs.Balance.{is_taking}
 use Rattle.tree_laws.proofs.Lists.{In, Once, In-right, In-append, In-filter, In-kept, any_in, any_from}
 use Rattle.tree_laws.proofs.Matches.{Grown, Grown-grow, Grown-all, Grown-opening, Matches-in, Matches-from}
 use Rattle.tree_laws.proofs.Chains.{above_in}
-use Rattle.need_laws.proofs.Stays.{gives_same, all_in}
+use Rattle.placed_laws.proofs.Stays.{gives_same, all_in}
 use Rattle.tree_laws.proofs.Fed.{nodes_stay, root_from}
 use Rattle.tree_laws.proofs.Growing.{leads}
-use Rattle.point_laws.proofs.RunForms.{prefix_law}
+use Rattle.placed_laws.proofs.RunForms.{prefix_law}
 use Rattle.placed_laws.proofs.Balances.{balance_law, once_law, offs_at_matches}
 use Rattle.past_laws.proofs.PastForms.{core_state_past}
 use Rattle.past_laws.proofs.Bases.{live_by_bases, or_not}
@@ -36,7 +36,7 @@ use Rattle.past_laws.proofs.RowFacts.{bases_above}
 use Rattle.placed_laws.proofs.Told.{told, taken_told}
 use Rattle.placed_laws.proofs.Unique.{row_below}
 use Rattle.tree_laws.proofs.OffsSigned.{signed_is_off}
-use Rattle.need_laws.proofs.Lasting.{given_stays}
+use Rattle.placed_laws.proofs.Lasting.{given_stays}
 use Rattle.time_laws.specs.Times.{Clock, IsClock, clock_of, tree_at, is_there}
 use Rattle.time_laws.specs.Leaving.{count_offs, last_from, last_of, freed_of}
 use Rattle.time_laws.specs.Laws.{LiveByTimes, HeldByTimes}

@@ -14,7 +14,7 @@ use Rattle.gcx_model.specs.Truth.{Env, bind_var}
 use Rattle.gcx_model.specs.Run.{Wrote, Offed, Out, wrote, idle, seq, loop, copy_with, copy, choose, run_item, run, env0}
 use Rattle.tree_laws.proofs.Lists.{In, In-filter, In-kept}
 use Rattle.tree_laws.proofs.Matches.{Grown, Grown-all, Grown-opening, Numbered-high, Matches-in}
-use Rattle.point_laws.proofs.Whole.{child_above}
+use Rattle.placed_laws.proofs.Whole.{child_above}
 use Rattle.std.specs.Prelude.{take}
 use Rattle.time_laws.specs.Times.{Clock, IsClock, tree_at, is_there, Course, one_act, none_till, then_on, rounds, copy_course_with, copy_course, Settled, settled, item_course, course}
 use Rattle.time_laws.specs.Laws.{RunByTimes}

@@ -18,10 +18,10 @@ use Rattle.gcx_model.specs.Demand.{Line, Written, SignedOff, Left, action_line, 
 use Rattle.base_laws.proofs.Bools.{same_bools}
 use Rattle.tree_laws.proofs.Lists.{In, In-left, In-right, In-filter, In-kept, any_in, any_from, filter_none, filter_same}
 use Rattle.tree_laws.proofs.Matches.{Grown, Grown-all, Grown-opening, Numbered-same, Numbered-high, added, grow_nodes}
-use Rattle.point_laws.proofs.RunForms.{prefix_law}
+use Rattle.placed_laws.proofs.RunForms.{prefix_law}
 use Rattle.tree_laws.proofs.Fed.{root_from}
 use Rattle.tree_laws.proofs.Freeze.{within_self}
-use Rattle.need_laws.proofs.Stays.{new_serial}
+use Rattle.placed_laws.proofs.Stays.{new_serial}
 use Rattle.time_laws.specs.Times.{Clock, IsClock, tree_at, is_there, TimedAct, timed_acts, due}
 use Rattle.time_laws.specs.Leaving.{count_offs, freed_of, left_where, is_freed, is_over, act_told, acts_told, next_due, tokens_told, told_by_times}
 use Rattle.time_laws.specs.Laws.{TraceByTimes}

@@ -8,7 +8,7 @@ use Rattle.gcx_model.specs.Held.{given, given_row, on_row, path_of, roles_given}
 use Rattle.gcx_model.specs.Members.{In, count}
 use Rattle.gcx_model.specs.Placed.{row_at}
 use Rattle.gcx_model.specs.Tree.{Node, Root, Under, serial_of, kind_of, Tree, Token, Start, Chars, End, opening, grow, grow_all, grow_at}
-use Rattle.need_laws.proofs.Stays.{gives_same}
+use Rattle.placed_laws.proofs.Stays.{gives_same}
 use Rattle.tree_laws.proofs.Fed.{nodes_stay}
 use Rattle.tree_laws.proofs.Lists.{filter_same, In-right}
 use Rattle.tree_laws.proofs.Matches.{Grown, Grown-grow, Grown-opening}

@@ -1,5 +1,0 @@
-use Rattle.need_laws.proofs.Lasting as from
-use Rattle.need_laws.proofs.given.given_stays.Goals as goal
-
-pub returns : goal.returns
-returns c = from.given_stays

@@ -1,6 +1,0 @@
-ghost use Rattle.need_laws.specs.Lasting.{GivenStays};
-
-/// What a node was given stays as it is while tokens come.
-pub fn given_stays()
-    ensures { GivenStays }
-{}

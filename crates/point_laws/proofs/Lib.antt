@@ -1,9 +1,0 @@
-pub mod Copies
-pub mod DemandStates
-pub mod PointForms
-pub mod Points
-pub mod Prefix
-pub mod RunForms
-pub mod Steps
-pub mod Turns
-pub mod Whole

@@ -1,5 +1,0 @@
-use Rattle.point_laws.proofs.RunForms as from
-use Rattle.point_laws.proofs.runs.point_law.Goals as goal
-
-pub returns : goal.returns
-returns c = from.point_law

@@ -1,0 +1,5 @@
+use Rattle.run_laws.proofs.Traces as from
+use Rattle.run_laws.proofs.trace.one_telling.Goals as goal
+
+pub returns : goal.returns
+returns c = from.one_telling

@@ -1,4 +1,0 @@
-pub mod Goes
-pub mod Rows
-pub mod Traces
-pub mod TurnsReached

@@ -1,5 +1,0 @@
-use Rattle.trace_laws.proofs.Traces as from
-use Rattle.trace_laws.proofs.trace.one_telling.Goals as goal
-
-pub returns : goal.returns
-returns c = from.one_telling

@@ -1,5 +1,0 @@
-use Rattle.trace_laws.proofs.Traces as from
-use Rattle.trace_laws.proofs.trace.peak_is_greatest.Goals as goal
-
-pub returns : goal.returns
-returns c = from.peak_is_greatest

@@ -1,5 +1,0 @@
-use Rattle.trace_laws.proofs.Traces as from
-use Rattle.trace_laws.proofs.trace.trace_by_events.Goals as goal
-
-pub returns : goal.returns
-returns c = from.trace_by_events
