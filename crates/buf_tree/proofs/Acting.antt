@@ -23,7 +23,7 @@ use Rattle.node_store.specs.Rows.{changed_at, paid_by}
 use Rattle.buf_tree.specs.Row.{Row}
 use Rattle.buf_tree.specs.declared.ahead.Ahead.{Ahead}
 use Rattle.buf_tree.specs.Rows.{signed_for, IsDead}
-use Rattle.buf_tree.specs.Shape.{Store, Cell, num, cells, Rising, Shaped, with_at, at_place}
+use Rattle.buf_tree.specs.Shape.{Store, Cell, num, cells, CellsRise, Shaped, with_at, at_place}
 use Rattle.buf_tree.specs.Purge.{is_gone, Keeps, Tidy, Purged}
 use Rattle.buf_tree.specs.View.{View, Kept, capped, num_in, serial_at}
 use Rattle.buf_tree.specs.Calls.{Signed, role_count, left_out}
@@ -105,7 +105,7 @@ pub record Between (v w : View) (k p : ℕ) : Type 0 where
   pub most : w.most ≡ v.most
   pub spread : w.spread ≡ v.spread
 
-pub signed_by : (v u w : View) (k p : ℕ) (loses : Cell → Bool) → Rising v.rows → Rising u.rows → Between v u k p → Withdrawn u w loses k → ((c : Cell) → In c u.rows → loses c ≡ true → set.contains c.row.roles k ≡ true) → Signed v w k
+pub signed_by : (v u w : View) (k p : ℕ) (loses : Cell → Bool) → CellsRise v.rows → CellsRise u.rows → Between v u k p → Withdrawn u w loses k → ((c : Cell) → In c u.rows → loses c ≡ true → set.contains c.row.roles k ≡ true) → Signed v w k
 signed_by v u w k p loses rise rise' b h has = record {
   places = λ c i.
       let x = from_map (bare loses k) c u.rows (In-filter (λ (x : Cell). not (is_gone h.leaves.left x)) c (taken_by loses k u.rows) (subst (λ (zs : List Cell). In c zs) h.leaves.purged.leaves.rows i)).0 in
@@ -202,7 +202,7 @@ module _ (m0 m1 : Store) (v : View) (p : ℕ) (off : Off) (e0 : cells m0 ≡ v.r
   rows_acted : (u w : View) → u.rows ≡ cells m1 → Withdrawn u w loses off.role.0 → map seen w.rows ≡ map (told (past_acted (Offed (off_tree off) (serial_of node.0)) past)) (held past.plan past.tree (past.acts ++ Offed (off_tree off) (serial_of node.0) ∷ []))
   rows_acted u w e d =
       rows_signed past st.is_past (off_tree off) stated node.0 base (cells m0) w.rows d.leaves.left (λ c. keeps (num c)) p rows0 each
-      (subst (λ (zs : List Cell). Rising zs) (sym same) (bare_rising loses off.role.0 (map (with_at (signed_for off.role.0) p) (cells m0)) (subst (λ (zs : List Cell). Rising zs) rows1 kept.shape.rising)))
+      (subst (λ (zs : List Cell). CellsRise zs) (sym same) (bare_rising loses off.role.0 (map (with_at (signed_for off.role.0) p) (cells m0)) (subst (λ (zs : List Cell). CellsRise zs) rows1 kept.shape.rising)))
       (subst (λ (zs : List Cell). Purged zs w.rows d.leaves.left) (sym (same ∙ ap (taken_by loses off.role.0) (sym (e ∙ rows1)))) d.leaves.purged)
     where
       same : map (sign_cell (λ c. keeps (num c)) p off.role.0) (cells m0) ≡ taken_by loses off.role.0 (map (with_at (signed_for off.role.0) p) (cells m0))
@@ -277,8 +277,8 @@ module _ (m0 m1 : Store) (v : View) (p : ℕ) (off : Off) (e0 : cells m0 ≡ v.r
       (withdrawn_for : (past : Past) (st : StandsFor v past) (stated : In (off_tree off) (offs_in past.plan.body)) → Withdrawn u w (loses m0 m1 v p off e0 gone cap count nodes h f due.cell due.among due.place due.base past st stated) off.role.0) where
     pub due_signed : u.gone ≡ v.gone → u.nodes ≡ v.nodes → u.taken ≡ v.taken → u.most ≡ v.most → u.spread ≡ v.spread → Signed v w off.role.0
     due_signed a b c d s = signed_by v u w off.role.0 p (loses m0 m1 v p off e0 gone cap count nodes h f due.cell due.among due.place due.base due.past due.stands due.stated)
-        (subst (λ (zs : List Cell). Rising zs) e0 h.shape.rising)
-        (subst (λ (zs : List Cell). Rising zs) (sym is) due_kept.shape.rising)
+        (subst (λ (zs : List Cell). CellsRise zs) e0 h.shape.rising)
+        (subst (λ (zs : List Cell). CellsRise zs) (sym is) due_kept.shape.rising)
         (record { rows = is ∙ cells_signed m0 m1 off.role.0 p f h.shape ∙ ap (map (with_at (signed_for off.role.0) p)) e0; gone = a; nodes = b; taken = c; most = d; spread = s })
         (withdrawn_for due.past due.stands due.stated)
         (λ x i. loses_has m0 m1 v p off e0 gone cap count nodes h f due.cell due.among due.place due.base due.past due.stands due.stated x)

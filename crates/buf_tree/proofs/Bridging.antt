@@ -19,7 +19,7 @@ use Rattle.tree_laws.proofs.Matches.{Rising-filter}
 use Rattle.tree_laws.proofs.Chains.{above_self}
 use Rattle.past_laws.proofs.Bases.{is_grown}
 use Rattle.past_laws.proofs.RowFacts.{held_above, kept_by_rows}
-use Rattle.buf_tree.specs.Shape.{Cell, num, Rising}
+use Rattle.buf_tree.specs.Shape.{Cell, num, CellsRise}
 use Rattle.buf_tree.specs.Stands.{Seen, seen, told}
 use Rattle.buf_tree.specs.Ways.{Tells, NodeOf, TreeOf, is_waiting, IsKeptBut}
 use Rattle.buf_tree.proofs.Standing.{pair_left, parent_told}
@@ -56,7 +56,7 @@ module _ (past : Past) (off : Off) where
         | inr h ↦ ap not h
       ])
 
-module _ (past : Past) (is : IsPast past) (xs : List Cell) (rise : Rising xs) (rows : map seen xs ≡ map (told past) (held past.plan past.tree past.acts)) where
+module _ (past : Past) (is : IsPast past) (xs : List Cell) (rise : CellsRise xs) (rows : map seen xs ≡ map (told past) (held past.plan past.tree past.acts)) where
   abbrev ns : List Node
   ns = held past.plan past.tree past.acts
 

@@ -9,7 +9,7 @@ use Rattle.base_laws.proofs.Members.{filter_all, in_map, from_map}
 use Rattle.tree_laws.proofs.Lists.{In, In-filter, In-kept}
 use Rattle.node_store.specs.Rows.{Entry, without_child, changed, changed_at, parent_of, left_by, unlinked, paid_by}
 use Rattle.buf_tree.specs.Row.{Row}
-use Rattle.buf_tree.specs.Shape.{Store, Cell, num, Rising, at_place, at_serial, place_for, is_under, entry_in, Above, Shape, with_at, without}
+use Rattle.buf_tree.specs.Shape.{Store, Cell, num, CellsRise, at_place, at_serial, place_for, is_under, entry_in, Above, Shape, with_at, without}
 use Rattle.buf_tree.proofs.Shaping.{at_place_in, at_serial_is, held_in, get_of}
 
 -- ---- reading a changed map
@@ -46,11 +46,11 @@ pub map-map : {X Y Z : Type 0} (f : X → Y) (g : Y → Z) (xs : List X) → map
 map-map f g [] = refl
 map-map f g (x ∷ xs) = ap (λ z. g (f x) ∷ z) (map-map f g xs)
 
-pub Rising-filtered : (p : Cell → Bool) (xs : List Cell) → Rising xs → Rising (filter p xs)
+pub Rising-filtered : (p : Cell → Bool) (xs : List Cell) → CellsRise xs → CellsRise (filter p xs)
 Rising-filtered p [] r = tt
 Rising-filtered p (x ∷ xs) r = go (p x) (Rising-filtered p xs r.1)
   where
-    go : (b : Bool) → Rising (filter p xs) → Rising (cond b (x ∷ filter p xs) (filter p xs))
+    go : (b : Bool) → CellsRise (filter p xs) → CellsRise (cond b (x ∷ filter p xs) (filter p xs))
     go true h = (λ y i. r.0 y (In-filter p y xs i).0, h)
     go false h = h
 
@@ -149,7 +149,7 @@ module _ (f : Row → Row) (p : ℕ) (keeps : (r : Row) → ((f r).serial ≡ r.
           go true h = rw h refl
           go false h = rw h refl
 
-      rise : (ys : List Cell) → Rising ys → Rising (map g ys)
+      rise : (ys : List Cell) → CellsRise ys → CellsRise (map g ys)
       rise [] r = tt
       rise (y ∷ ys) r = (λ z i. let x = from_map g z ys i in let l = r.0 x.0 x.1 in let a = g_num y in let b = g_num x.0 in let d = ap num x.2 in omega arith, rise ys r.1)
 

@@ -17,7 +17,7 @@ use Rattle.tree_laws.proofs.Chains.{above_self, above_trans}
 use Rattle.tree_laws.proofs.Freeze.{hits_within}
 use Rattle.node_store.specs.Rows.{Entry, parent_of}
 use Rattle.buf_tree.specs.Row.{Row}
-use Rattle.buf_tree.specs.Shape.{Store, Cell, num, cells, Rising, Shaped}
+use Rattle.buf_tree.specs.Shape.{Store, Cell, num, cells, CellsRise, Shaped}
 use Rattle.buf_tree.specs.Walk.{low_at}
 use Rattle.buf_tree.specs.Ways.{Tells, NodeOf, Descends, is_same, leads, Flags}
 use Rattle.buf_tree.proofs.Shaping.{rising_same}
@@ -40,7 +40,7 @@ tells_descends xs c (Under p s k) t =
     let h = t.0 in
     (omega arith, tells_descends xs e.0 p e.3)
 
-module _ (xs : List Cell) (rise : Rising xs) where
+module _ (xs : List Cell) (rise : CellsRise xs) where
   -- a row has one node
   pub tells_same : (c : Cell) (a b : Node) → Tells xs c a → Tells xs c b → a ≡ b
   tells_same c Root Root t u = refl

@@ -6,12 +6,12 @@ use Rattle.std.specs.FinSet.{empty, contains, retain, contains-empty}
 use Rattle.std.proofs.lemmas.Bool.{true≢false, and_from, ne_eqb, cases_Bool, false_from_ne_true}
 use Rattle.base_laws.proofs.Bools.{same_bools}
 use Rattle.tree_laws.proofs.Lists.{In}
-use Rattle.buf_tree.specs.Shape.{Cell, num, Rising}
+use Rattle.buf_tree.specs.Shape.{Cell, num, CellsRise}
 use Rattle.buf_tree.specs.Spread.{SpreadView, is_spread_in, roles_at, is_covered, seen_rows}
 use Rattle.buf_tree.proofs.Lifting.{seen_in, seen_rising}
 use Rattle.buf_tree.proofs.Spreading.{Roles, in_union, in_retain, same_roles, Upward, spread_cell, from_above, from_in, roles_self, uncovered_from, from_uncovered}
 
-module _ (s : Option SpreadView) (ks : List Cell) (up : Upward [] ks) (rise : Rising ks) (a : Cell) (i : In a ks) (own : a.row.covered ≡ is_covered (is_spread_in s) (seen_rows s ks) a) (c : Cell) (below : c.row.parent ≡ num a) (inner : num c ≡ 0 → ⊥) where
+module _ (s : Option SpreadView) (ks : List Cell) (up : Upward [] ks) (rise : CellsRise ks) (a : Cell) (i : In a ks) (own : a.row.covered ≡ is_covered (is_spread_in s) (seen_rows s ks) a) (c : Cell) (below : c.row.parent ≡ num a) (inner : num c ≡ 0 → ⊥) where
   abbrev sp : ℕ → Bool
   sp = is_spread_in s
 

@@ -10,7 +10,7 @@ use Rattle.base_laws.proofs.Lists.{map_reverse}
 use Rattle.past_laws.proofs.Bases.{is_grown}
 use Rattle.tree_laws.proofs.Lists.{In}
 use Rattle.tree_laws.proofs.Matches.{Rising-filter}
-use Rattle.buf_tree.specs.Shape.{Cell, Rising, num}
+use Rattle.buf_tree.specs.Shape.{Cell, CellsRise, num}
 use Rattle.buf_tree.specs.Calls.{left_out}
 use Rattle.buf_tree.specs.Stands.{Seen, seen, told, StandsFor}
 use Rattle.buf_tree.specs.View.{View}
@@ -19,7 +19,7 @@ use Rattle.buf_tree.proofs.Standing.{pair_left}
 
 -- ---- their order
 
-rising_rows : (past : Past) (xs : List Cell) (ns : List Node) → map seen xs ≡ map (told past) ns → NodesRising ns → Rising xs
+rising_rows : (past : Past) (xs : List Cell) (ns : List Node) → map seen xs ≡ map (told past) ns → NodesRising ns → CellsRise xs
 rising_rows past [] ns e r = tt
 rising_rows past (x ∷ xs) [] e r = absurd (cc)
 rising_rows past (x ∷ xs) (n ∷ ns) e r = (above_top, rising_rows past xs ns rest r.1)
@@ -39,7 +39,7 @@ rising_rows past (x ∷ xs) (n ∷ ns) e r = (above_top, rising_rows past xs ns 
         omega arith
 
 -- they rise as their nodes do
-pub rows_rise : (v : View) (past : Past) → StandsFor v past → Rising v.rows
+pub rows_rise : (v : View) (past : Past) → StandsFor v past → CellsRise v.rows
 rows_rise v past h = rising_rows past v.rows (held past.plan past.tree past.acts) h.rows (Rising-filter 0 (is_held past.plan past.tree past.acts) past.tree.nodes (is_grown past h.is_past).numbered)
 
 -- so no two have one number

@@ -5,7 +5,7 @@ use Rattle.base_laws.proofs.Members.{in_map, from_map}
 use Rattle.tree_laws.proofs.Lists.{In}
 use Rattle.buf_tree.specs.Row.{Row}
 use Rattle.buf_tree.specs.Rows.{shut_row, untaken}
-use Rattle.buf_tree.specs.Shape.{Cell, num, Rising, Above, with_at}
+use Rattle.buf_tree.specs.Shape.{Cell, num, CellsRise, Above, with_at}
 use Rattle.buf_tree.specs.Purge.{Purged}
 use Rattle.buf_tree.specs.Spread.{SpreadView, is_spread_in, with_roles, is_covered, seen_rows, TellsCovered}
 use Rattle.buf_tree.specs.View.{Innermost}
@@ -45,7 +45,7 @@ module _ (s : Option SpreadView) (ks : List Cell) (up : Upward [] ks) where
 
 module _ (s : Option SpreadView) (g : Cell → Cell) (n : (c : Cell) → num (g c) ≡ num c) (par : (c : Cell) → (g c).row.parent ≡ c.row.parent) (ret : (c : Cell) → retain (g c).row.roles (is_spread_in s) ≡ retain c.row.roles (is_spread_in s))
     (cov : (c : Cell) → (g c).row.covered ≡ c.row.covered) (w : (X : Roles) (c : Cell) → retain X (is_spread_in s) ≡ X → g (with_roles X c) ≡ with_roles X (g c))
-    (ks : List Cell) (rise : Rising ks) (above : (c : Cell) → In c ks → (num c ≡ 0) ⊎ Above ks c) where
+    (ks : List Cell) (rise : CellsRise ks) (above : (c : Cell) → In c ks → (num c ≡ 0) ⊎ Above ks c) where
   abbrev sp : ℕ → Bool
   sp = is_spread_in s
 
@@ -70,7 +70,7 @@ module _ (s : Option SpreadView) (g : Cell → Cell) (n : (c : Cell) → num (g 
       subst (λ (z : Cell). z.row.covered ≡ is_covered sp (seen_rows s (map g ks)) z) x.2
       (cov x.0 ∙ (h x.0 x.1 ∙ (sym (covered_map sp g n par ret (seen_rows s ks) x.0) ∙ ap (λ (zs : List Cell). is_covered sp zs (g x.0)) (sym edit_seen))))
 
-  pub edit_purged : TellsCovered s ks → (ys : List Cell) (gone : List ℕ) → Rising ys → ((c : Cell) → In c ys → (num c ≡ 0) ⊎ Above ys c) → Purged (map g ks) ys gone → Purged (map g (seen_rows s ks)) (seen_rows s ys) gone × TellsCovered s ys
+  pub edit_purged : TellsCovered s ks → (ys : List Cell) (gone : List ℕ) → CellsRise ys → ((c : Cell) → In c ys → (num c ≡ 0) ⊎ Above ys c) → Purged (map g ks) ys gone → Purged (map g (seen_rows s ks)) (seen_rows s ys) gone × TellsCovered s ys
   edit_purged h ys gone r a p =
       let q = purged_lift s (map g ks) ys gone (rising_map g n ks rise) r edit_above a (edit_covers h) p in
       (subst (λ (zs : List Cell). Purged zs (seen_rows s ys) gone) edit_seen q.0, q.1)
@@ -79,7 +79,7 @@ module _ (s : Option SpreadView) (g : Cell → Cell) (n : (c : Cell) → num (g 
 module _ (s : Option SpreadView) (h : Row → Row) (p : ℕ) (hs : (r : Row) → (h r).serial ≡ r.serial) (hp : (r : Row) → (h r).parent ≡ r.parent) (hr : (r : Row) → retain (h r).roles (is_spread_in s) ≡ retain r.roles (is_spread_in s))
     (hc : (r : Row) → (h r).covered ≡ r.covered)
     (hw : (X : Roles) (r : Row) → retain X (is_spread_in s) ≡ X → h (record r { roles = union r.roles X; covered = false }) ≡ record (h r) { roles = union (h r).roles X; covered = false })
-    (ks : List Cell) (rise : Rising ks) (above : (c : Cell) → In c ks → (num c ≡ 0) ⊎ Above ks c) where
+    (ks : List Cell) (rise : CellsRise ks) (above : (c : Cell) → In c ks → (num c ≡ 0) ⊎ Above ks c) where
   at_num : (c : Cell) → num (with_at h p c) ≡ num c
   at_num c = go (c.place == p)
     where
@@ -115,17 +115,17 @@ module _ (s : Option SpreadView) (h : Row → Row) (p : ℕ) (hs : (r : Row) →
       go true = ap (λ (r : Row). record { place = c.place; row = r }) (hw X c.row e)
       go false = refl
 
-  pub at_purged : TellsCovered s ks → (ys : List Cell) (gone : List ℕ) → Rising ys → ((c : Cell) → In c ys → (num c ≡ 0) ⊎ Above ys c) → Purged (map (with_at h p) ks) ys gone → Purged (map (with_at h p) (seen_rows s ks)) (seen_rows s ys) gone × TellsCovered s ys
+  pub at_purged : TellsCovered s ks → (ys : List Cell) (gone : List ℕ) → CellsRise ys → ((c : Cell) → In c ys → (num c ≡ 0) ⊎ Above ys c) → Purged (map (with_at h p) ks) ys gone → Purged (map (with_at h p) (seen_rows s ks)) (seen_rows s ys) gone × TellsCovered s ys
   at_purged = edit_purged s (with_at h p) at_num at_parent at_spread at_covered at_with ks rise above
 
 -- the node at the place is closed, and what nothing keeps leaves
-pub shut_purged : (s : Option SpreadView) (p : ℕ) (ks : List Cell) → Rising ks → ((c : Cell) → In c ks → (num c ≡ 0) ⊎ Above ks c) → TellsCovered s ks → (ys : List Cell) (gone : List ℕ) → Rising ys → ((c : Cell) → In c ys → (num c ≡ 0) ⊎ Above ys c)
+pub shut_purged : (s : Option SpreadView) (p : ℕ) (ks : List Cell) → CellsRise ks → ((c : Cell) → In c ks → (num c ≡ 0) ⊎ Above ks c) → TellsCovered s ks → (ys : List Cell) (gone : List ℕ) → CellsRise ys → ((c : Cell) → In c ys → (num c ≡ 0) ⊎ Above ys c)
     → Purged (map (with_at shut_row p) ks) ys gone → Purged (map (with_at shut_row p) (seen_rows s ks)) (seen_rows s ys) gone × TellsCovered s ys
 shut_purged s p ks rise above = at_purged s shut_row p (λ r. refl) (λ r. refl) (λ r. refl) (λ r. refl) (λ X r e. refl) ks rise above
 
 -- a role that isn't spread is taken from it
-pub untaken_purged : (s : Option SpreadView) (k p : ℕ) → is_spread_in s k ≡ false → (ks : List Cell) → Rising ks → ((c : Cell) → In c ks → (num c ≡ 0) ⊎ Above ks c) → TellsCovered s ks
-    → (ys : List Cell) (gone : List ℕ) → Rising ys → ((c : Cell) → In c ys → (num c ≡ 0) ⊎ Above ys c)
+pub untaken_purged : (s : Option SpreadView) (k p : ℕ) → is_spread_in s k ≡ false → (ks : List Cell) → CellsRise ks → ((c : Cell) → In c ks → (num c ≡ 0) ⊎ Above ks c) → TellsCovered s ks
+    → (ys : List Cell) (gone : List ℕ) → CellsRise ys → ((c : Cell) → In c ys → (num c ≡ 0) ⊎ Above ys c)
     → Purged (map (with_at (untaken k) p) ks) ys gone → Purged (map (with_at (untaken k) p) (seen_rows s ks)) (seen_rows s ys) gone × TellsCovered s ys
 untaken_purged s k p plain ks rise above = at_purged s (untaken k) p (λ r. refl) (λ r. refl) (λ r. removed_same (is_spread_in s) k plain r.roles) (λ r. refl)
     (λ X r e. ap (λ (z : Roles). record r { roles = z; covered = false }) (removed_union k r.roles X (retained_in X (is_spread_in s) k e plain)))

@@ -18,7 +18,7 @@ use Rattle.node_store.specs.Rows.{Entry, IsTree, parent_of}
 use Rattle.role_set.proofs.Counting.{Once, len_once}
 use Rattle.spread_laws.specs.Tops.{roles_kept, entries_of, is_kept_at}
 use Rattle.buf_tree.specs.Row.{Row}
-use Rattle.buf_tree.specs.Shape.{Store, Cell, num, cells, Rising, Shaped}
+use Rattle.buf_tree.specs.Shape.{Store, Cell, num, cells, CellsRise, Shaped}
 use Rattle.buf_tree.specs.Spread.{SpreadView, is_spread_in, seen_rows, kept_roles, capped64}
 use Rattle.buf_tree.specs.Walk.{Inside, BehindIn}
 use Rattle.buf_tree.proofs.Kin.{no_parent}
@@ -52,7 +52,7 @@ head_more c cs up =
     (λ i. cond (now i) (size c) 0 + rest i) ∙ e ∙ sym (ap (λ b. cond b (size c) 0 + entries_below (num c) cs + size c) before)
 
 -- one row more
-one_more : (cs : List Cell) → Rising cs → (t : Cell) → In t cs → entries_below (suc (num t)) cs ≡ entries_below (num t) cs + size t
+one_more : (cs : List Cell) → CellsRise cs → (t : Cell) → In t cs → entries_below (suc (num t)) cs ≡ entries_below (num t) cs + size t
 one_more [] r t i = absurd i
 one_more (c ∷ cs) r t (inl e) = subst (λ (z : Cell). entries_below (suc (num z)) (c ∷ cs) ≡ entries_below (num z) (c ∷ cs) + size z) e (head_more c cs r.0)
 one_more (c ∷ cs) r t (inr i) =
@@ -95,7 +95,7 @@ counted_start xs c p i e z = (c, i, e, sym (ap capped64 (none_below (num c) xs (
 capped_more : (m n s b : ℕ) → n ≡ min b m → (w : ℕ) → w ≡ min (n + min s m) m → w ≡ min (b + s) m
 capped_more m n s b e w is = omega (arith, e, is)
 
-pub counted_on : (xs : List Cell) → Rising xs → (c : Cell) → num c ≡ 0 → (p n : ℕ) (counted : Counted xs (Some p) n) (r : Row) → counted.0.row ≡ r
+pub counted_on : (xs : List Cell) → CellsRise xs → (c : Cell) → num c ≡ 0 → (p n : ℕ) (counted : Counted xs (Some p) n) (r : Row) → counted.0.row ≡ r
     → (w : ℕ) → w ≡ min (n + capped64 (len r.roles)) (2 ^ 64 - 1) → (o : Option ℕ) → BehindIn xs (Inside xs c) (num counted.0) o → Counted xs o w
 counted_on xs rise c z p n counted r is w more o b = go o b
   where

@@ -17,7 +17,7 @@ use Rattle.past_laws.proofs.PastForms.{past_feeds}
 use Rattle.past_laws.proofs.Bases.{is_grown}
 use Rattle.placed_laws.proofs.HeldChanges.{held_by_feed}
 use Rattle.buf_tree.specs.Rows.{shut_row}
-use Rattle.buf_tree.specs.Shape.{Cell, num, Rising, with_at}
+use Rattle.buf_tree.specs.Shape.{Cell, num, CellsRise, with_at}
 use Rattle.buf_tree.specs.Purge.{Purged}
 use Rattle.buf_tree.specs.View.{View, Innermost}
 use Rattle.buf_tree.specs.Calls.{Closed}
@@ -101,7 +101,7 @@ module _ (t : Token) (past : Past) (is : IsPast past) where
       (In-filter (is_held past.plan (grow t past.tree) past.acts) n (later t past is) k).0
 
   -- the rows are right before the purge, so they are right behind it
-  pub fed_rows : (xs ys : List Cell) (gone : List ℕ) → Rising xs → Purged xs ys gone → map seen xs ≡ map (told (past_fed t past)) (later t past is) → map seen ys ≡ map (told (past_fed t past)) (held past.plan (grow t past.tree) past.acts)
+  pub fed_rows : (xs ys : List Cell) (gone : List ℕ) → CellsRise xs → Purged xs ys gone → map seen xs ≡ map (told (past_fed t past)) (later t past is) → map seen ys ≡ map (told (past_fed t past)) (held past.plan (grow t past.tree) past.acts)
   fed_rows xs ys gone r u e =
       rows_held (past_fed t past) (Grown-grow t past.tree (is_grown past is)) xs ys gone r u (later t past is) e (later_inside t past is) (later_upward t past is) later_all
       ∙ ap (map (told (past_fed t past))) (sym (held_fed t past is))
@@ -138,7 +138,7 @@ added_end P = go P.at
     go None = refl
     go (Some a) = refl
 
-pub stands_closed : (v u : View) (q : ℕ) → Rising v.rows → Rising (map (with_at shut_row q) v.rows) → ((a b : Cell) → In a v.rows → In b v.rows → a.place ≡ b.place → a ≡ b) → Innermost v.rows q → v.waiting ≡ [] → Closed v u q
+pub stands_closed : (v u : View) (q : ℕ) → CellsRise v.rows → CellsRise (map (with_at shut_row q) v.rows) → ((a b : Cell) → In a v.rows → In b v.rows → a.place ≡ b.place → a ≡ b) → Innermost v.rows q → v.waiting ≡ [] → Closed v u q
     → (past : Past) → StandsFor v past → may_come End past.tree ≡ true → KeepsAs u (past_fed End past) → StandsFor u (past_fed End past)
 stands_closed v u q rise rise' apart i idle c past h m keep = record {
   is_past = past_feeds past h.is_past End m;

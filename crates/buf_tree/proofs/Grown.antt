@@ -10,11 +10,11 @@ use Rattle.std.proofs.lemmas.Bool.{and_parts, true≢false, false≢true, eqb-tr
 use Rattle.tree_laws.proofs.Lists.{In, In-left, In-append, filter_none}
 use Rattle.node_store.specs.Rows.{Entry, leaf, with_child, planted, appended}
 use Rattle.buf_tree.specs.Row.{Row}
-use Rattle.buf_tree.specs.Shape.{Store, Cell, num, Rising, at_place, at_serial, place_for, is_under, entry_in, Shape}
+use Rattle.buf_tree.specs.Shape.{Store, Cell, num, CellsRise, at_place, at_serial, place_for, is_under, entry_in, Shape}
 use Rattle.buf_tree.proofs.Shaping.{at_place_in, at_place_is, at_serial_is}
 use Rattle.buf_tree.proofs.Changes.{get_put, get_changed, none_either}
 
-pub Rising-push : (xs : List Cell) (n : Cell) → Rising xs → ((x : Cell) → In x xs → num x < num n) → Rising (xs ++ n ∷ [])
+pub Rising-push : (xs : List Cell) (n : Cell) → CellsRise xs → ((x : Cell) → In x xs → num x < num n) → CellsRise (xs ++ n ∷ [])
 Rising-push [] n r h = (λ y i. absurd i, tt)
 Rising-push (x ∷ xs) n r h = (
   λ y i. elim (In-append y xs (n ∷ []) i) [

@@ -6,18 +6,18 @@ use Rattle.gcx_model.specs.Members.{In}
 use Rattle.base_laws.proofs.Members.{in_map, from_map}
 use Rattle.node_store.specs.Rows.{Entry, parent_of}
 use Rattle.buf_tree.specs.Row.{Row}
-use Rattle.buf_tree.specs.Shape.{Store, Cell, num, Rising, Shape, at_serial, place_for}
+use Rattle.buf_tree.specs.Shape.{Store, Cell, num, CellsRise, Shape, at_serial, place_for}
 use Rattle.buf_tree.specs.Match.{IsChild}
 use Rattle.buf_tree.specs.Spread.{SameButRoles, bare_cell}
 use Rattle.buf_tree.proofs.Kin.{parent_row, no_parent}
 use Rattle.buf_tree.proofs.Shaping.{get_of, rising_same}
 use Rattle.buf_tree.proofs.Standing.{pair_left}
 
-rising_bare : (xs : List Cell) → Rising xs → Rising (map bare_cell xs)
+rising_bare : (xs : List Cell) → CellsRise xs → CellsRise (map bare_cell xs)
 rising_bare [] r = tt
 rising_bare (x ∷ xs) r = ((λ y i. let z = from_map bare_cell y xs i in subst (λ (c : Cell). num x < num c) z.2 (r.0 z.0 z.1)), rising_bare xs r.1)
 
-bare_rising : (xs : List Cell) → Rising (map bare_cell xs) → Rising xs
+bare_rising : (xs : List Cell) → CellsRise (map bare_cell xs) → CellsRise xs
 bare_rising [] r = tt
 bare_rising (x ∷ xs) r = ((λ y i. r.0 (bare_cell y) (in_map bare_cell y xs i)), bare_rising xs r.1)
 
@@ -41,8 +41,8 @@ module _ (ks rs : List Cell) (same : SameButRoles ks rs) where
   seen_of k i = pair_left bare_cell bare_cell ks rs same k i
 
 module _ (m : Store) (ks rs : List Cell) (s : Shape m ks) (same : SameButRoles ks rs) where
-  pub seen_rise : Rising rs
-  seen_rise = bare_rising rs (subst (λ (zs : List Cell). Rising zs) same (rising_bare ks s.rising))
+  pub seen_rise : CellsRise rs
+  seen_rise = bare_rising rs (subst (λ (zs : List Cell). CellsRise zs) same (rising_bare ks s.rising))
 
   pub seen_stand_apart : (a b : Cell) → In a rs → In b rs → a.place ≡ b.place → a ≡ b
   seen_stand_apart a b i j e =

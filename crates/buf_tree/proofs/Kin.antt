@@ -6,7 +6,7 @@ use Rattle.std.specs.FinMap.{get}
 use Rattle.std.proofs.lemmas.Bool.{and_parts, and_from, false≢true, eqb-true, eq-eqb, ne_eqb, cases_eq}
 use Rattle.tree_laws.proofs.Lists.{In, In-filter, In-kept}
 use Rattle.node_store.specs.Rows.{Entry, parent_of, next_of, prev_of, after, before, head_of, last_of, children_in, children_of}
-use Rattle.buf_tree.specs.Shape.{Store, Cell, num, Rising, is_under, place_for, at_serial, Shape}
+use Rattle.buf_tree.specs.Shape.{Store, Cell, num, CellsRise, is_under, place_for, at_serial, Shape}
 use Rattle.buf_tree.specs.Match.{IsChild}
 use Rattle.buf_tree.proofs.Shaping.{get_of, held_in, at_serial_is}
 use Rattle.buf_tree.proofs.Changes.{Rising-filtered}
@@ -20,7 +20,7 @@ Apart xs = (a b : Cell) → In a xs → In b xs → a.place ≡ b.place → a �
 
 -- ---- lists of children
 
-first_of : (zs : List Cell) → Rising zs → (s : ℕ) → head_of (places zs) ≡ Some s → (e : Cell) × In e zs × (e.place ≡ s) × ((d : Cell) → In d zs → num e ≤ num d)
+first_of : (zs : List Cell) → CellsRise zs → (s : ℕ) → head_of (places zs) ≡ Some s → (e : Cell) × In e zs × (e.place ≡ s) × ((d : Cell) → In d zs → num e ≤ num d)
 first_of [] r s h = absurd (cc)
 first_of (z ∷ zs) r s h =
     let is : z.place ≡ s = cc in
@@ -33,7 +33,7 @@ no_first (z ∷ zs) h d j = cc
 last_there : (zs : List ℕ) (z : ℕ) → last_of (z ∷ zs) ≡ None → ⊥
 last_there zs z h = cc
 
-last_cell : (zs : List Cell) → Rising zs → (s : ℕ) → last_of (places zs) ≡ Some s → (e : Cell) × In e zs × (e.place ≡ s) × ((d : Cell) → In d zs → num d ≤ num e)
+last_cell : (zs : List Cell) → CellsRise zs → (s : ℕ) → last_of (places zs) ≡ Some s → (e : Cell) × In e zs × (e.place ≡ s) × ((d : Cell) → In d zs → num d ≤ num e)
 last_cell [] r s h = absurd (cc)
 last_cell (z ∷ []) r s h =
     let is : z.place ≡ s = cc in
@@ -48,7 +48,7 @@ no_last [] h d j = j
 no_last (z ∷ zs) h d j = last_there (places zs) z.place h
 
 -- the child after one
-next_in : (zs : List Cell) → Rising zs → Apart zs → (c : Cell) → In c zs → (s : ℕ) → after c.place (places zs) ≡ Some s
+next_in : (zs : List Cell) → CellsRise zs → Apart zs → (c : Cell) → In c zs → (s : ℕ) → after c.place (places zs) ≡ Some s
     → (e : Cell) × In e zs × (e.place ≡ s) × (num c < num e) × ((d : Cell) → In d zs → num c < num d → num e ≤ num d)
 next_in [] r a c i s h = absurd i
 next_in (z ∷ zs) r a c i s h = go (z.place == c.place) refl i h (λ j k. next_in zs r.1 (λ x y t u. a x y (inr t) (inr u)) c j s k)
@@ -69,7 +69,7 @@ next_in (z ∷ zs) r a c i s h = go (z.place == c.place) refl i h (λ j k. next_
         (e.0, inr e.1, e.2, e.3, λ d t m. elim t [ inl g ↦ (let o = ap num g in absurd (omega arith)) | inr g ↦ e.4 d g m ])
 
 -- and none after the last
-no_next : (zs : List Cell) → Rising zs → Apart zs → (c : Cell) → In c zs → after c.place (places zs) ≡ None → (d : Cell) → In d zs → num c < num d → ⊥
+no_next : (zs : List Cell) → CellsRise zs → Apart zs → (c : Cell) → In c zs → after c.place (places zs) ≡ None → (d : Cell) → In d zs → num c < num d → ⊥
 no_next [] r a c i h d j l = i
 no_next (z ∷ zs) r a c i h d j l = go (z.place == c.place) refl i h j (λ k t u. no_next zs r.1 (λ x y v w. a x y (inr v) (inr w)) c k t d u l)
   where
@@ -81,14 +81,14 @@ no_next (z ∷ zs) r a c i h d j l = go (z.place == c.place) refl i h j (λ k t 
     go false f (inr i) k (inr g) ih = ih i k g
 
 -- the child before one: it is before the head of a list alone
-not_before : (zs : List Cell) → Rising zs → Apart zs → (c : Cell) → ((d : Cell) → In d zs → d.place ≢ c.place) → before c.place (places zs) ≡ None
+not_before : (zs : List Cell) → CellsRise zs → Apart zs → (c : Cell) → ((d : Cell) → In d zs → d.place ≢ c.place) → before c.place (places zs) ≡ None
 not_before [] r a c h = refl
 not_before (z ∷ []) r a c h = refl
 not_before (z ∷ (y ∷ ys)) r a c h =
     ap (λ b. cond b (Some z.place) (before c.place (places (y ∷ ys)))) (ne_eqb y.place c.place (h y (inr (inl refl))))
     ∙ not_before (y ∷ ys) r.1 (λ p q t u. a p q (inr t) (inr u)) c (λ d j. h d (inr j))
 
-prev_in : (zs : List Cell) → Rising zs → Apart zs → (c : Cell) → In c zs → (s : ℕ) → before c.place (places zs) ≡ Some s
+prev_in : (zs : List Cell) → CellsRise zs → Apart zs → (c : Cell) → In c zs → (s : ℕ) → before c.place (places zs) ≡ Some s
     → (e : Cell) × In e zs × (e.place ≡ s) × (num e < num c) × ((d : Cell) → In d zs → num d < num c → num d ≤ num e)
 prev_in [] r a c i s h = absurd i
 prev_in (z ∷ []) r a c i s h = absurd (cc)
@@ -126,7 +126,7 @@ prev_in (z ∷ (y ∷ ys)) r a c i s h = elim (cases_eq y.place c.place) [
     same : (T : Type 0) → In c (z ∷ (y ∷ ys)) → y.place ≡ c.place → y ≡ c
     same T j f = a y c (inr (inl refl)) j f
 
-no_prev : (zs : List Cell) → Rising zs → Apart zs → (c : Cell) → In c zs → before c.place (places zs) ≡ None → (d : Cell) → In d zs → num d < num c → ⊥
+no_prev : (zs : List Cell) → CellsRise zs → Apart zs → (c : Cell) → In c zs → before c.place (places zs) ≡ None → (d : Cell) → In d zs → num d < num c → ⊥
 no_prev [] r a c i h d j l = i
 no_prev (z ∷ []) r a c i h d j l = elim i [
   | inl f ↦ elim j [ inl g ↦ (let x = ap num f in let y = ap num g in absurd (omega arith)) | inr g ↦ absurd g ]
@@ -185,7 +185,7 @@ module _ (m : Store) (xs : List Cell) (s : Shape m xs) where
   abbrev kids : Cell → List Cell
   kids c = filter (is_under (num c)) xs
 
-  kids_rise : (c : Cell) → Rising (kids c)
+  kids_rise : (c : Cell) → CellsRise (kids c)
   kids_rise c = Rising-filtered (is_under (num c)) xs s.rising
 
   kids_apart : (c : Cell) → Apart (kids c)

@@ -9,7 +9,7 @@ use Rattle.tree_laws.proofs.Lists.{In, In-filter, In-left}
 use Rattle.tree_laws.proofs.Matches.{added, grow_nodes}
 use Rattle.past_laws.proofs.PastForms.{past_feeds}
 use Rattle.buf_tree.specs.Rows.{shut_row, untaken}
-use Rattle.buf_tree.specs.Shape.{Cell, num, Rising, Above, with_at}
+use Rattle.buf_tree.specs.Shape.{Cell, num, CellsRise, Above, with_at}
 use Rattle.buf_tree.specs.Purge.{is_gone, Purged}
 use Rattle.buf_tree.specs.Spread.{SpreadView, is_spread_in, seen_rows, TellsCovered}
 use Rattle.buf_tree.specs.Stands.{seen, told}
@@ -21,7 +21,7 @@ use Rattle.buf_tree.proofs.Spreading.{Upward}
 
 -- rows in order, each but the first below one of them
 abbrev pub Stands : List Cell → Type 0
-Stands ks = Rising ks × ((c : Cell) → In c ks → (num c ≡ 0) ⊎ Above ks c)
+Stands ks = CellsRise ks × ((c : Cell) → In c ks → (num c ≡ 0) ⊎ Above ks c)
 
 -- what leaves of the rows kept leaves of those seen
 module _ (v w : View) (p : ℕ) (seen_v : v.rows ≡ seen_rows v.spread v.kept) (seen_w : w.rows ≡ seen_rows v.spread w.kept) (st : Stands v.kept) (st' : Stands w.kept) (cov : TellsCovered v.spread v.kept) where

@@ -12,7 +12,7 @@ use Rattle.gcx_model.specs.Tree.{Tree, Node}
 use Rattle.base_laws.proofs.Members.{in_map, from_map}
 use Rattle.tree_laws.proofs.Lists.{In, In-filter}
 use Rattle.buf_tree.specs.Rows.{IsDead}
-use Rattle.buf_tree.specs.Shape.{Cell, num, Rising, Above, Shape, Store, cells, Shaped, is_under}
+use Rattle.buf_tree.specs.Shape.{Cell, num, CellsRise, Above, Shape, Store, cells, Shaped, is_under}
 use Rattle.buf_tree.specs.Purge.{is_gone, Keeps, Tidy, Purged}
 use Rattle.buf_tree.specs.Spread.{SpreadView, is_spread_in, roles_at, with_above, seen_rows, is_covered, TellsCovered}
 use Rattle.buf_tree.specs.View.{Ordered, Kept}
@@ -22,7 +22,7 @@ use Rattle.buf_tree.proofs.Shaping.{built, built_shape, cells_is, shaped}
 use Rattle.buf_tree.proofs.Signs.{tells_map, tells_unmap}
 use Rattle.buf_tree.proofs.Spreading.{in_union, in_retain, Upward, upward, spread_cell, from_above, above_is, above_filter, covered_filter, dead_same}
 
-pub rising_map : (f : Cell → Cell) → ((c : Cell) → num (f c) ≡ num c) → (xs : List Cell) → Rising xs → Rising (map f xs)
+pub rising_map : (f : Cell → Cell) → ((c : Cell) → num (f c) ≡ num c) → (xs : List Cell) → CellsRise xs → CellsRise (map f xs)
 rising_map f h [] r = tt
 rising_map f h (x ∷ xs) r = (
   (λ y i.
@@ -55,8 +55,8 @@ module _ (s : Option SpreadView) (ks : List Cell) (up : Upward [] ks) where
   pub seen_from : (d : Cell) → In d (seen_rows s ks) → (c : Cell) × In c ks × (spread_cell (is_spread_in s) (seen_rows s ks) c ≡ d)
   seen_from d i = from_map f d ks (subst (λ (zs : List Cell). In d zs) seen_is i)
 
-  pub seen_rising : Rising ks → Rising (seen_rows s ks)
-  seen_rising r = subst (λ (zs : List Cell). Rising zs) (sym seen_is) (rising_map f (λ c. refl) ks r)
+  pub seen_rising : CellsRise ks → CellsRise (seen_rows s ks)
+  seen_rising r = subst (λ (zs : List Cell). CellsRise zs) (sym seen_is) (rising_map f (λ c. refl) ks r)
 
   pub seen_apart : ((a b : Cell) → In a ks → In b ks → a.place ≡ b.place → a ≡ b) → (a b : Cell) → In a (seen_rows s ks) → In b (seen_rows s ks) → a.place ≡ b.place → a ≡ b
   seen_apart h a b i j e =
@@ -225,7 +225,7 @@ module _ (s : Option SpreadView) (xs ys : List Cell) (gone : List ℕ) (up : Upw
     }
 
 -- with the rows kept linked
-pub purged_lift : (s : Option SpreadView) (xs ys : List Cell) (gone : List ℕ) → Rising xs → Rising ys → ((c : Cell) → In c xs → (num c ≡ 0) ⊎ Above xs c) → ((c : Cell) → In c ys → (num c ≡ 0) ⊎ Above ys c) → TellsCovered s xs
+pub purged_lift : (s : Option SpreadView) (xs ys : List Cell) (gone : List ℕ) → CellsRise xs → CellsRise ys → ((c : Cell) → In c xs → (num c ≡ 0) ⊎ Above xs c) → ((c : Cell) → In c ys → (num c ≡ 0) ⊎ Above ys c) → TellsCovered s xs
     → Purged xs ys gone → Purged (seen_rows s xs) (seen_rows s ys) gone × TellsCovered s ys
 purged_lift s xs ys gone r r' a a' h p =
     let u = upward xs r a in

@@ -2,12 +2,12 @@
 use Rattle.std.proofs.Common.{◌≡◌, ℕ, zero, suc, ◌<◌, ◌≤◌, refl, sym, ap, subst, inl, inr, ◌⊎◌, arith, List}
 use Rattle.std.proofs.lemmas.Bool.{cases_eq, cases_lt}
 use Rattle.tree_laws.proofs.Lists.{In}
-use Rattle.buf_tree.specs.Shape.{Cell, num, Rising, Above}
+use Rattle.buf_tree.specs.Shape.{Cell, num, CellsRise, Above}
 use Rattle.buf_tree.specs.Walk.{Nested, Inside, Within, Deeper, IsLast, JustBefore, JustBehind, Climbs}
-use Rattle.buf_tree.specs.Match.{IsChild, Rises}
+use Rattle.buf_tree.specs.Match.{IsChild, DescendsFrom}
 use Rattle.buf_tree.proofs.Shaping.{rising_same}
 
-module _ (xs : List Cell) (rise : Rising xs) (nest : Nested xs) (up : (c : Cell) → In c xs → (num c ≡ 0) ⊎ Above xs c) where
+module _ (xs : List Cell) (rise : CellsRise xs) (nest : Nested xs) (up : (c : Cell) → In c xs → (num c ≡ 0) ⊎ Above xs c) where
   -- the parent's row
   above : (d : Cell) → In d xs → (k : ℕ) → k < num d → Above xs d
   above d i k l = elim (up d i) [ inl z ↦ absurd (omega arith) | inr u ↦ u ]
@@ -43,11 +43,11 @@ module _ (xs : List Cell) (rise : Rising xs) (nest : Nested xs) (up : (c : Cell)
   within_trans c e d (inl f) b = subst (λ (x : Cell). Inside xs x d) (sym f) b
   within_trans c e d (inr a) b = inside_trans c e d a b
 
-  pub rises_inside : (n : ℕ) (c d : Cell) → In c xs → In d xs → Rises xs n c d → Inside xs c d
+  pub rises_inside : (n : ℕ) (c d : Cell) → In c xs → In d xs → DescendsFrom xs n c d → Inside xs c d
   rises_inside zero c d i j r = child_inside c d i j r
   rises_inside (suc n) c d i j r = inside_trans c r.0 d (rises_inside n c r.0 i r.1 r.3) (child_inside r.0 d r.1 j r.2)
 
-  pub inside_rises : (most : ℕ) (c d : Cell) → In c xs → In d xs → num d ≤ most → Inside xs c d → (n : ℕ) × Rises xs n c d
+  pub inside_rises : (most : ℕ) (c d : Cell) → In c xs → In d xs → num d ≤ most → Inside xs c d → (n : ℕ) × DescendsFrom xs n c d
   inside_rises zero c d i j l k = let b = k.behind in absurd (omega arith)
   inside_rises (suc most) c d i j l k =
       let u = above d j (num c) k.behind in
@@ -63,7 +63,7 @@ module _ (xs : List Cell) (rise : Rising xs) (nest : Nested xs) (up : (c : Cell)
       ]
 
   -- below a row there is a child of it, at most as far
-  pub some_child : (n : ℕ) (c d : Cell) → In d xs → Rises xs n c d → (e : Cell) × In e xs × IsChild c e × (num e ≤ num d)
+  pub some_child : (n : ℕ) (c d : Cell) → In d xs → DescendsFrom xs n c d → (e : Cell) × In e xs × IsChild c e × (num e ≤ num d)
   some_child zero c d j r = (d, j, r, omega arith)
   some_child (suc n) c d j r = let e = some_child n c r.0 r.1 r.3 in let l = r.2.1 in let m = e.3 in (e.0, e.1, e.2, omega arith)
 

@@ -23,7 +23,7 @@ use Rattle.past_laws.proofs.Bases.{is_grown}
 use Rattle.spread_laws.specs.Tops.{is_top, top_off}
 use Rattle.spread_laws.proofs.Acted.{tops_by_act, tops_by_rows, alone_takes}
 use Rattle.buf_tree.specs.Rows.{signed_for}
-use Rattle.buf_tree.specs.Shape.{Store, Cell, num, cells, Rising, Shaped, with_at}
+use Rattle.buf_tree.specs.Shape.{Store, Cell, num, cells, CellsRise, Shaped, with_at}
 use Rattle.buf_tree.specs.Spread.{SpreadView, is_spread_in, seen_rows}
 use Rattle.buf_tree.specs.Recount.{Recounting}
 use Rattle.buf_tree.specs.Sweep.{Loses}
@@ -71,7 +71,7 @@ module _ (past : Past) (is : IsPast past) (m0 : Store) (s0 : Shaped m0) (nest0 :
   up : Upward [] (cells m0)
   up = upward (cells m0) s0.rising s0.up
 
-  rise : Rising rs
+  rise : CellsRise rs
   rise = seen_rising sv (cells m0) up s0.rising
 
   inside : (n : Node) → In n ns → In n past.tree.nodes

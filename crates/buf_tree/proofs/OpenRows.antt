@@ -6,7 +6,7 @@ use Rattle.gcx_model.specs.Tree.{Node, Root, Under, within, is_open_at}
 use Rattle.gcx_model.specs.Held.{held, is_held}
 use Rattle.tree_laws.proofs.Lists.{In, In-left, In-append, In-kept}
 use Rattle.tree_laws.proofs.Fed.{root_from}
-use Rattle.buf_tree.specs.Shape.{Cell, Rising}
+use Rattle.buf_tree.specs.Shape.{Cell, CellsRise}
 use Rattle.buf_tree.specs.View.{View, num_in, level_in}
 use Rattle.buf_tree.specs.Stands.{Seen, seen, told, StandsFor}
 use Rattle.buf_tree.specs.Loose.{Passed, last_open, passed_cells, cells_passed, with_passed, RowThere}
@@ -27,7 +27,7 @@ passed_kind a l [] (x ∷ xs) c i e = absurd i
 passed_kind a l (p ∷ ps) (x ∷ xs) c (inl f) e = not_document x.name (ap (λ (z : Cell). z.row.kind) f ∙ e)
 passed_kind a l (p ∷ ps) (x ∷ xs) c (inr i) e = passed_kind x.serial (l + 1) ps xs c i e
 
-rising_front : (cs ds : List Cell) → Rising (cs ++ ds) → Rising cs
+rising_front : (cs ds : List Cell) → CellsRise (cs ++ ds) → CellsRise cs
 rising_front [] ds r = tt
 rising_front (c ∷ cs) ds r = (λ y i. r.0 y (In-left y cs ds i), rising_front cs ds r.1)
 

@@ -28,7 +28,7 @@ use Rattle.past_laws.specs.Pasts.{bases}
 use Rattle.spread_laws.specs.Tops.{is_whole_kind, is_spread, is_top, is_kept_at, roles_kept, top_off, top_in}
 use Rattle.spread_laws.proofs.Tops.{kept_parts, kept_tells, stated_in}
 use Rattle.spread_laws.proofs.Opened.{new_tops, base_row, own_given as base_given}
-use Rattle.buf_tree.specs.Shape.{Cell, Rising}
+use Rattle.buf_tree.specs.Shape.{Cell, CellsRise}
 use Rattle.buf_tree.specs.Spread.{SpreadView, SpreadsAs, is_spread_in, roles_at, seen_rows}
 use Rattle.buf_tree.specs.Stands.{Seen, seen, told}
 use Rattle.buf_tree.specs.Tops.{IsNewTop, StaysAt}
@@ -43,7 +43,7 @@ use Rattle.buf_tree.proofs.SpreadTells.{spreads, top_tells, none_of, some_of, so
 use Rattle.buf_tree.proofs.Standing.{pair_left}
 
 -- The rows kept are ks, those seen stand for the past, and the token opens n below p, which has these roles.
-module _ (past : Past) (is : IsPast past) (s : SpreadView) (of_plan : SpreadsAs (Some s) past.plan) (ks : List Cell) (up : Upward [] ks) (rise : Rising ks)
+module _ (past : Past) (is : IsPast past) (s : SpreadView) (of_plan : SpreadsAs (Some s) past.plan) (ks : List Cell) (up : Upward [] ks) (rise : CellsRise ks)
     (rows : map seen (seen_rows (Some s) ks) ≡ map (told past) (held past.plan past.tree past.acts)) (t : Token) (may : may_come t past.tree ≡ true)
     (p : Node) (k : ℕ) (kind : Kind) (new : Opens past.tree t (Under p k kind)) (at : past.tree.at ≡ Some p)
     (roles : FinSet nat_cmp) (left : roles ≡ from_list (roles_live past.plan (grow t past.tree) past.acts (Under p k kind))) where
@@ -62,7 +62,7 @@ module _ (past : Past) (is : IsPast past) (s : SpreadView) (of_plan : SpreadsAs 
   is_now : IsPast now
   is_now = past_feeds past is t may
 
-  rise_rs : Rising rs
+  rise_rs : CellsRise rs
   rise_rs = seen_rising (Some s) ks up rise
 
   has : (r : ℕ) → contains roles r ≡ live past.plan (grow t past.tree) past.acts n r

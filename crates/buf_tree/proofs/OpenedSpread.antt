@@ -14,7 +14,7 @@ use Rattle.tree_laws.proofs.Matches.{Numbered-high, Numbered-same, added, grow_n
 use Rattle.past_laws.proofs.Bases.{is_grown}
 use Rattle.past_laws.proofs.PastForms.{past_feeds}
 use Rattle.buf_tree.specs.PassedCalls.{LeftTo, KeptTo}
-use Rattle.buf_tree.specs.Shape.{Cell, num, Rising}
+use Rattle.buf_tree.specs.Shape.{Cell, num, CellsRise}
 use Rattle.buf_tree.specs.Spread.{SpreadView, SpreadsAs, is_spread_in, roles_at, seen_rows}
 use Rattle.buf_tree.specs.Stands.{Seen, seen, told}
 use Rattle.buf_tree.specs.Tops.{KeptOf, StaysAt}
@@ -29,7 +29,7 @@ use Rattle.buf_tree.proofs.Spreading.{Upward, spread_cell}
 use Rattle.buf_tree.proofs.WithRoles.{new_alone}
 
 -- The rows kept are ks; c0 is that of the innermost open node p.
-module _ (s : SpreadView) (ks : List Cell) (up : Upward [] ks) (rise : Rising ks) (past : Past) (is : IsPast past) (of_plan : SpreadsAs (Some s) past.plan)
+module _ (s : SpreadView) (ks : List Cell) (up : Upward [] ks) (rise : CellsRise ks) (past : Past) (is : IsPast past) (of_plan : SpreadsAs (Some s) past.plan)
     (rows : map seen (seen_rows (Some s) ks) ≡ map (told past) (held past.plan past.tree past.acts)) (kind : Kind) (node : IsNode kind) (may : may_come (token_for kind) past.tree ≡ true)
     (p : Node) (at : past.tree.at ≡ Some p) (roles : FinSet nat_cmp) (left : LeftTo past (token_for kind) roles) (q : ℕ) (c0 : Cell) (i0 : In c0 ks) (here : c0.place ≡ q) (me : num c0 ≡ serial_of p) where
   abbrev t : Token

@@ -15,7 +15,7 @@ use Rattle.past_laws.proofs.PastForms.{past_feeds}
 use Rattle.buf_tree.specs.declared.ahead.Ahead.{Ahead}
 use Rattle.buf_tree.specs.PassedCalls.{OpenedWith, LeftTo, KeptTo, MayOpenWith, MayOpenKept, StandsWith}
 use Rattle.buf_tree.specs.Rows.{below_row, covered_by}
-use Rattle.buf_tree.specs.Shape.{Cell, num, Rising, Above, at_place}
+use Rattle.buf_tree.specs.Shape.{Cell, num, CellsRise, Above, at_place}
 use Rattle.buf_tree.specs.Spread.{SpreadView, SpreadsAs, is_spread_in, kept_roles, roles_at, seen_rows}
 use Rattle.buf_tree.specs.Stands.{seen, told, StandsFor}
 use Rattle.buf_tree.specs.Tops.{KeptOf}
@@ -40,7 +40,7 @@ Tells s ks c0 kind nodes roles past = IsPast past × SpreadsAs s past.plan × (m
     × (nodes ≡ length past.tree.nodes) × ((p : Node) × (past.tree.at ≡ Some p) × (num c0 ≡ serial_of p))
 
 -- with the spread roles of its parent the new row has all that are left to it
-new_seen : (s : Option SpreadView) (ks : List Cell) → Upward [] ks → Rising ks → (q : ℕ) (c0 : Cell) → In c0 ks → c0.place ≡ q → (kind : Kind) → IsNode kind → (nodes : ℕ) (roles R : FinSet nat_cmp) → KeptOf s ks q kind nodes roles R
+new_seen : (s : Option SpreadView) (ks : List Cell) → Upward [] ks → CellsRise ks → (q : ℕ) (c0 : Cell) → In c0 ks → c0.place ≡ q → (kind : Kind) → IsNode kind → (nodes : ℕ) (roles R : FinSet nat_cmp) → KeptOf s ks q kind nodes roles R
     → (s ≡ None) ⊎ ((past : Past) × Tells s ks c0 kind nodes roles past) → union R (retain (roles_at (seen_rows s ks) (num c0)) (is_spread_in s)) ≡ roles
 new_seen None ks up rise q c0 i0 here kind node nodes roles R keeps may =
     same_roles (union R (retain (roles_at (seen_rows None ks) (num c0)) (is_spread_in None))) R (λ k.
@@ -54,7 +54,7 @@ new_seen (Some w) ks up rise q c0 i0 here kind node nodes roles R keeps (inr x) 
     (seen_born w ks up rise x.0 t.0 t.1 t.2 kind node t.3 t.6.0 t.6.1 roles t.4 q c0 i0 here t.6.2 R (subst (λ (z : ℕ). KeptOf (Some w) ks q kind z roles R) t.5 keeps))
 
 -- each past that the rows stood for tells that these are kept there
-new_keeps : (s : Option SpreadView) (ks : List Cell) → Upward [] ks → Rising ks → (q : ℕ) (c0 : Cell) → In c0 ks → c0.place ≡ q → (kind : Kind) → IsNode kind → (nodes : ℕ) (roles R : FinSet nat_cmp) → KeptOf s ks q kind nodes roles R
+new_keeps : (s : Option SpreadView) (ks : List Cell) → Upward [] ks → CellsRise ks → (q : ℕ) (c0 : Cell) → In c0 ks → c0.place ≡ q → (kind : Kind) → IsNode kind → (nodes : ℕ) (roles R : FinSet nat_cmp) → KeptOf s ks q kind nodes roles R
     → (past : Past) → Tells s ks c0 kind nodes roles past → map (λ c. c.row.roles) ks ≡ map (kept_set s past) (held past.plan past.tree past.acts) → (c : Cell) → num c ≡ length past.tree.nodes → c.row.roles ≡ R → Upward [] (ks ++ c ∷ [])
     → map seen (seen_rows s (ks ++ c ∷ [])) ≡ map (told (past_grown (token_for kind) past)) (held past.plan (grow (token_for kind) past.tree) past.acts)
     → map (λ d. d.row.roles) (ks ++ c ∷ []) ≡ map (kept_set s (past_grown (token_for kind) past)) (held past.plan (grow (token_for kind) past.tree) past.acts)
@@ -63,7 +63,7 @@ new_keeps (Some w) ks up rise q c0 i0 here kind node nodes roles R keeps past t 
     keeps_born w ks up rise past t.0 t.1 t.2 kind node t.3 t.6.0 t.6.1 roles t.4 q c0 i0 here t.6.2 R (subst (λ (z : ℕ). KeptOf (Some w) ks q kind z roles R) t.5 keeps) c nc rc (seen_rows (Some w) (ks ++ c ∷ [])) (kept_nums (Some w) (ks ++ c ∷ []) up') kept rows
 
 -- what a past tells of what is kept there is what the rows tell
-new_known : (s : Option SpreadView) (ks : List Cell) → Upward [] ks → Rising ks → ((a b : Cell) → In a ks → In b ks → a.place ≡ b.place → a ≡ b) → (q : ℕ) (c0 : Cell) → In c0 ks → c0.place ≡ q → (kind : Kind) → IsNode kind → (nodes : ℕ) (roles R : FinSet nat_cmp)
+new_known : (s : Option SpreadView) (ks : List Cell) → Upward [] ks → CellsRise ks → ((a b : Cell) → In a ks → In b ks → a.place ≡ b.place → a ≡ b) → (q : ℕ) (c0 : Cell) → In c0 ks → c0.place ≡ q → (kind : Kind) → IsNode kind → (nodes : ℕ) (roles R : FinSet nat_cmp)
     → (s ≡ None) ⊎ ((past : Past) × Tells s ks c0 kind nodes roles past × KeptTo past (token_for kind) R) → KeptOf s ks q kind nodes roles (cond (is_some s) R roles)
 new_known None ks up rise apart q c0 i0 here kind node nodes roles R may = refl
 new_known (Some w) ks up rise apart q c0 i0 here kind node nodes roles R (inl f) = absurd (cc)
@@ -77,7 +77,7 @@ kept_grown : (s : Option SpreadView) (past : Past) → IsPast past → (t : Toke
 kept_grown None past is t n i = kept_fed None past is t n i
 kept_grown (Some w) past is t n i = kept_fed (Some w) past is t n i
 
-module _ (s : Option SpreadView) (ks : List Cell) (g0 : List ℕ) (waiting : List Ahead) (nodes taken0 most0 : ℕ) (loans0 : List ℕ) (rise : Rising ks) (above : (c : Cell) → In c ks → (num c ≡ 0) ⊎ Above ks c)
+module _ (s : Option SpreadView) (ks : List Cell) (g0 : List ℕ) (waiting : List Ahead) (nodes taken0 most0 : ℕ) (loans0 : List ℕ) (rise : CellsRise ks) (above : (c : Cell) → In c ks → (num c ≡ 0) ⊎ Above ks c)
     (apart : (a b : Cell) → In a ks → In b ks → a.place ≡ b.place → a ≡ b) (q : ℕ) (i : Innermost (seen_rows s ks) q) (kind : Kind) (node : IsNode kind) (roles : FinSet nat_cmp) where
   abbrev v : View
   v = view_of s ks g0 waiting nodes taken0 most0 loans0

@@ -11,7 +11,7 @@ use Rattle.tree_laws.proofs.Lists.{In, In-filter}
 use Rattle.tree_laws.proofs.Matches.{Numbered-high, Rising-filter}
 use Rattle.tree_laws.proofs.Freeze.{within_self}
 use Rattle.past_laws.proofs.Bases.{is_grown}
-use Rattle.buf_tree.specs.Shape.{Cell, num, Rising, at_place}
+use Rattle.buf_tree.specs.Shape.{Cell, num, CellsRise, at_place}
 use Rattle.buf_tree.specs.View.{View, Innermost}
 use Rattle.buf_tree.specs.Stands.{Seen, seen, told, StandsFor}
 use Rattle.buf_tree.specs.Loose.{open_among, last_open, with_passed, LastIsInnermost, RowsRise}
@@ -20,7 +20,7 @@ use Rattle.buf_tree.proofs.Changes.{map-map}
 use Rattle.buf_tree.proofs.Standing.{pair_left}
 use Rattle.buf_tree.proofs.Feeding.{at_held}
 
-rising_seen : (past : Past) (cs : List Cell) (ns : List Node) → map seen cs ≡ map (told past) ns → RisingNodes ns → Rising cs
+rising_seen : (past : Past) (cs : List Cell) (ns : List Node) → map seen cs ≡ map (told past) ns → RisingNodes ns → CellsRise cs
 rising_seen past [] ns e r = tt
 rising_seen past (c ∷ cs) [] e r = absurd (nil_cons (seen c) (map seen cs) (sym e))
 rising_seen past (c ∷ cs) (n ∷ ns) e r = (low, rising_seen past cs ns (cons_tail _ _ _ _ e) r.1)
@@ -34,7 +34,7 @@ rising_seen past (c ∷ cs) (n ∷ ns) e r = (low, rising_seen past cs ns (cons_
         omega arith
 
 -- the rows of a view that stands for a past are in document order
-pub rising_rows : (v : View) (past : Past) → StandsFor v past → Rising v.rows
+pub rising_rows : (v : View) (past : Past) → StandsFor v past → CellsRise v.rows
 rising_rows v past h = rising_seen past v.rows (held past.plan past.tree past.acts) h.rows (Rising-filter 0 (is_held past.plan past.tree past.acts) past.tree.nodes (is_grown past h.is_past).numbered)
 
 -- the last open row is the greatest of the open ones
@@ -44,7 +44,7 @@ LastOpen cs c = In c cs × (c.row.is_open ≡ true) × ((d : Cell) → In d cs �
 abbrev Some_open : List Cell → Cell → Type 0
 Some_open cs c = (e : Cell) × (open_among (Some c) cs ≡ Some e) × ((c ≡ e) ⊎ In e cs) × (e.row.is_open ≡ true) × (num c ≤ num e) × ((d : Cell) → In d cs → d.row.is_open ≡ true → num d ≤ num e)
 
-open_some : (cs : List Cell) → Rising cs → (c : Cell) → c.row.is_open ≡ true → ((d : Cell) → In d cs → num c < num d) → Some_open cs c
+open_some : (cs : List Cell) → CellsRise cs → (c : Cell) → c.row.is_open ≡ true → ((d : Cell) → In d cs → num c < num d) → Some_open cs c
 open_some [] r c o l = (c, refl, inl refl, o, omega arith, λ d i. absurd i)
 open_some (x ∷ cs) r c o l = go x.row.is_open refl (λ f. open_some cs r.1 x f r.0) (open_some cs r.1 c o (λ d i. l d (inr i)))
   where
@@ -58,7 +58,7 @@ open_some (x ∷ cs) r c o l = go x.row.is_open refl (λ f. open_some cs r.1 x f
     go false f k q =
         (q.0, q.1, elim q.2 [ inl g ↦ inl g | inr i ↦ inr (inr i) ], q.3, q.4, λ d i p. elim i [ inl g ↦ absurd (false≢true (sym f ∙ ap (λ (z : Cell). z.row.is_open) g ∙ p)) | inr j ↦ q.5 d j p ])
 
-pub open_last : (cs : List Cell) → Rising cs → (d : Cell) → In d cs → d.row.is_open ≡ true → (e : Cell) × (last_open cs ≡ Some e) × LastOpen cs e
+pub open_last : (cs : List Cell) → CellsRise cs → (d : Cell) → In d cs → d.row.is_open ≡ true → (e : Cell) × (last_open cs ≡ Some e) × LastOpen cs e
 open_last [] r d i o = absurd i
 open_last (x ∷ cs) r d i o = go x.row.is_open refl (λ j. open_last cs r.1 d j o)
   where
@@ -106,7 +106,7 @@ flat_seen cs = map-map own_place seen cs
 pub flat_stands : (v : View) (past : Past) → StandsFor v past → StandsFor (flat v) past
 flat_stands v past h = record { is_past = h.is_past; spread = h.spread; rows = flat_seen v.rows ∙ h.rows; kept = h.kept; waiting = h.waiting; nodes = h.nodes }
 
-pub own_found : (cs : List Cell) → Rising cs → (c : Cell) → In c cs → at_place (num c) (map own_place cs) ≡ Some (own_place c)
+pub own_found : (cs : List Cell) → CellsRise cs → (c : Cell) → In c cs → at_place (num c) (map own_place cs) ≡ Some (own_place c)
 own_found [] r c i = absurd i
 own_found (x ∷ cs) r c (inl e) = ap (λ b. cond b (Some (own_place x)) (at_place (num c) (map own_place cs))) (eq-eqb (num x) (num c) (ap num e)) ∙ ap (λ z. Some (own_place z)) e
 own_found (x ∷ cs) r c (inr i) = ap (λ b. cond b (Some (own_place x)) (at_place (num c) (map own_place cs))) (ne_eqb (num x) (num c) (λ e. let l = r.0 c i in absurd (omega arith))) ∙ own_found cs r.1 c i

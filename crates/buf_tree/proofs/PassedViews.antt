@@ -21,7 +21,7 @@ use Rattle.buf_tree.specs.Loose.{Passed, last_open, passed_cell, cells_passed, w
 use Rattle.buf_tree.specs.PassedCalls.{OpenedPassed, MayRest, RestsLoosely}
 use Rattle.buf_tree.specs.Row.{Row}
 use Rattle.buf_tree.specs.Rows.{below_row, covered_by}
-use Rattle.buf_tree.specs.Shape.{Store, Cell, num, cells, Rising, at_place}
+use Rattle.buf_tree.specs.Shape.{Store, Cell, num, cells, CellsRise, at_place}
 use Rattle.buf_tree.specs.Spread.{SpreadView, SpreadsAs, is_spread_in, roles_at, is_covered, seen_rows, TellsCovered}
 use Rattle.buf_tree.specs.Stands.{Seen, seen, told, StandsFor}
 use Rattle.buf_tree.specs.Tops.{KeepsSpread}
@@ -66,7 +66,7 @@ module _ (s : Option SpreadView) (m0 : Store) (g0 : List ℕ) (waiting : List Ah
   at_top : at_place q rs ≡ Some top.cell
   at_top = ap (λ k. at_place k rs) (sym top.place) ∙ at_place_is rs (seen_apart s ks up kept.shape.apart) top.cell top.among
 
-  rising : Rising rs
+  rising : CellsRise rs
   rising = seen_rising s ks up kept.shape.rising
 
   behind_was : (c : Cell) → In c rs → num c < x.serial

@@ -10,7 +10,7 @@ use Rattle.tree_laws.proofs.Lists.{In}
 use Rattle.tree_laws.proofs.Chains.{above_self}
 use Rattle.buf_tree.specs.Shape.{Store, Cell, num, cells, Shaped}
 use Rattle.buf_tree.specs.Walk.{Nested, Inside, Within, BehindIn}
-use Rattle.buf_tree.specs.Match.{Rises}
+use Rattle.buf_tree.specs.Match.{DescendsFrom}
 use Rattle.buf_tree.specs.Ways.{Tells, NodeOf, NoneBefore}
 use Rattle.buf_tree.proofs.Shaping.{rising_same}
 use Rattle.buf_tree.proofs.Lines.{child_inside, within_trans, inside_rises}
@@ -19,7 +19,7 @@ use Rattle.buf_tree.proofs.Ways.{above_low}
 use Rattle.buf_tree.proofs.Climbing.{tells_serial, tells_descends, one_row}
 
 -- a row below one that has a node has one too, below that
-rises_node : (xs : List Cell) (n : ℕ) (c d : Cell) (a : Node) → In c xs → Tells xs c a → Rises xs n c d → (j : Node) × Tells xs d j × In a (above j)
+rises_node : (xs : List Cell) (n : ℕ) (c d : Cell) (a : Node) → In c xs → Tells xs c a → DescendsFrom xs n c d → (j : Node) × Tells xs d j × In a (above j)
 rises_node xs zero c d a i t r = (Under a (num d) d.row.kind, (refl, refl, (c, i, r, t)), inr (above_self a))
 rises_node xs (suc n) c d a i t r =
     let e = rises_node xs n c r.0 a i t r.3 in

@@ -9,7 +9,7 @@ use Rattle.gcx_model.specs.Paths.{any}
 use Rattle.tree_laws.proofs.Lists.{In, In-append, In-filter, In-kept, filter_same}
 use Rattle.node_store.specs.Rows.{Entry, unlinked, parent_of}
 use Rattle.buf_tree.specs.Row.{Row}
-use Rattle.buf_tree.specs.Shape.{Store, Cell, num, cells, Rising, at_serial, place_for, is_under, entry_in, Shape, Shaped, without}
+use Rattle.buf_tree.specs.Shape.{Store, Cell, num, cells, CellsRise, at_serial, place_for, is_under, entry_in, Shape, Shaped, without}
 use Rattle.buf_tree.specs.Rows.{IsDead, IsSpare}
 use Rattle.buf_tree.specs.Purge.{is_gone, Keeps, TidyBut, Falling, Leaves, Purged, PurgedBut, Climb, Cleared}
 use Rattle.buf_tree.proofs.Shaping.{at_serial_is, held_in, get_of, rising_same, cells_is}
@@ -175,7 +175,7 @@ module _ (m : Store) (ys : List Cell) (s : Shape m ys) (p : ℕ) (e : Entry Row)
         subst (λ o. IsSome o) (sym g2) refl)
   ]
 
-  module _ (xs : List Cell) (rise : Rising xs) (apart : (a b : Cell) → In a xs → In b xs → a.place ≡ b.place → a ≡ b) (gone : List ℕ) (l : Leaves xs ys gone) where
+  module _ (xs : List Cell) (rise : CellsRise xs) (apart : (a b : Cell) → In a xs → In b xs → a.place ≡ b.place → a ≡ b) (gone : List ℕ) (l : Leaves xs ys gone) where
     in_xs : (c : Cell) → In c ys → In c xs × (not (is_gone gone c) ≡ true)
     in_xs c i = In-filter (λ (d : Cell). not (is_gone gone d)) c xs (subst (λ (w : List Cell). In c w) l.rows i)
 
@@ -258,7 +258,7 @@ module _ (m : Store) (ys : List Cell) (s : Shape m ys) (p : ℕ) (e : Entry Row)
     goes_on h = subst (λ (k : ℕ). PurgedBut (parent_of m p) xs (without p ys) (gone ++ k ∷ [])) (sym (ap (λ (x : Entry Row). x.payload.serial) the.3)) (goes h)
 
 -- one place less
-pub one_less : (xs : List Cell) → Rising xs → ((a b : Cell) → In a xs → In b xs → a.place ≡ b.place → a ≡ b) → (c : Cell) → In c xs → length (without c.place xs) + 1 ≡ length xs
+pub one_less : (xs : List Cell) → CellsRise xs → ((a b : Cell) → In a xs → In b xs → a.place ≡ b.place → a ≡ b) → (c : Cell) → In c xs → length (without c.place xs) + 1 ≡ length xs
 one_less [] r a c i = absurd i
 one_less (x ∷ xs) r a c i = go (x.place == c.place) refl i (λ j. one_less xs r.1 (λ s t k l. a s t (inr k) (inr l)) c j)
   where

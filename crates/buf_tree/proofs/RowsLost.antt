@@ -8,7 +8,7 @@ use Rattle.base_laws.proofs.Bools.{same_bools}
 use Rattle.base_laws.proofs.Members.{in_map}
 use Rattle.tree_laws.proofs.Lists.{In}
 use Rattle.buf_tree.specs.Rows.{untaken}
-use Rattle.buf_tree.specs.Shape.{Cell, num, Rising, Above}
+use Rattle.buf_tree.specs.Shape.{Cell, num, CellsRise, Above}
 use Rattle.buf_tree.specs.Walk.{Nested, Inside, Within}
 use Rattle.buf_tree.specs.Ways.{is_waiting}
 use Rattle.buf_tree.specs.Recount.{uncovered, is_lost}
@@ -110,7 +110,7 @@ HasStill xs lost k q x = (a : Cell) × In a xs × Within xs a x × (contains a.r
 abbrev pub Went : List Cell → (k : ℕ) → (lost : Cell → Bool) → Cell → Type 0
 Went xs k lost x = Has xs k x × (HasStill xs lost k k x → ⊥)
 
-module _ (lost : Cell → Bool) (k : ℕ) (xs ys : List Cell) (rise : Rising xs) (rise' : Rising ys) (nest : Nested xs) (up : (c : Cell) → In c xs → (num c ≡ 0) ⊎ Above xs c) (up' : (c : Cell) → In c ys → (num c ≡ 0) ⊎ Above ys c)
+module _ (lost : Cell → Bool) (k : ℕ) (xs ys : List Cell) (rise : CellsRise xs) (rise' : CellsRise ys) (nest : Nested xs) (up : (c : Cell) → In c xs → (num c ≡ 0) ⊎ Above xs c) (up' : (c : Cell) → In c ys → (num c ≡ 0) ⊎ Above ys c)
     (same : map uncovered ys ≡ map uncovered (taken_by lost k xs)) where
   pub was_now : (y : Cell) → In y ys → (x : Cell) × In x xs × Now lost k x y
   was_now y i =
@@ -174,7 +174,7 @@ module _ (lost : Cell → Bool) (k : ℕ) (xs ys : List Cell) (rise : Rising xs)
 
 -- ---- the rows that contracts see
 
-module _ (s : Option SpreadView) (xs : List Cell) (rise : Rising xs) (nest : Nested xs) (up : (c : Cell) → In c xs → (num c ≡ 0) ⊎ Above xs c) (k : ℕ) where
+module _ (s : Option SpreadView) (xs : List Cell) (rise : CellsRise xs) (nest : Nested xs) (up : (c : Cell) → In c xs → (num c ≡ 0) ⊎ Above xs c) (k : ℕ) where
   abbrev sp : ℕ → Bool
   sp = is_spread_in s
 
@@ -185,7 +185,7 @@ module _ (s : Option SpreadView) (xs : List Cell) (rise : Rising xs) (nest : Nes
     abbrev zs : List Cell
     zs = taken_by lost k xs
 
-    rise_z : Rising (taken_by lost k xs)
+    rise_z : CellsRise (taken_by lost k xs)
     rise_z = bare_rising lost k xs rise
 
     up_z : (c : Cell) → In c (taken_by lost k xs) → (num c ≡ 0) ⊎ Above (taken_by lost k xs) c

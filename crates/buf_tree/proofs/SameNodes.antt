@@ -3,12 +3,12 @@ use Rattle.std.proofs.Common.{◌≡◌, ℕ, List, sym, ◌∙◌}
 use Rattle.gcx_model.specs.declared.item.Off.{Off}
 use Rattle.gcx_model.specs.Tree.{Tree, Node}
 use Rattle.tree_laws.proofs.Lists.{In}
-use Rattle.buf_tree.specs.Shape.{Cell, Rising}
+use Rattle.buf_tree.specs.Shape.{Cell, CellsRise}
 use Rattle.buf_tree.specs.Ways.{NodeOf, TreeOf, is_waiting, IsKept}
 use Rattle.buf_tree.proofs.Upto.{Alike, Thinned, tells_thinned, tells_thick}
 
 -- each row of the ones is alike to one of the others, and the other way round
-module _ (xs ys : List Cell) (rise : Rising xs) (t : Thinned xs ys) (on : (x : Cell) → In x xs → (y : Cell) × In y ys × Alike x y) where
+module _ (xs ys : List Cell) (rise : CellsRise xs) (t : Thinned xs ys) (on : (x : Cell) → In x xs → (y : Cell) × In y ys × Alike x y) where
   abbrev node_on : (p : ℕ) (n : Node) → NodeOf xs p n → NodeOf ys p n
   node_on p n u =
       let y = on u.cell u.among in

@@ -7,7 +7,7 @@ use Rattle.base_laws.proofs.Lists.{nil_cons}
 use Rattle.base_laws.proofs.Members.{in_map, map_same}
 use Rattle.tree_laws.proofs.Lists.{In, filter_same}
 use Rattle.buf_tree.specs.Rows.{untaken}
-use Rattle.buf_tree.specs.Shape.{Store, Cell, num, cells, Rising, Above, Shaped}
+use Rattle.buf_tree.specs.Shape.{Store, Cell, num, cells, CellsRise, Above, Shaped}
 use Rattle.buf_tree.specs.Purge.{Purged}
 use Rattle.buf_tree.specs.Recount.{uncovered, is_lost}
 use Rattle.buf_tree.specs.Spread.{SpreadView, is_spread_in, seen_rows, with_roles, is_covered, TellsCovered}
@@ -137,10 +137,10 @@ module _ (sv : Option SpreadView) (m1 m2 : Store) (s1 : Shaped m1) (s2 : Shaped 
     to_thin : (x : Cell) → In x (taken_by loses k ks) → (c : Cell) × In c b.between × (uncovered x ≡ uncovered c)
     to_thin x i = pair_left uncovered uncovered (taken_by loses k ks) b.between (sym b.rows) x i
 
-    between_rising : Rising b.between
+    between_rising : CellsRise b.between
     between_rising = rising_as b.between (taken_by loses k ks) b.rows (bare_rising loses k ks s1.rising)
       where
-        rising_as : (xs ys : List Cell) → map uncovered xs ≡ map uncovered ys → Rising ys → Rising xs
+        rising_as : (xs ys : List Cell) → map uncovered xs ≡ map uncovered ys → CellsRise ys → CellsRise xs
         rising_as [] ys e r = tt
         rising_as (x ∷ xs) [] e r = absurd (nil_cons (uncovered x) (map uncovered xs) (sym e))
         rising_as (x ∷ xs) (y ∷ ys) e r =
@@ -175,7 +175,7 @@ module _ (sv : Option SpreadView) (m1 m2 : Store) (s1 : Shaped m1) (s2 : Shaped 
     between_seen : seen_rows sv b.between ≡ taken_by (is_lost k (seen_rows sv b.between)) k (seen_rows sv ks)
     between_seen =
         let e : seen_rows sv b.between ≡ seen_rows sv (taken_by loses k ks) = above_bare sp b.between (taken_by loses k ks) b.rows in
-        let r : Rising (seen_rows sv (taken_by loses k ks)) = seen_rising sv (taken_by loses k ks) (upward (taken_by loses k ks) (bare_rising loses k ks s1.rising) (bare_up loses k ks s1.up)) (bare_rising loses k ks s1.rising) in
+        let r : CellsRise (seen_rows sv (taken_by loses k ks)) = seen_rising sv (taken_by loses k ks) (upward (taken_by loses k ks) (bare_rising loses k ks s1.rising) (bare_up loses k ks s1.up)) (bare_rising loses k ks s1.rising) in
         e ∙ (above_taken sp k loses ks r ∙ ap (λ (zs : List Cell). taken_by (is_lost k zs) k (seen_rows sv ks)) (sym e))
 
     -- what leaves of the rows kept leaves of those seen, where `lost` tells which of these lose the role

@@ -5,14 +5,14 @@ use Rattle.std.specs.Ordering.{nat_cmp}
 use Rattle.std.specs.FinSet.{empty, contains, retain, contains-empty}
 use Rattle.std.proofs.lemmas.Bool.{or_cases, or_left, or_right, and_parts, and_from, false≢true, ne_eqb}
 use Rattle.gcx_model.specs.Members.{In}
-use Rattle.buf_tree.specs.Shape.{Cell, num, Rising, Above}
+use Rattle.buf_tree.specs.Shape.{Cell, num, CellsRise, Above}
 use Rattle.buf_tree.specs.Spread.{SpreadView, is_spread_in, roles_at, seen_rows}
 use Rattle.buf_tree.specs.Walk.{Nested, Within}
 use Rattle.buf_tree.proofs.Lifting.{seen_in, seen_rising}
 use Rattle.buf_tree.proofs.Lines.{child_inside, within_trans, parent_within}
 use Rattle.buf_tree.proofs.Spreading.{in_union, in_retain, roles_self, upward, from_above, spread_cell}
 
-module _ (s : Option SpreadView) (ks : List Cell) (rise : Rising ks) (nest : Nested ks) (up : (c : Cell) → In c ks → (num c ≡ 0) ⊎ Above ks c) (k : ℕ) (spread : is_spread_in s k ≡ true) where
+module _ (s : Option SpreadView) (ks : List Cell) (rise : CellsRise ks) (nest : Nested ks) (up : (c : Cell) → In c ks → (num c ≡ 0) ⊎ Above ks c) (k : ℕ) (spread : is_spread_in s k ≡ true) where
   abbrev rs : List Cell
   rs = seen_rows s ks
 

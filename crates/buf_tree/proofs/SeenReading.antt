@@ -15,7 +15,7 @@ use Rattle.node_store.specs.declared.store.Place.{Place}
 use Rattle.buf_tree.specs.Row.{Row}
 use Rattle.buf_tree.specs.Shape.{Store, Cell, num, cells, at_place, AtPlace, Shaped}
 use Rattle.buf_tree.specs.View.{InUse, num_in, serial_at}
-use Rattle.buf_tree.specs.Match.{IsChild, Rises, Lies, Reached, Unreached, FirstReached, FindsAbove, FindsBehind, SerialFound, IsFrom, GoesFrom}
+use Rattle.buf_tree.specs.Match.{IsChild, DescendsFrom, Lies, Reached, Unreached, FirstReached, FindsAbove, FindsBehind, SerialFound, IsFrom, GoesFrom}
 use Rattle.buf_tree.specs.Spread.{SpreadView, is_spread_in, seen_rows, SameButRoles, bare_cell}
 use Rattle.buf_tree.specs.Ways.{LeadsBy, is_waiting}
 use Rattle.buf_tree.proofs.Lifting.{seen_is, seen_in, seen_from, seen_apart, node_of_kept}
@@ -29,18 +29,18 @@ module _ (s : Option SpreadView) (ks : List Cell) (up : Upward [] ks) where
   abbrev f : Cell → Cell
   f = spread_cell (is_spread_in s) (seen_rows s ks)
 
-  rises_seen : (n : ℕ) (c d : Cell) → Rises ks n c d → Rises (seen_rows s ks) n (f c) (f d)
+  rises_seen : (n : ℕ) (c d : Cell) → DescendsFrom ks n c d → DescendsFrom (seen_rows s ks) n (f c) (f d)
   rises_seen zero c d r = r
   rises_seen (suc n) c d r = (f r.0, seen_in s ks up r.0 r.1, r.2, rises_seen n c r.0 r.3)
 
-  rises_kept : (n : ℕ) (c d : Cell) → Rises (seen_rows s ks) n (f c) (f d) → Rises ks n c d
+  rises_kept : (n : ℕ) (c d : Cell) → DescendsFrom (seen_rows s ks) n (f c) (f d) → DescendsFrom ks n c d
   rises_kept zero c d r = r
   rises_kept (suc n) c d r =
       let x = seen_from s ks up r.0 r.1 in (
         x.0,
         x.1,
         subst (λ (z : Cell). IsChild z d) (sym x.2) r.2,
-        rises_kept n c x.0 (subst (λ (z : Cell). Rises (seen_rows s ks) n (f c) z) (sym x.2) r.3),
+        rises_kept n c x.0 (subst (λ (z : Cell). DescendsFrom (seen_rows s ks) n (f c) z) (sym x.2) r.3),
       )
 
   lies_seen : (axis : Axis) (c d : Cell) → Lies ks axis c d → Lies (seen_rows s ks) axis (f c) (f d)

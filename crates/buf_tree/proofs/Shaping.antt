@@ -9,11 +9,11 @@ use Rattle.std.proofs.lemmas.Bool.{or_cases, false≢true, eqb-true, eq-eqb, ne_
 use Rattle.tree_laws.proofs.Lists.{In}
 use Rattle.node_store.specs.Rows.{Entry}
 use Rattle.buf_tree.specs.Row.{Row}
-use Rattle.buf_tree.specs.Shape.{Store, Cell, num, put, put_entry, gather, cells, Rising, Above, at_place, at_serial, entry_in, Shape, Shaped}
+use Rattle.buf_tree.specs.Shape.{Store, Cell, num, put, put_entry, gather, cells, CellsRise, Above, at_place, at_serial, entry_in, Shape, Shaped}
 
 -- ---- lists by rising serials
 
-pub rising_same : (xs : List Cell) → Rising xs → (a b : Cell) → In a xs → In b xs → num a ≡ num b → a ≡ b
+pub rising_same : (xs : List Cell) → CellsRise xs → (a b : Cell) → In a xs → In b xs → num a ≡ num b → a ≡ b
 rising_same [] r a b i j e = absurd i
 rising_same (x ∷ xs) r a b (inl f) (inl g) e = sym f ∙ g
 rising_same (x ∷ xs) r a b (inl f) (inr j) e = let l = r.0 b j in let m = ap num f in absurd (omega arith)
@@ -21,7 +21,7 @@ rising_same (x ∷ xs) r a b (inr i) (inl g) e = let l = r.0 a i in let m = ap n
 rising_same (x ∷ xs) r a b (inr i) (inr j) e = rising_same xs r.1 a b i j e
 
 -- two such lists with the same members are one
-pub same_rising : (xs ys : List Cell) → Rising xs → Rising ys → ((c : Cell) → In c xs → In c ys) → ((c : Cell) → In c ys → In c xs) → xs ≡ ys
+pub same_rising : (xs ys : List Cell) → CellsRise xs → CellsRise ys → ((c : Cell) → In c xs → In c ys) → ((c : Cell) → In c ys → In c xs) → xs ≡ ys
 same_rising [] [] r s f g = refl
 same_rising [] (y ∷ ys) r s f g = absurd (g y (inl refl))
 same_rising (x ∷ xs) [] r s f g = absurd (f x (inl refl))
@@ -68,11 +68,11 @@ put_has c (x ∷ xs) = go (ltb (num c) (num x)) (ltb (num x) (num c)) refl refl 
     go false true e f ih = (ih.0, inr ih.1, ih.2)
     go false false e f ih = (x, inl refl, omega (arith, ltb-false (num c) (num x) e, ltb-false (num x) (num c) f))
 
-put_rising : (c : Cell) (xs : List Cell) → Rising xs → Rising (put c xs)
+put_rising : (c : Cell) (xs : List Cell) → CellsRise xs → CellsRise (put c xs)
 put_rising c [] r = (λ y i. absurd i, tt)
 put_rising c (x ∷ xs) r = go (ltb (num c) (num x)) (ltb (num x) (num c)) refl refl (put_rising c xs r.1)
   where
-    go : (a b : Bool) → ltb (num c) (num x) ≡ a → ltb (num x) (num c) ≡ b → Rising (put c xs) → Rising (cond a (c ∷ x ∷ xs) (cond b (x ∷ put c xs) (x ∷ xs)))
+    go : (a b : Bool) → ltb (num c) (num x) ≡ a → ltb (num x) (num c) ≡ b → CellsRise (put c xs) → CellsRise (cond a (c ∷ x ∷ xs) (cond b (x ∷ put c xs) (x ∷ xs)))
     go true b e f ih =
         let l = ltb-true (num c) (num x) e in
         (λ y i. elim i [ inl g ↦ (let m = ap num g in omega arith) | inr k ↦ (let m = r.0 y k in omega arith) ], r)
@@ -86,11 +86,11 @@ put_rising c (x ∷ xs) r = go (ltb (num c) (num x)) (ltb (num x) (num c)) refl 
 abbrev Held_by : Store → Cell → Type 0
 Held_by m c = (e : Entry Row) × (get m c.place ≡ Some e) × (e.payload ≡ c.row)
 
-gather_rising : (m : Store) (ps : List ℕ) → Rising (gather m ps)
+gather_rising : (m : Store) (ps : List ℕ) → CellsRise (gather m ps)
 gather_rising m [] = tt
 gather_rising m (p ∷ ps) = go (get m p) (gather_rising m ps)
   where
-    go : (o : Option (Entry Row)) → Rising (gather m ps) → Rising (put_entry p o (gather m ps))
+    go : (o : Option (Entry Row)) → CellsRise (gather m ps) → CellsRise (put_entry p o (gather m ps))
     go None r = r
     go (Some e) r = put_rising (record { place = p; row = e.payload }) (gather m ps) r
 
@@ -157,7 +157,7 @@ at_place_is (x ∷ xs) a c i = go (x.place == c.place) refl (at_place_is xs (λ 
     go false e ih (inl f) = absurd (false≢true (sym e ∙ eq-eqb x.place c.place (ap (λ (y : Cell). y.place) f)))
     go false e ih (inr k) = ih k
 
-pub at_serial_is : (xs : List Cell) → Rising xs → (c : Cell) (k : ℕ) → In c xs → num c ≡ k → at_serial k xs ≡ Some c
+pub at_serial_is : (xs : List Cell) → CellsRise xs → (c : Cell) (k : ℕ) → In c xs → num c ≡ k → at_serial k xs ≡ Some c
 at_serial_is [] r c k i f = absurd i
 at_serial_is (x ∷ xs) r c k (inl e) f = rw (eq-eqb (num x) k (ap num e ∙ f)) (ap (λ y. Some y) e)
 at_serial_is (x ∷ xs) r c k (inr i) f = rw (ne_eqb (num x) k (λ e. let l = r.0 c i in absurd (omega arith))) (at_serial_is xs r.1 c k i f)
@@ -223,7 +223,7 @@ module _ (xs : List Cell) where
       go true h = refl
       go false h = h
 
-  len_built : (cs : List Cell) → Rising cs → Apart cs → len (built cs) ≡ length cs
+  len_built : (cs : List Cell) → CellsRise cs → Apart cs → len (built cs) ≡ length cs
   unfolding built
   len_built [] r a = len-empty nat_cmp (Entry Row)
   len_built (c ∷ cs) r a =
@@ -237,5 +237,5 @@ rows_number m xs s =
     ap len (same_map nat_cmp_total nat_cmp-IsAntisymmetric m (built xs xs) (λ q. s.gets q ∙ sym (get_built xs xs q))) ∙ len_built xs xs s.rising s.apart
 
 -- a store that holds exactly these rows
-pub built_shape : (xs : List Cell) → Rising xs → Apart xs → ((c : Cell) → In c xs → (num c ≡ 0) ⊎ Above xs c) → Shape (built xs xs) xs
+pub built_shape : (xs : List Cell) → CellsRise xs → Apart xs → ((c : Cell) → In c xs → (num c ≡ 0) ⊎ Above xs c) → Shape (built xs xs) xs
 built_shape xs r a u = record { gets = get_built xs xs; rising = r; apart = a; up = u }

@@ -21,7 +21,7 @@ use Rattle.placed_laws.proofs.HeldChanges.{held_by_act}
 use Rattle.past_laws.proofs.PastForms.{past_acts}
 use Rattle.past_laws.proofs.RowFacts.{row_tells}
 use Rattle.buf_tree.specs.Row.{Row}
-use Rattle.buf_tree.specs.Shape.{Cell, Rising}
+use Rattle.buf_tree.specs.Shape.{Cell, CellsRise}
 use Rattle.buf_tree.specs.Purge.{Purged}
 use Rattle.buf_tree.specs.Stands.{Seen, seen, told}
 use Rattle.buf_tree.proofs.Changes.{map-map}
@@ -147,7 +147,7 @@ module _ (past : Past) (is : IsPast past) (s : OffTree) (stated : In s (offs_in 
   -- so the rows are right behind the departures
   pub rows_signed : (xs ys : List Cell) (gone : List ℕ) (keeps : Cell → Bool) (q : ℕ) → map seen xs ≡ map (told past) (held past.plan past.tree past.acts)
       → ((c : Cell) (n : Node) → In c xs → In n (held past.plan past.tree past.acts) → seen c ≡ told past n → (keeps c ≡ live past.plan past.tree now.acts n s.role) × ((c.place == q) ≡ (serial_of m == serial_of n)))
-      → Rising (map (sign_cell keeps q s.role) xs) → Purged (map (sign_cell keeps q s.role) xs) ys gone → map seen ys ≡ map (told now) (held now.plan now.tree now.acts)
+      → CellsRise (map (sign_cell keeps q s.role) xs) → Purged (map (sign_cell keeps q s.role) xs) ys gone → map seen ys ≡ map (told now) (held now.plan now.tree now.acts)
   rows_signed xs ys gone keeps q e f rise u =
       rows_held now (is_grown now is_now) (map (sign_cell keeps q s.role) xs) ys gone rise u (held past.plan past.tree past.acts)
       (map-map (sign_cell keeps q s.role) seen xs

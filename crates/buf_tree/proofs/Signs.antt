@@ -10,7 +10,7 @@ use Rattle.gcx_model.specs.Tree.{Tree, Node, Root, Under}
 use Rattle.base_laws.proofs.Members.{in_map, from_map}
 use Rattle.tree_laws.proofs.Lists.{In}
 use Rattle.buf_tree.specs.Rows.{signed_for}
-use Rattle.buf_tree.specs.Shape.{Cell, num, Rising, with_at}
+use Rattle.buf_tree.specs.Shape.{Cell, num, CellsRise, with_at}
 use Rattle.buf_tree.specs.Ways.{Tells, NodeOf, TreeOf, is_waiting, IsKept, IsKeptBut}
 use Rattle.buf_tree.proofs.Shaping.{rising_same}
 use Rattle.buf_tree.proofs.Climbing.{tells_serial}
@@ -36,7 +36,7 @@ module _ (g : Cell → Cell) (n_ : (c : Cell) → num (g c) ≡ num c) (p_ : (c 
       let a = n_ c in
       (sym (n_ c) ∙ t.0, sym (k_ c) ∙ t.1, (x.0, x.1, (sym (p_ c) ∙ e.2.0 ∙ same, omega arith), tells_unmap x.0 p (subst (λ (y : Cell). Tells (map g xs) y p) (sym x.2) e.3)))
 
-module _ (xs : List Cell) (rise : Rising xs) (apart : (a b : Cell) → In a xs → In b xs → a.place ≡ b.place → a ≡ b) (off : Off) (p : ℕ) where
+module _ (xs : List Cell) (rise : CellsRise xs) (apart : (a b : Cell) → In a xs → In b xs → a.place ≡ b.place → a ≡ b) (off : Off) (p : ℕ) where
   abbrev g : Cell → Cell
   g = with_at (signed_for off.role.0) p
 

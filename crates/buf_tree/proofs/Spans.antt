@@ -4,7 +4,7 @@ use Rattle.std.specs.Prelude.{leb, is_some, ◌↔◌}
 use Rattle.std.specs.FinSet.{contains}
 use Rattle.std.proofs.lemmas.Bool.{false≢true, cases_Bool, cases_lt, leb-true, false_from_ne_true}
 use Rattle.gcx_model.specs.Members.{In}
-use Rattle.buf_tree.specs.Shape.{Cell, num, Rising}
+use Rattle.buf_tree.specs.Shape.{Cell, num, CellsRise}
 use Rattle.buf_tree.specs.Recount.{span_else, span_on, KeptAbove, TellsParent}
 use Rattle.buf_tree.specs.Walk.{Inside, Within}
 use Rattle.buf_tree.proofs.Shaping.{rising_same}
@@ -27,7 +27,7 @@ below_or a b = elim (cases_lt b a) [
     never : leb a b ≡ false → a ≤ b → ⊥
     never e l = grind arith
 
-module _ (xs : List Cell) (rise : Rising xs) (keeps : Cell → Bool) (base : Cell) where
+module _ (xs : List Cell) (rise : CellsRise xs) (keeps : Cell → Bool) (base : Cell) where
   -- where no row above h passes
   span_alone : (h : Cell) → In h xs → ((a : Cell) → In a xs → Inside xs a h → keeps a ≡ true → ⊥) → SpanAt xs keeps base h (span_else (num h) (keeps h))
   span_alone h i none = go (keeps h) refl

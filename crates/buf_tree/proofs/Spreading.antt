@@ -11,7 +11,7 @@ use Rattle.base_laws.proofs.Lists.{nil_cons}
 use Rattle.base_laws.proofs.Members.{map_same}
 use Rattle.tree_laws.proofs.Lists.{In, In-filter}
 use Rattle.buf_tree.specs.Rows.{untaken, IsDead}
-use Rattle.buf_tree.specs.Shape.{Cell, num, Rising, Above}
+use Rattle.buf_tree.specs.Shape.{Cell, num, CellsRise, Above}
 use Rattle.buf_tree.specs.Sweep.{taken_by}
 use Rattle.buf_tree.specs.Spread.{roles_at, with_roles, with_above, is_covered}
 use Rattle.buf_tree.specs.Recount.{uncovered, is_lost}
@@ -62,7 +62,7 @@ roles_left (x ∷ xs) ys k i = go (eqb (num x) k) refl i (roles_left xs ys k)
     go false e (inl f) ih = absurd (false≢true (sym e ∙ eq-eqb (num x) k f))
     go false e (inr j) ih = ih j
 
-pub roles_self : (xs : List Cell) → Rising xs → (c : Cell) → In c xs → roles_at xs (num c) ≡ c.row.roles
+pub roles_self : (xs : List Cell) → CellsRise xs → (c : Cell) → In c xs → roles_at xs (num c) ≡ c.row.roles
 roles_self [] r c i = absurd i
 roles_self (x ∷ xs) r c (inl e) = ap (λ b. cond b x.row.roles (roles_at xs (num c))) (eq-eqb (num x) (num c) (ap num e)) ∙ ap (λ (z : Cell). z.row.roles) e
 roles_self (x ∷ xs) r c (inr j) =
@@ -93,7 +93,7 @@ Upward before (c ∷ cs) = NextUp before c × Upward (before ++ num c ∷ []) cs
 
 -- so it is where the rows are linked upwards
 module _ (all : List Cell) (up : (c : Cell) → In c all → (num c ≡ 0) ⊎ Above all c) where
-  upward_from : (before : List ℕ) (xs : List Cell) → Rising xs → ((c : Cell) → In c xs → In c all) → ((k : ℕ) → In k before → (c : Cell) → In c xs → k < num c) → ((c : Cell) → In c all → In (num c) before ⊎ In c xs) → Upward before xs
+  upward_from : (before : List ℕ) (xs : List Cell) → CellsRise xs → ((c : Cell) → In c xs → In c all) → ((k : ℕ) → In k before → (c : Cell) → In c xs → k < num c) → ((c : Cell) → In c all → In (num c) before ⊎ In c xs) → Upward before xs
   upward_from before [] r i l s = tt
   upward_from before (c ∷ cs) r i l s = (
     next,
@@ -152,7 +152,7 @@ module _ (all : List Cell) (up : (c : Cell) → In c all → (num c ≡ 0) ⊎ A
         ]
       ]
 
-pub upward : (xs : List Cell) → Rising xs → ((c : Cell) → In c xs → (num c ≡ 0) ⊎ Above xs c) → Upward [] xs
+pub upward : (xs : List Cell) → CellsRise xs → ((c : Cell) → In c xs → (num c ≡ 0) ⊎ Above xs c) → Upward [] xs
 upward xs r up = upward_from xs up [] xs r (λ c i. i) (λ k h c i. absurd h) (λ c i. inr i)
 
 -- ---- the rows with the roles from above, as an equation that tells them
@@ -506,7 +506,7 @@ module _ (sp : ℕ → Bool) where
           ∙ (put (contains y.row.roles k && not (contains x.row.roles k))
           ∙ ap (λ b. cond b (record { place = y.place; row = untaken k y.row }) y) (sym lost)))
 
-  pub above_taken : (k : ℕ) (loses : Cell → Bool) (ks : List Cell) → Rising (with_above sp [] (taken_by loses k ks)) → with_above sp [] (taken_by loses k ks) ≡ taken_by (is_lost k (with_above sp [] (taken_by loses k ks))) k (with_above sp [] ks)
+  pub above_taken : (k : ℕ) (loses : Cell → Bool) (ks : List Cell) → CellsRise (with_above sp [] (taken_by loses k ks)) → with_above sp [] (taken_by loses k ks) ≡ taken_by (is_lost k (with_above sp [] (taken_by loses k ks))) k (with_above sp [] ks)
   above_taken k loses ks r = taken_from k now now (with_above sp [] ks) (roles_self now r) (less_from k loses [] [] ks tt)
     where
       now : List Cell

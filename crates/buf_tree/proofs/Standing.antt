@@ -17,7 +17,7 @@ use Rattle.tree_laws.proofs.Matches.{Grown, Numbered-same, Numbered-high}
 use Rattle.tree_laws.proofs.Freeze.{within_self, within_trans, open_up_at}
 use Rattle.buf_tree.specs.Row.{Row}
 use Rattle.buf_tree.specs.Rows.{IsDead}
-use Rattle.buf_tree.specs.Shape.{Cell, num, Rising, is_under}
+use Rattle.buf_tree.specs.Shape.{Cell, num, CellsRise, is_under}
 use Rattle.buf_tree.specs.Purge.{is_gone, Purged}
 use Rattle.buf_tree.specs.Stands.{Seen, seen, told, parent_seen}
 use Rattle.buf_tree.proofs.Shaping.{rising_same}
@@ -113,7 +113,7 @@ module _ (past : Past) (w : Grown past.tree) where
             or_right _ _ (any_from (λ (m : Node). within (serial_of n) m && is_live past.plan P past.acts m) r.0 P.nodes r.1 (and_from _ _ (within_trans P w (serial_of n) (Under n s k) r.0 i r.1 in_n a.0) a.1)))
       ]
 
-  module _ (xs ys : List Cell) (gone : List ℕ) (rising : Rising xs) (u : Purged xs ys gone) (ns : List Node) (same : map seen xs ≡ map (told past) ns)
+  module _ (xs ys : List Cell) (gone : List ℕ) (rising : CellsRise xs) (u : Purged xs ys gone) (ns : List Node) (same : map seen xs ≡ map (told past) ns)
       (inside : (n : Node) → In n ns → In n P.nodes)
       (upward : (n : Node) (s : ℕ) (k : Kind) → In (Under n s k) ns → In n ns)
       (all : (n : Node) → In n P.nodes → is_held past.plan P past.acts n ≡ true → In n ns) where

@@ -6,7 +6,7 @@ use Rattle.base_laws.proofs.Members.{in_map, from_map, map_same}
 use Rattle.tree_laws.proofs.Lists.{In, filter_same}
 use Rattle.buf_tree.specs.Row.{Row}
 use Rattle.buf_tree.specs.Rows.{IsDead, untaken}
-use Rattle.buf_tree.specs.Shape.{Cell, num, Rising, is_under, with_at}
+use Rattle.buf_tree.specs.Shape.{Cell, num, CellsRise, is_under, with_at}
 use Rattle.buf_tree.specs.Purge.{is_gone, Keeps, Leaves}
 use Rattle.buf_tree.specs.Sweep.{taken_by}
 use Rattle.buf_tree.proofs.Changes.{g_num, g_parent}
@@ -48,7 +48,7 @@ module _ (lost : Cell → Bool) (k : ℕ) where
   pub was_bare : (d : Cell) (xs : List Cell) → In d (taken_by lost k xs) → (c : Cell) × In c xs × (bare c ≡ d)
   was_bare d xs i = from_map bare d xs i
 
-  pub bare_rising : (xs : List Cell) → Rising xs → Rising (taken_by lost k xs)
+  pub bare_rising : (xs : List Cell) → CellsRise xs → CellsRise (taken_by lost k xs)
   bare_rising [] r = tt
   bare_rising (x ∷ xs) r = (
     λ y i.
@@ -81,7 +81,7 @@ none_counted (x ∷ xs) = none_counted xs
 abbrev pub and_at : ℕ → (Cell → Bool) → Cell → Bool
 and_at k lost d = lost d || (num d == k)
 
-pub one_more : (lost : Cell → Bool) (h : Cell) → lost h ≡ false → (xs : List Cell) → Rising xs → In h xs → length (filter (and_at (num h) lost) xs) ≡ length (filter lost xs) + 1
+pub one_more : (lost : Cell → Bool) (h : Cell) → lost h ≡ false → (xs : List Cell) → CellsRise xs → In h xs → length (filter (and_at (num h) lost) xs) ≡ length (filter lost xs) + 1
 one_more lost h n [] r i = absurd i
 one_more lost h n (x ∷ xs) r (inl e) =
     ap (λ b. length (cond b (x ∷ filter (and_at (num h) lost) xs) (filter (and_at (num h) lost) xs))) is
@@ -112,7 +112,7 @@ one_more lost h n (x ∷ xs) r (inr i) =
     go false e = e
 
 -- the role is taken from the row h
-pub one_bare : (lost : Cell → Bool) (k : ℕ) (h : Cell) → lost h ≡ false → (xs : List Cell) → Rising xs → ((a b : Cell) → In a xs → In b xs → a.place ≡ b.place → a ≡ b) → ((a b : Cell) → In a xs → In b xs → num a ≡ num b → a ≡ b) → In h xs
+pub one_bare : (lost : Cell → Bool) (k : ℕ) (h : Cell) → lost h ≡ false → (xs : List Cell) → CellsRise xs → ((a b : Cell) → In a xs → In b xs → a.place ≡ b.place → a ≡ b) → ((a b : Cell) → In a xs → In b xs → num a ≡ num b → a ≡ b) → In h xs
     → taken_by (and_at (num h) lost) k xs ≡ map (with_at (untaken k) h.place) (taken_by lost k xs)
 one_bare lost k h n xs rise apart same i = map_same (bare (and_at (num h) lost) k) (λ d. with_at (untaken k) h.place (bare lost k d)) xs each ∙ sym (twice xs)
   where

@@ -15,7 +15,7 @@ use Rattle.base_laws.proofs.Members.{head_in}
 use Rattle.tree_laws.proofs.Lists.{In, any_in, any_from, In-filter, In-kept}
 use Rattle.past_laws.proofs.Bases.{node_is}
 use Rattle.tree_laws.proofs.Freeze.{hits_within}
-use Rattle.buf_tree.specs.Shape.{Cell, num, Rising, Above}
+use Rattle.buf_tree.specs.Shape.{Cell, num, CellsRise, Above}
 use Rattle.buf_tree.specs.Walk.{Nested, Inside}
 use Rattle.buf_tree.specs.Ways.{Tells, NodeOf, Descends, TreeOf, IsKept}
 use Rattle.buf_tree.proofs.Shaping.{rising_same}
@@ -140,7 +140,7 @@ NodesRising-filtered p (n ∷ ns) r = go (p n) (NodesRising-filtered p ns r.1)
     go true h = (λ m i. r.0 m (In-filter p m ns i).0, h)
     go false h = h
 
-module _ (xs ys : List Cell) (rise : Rising xs) (t : Thinned xs ys) where
+module _ (xs ys : List Cell) (rise : CellsRise xs) (t : Thinned xs ys) where
   -- the row that y was
   was : (y : Cell) → In y ys → Cell
   was y j = (t.each y j).0

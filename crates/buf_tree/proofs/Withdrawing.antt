@@ -16,7 +16,7 @@ use Rattle.tree_laws.proofs.Departures.{falling_same}
 use Rattle.node_store.specs.Rows.{Entry, changed_at, paid_by}
 use Rattle.buf_tree.specs.Row.{Row}
 use Rattle.buf_tree.specs.Rows.{untaken}
-use Rattle.buf_tree.specs.Shape.{Store, Cell, num, cells, Rising, is_under, entry_in, Shape, Shaped, with_at}
+use Rattle.buf_tree.specs.Shape.{Store, Cell, num, cells, CellsRise, is_under, entry_in, Shape, Shaped, with_at}
 use Rattle.buf_tree.specs.Purge.{is_gone, Tidy, TidyBut, Falling, Purged, PurgedBut, Cleared}
 use Rattle.buf_tree.specs.Sweep.{taken_by, Swept}
 use Rattle.buf_tree.specs.declared.ahead.Ahead.{Ahead}
@@ -37,7 +37,7 @@ use Rattle.buf_tree.proofs.Keeping.{ordered_part, tidy_changed, cells_untaken}
 -- ---- lists
 
 -- a row that a test knows alone
-one_passes : (xs : List Cell) → Rising xs → (c : Cell) → In c xs → (p : Cell → Bool) → ((d : Cell) → In d xs → (p d ≡ true) ↔ (c ≡ d)) → filter p xs ≡ c ∷ []
+one_passes : (xs : List Cell) → CellsRise xs → (c : Cell) → In c xs → (p : Cell → Bool) → ((d : Cell) → In d xs → (p d ≡ true) ↔ (c ≡ d)) → filter p xs ≡ c ∷ []
 one_passes [] r c i p h = absurd i
 one_passes (x ∷ xs) r c (inl e) p h =
     let t : p x ≡ true = (h x (inl refl)).1 (sym e) in
@@ -230,7 +230,7 @@ as_falling : (ks : List ℕ) → Falling ks → trace.Falling ks
 as_falling [] f = tt
 as_falling (k ∷ ks) f = (f.0, as_falling ks f.1)
 
-reverse_falls : (xs : List Cell) → Rising xs → Falling (map num (reverse xs))
+reverse_falls : (xs : List Cell) → CellsRise xs → Falling (map num (reverse xs))
 reverse_falls [] r = tt
 reverse_falls (x ∷ xs) r = subst (λ (z : List ℕ). Falling z) (sym (ap (map num) (reverse_cons x xs) ∙ map-append num (reverse xs) (x ∷ [])))
     (Falling-both (map num (reverse xs)) (num x ∷ []) (reverse_falls xs r.1) (λ j i. absurd i, tt) (λ k j i e. elim e [
@@ -250,7 +250,7 @@ any_listed [] d k i e = absurd i
 any_listed (x ∷ now) d k (inl f) e = or_left _ _ (eq-eqb (num x) k (ap num f ∙ e))
 any_listed (x ∷ now) d k (inr i) e = or_right (num x == k) _ (any_listed now d k i e)
 
-pub left_is : (f : Cell → Cell) → ((c : Cell) → num (f c) ≡ num c) → (xs zs : List Cell) (left : List ℕ) → Rising xs → Purged (map f xs) zs left → left ≡ left_out xs zs
+pub left_is : (f : Cell → Cell) → ((c : Cell) → num (f c) ≡ num c) → (xs zs : List Cell) (left : List ℕ) → CellsRise xs → Purged (map f xs) zs left → left ≡ left_out xs zs
 left_is f same xs zs left r u = falling_same left (left_out xs zs) (as_falling left u.leaves.falling) (as_falling (left_out xs zs) (reverse_falls (filter out xs) (Rising-filtered out xs r))) to from
   where
     out : Cell → Bool

@@ -8,7 +8,7 @@ use Rattle.gcx_model.specs.Growth.{may_come}
 use Rattle.gcx_model.specs.Held.{roles_given}
 use Rattle.gcx_model.specs.Past.{Past, past_fed, Opens}
 use Rattle.buf_tree.specs.Rows.{below_row}
-use Rattle.buf_tree.specs.Shape.{Cell, Rising, num}
+use Rattle.buf_tree.specs.Shape.{Cell, CellsRise, num}
 use Rattle.buf_tree.specs.View.{View, Innermost, num_in, level_in}
 use Rattle.buf_tree.specs.Stands.{StandsFor}
 
@@ -94,12 +94,12 @@ SettlesNone = (v : View) (places : List ℕ) → with_passed places [] v ≡ v
 
 -- Of rows in document order the last open one is that of the innermost open node.
 abbrev pub LastIsInnermost : Type 0
-LastIsInnermost = (rows : List Cell) (place : ℕ) → Rising rows → (i : Innermost rows place) → last_open rows ≡ Some i.cell
+LastIsInnermost = (rows : List Cell) (place : ℕ) → CellsRise rows → (i : Innermost rows place) → last_open rows ≡ Some i.cell
 
 -- The rows of a view that stands loosely are in document order and below the number of nodes, those that are still to come too.
 abbrev pub RowsRise : Type 0
 RowsRise = (v : View) (xs : List Passed) (past : Past) → StandsLoosely xs v past → (places : List ℕ) → length places ≡ length xs
-    → Rising (with_passed places xs v).rows × ((c : Cell) → In c (with_passed places xs v).rows → num c < v.nodes)
+    → CellsRise (with_passed places xs v).rows × ((c : Cell) → In c (with_passed places xs v).rows → num c < v.nodes)
 
 -- With one passed element more there is one row more, the last one, with its serial and at its place.
 abbrev pub OneRowMore : Type 0

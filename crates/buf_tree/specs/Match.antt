@@ -14,13 +14,13 @@ abbrev pub IsChild : Cell → Cell → Type 0
 IsChild c d = (d.row.parent ≡ num c) × (num c < num d)
 
 -- n + 1 steps from d to its parent lead to c
-abbrev pub Rises : List Cell → ℕ → Cell → Cell → Type 0
-Rises xs zero c d = IsChild c d
-Rises xs (suc n) c d = (e : Cell) × In e xs × IsChild e d × Rises xs n c e
+abbrev pub DescendsFrom : List Cell → ℕ → Cell → Cell → Type 0
+DescendsFrom xs zero c d = IsChild c d
+DescendsFrom xs (suc n) c d = (e : Cell) × In e xs × IsChild e d × DescendsFrom xs n c e
 
 abbrev pub Lies : List Cell → Axis → Cell → Cell → Type 0
 Lies xs Child c d = IsChild c d
-Lies xs Descendant c d = (n : ℕ) × Rises xs n c d
+Lies xs Descendant c d = (n : ℕ) × DescendsFrom xs n c d
 
 -- the step reaches the row d from the row c, and its serial is above `after`
 pub record Reached (xs : List Cell) (c : Cell) (s : Step) (after : ℕ) (d : Cell) : Type 0 where

@@ -37,9 +37,9 @@ cells m = gather m (keys m)
 abbrev pub row_count : Store → ℕ
 row_count m = length (cells m)
 
-abbrev pub Rising : List Cell → Type 0
-Rising [] = Unit {0}
-Rising (x ∷ xs) = ((y : Cell) → In y xs → num x < num y) × Rising xs
+abbrev pub CellsRise : List Cell → Type 0
+CellsRise [] = Unit {0}
+CellsRise (x ∷ xs) = ((y : Cell) → In y xs → num x < num y) × CellsRise xs
 
 abbrev pub at_place : ℕ → List Cell → Option Cell
 at_place p [] = None
@@ -65,7 +65,7 @@ Above xs c = (d : Cell) × In d xs × (num d ≡ c.row.parent) × (num d < num c
 -- the store holds exactly these rows, linked as their serials say
 pub record Shape (m : Store) (xs : List Cell) : Type 0 where
   pub gets : (p : ℕ) → get m p ≡ option_map (entry_in xs) (at_place p xs)
-  pub rising : Rising xs
+  pub rising : CellsRise xs
   pub apart : (a b : Cell) → In a xs → In b xs → a.place ≡ b.place → a ≡ b
   pub up : (c : Cell) → In c xs → (num c ≡ 0) ⊎ Above xs c
 

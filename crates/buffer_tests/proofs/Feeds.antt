@@ -36,7 +36,7 @@ use Rattle.buf_tree.proofs.SpreadTells.{own_plain}
 use Rattle.buf_tree.proofs.Standing.{pair_left}
 use Rattle.projector.specs.declared.projector.Projector.{Projector}
 use Rattle.projector.specs.Projector.{Projects, KeepsPlace, Places, MayBeFed, heard, ahead_in}
-use Rattle.matcher.specs.Matcher.{Stands as MatcherStands}
+use Rattle.matcher.specs.Matcher.{MatcherAt as MatcherStands}
 use Rattle.node_store.specs.declared.store.Place.{Place}
 use Rattle.buf_tree.proofs.Shaping.{rising_same}
 use Rattle.buf_tree.proofs.Feeding.{top_is}

@@ -7,4 +7,4 @@ mod name;
 
 pub use history::History;
 pub use misses::Misses;
-pub use name::Name;
+pub use name::HandleName;

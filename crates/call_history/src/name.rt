@@ -5,30 +5,30 @@ use std::marker::{Model, PhantomData};
 
 /// The name that a handle was opened by.
 #[derive(Drop)]
-pub struct Name {
+pub struct HandleName {
     marker: PhantomData<u8>,
     pub ghost bytes: { List ℕ },
 }
 
-impl Model for Name {
+impl Model for HandleName {
     ghost also_owns = { λ _. ftrue };
 }
 
-impl Name {
+impl HandleName {
     /// It was opened by the name of these bytes.
-    pub fn of(bytes: &[u8]) -> Name
+    pub fn of(bytes: &[u8]) -> HandleName
         ensures { result.bytes ≡ bytes.now }
     {
-        let mut name = Name::new();
+        let mut name = HandleName::new();
         name.note(bytes);
         name
     }
 
     /// No bytes yet.
-    fn new() -> Name
+    fn new() -> HandleName
         ensures { result.bytes ≡ [] }
     {
-        Name {
+        HandleName {
             marker: PhantomData,
         }
     }

@@ -10,7 +10,7 @@ use Rattle.node_store.specs.Rows.{parent_of}
 use Rattle.buf_tree.specs.Shape.{Store, Cell, num, Shape}
 use Rattle.buf_tree.proofs.Kin.{parent_row, no_parent}
 use Rattle.cond_eval.specs.declared.sets.Member.{Member}
-use Rattle.cond_eval.specs.Reads.{NodeAt, Tells}
+use Rattle.cond_eval.specs.Reads.{NodeAt, TellsInside}
 use Rattle.cond_eval.proofs.Rows.{at_node, node_at, node_for, grown_tree, ordered_tree, child_of}
 
 -- ---- above and below
@@ -62,7 +62,7 @@ module _ (m : Store) (rows : List Cell) (s : Shape m rows) (x last top : Member)
       )
 
   -- the document node's row has no higher one, and no serial above another
-  pub climb_out : (q : ℕ) → ((c : Cell) → In c rows → c.place ≡ q → last.serial < num c) → parent_of m q ≡ None → (b : Bool) → Rising_to rows x last top q → Tells rows x last top b
+  pub climb_out : (q : ℕ) → ((c : Cell) → In c rows → c.place ≡ q → last.serial < num c) → parent_of m q ≡ None → (b : Bool) → Rising_to rows x last top q → TellsInside rows x last top b
   climb_out q high up b c P keep l n t a i j e f lt =
       let h = (c P keep l n t a i j e f lt).1 in
       let z = no_parent m rows s h.cell h.cell_among (ap (parent_of m) h.at ∙ up) in
@@ -70,7 +70,7 @@ module _ (m : Store) (rows : List Cell) (s : Shape m rows) (x last top : Member)
       absurd (omega arith)
 
   -- at a row up to `last` its serial tells
-  pub climb_end : (q k : ℕ) → Rising_to rows x last top q → ((c : Cell) → In c rows → c.place ≡ q → num c ≡ k) → k ≤ last.serial → (b : Bool) → (b ≡ true → top.serial ≤ k) → (b ≡ false → k < top.serial) → Tells rows x last top b
+  pub climb_end : (q k : ℕ) → Rising_to rows x last top q → ((c : Cell) → In c rows → c.place ≡ q → num c ≡ k) → k ≤ last.serial → (b : Bool) → (b ≡ true → top.serial ≤ k) → (b ≡ false → k < top.serial) → TellsInside rows x last top b
   climb_end q k c here low b at_true at_false P keep l n t a i j e f lt =
       let h = c P keep l n t a i j e f lt in
       let of = a.rows_of in

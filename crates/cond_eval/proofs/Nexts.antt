@@ -26,7 +26,7 @@ use Rattle.buf_tree.specs.Walk.{high_at}
 use Rattle.buf_tree.specs.View.{InUse}
 use Rattle.cond_eval.specs.Asking.{RowsOf}
 use Rattle.cond_eval.specs.declared.sets.Member.{Member}
-use Rattle.cond_eval.specs.Reads.{NodeAt, AreReached, Ascends, IsMember, AreMembers, serials, is_next, Puts, AreNext, Tells}
+use Rattle.cond_eval.specs.Reads.{NodeAt, AreReached, Ascends, IsMember, AreMembers, serials, is_next, Puts, AreNext, TellsInside}
 use Rattle.cond_eval.proofs.Rows.{node_for, node_at, grown_tree, ordered_tree, serial_told, above_kept, at_placed}
 use Rattle.cond_eval.proofs.RowSteps.{kept_matches, match_high}
 use Rattle.cond_eval.proofs.Searches.{Searched, Looks, Goes, goes_start, goes_way, goes_on, goes_less, goes_end}
@@ -270,7 +270,7 @@ pub record Descends (rows : List Cell) (s : Step) (before found : List Member) (
 -- the member lies in no subtree that is done
 abbrev pub Outside : List Cell → Member → Option (Member × Member) → Type 0
 Outside rows m None = Unit {0}
-Outside rows m (Some d) = Tells rows m d.1 d.0 false
+Outside rows m (Some d) = TellsInside rows m d.1 d.0 false
 
 module _ (rows : List Cell) (s : Step) (ax : s.axis ≡ Descendant) where
   pub descends_none : Descends rows s [] [] None
@@ -307,7 +307,7 @@ module _ (rows : List Cell) (s : Step) (ax : s.axis ≡ Descendant) where
     by_serial n m j e r = ap (λ k. reach k s j) e ∙ r
 
     -- a member inside adds nothing
-    inside_in : (before found : List Member) (top last m : Member) (n : Node) → NodeAt rows P keep m.place n → serial_of n ≡ m.serial → Tells rows m last top true → Ascends (serials (before ++ m ∷ [])) → DoneIn P keep s before found (Some (top, last)) → DoneIn P keep s (before ++ m ∷ []) found (Some (top, m))
+    inside_in : (before found : List Member) (top last m : Member) (n : Node) → NodeAt rows P keep m.place n → serial_of n ≡ m.serial → TellsInside rows m last top true → Ascends (serials (before ++ m ∷ [])) → DoneIn P keep s before found (Some (top, last)) → DoneIn P keep s (before ++ m ∷ []) found (Some (top, m))
     inside_in before found top last m n at e tells a d =
         let h = d.shape in
         let f = ascends_front before m a in
@@ -401,7 +401,7 @@ module _ (rows : List Cell) (s : Step) (ax : s.axis ≡ Descendant) where
           };
         }
 
-  pub descends_inside : (before found : List Member) (top last m : Member) → Descends rows s before found (Some (top, last)) → IsMember rows m → Tells rows m last top true → Descends rows s (before ++ m ∷ []) found (Some (top, m))
+  pub descends_inside : (before found : List Member) (top last m : Member) → Descends rows s before found (Some (top, last)) → IsMember rows m → TellsInside rows m last top true → Descends rows s (before ++ m ∷ []) found (Some (top, m))
   descends_inside before found top last m d is tells = record {
     members = d.members;
     told = λ P keep of a.
@@ -417,8 +417,8 @@ module _ (rows : List Cell) (s : Step) (ax : s.axis ≡ Descendant) where
         outside_in P keep of before found new m n.0 done n.1 n.2 out p a (d.told P keep of (ascends_front before m a).0);
   }
 
-pub tells_as : (rows : List Cell) (m last top : Member) (b c : Bool) → b ≡ c → Tells rows m last top b → Tells rows m last top c
-tells_as rows m last top b c e t = subst (λ (x : Bool). Tells rows m last top x) e t
+pub tells_as : (rows : List Cell) (m last top : Member) (b c : Bool) → b ≡ c → TellsInside rows m last top b → TellsInside rows m last top c
+tells_as rows m last top b c e t = subst (λ (x : Bool). TellsInside rows m last top x) e t
 
 pub descends_moved : (rows : List Cell) (s : Step) (before after found new : List Member) (o p : Option (Member × Member)) → before ≡ after → found ≡ new → o ≡ p → Descends rows s before found o → Descends rows s after new p
 descends_moved rows s before after found new o p e f h d =

@@ -19,7 +19,7 @@ use Rattle.tree_laws.proofs.Freeze.{within_self}
 use Rattle.tree_laws.proofs.Departures.{rising_filter}
 use Rattle.move_laws.proofs.Keeping.{matches_kept, later_kept}
 use Rattle.buf_tree.specs.Shape.{Cell, num}
-use Rattle.buf_tree.specs.Match.{IsChild, Rises, Lies, Reached, Unreached, FirstReached, IsFrom}
+use Rattle.buf_tree.specs.Match.{IsChild, DescendsFrom, Lies, Reached, Unreached, FirstReached, IsFrom}
 use Rattle.cond_eval.specs.Asking.{RowsOf}
 use Rattle.cond_eval.specs.Reads.{NodeAt}
 use Rattle.cond_eval.proofs.Rows.{OfNode, grown_tree, node_for, row_for, same_row, serial_told, kind_told, child_of, parent_for, node_at}
@@ -43,7 +43,7 @@ least_first (x ∷ xs) m r (inr i) l = let a = r.0 m i in let b = l x (inl refl)
 module _ (rows : List Cell) (P : Tree) (keep : Node → Bool) (of : RowsOf rows P keep) where
   -- ---- one step
 
-  rises_to : (k : ℕ) (c d : Cell) (n m : Node) → OfNode P keep c n → OfNode P keep d m → Rises rows k c d → lies Descendant (serial_of n) m ≡ true
+  rises_to : (k : ℕ) (c d : Cell) (n m : Node) → OfNode P keep c n → OfNode P keep d m → DescendsFrom rows k c d → lies Descendant (serial_of n) m ≡ true
   rises_to zero c d n m o u r =
       let p = child_of rows P keep of c d n m o u r in
       subst (λ (x : Node). lies Descendant (serial_of n) x ≡ true) (sym p.2) (within_self (serial_of n) n (eq-eqb _ _ refl))
@@ -56,7 +56,7 @@ module _ (rows : List Cell) (P : Tree) (keep : Node → Bool) (of : RowsOf rows 
       below Root h = absurd (false≢true h)
       below (Under p s w) h = or_right (eqb s (serial_of n)) (within (serial_of n) p) h
 
-  rises_from : (p : Node) (s : ℕ) (w : Kind) (c d : Cell) (n : Node) → In c rows → In d rows → OfNode P keep c n → OfNode P keep d (Under p s w) → within (serial_of n) p ≡ true → (k : ℕ) × Rises rows k c d
+  rises_from : (p : Node) (s : ℕ) (w : Kind) (c d : Cell) (n : Node) → In c rows → In d rows → OfNode P keep c n → OfNode P keep d (Under p s w) → within (serial_of n) p ≡ true → (k : ℕ) × DescendsFrom rows k c d
   rises_from Root s w c d n i j o u h =
       let e = parent_for rows P keep of d Root s w j u in
       let is : serial_of n ≡ 0 = sym (eqb-true 0 (serial_of n) h) in

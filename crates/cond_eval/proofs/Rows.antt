@@ -25,7 +25,7 @@ pub record OfNode (P : Tree) (keep : Node → Bool) (c : Cell) (n : Node) : Type
 
 module _ (P : Tree) where
   -- rows that tell what nodes by rising serials do stand by rising serials
-  rise_as : (cs : List Cell) (ns : List Node) → map facts cs ≡ map (node_facts P) ns → Rising ns → shape.Rising cs
+  rise_as : (cs : List Cell) (ns : List Node) → map facts cs ≡ map (node_facts P) ns → Rising ns → shape.CellsRise cs
   rise_as [] ns e r = tt
   rise_as (c ∷ cs) [] e r = absurd (nil_cons (facts c) (map facts cs) (sym e))
   rise_as (c ∷ cs) (n ∷ ns) e r = (
@@ -69,7 +69,7 @@ module _ (rows : List Cell) (P : Tree) (keep : Node → Bool) (of : RowsOf rows 
       (d.0, d.1, record { among = i; kept = k; same = sym d.2 })
 
   -- the rows stand by rising serials
-  pub rows_rise : shape.Rising rows
+  pub rows_rise : shape.CellsRise rows
   rows_rise = rise_as P rows kept of.rows_are (Rising-filter 0 keep P.nodes grown_tree.numbered)
 
   pub same_row : (c d : Cell) → In c rows → In d rows → num c ≡ num d → c ≡ d

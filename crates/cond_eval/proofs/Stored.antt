@@ -11,7 +11,7 @@ use Rattle.buf_tree.specs.Shape.{Store, Cell, num, Shape}
 use Rattle.buf_tree.specs.Spread.{SameButRoles, bare_cell}
 use Rattle.buf_tree.proofs.KeptReading.{kept_of, kind_told}
 use Rattle.cond_eval.specs.Asking.{facts, RowsOf}
-use Rattle.cond_eval.specs.Reads.{NodeAt, Tells}
+use Rattle.cond_eval.specs.Reads.{NodeAt, TellsInside}
 use Rattle.cond_eval.specs.declared.sets.Member.{Member}
 
 bare_facts : (xs : List Cell) → map facts xs ≡ map facts (map bare_cell xs)
@@ -35,7 +35,7 @@ module _ (ks rs : List Cell) (same : SameButRoles ks rs) where
         number = ap num k.2 ∙ a.number;
       }
 
-  pub tells_stored : (m last top : Member) (b : Bool) → Tells ks m last top b → Tells rs m last top b
+  pub tells_stored : (m last top : Member) (b : Bool) → TellsInside ks m last top b → TellsInside rs m last top b
   tells_stored m last top b h = λ P keep l n t a. h P keep l n t (node_stored P keep m.place n a)
 
   pub kind_here : (m : Store) → Shape m ks → (p : ℕ) (r : Row) (k : Kind) → option_map (λ (e : Entry Row). e.payload) (get m p) ≡ Some r → r.kind ≡ k → (c : Cell) → In c rs → c.place ≡ p → c.row.kind ≡ k

@@ -75,8 +75,8 @@ pub record AreNext (rows : List Cell) (set : List Member) (s : Step) (ms : List 
   pub told : (P : Tree) (keep : Node → Bool) → RowsOf rows P keep → Ascends (serials set) → serials ms ≡ map serial_of (filter (is_next set s) (filter keep P.nodes))
 
 -- the member's node is that of `top` or below it, where the node of `last` is and stands before it
-abbrev pub Tells : List Cell → (member last top : Member) → Bool → Type 0
-Tells rows m last top b = (P : Tree) (keep : Node → Bool) (l n t : Node) → NodeAt rows P keep m.place n → In l P.nodes → In t (above l) → serial_of l ≡ last.serial → serial_of t ≡ top.serial → serial_of l < serial_of n → b ≡ within (serial_of t) n
+abbrev pub TellsInside : List Cell → (member last top : Member) → Bool → Type 0
+TellsInside rows m last top b = (P : Tree) (keep : Node → Bool) (l n t : Node) → NodeAt rows P keep m.place n → In l P.nodes → In t (above l) → serial_of l ≡ last.serial → serial_of t ≡ top.serial → serial_of l < serial_of n → b ≡ within (serial_of t) n
 
 -- ---- values
 

@@ -2,7 +2,7 @@
 ghost use Rattle.std.specs.Prelude.{◌≡◌, IfOk, OnOk};
 ghost use Rattle.gcx_base.specs.declared.steps.Axis.TheVariants.{Child, Descendant};
 ghost use Rattle.buf_tree.specs.View.{InUse};
-ghost use Rattle.cond_eval.specs.Reads.{IsMember, AreMembers, Puts, AreNext, Tells, AreReached};
+ghost use Rattle.cond_eval.specs.Reads.{IsMember, AreMembers, Puts, AreNext, TellsInside, AreReached};
 
 use buf_tree::{Buffer, Row};
 use gcx_base::{Axis, Memory, Step};
@@ -78,7 +78,7 @@ fn is_inside<N: NodeStore<Row>>(
     top: Member,
 ) -> bool
     requires { InUse buffer.now.rows member.place }
-    ensures { Tells buffer.now.rows member last top result }
+    ensures { TellsInside buffer.now.rows member last top result }
 {
     let mut at = buffer.at(Place(member.place));
     'up: while at.payload().serial().0 > last.serial {

@@ -6,9 +6,9 @@ use Rattle.std.proofs.lemmas.Bool.{false≢true, and_parts, and_from, or_cases}
 use Rattle.gcx_base.specs.Characters.{between, is_char, is_white, is_ascii_start, is_wide_start, is_start_char, is_part_char}
 use Rattle.gcx_base.specs.declared.limits.Limits.{Limits}
 use Rattle.gcx_model.specs.References.{Entity, less_than, greater_than, ampersand, apostrophe, quotation, entity_name, Digits, no_digit, digit, digits_spelling, is_decimal, is_hexadecimal, AreDigits, Reference, named, decimal, hexadecimal, reference_spelling, IsReference}
-use Rattle.gcx_model.specs.Attributes.{is_name, is_blank_text, is_gap, is_quote, is_text_char, Value, blank_value, value_char, value_reference, Attributes, no_attribute, attribute, value_spelling, head_spelling, attributes_spelling, IsValue, IsAttributes}
+use Rattle.gcx_model.specs.Attributes.{is_name, is_blank_text, is_gap, is_quote, is_text_char, AttributeValue, blank_value, value_char, value_reference, Attributes, no_attribute, attribute, value_spelling, head_spelling, attributes_spelling, IsValue, IsAttributes}
 use Rattle.gcx_model.specs.Markup.{CommentText, blank_comment, plain, dashed, comment_spelling, IsCommentText, CDSect, blank_cdsect, further, cdsect_spelling, IsCDSect, InstructionData, blank_data, data_char, data_spelling, IsInstructionData, Declaration, blank_declaration, doc_char, literal, declaration_spelling, IsDeclaration, is_literal_char, comment_start, cdata_start, doc_start}
-use Rattle.gcx_model.specs.Grammar.{Content, nothing, mark, space, char, reference, cdata, comment, bare, instruction, doctype, single, tagged, start_tag, end_tag, spelling, IsContent, Viable}
+use Rattle.gcx_model.specs.Grammar.{Content, nothing, mark, space, char, reference, cdata, comment, bare, instruction, doctype, single, tagged, start_tag_spelling, end_tag_spelling, spelling, IsContent, Viable}
 use Rattle.gcx_model.specs.Faults.{Comes, AtSyntax, size}
 use Rattle.doc_laws.proofs.Tests.{all_append, gap_blank}
 use Rattle.doc_laws.proofs.References.{low_char, middle_char, high_char}
@@ -125,7 +125,7 @@ reference_chars (named e) g = cons 38 _ refl (both (entity_name e) (59 ∷ []) (
 reference_chars (decimal ds) g = cons 38 _ refl (cons 35 _ refl (both (digits_spelling ds) (59 ∷ []) (digits_chars is_decimal decimal_is_char ds g.0) (known refl)))
 reference_chars (hexadecimal ds) g = cons 38 _ refl (cons 35 _ refl (cons 120 _ refl (both (digits_spelling ds) (59 ∷ []) (digits_chars is_hexadecimal hexadecimal_is_char ds g.0) (known refl))))
 
-value_chars : (q : ℕ) (v : Value) → IsValue q v → Chars (value_spelling v)
+value_chars : (q : ℕ) (v : AttributeValue) → IsValue q v → Chars (value_spelling v)
 value_chars q blank_value g = known refl
 value_chars q (value_char v c) g = both (value_spelling v) (c ∷ []) (value_chars q v g.0) (one c (text_is_char c (and_parts (is_text_char c) _ g.1).0))
 value_chars q (value_reference v r) g = both (value_spelling v) (reference_spelling r) (value_chars q v g.0) (reference_chars r g.1)
@@ -178,8 +178,8 @@ content_chars b (doctype y q c d) g = both (spelling y) _ (content_chars b y g.0
 content_chars b (single y n ats sp) g = both (spelling y) _ (content_chars b y g.0) (tag_chars n ats sp (47 ∷ (62 ∷ [])) g.2 g.3 g.4 (known refl))
 content_chars b (tagged y n ats sp k sp2) g =
     both (spelling y) _ (content_chars b y g.0)
-    (both (start_tag n ats sp) (spelling k ++ end_tag n sp2) (tag_chars n ats sp (62 ∷ []) g.2 g.3 g.6 (known refl))
-    (both (spelling k) (end_tag n sp2) (content_chars true k g.4)
+    (both (start_tag_spelling n ats sp) (spelling k ++ end_tag_spelling n sp2) (tag_chars n ats sp (62 ∷ []) g.2 g.3 g.6 (known refl))
+    (both (spelling k) (end_tag_spelling n sp2) (content_chars true k g.4)
     (cons 60 _ refl (cons 47 _ refl (both n _ (name_chars n g.2) (both sp2 (62 ∷ []) (blank_chars sp2 g.5) (known refl)))))))
 
 -- a viable text is of Chars

@@ -5,7 +5,7 @@ use Rattle.gcx_model.specs.Document.{Nodes, none, element, is_blank, tokens}
 use Rattle.gcx_model.specs.Tree.{Node, Root, Under, Tree, Token, Start, Chars, End, grow, grow_at, grow_all}
 use Rattle.gcx_model.specs.References.{Reference, named, decimal, hexadecimal, reference_spelling}
 use Rattle.gcx_model.specs.Attributes.{Head, Attributes, no_attribute, attribute, value_spelling, head_spelling, attributes_spelling, value_run}
-use Rattle.gcx_model.specs.Grammar.{Content, nothing, mark, space, char, reference, cdata, comment, bare, instruction, doctype, single, tagged, start_tag, single_tag, end_tag, spelling, run, with_run, joined, attribute_nodes, nodes}
+use Rattle.gcx_model.specs.Grammar.{Content, nothing, mark, space, char, reference, cdata, comment, bare, instruction, doctype, single, tagged, start_tag_spelling, single_tag, end_tag_spelling, spelling, text_run, with_run, joined, attribute_nodes, nodes}
 use Rattle.gcx_model.specs.Fronts.{Frames, bottom, frame, frames_spelling, text_of, frames_tokens, seen_tokens}
 use Rattle.doc_laws.proofs.Moves.{tokens-joined, tokens-with_run}
 
@@ -84,35 +84,35 @@ start_counted n ats sp more =
     omega arith
 
 -- a run that is a text takes a character more
-content_counted : (x : Content) → opens (tokens (nodes x)) + opens (text_of (run x)) ≤ length (spelling x)
+content_counted : (x : Content) → opens (tokens (nodes x)) + opens (text_of (text_run x)) ≤ length (spelling x)
 content_counted nothing = omega arith
 content_counted mark = omega arith
 content_counted (space y c) = let i = content_counted y in let a = length-append (spelling y) (c ∷ []) in omega arith
-content_counted (char y c) = let i = content_counted y in let t = text_one (run y ++ encode c) in let a = length-append (spelling y) (c ∷ []) in omega arith
-content_counted (reference y r) = let i = content_counted y in let t = text_one (run (reference y r)) in let l = reference_long r in let a = length-append (spelling y) (reference_spelling r) in omega arith
-content_counted (cdata y d) = let i = content_counted y in let t = text_one (run (cdata y d)) in let a = length-append (spelling y) (spelling (cdata nothing d)) in omega arith
+content_counted (char y c) = let i = content_counted y in let t = text_one (text_run y ++ encode c) in let a = length-append (spelling y) (c ∷ []) in omega arith
+content_counted (reference y r) = let i = content_counted y in let t = text_one (text_run (reference y r)) in let l = reference_long r in let a = length-append (spelling y) (reference_spelling r) in omega arith
+content_counted (cdata y d) = let i = content_counted y in let t = text_one (text_run (cdata y d)) in let a = length-append (spelling y) (spelling (cdata nothing d)) in omega arith
 content_counted (comment y r) = let i = content_counted y in let a = length-append (spelling y) (spelling (comment nothing r)) in omega arith
 content_counted (bare y n) = let i = content_counted y in let a = length-append (spelling y) (spelling (bare nothing n)) in omega arith
 content_counted (instruction y n c d) = let i = content_counted y in let a = length-append (spelling y) (spelling (instruction nothing n c d)) in omega arith
 content_counted (doctype y g c d) = let i = content_counted y in let a = length-append (spelling y) (spelling (doctype nothing g c d)) in omega arith
 content_counted (single y n ats sp) =
     let i = content_counted y in
-    let e = element_opens (with_run (nodes y) (run y)) (encodes n) (attribute_nodes ats) in
-    let r = run_opens (nodes y) (run y) in
+    let e = element_opens (with_run (nodes y) (text_run y)) (encodes n) (attribute_nodes ats) in
+    let r = run_opens (nodes y) (text_run y) in
     let s = start_counted n ats sp (47 ∷ (62 ∷ [])) in
     let a = length-append (spelling y) (single_tag n ats sp) in
     omega arith
 content_counted (tagged y n ats sp inner sp2) =
     let i = content_counted y in
     let j = content_counted inner in
-    let e = element_opens (with_run (nodes y) (run y)) (encodes n) (joined (attribute_nodes ats) (with_run (nodes inner) (run inner))) in
-    let f = joined_opens (attribute_nodes ats) (with_run (nodes inner) (run inner)) in
-    let r = run_opens (nodes y) (run y) in
-    let q = run_opens (nodes inner) (run inner) in
+    let e = element_opens (with_run (nodes y) (text_run y)) (encodes n) (joined (attribute_nodes ats) (with_run (nodes inner) (text_run inner))) in
+    let f = joined_opens (attribute_nodes ats) (with_run (nodes inner) (text_run inner)) in
+    let r = run_opens (nodes y) (text_run y) in
+    let q = run_opens (nodes inner) (text_run inner) in
     let s = start_counted n ats sp (62 ∷ []) in
-    let a = length-append (spelling y) (start_tag n ats sp ++ (spelling inner ++ end_tag n sp2)) in
-    let b = length-append (start_tag n ats sp) (spelling inner ++ end_tag n sp2) in
-    let c = length-append (spelling inner) (end_tag n sp2) in
+    let a = length-append (spelling y) (start_tag_spelling n ats sp ++ (spelling inner ++ end_tag_spelling n sp2)) in
+    let b = length-append (start_tag_spelling n ats sp) (spelling inner ++ end_tag_spelling n sp2) in
+    let c = length-append (spelling inner) (end_tag_spelling n sp2) in
     omega arith
 
 frames_counted : (fs : Frames) → opens (frames_tokens fs) ≤ length (frames_spelling fs)
@@ -121,11 +121,11 @@ frames_counted (frame fs x n ats sp) =
     let i = frames_counted fs in
     let j = content_counted x in
     let s = start_counted n ats sp (62 ∷ []) in
-    let a = opens-append (frames_tokens fs ++ tokens (nodes x)) (text_of (run x) ++ (Start (encodes n) ∷ tokens (attribute_nodes ats))) in
+    let a = opens-append (frames_tokens fs ++ tokens (nodes x)) (text_of (text_run x) ++ (Start (encodes n) ∷ tokens (attribute_nodes ats))) in
     let b = opens-append (frames_tokens fs) (tokens (nodes x)) in
-    let c = opens-append (text_of (run x)) (Start (encodes n) ∷ tokens (attribute_nodes ats)) in
-    let d = length-append (frames_spelling fs) (spelling x ++ start_tag n ats sp) in
-    let e = length-append (spelling x) (start_tag n ats sp) in
+    let c = opens-append (text_of (text_run x)) (Start (encodes n) ∷ tokens (attribute_nodes ats)) in
+    let d = length-append (frames_spelling fs) (spelling x ++ start_tag_spelling n ats sp) in
+    let e = length-append (spelling x) (start_tag_spelling n ats sp) in
     omega arith
 
 -- the tokens of a front open no more nodes than it has characters

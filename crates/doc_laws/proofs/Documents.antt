@@ -4,7 +4,7 @@ use Rattle.std.proofs.lemmas.Bool.{true≢false, false≢true}
 use lib.Utf8.{encodes}
 use Rattle.gcx_model.specs.Document.{Nodes, none, element, text, is_blank, ends_with_text, AreNodes, IsDocument}
 use Rattle.gcx_model.specs.Attributes.{IsNameBytes, is_name, Attributes, no_attribute, attribute, IsAttributes, value_run}
-use Rattle.gcx_model.specs.Grammar.{Content, nothing, mark, space, char, reference, cdata, comment, bare, instruction, doctype, single, tagged, has_element, may_open, IsContent, run, with_run, joined, attribute_nodes, nodes, SpellsDocument}
+use Rattle.gcx_model.specs.Grammar.{Content, nothing, mark, space, char, reference, cdata, comment, bare, instruction, doctype, single, tagged, has_element, may_open, IsContent, text_run, with_run, joined, attribute_nodes, nodes, SpellsDocument}
 
 name_bytes : (n : List ℕ) → is_name n ≡ true → IsNameBytes (encodes n)
 name_bytes n h = record { chars = n; name = h; parts = refl }
@@ -59,15 +59,15 @@ content_are b (comment y r) g = content_are b y g.0
 content_are b (bare y n) g = content_are b y g.0
 content_are b (instruction y n c d) g = content_are b y g.0
 content_are b (doctype y q c d) g = content_are b y g.0
-content_are b (single y n ats sp) g = (with_run_are (nodes y) (run y) (content_are b y g.0) (nodes_end y), name_bytes n g.2, attributes_are ats g.4)
+content_are b (single y n ats sp) g = (with_run_are (nodes y) (text_run y) (content_are b y g.0) (nodes_end y), name_bytes n g.2, attributes_are ats g.4)
 content_are b (tagged y n ats sp k sp2) g = (
-  with_run_are (nodes y) (run y) (content_are b y g.0) (nodes_end y),
+  with_run_are (nodes y) (text_run y) (content_are b y g.0) (nodes_end y),
   name_bytes n g.2,
-  joined_are (attribute_nodes ats) (with_run (nodes k) (run k)) (attributes_are ats g.6) (attributes_end ats) (with_run_are (nodes k) (run k) (content_are true k g.4) (nodes_end k)),
+  joined_are (attribute_nodes ats) (with_run (nodes k) (text_run k)) (attributes_are ats g.6) (attributes_end ats) (with_run_are (nodes k) (text_run k) (content_are true k g.4) (nodes_end k)),
 )
 
 -- outside the root there is no run
-pub no_run : (x : Content) → IsContent false x → run x ≡ []
+pub no_run : (x : Content) → IsContent false x → text_run x ≡ []
 no_run nothing g = refl
 no_run mark g = refl
 no_run (space y c) g = no_run y g.0
@@ -95,7 +95,7 @@ no_nodes (doctype y q c d) h = no_nodes y h
 no_nodes (single y n ats sp) h = absurd (true≢false h)
 no_nodes (tagged y n ats sp k sp2) h = absurd (true≢false h)
 
-none_before : (y : Content) → IsContent false y → may_open false (has_element y) ≡ true → with_run (nodes y) (run y) ≡ none
+none_before : (y : Content) → IsContent false y → may_open false (has_element y) ≡ true → with_run (nodes y) (text_run y) ≡ none
 none_before y g may = ap (with_run (nodes y)) (no_run y g) ∙ no_nodes y (off (has_element y) may)
   where
     off : (b : Bool) → not b ≡ true → b ≡ false
@@ -116,11 +116,11 @@ document_is (comment y r) g h = document_is y g.0 h
 document_is (bare y n) g h = document_is y g.0 h
 document_is (instruction y n c d) g h = document_is y g.0 h
 document_is (doctype y q c d) g h = document_is y g.0 h
-document_is (single y n ats sp) g h = root_first (with_run (nodes y) (run y)) (encodes n) (attribute_nodes ats) (none_before y g.0 g.1) (name_bytes n g.2) (attributes_are ats g.4)
+document_is (single y n ats sp) g h = root_first (with_run (nodes y) (text_run y)) (encodes n) (attribute_nodes ats) (none_before y g.0 g.1) (name_bytes n g.2) (attributes_are ats g.4)
 document_is (tagged y n ats sp k sp2) g h =
-    let kids = joined (attribute_nodes ats) (with_run (nodes k) (run k)) in
-    root_first (with_run (nodes y) (run y)) (encodes n) kids (none_before y g.0 g.1) (name_bytes n g.2)
-    (joined_are (attribute_nodes ats) (with_run (nodes k) (run k)) (attributes_are ats g.6) (attributes_end ats) (with_run_are (nodes k) (run k) (content_are true k g.4) (nodes_end k)))
+    let kids = joined (attribute_nodes ats) (with_run (nodes k) (text_run k)) in
+    root_first (with_run (nodes y) (text_run y)) (encodes n) kids (none_before y g.0 g.1) (name_bytes n g.2)
+    (joined_are (attribute_nodes ats) (with_run (nodes k) (text_run k)) (attributes_are ats g.6) (attributes_end ats) (with_run_are (nodes k) (text_run k) (content_are true k g.4) (nodes_end k)))
 
 -- what is spelled is a document
 pub spells_document : (c : List ℕ) (d : Nodes) → SpellsDocument c d → IsDocument d

@@ -9,7 +9,7 @@ use Rattle.gcx_base.specs.declared.limits.Limits.{Limits}
 use Rattle.gcx_model.specs.Attributes.{is_text_char, is_quote, is_fresh, Attributes, is_value_char}
 use Rattle.gcx_model.specs.Markup.{is_doc_char, is_literal_char}
 use Rattle.gcx_model.specs.Grammar.{Content, has_element, may_open, Viable}
-use Rattle.gcx_model.specs.Fronts.{Frames, bottom, frame, Part, spaced, part_name, Piece, no_piece, less, started, tag, names, is_inside, inside, depth, Opens, IsFront, front_spelling, frames_spelling, part_naming, naming, piece_run}
+use Rattle.gcx_model.specs.Fronts.{Frames, bottom, frame, Part, spaced, part_name, Piece, no_piece, less, started, tag, names, is_inside, inside, depth, OpensFrames, IsFront, front_spelling, frames_spelling, part_naming, naming, piece_run}
 use Rattle.gcx_model.specs.Grammar.{spelling}
 use Rattle.gcx_model.specs.Faults.{Refusal, AtSyntax, AtDepth, AtName, AtText, size, IsFullTag, IsFullAttribute, IsDeep, Comes, Clean, ComesFirst}
 use Rattle.doc_laws.specs.Machine.{Referred, More, Done, Bad, Referring, Mode, Opening, Between, Less, StartName, StartSpace, AttributeName, AttributeSpace, Equals, InValue, InValueReference, ValueEnd, Slash, EndName, EndSpace, Question, Target, TargetMark, InInstruction, DocWord, DocSpace, Doc, DocLiteral, Bang, BangDash, Comment, CommentDash, CommentEnd, CDSectWord, InCDSect, InReference, State, start, begun, on_between, on_tag, on_named, on_ended, on_referred, refer, behind, to_end_name, on_end, on_word, on_mode, steps, step, go_on}
@@ -24,7 +24,7 @@ pub depth_names : (fs : Frames) → length (names fs) ≡ depth fs
 depth_names bottom = refl
 depth_names (frame fs x n ats sp) = omega (arith, depth_names fs)
 
-pub opens_fronts : (c : List ℕ) (fs : Frames) (x : Content) (p : Piece) → Opens c fs x p → Fronts c (state_of fs x p)
+pub opens_fronts : (c : List ℕ) (fs : Frames) (x : Content) (p : Piece) → OpensFrames c fs x p → Fronts c (state_of fs x p)
 opens_fronts c fs x p o = record { frames = fs; content = x; piece = p; good = o.good; spelled = o.spelled; state = refl }
 
 pub fronts_one : (b : List ℕ) (s t : State) → Fronts b s → Fronts b t → s ≡ t
@@ -46,7 +46,7 @@ naming_is fs x no_piece = resting (is_opening fs x)
 naming_is fs x p = refl
 
 -- the step that a front one longer shows
-opens_step : (front : List ℕ) (c : ℕ) (s : State) (fs : Frames) (x : Content) (p : Piece) → Fronts front s → Opens (front ++ c ∷ []) fs x p → step s c ≡ Some (state_of fs x p)
+opens_step : (front : List ℕ) (c : ℕ) (s : State) (fs : Frames) (x : Content) (p : Piece) → Fronts front s → OpensFrames (front ++ c ∷ []) fs x p → step s c ≡ Some (state_of fs x p)
 opens_step front c s fs x p f o =
     let e = fronts_lead (front ++ c ∷ []) (state_of fs x p) (opens_fronts (front ++ c ∷ []) fs x p o) in
     let m = steps_append start front (c ∷ []) ∙ ap (λ q. go_on q (λ t. steps t (c ∷ []))) (fronts_lead front s f) in
@@ -315,7 +315,7 @@ refusal_comes lim front c s f g short e =
     syntax_ : (f : Refusal) → SameErr (AtSyntax (size front)) f → (Viable (front ++ c ∷ []) → ⊥) → Comes lim front c f
     syntax_ f e no_more = subst (Comes lim front c) (err_is (AtSyntax (size front)) f e) (refl, no_more)
 
-    opened_by : (t : State) → (n : Fronts (front ++ c ∷ []) t) → Opens (front ++ c ∷ []) n.frames n.content n.piece
+    opened_by : (t : State) → (n : Fronts (front ++ c ∷ []) t) → OpensFrames (front ++ c ∷ []) n.frames n.content n.piece
     opened_by t n = record { good = n.good; spelled = n.spelled }
 
     name_of : (t : State) → (n : Fronts (front ++ c ∷ []) t) → naming_by t.mode t ≡ encodes (naming n.piece)

@@ -7,9 +7,9 @@ use Rattle.std.proofs.lemmas.Str.{cons_from_encodes, length-le-encodes}
 use lib.Utf8.{encode, encodes}
 use Rattle.gcx_base.specs.Characters.{is_char, is_white, is_start_char, is_part_char}
 use Rattle.gcx_model.specs.References.{letters}
-use Rattle.gcx_model.specs.Attributes.{is_text_char, is_name, is_blank_text, is_gap, is_quote, is_fresh, Value, blank_value, value_char, value_reference, Head, Attributes, no_attribute, attribute, value_spelling, head_spelling, attributes_spelling, attribute_names, is_value_char, IsValue, IsHead, IsAttributes}
+use Rattle.gcx_model.specs.Attributes.{is_text_char, is_name, is_blank_text, is_gap, is_quote, is_fresh, AttributeValue, blank_value, value_char, value_reference, Head, Attributes, no_attribute, attribute, value_spelling, head_spelling, attributes_spelling, attribute_names, is_value_char, IsValue, IsHead, IsAttributes}
 use Rattle.gcx_model.specs.Markup.{CommentText, blank_comment, plain, dashed, CDSect, blank_cdsect, further, blank_data, data_char, data_spelling, marks, ends_data, blank_declaration, doc_char, literal, doc_word, doc_start, is_doc_char, is_literal_char, declaration_spelling, comment_spelling, comment_start, cdata_word, cdata_start, cdsect_spelling, IsCommentText, brackets, one_more, ends_cdsect, IsCDSect}
-use Rattle.gcx_model.specs.Grammar.{Content, nothing, mark, space, char, reference, cdata, comment, bare, instruction, doctype, single, tagged, single_tag, end_tag, spelling, has_element, may_open, IsContent, nodes, Viable}
+use Rattle.gcx_model.specs.Grammar.{Content, nothing, mark, space, char, reference, cdata, comment, bare, instruction, doctype, single, tagged, single_tag, end_tag_spelling, spelling, has_element, may_open, IsContent, nodes, Viable}
 use Rattle.gcx_model.specs.Fronts.{Frames, bottom, frame, Part, no_part, spaced, part_name, name_spaced, equals, value, value_amp, Piece, no_piece, less, started, tag, slashed, ending, ended, question, target, target_mark, in_instruction, doc_wording, doc_gap, doc, doc_literal, bang, bang_dash, in_comment, comment_dash, comment_end, cdsect_word, in_cdsect, amp, frames_spelling, piece_spelling, names, inside, IsFrames, IsPart, IsPiece, part_spelling, front_spelling, IsFront}
 use Rattle.doc_laws.specs.Machine.{Mode, State, begun, on_between, on_tag, on_named, on_ended, on_referred, InReference, InValueReference, Between, InValue, behind, to_end_name, on_end, on_word, step, to_mode, DocWord, DocSpace, CDSectWord, InCDSect}
 use Rattle.doc_laws.specs.States.{rooted, typed, Fronts, state_of}
@@ -51,7 +51,7 @@ finish bottom x g h =
     ] refl
 finish (frame fs y n ats sp) x g h =
     let c = finish fs (tagged y n ats sp x []) g.0 (g.1, g.2, g.3, g.4, h, refl, g.5) in
-    record { more = end_tag n [] ++ c.more; content = c.content; good = c.good; root = c.root; spelled = c.spelled ∙ simp append_assoc }
+    record { more = end_tag_spelling n [] ++ c.more; content = c.content; good = c.good; root = c.root; spelled = c.spelled ∙ simp append_assoc }
 
 -- a front without a piece that begins with a front
 pub record Whole (fs : Frames) (x : Content) (p : Piece) : Type 0 where
@@ -131,7 +131,7 @@ fresh_more m ns = long_fresh (encodes (m ++ many (total ns + 1))) ns (omega (ari
 
 module _ (fs : Frames) (x : Content) (n : List ℕ) (ats : Attributes) where
   -- a piece of an attribute that one completes
-  attribute_whole : (h : Head) (v : Value) (p : Part) (more : List ℕ) → IsFrames fs → IsContent (inside fs) x → may_open (inside fs) (has_element x) ≡ true → is_name n ≡ true → IsAttributes ats → IsHead (attribute_names ats) h → IsValue h.quote v → part_spelling p ++ more ≡ head_spelling h ++ (value_spelling v ++ (h.quote ∷ (62 ∷ []))) → Whole fs x (tag n ats p)
+  attribute_whole : (h : Head) (v : AttributeValue) (p : Part) (more : List ℕ) → IsFrames fs → IsContent (inside fs) x → may_open (inside fs) (has_element x) ≡ true → is_name n ≡ true → IsAttributes ats → IsHead (attribute_names ats) h → IsValue h.quote v → part_spelling p ++ more ≡ head_spelling h ++ (value_spelling v ++ (h.quote ∷ (62 ∷ []))) → Whole fs x (tag n ats p)
   attribute_whole h v p more g k may name ga gh gv e = record {
     frames = frame fs x n (attribute ats h v) [];
     content = nothing;

@@ -8,8 +8,8 @@ use Rattle.gcx_base.specs.declared.limits.Limits.{Limits}
 use Rattle.gcx_model.specs.Document.{Nodes, tokens}
 use Rattle.gcx_model.specs.Tree.{Token, Start, End}
 use Rattle.gcx_model.specs.Attributes.{is_blank_text, Attributes, no_attribute, attribute, attributes_spelling}
-use Rattle.gcx_model.specs.Grammar.{Content, nothing, mark, space, char, reference, cdata, comment, bare, instruction, doctype, single, tagged, spelling, has_element, run, with_run, attribute_nodes, nodes, SpellsDocument}
-use Rattle.gcx_model.specs.Fronts.{Frames, bottom, frame, no_part, spaced, Piece, no_piece, started, tag, slashed, ending, ended, IsFrames, IsFront, Opens, front_spelling, frames_spelling, piece_spelling, inside, text_of, frames_tokens, seen_tokens}
+use Rattle.gcx_model.specs.Grammar.{Content, nothing, mark, space, char, reference, cdata, comment, bare, instruction, doctype, single, tagged, spelling, has_element, text_run, with_run, attribute_nodes, nodes, SpellsDocument}
+use Rattle.gcx_model.specs.Fronts.{Frames, bottom, frame, no_part, spaced, Piece, no_piece, started, tag, slashed, ending, ended, IsFrames, IsFront, OpensFrames, front_spelling, frames_spelling, piece_spelling, inside, text_of, frames_tokens, seen_tokens}
 use Rattle.gcx_model.specs.declared.fault.DocFault.{DocFault}
 use Rattle.gcx_model.specs.Faults.{Refusal, Comes, Clean, size, IsBad, FaultIs}
 use Rattle.gcx_model.specs.Seen.{DocumentEnds, SeenIn, IsLongest, SeenIs, closes as document_closes, stays_open, up_to_tag, ends_in_tag, EndsWithTag, end_tags, open_ends, LastTag}
@@ -41,7 +41,7 @@ module _ (fs : Frames) (y : Content) (n : List ℕ) (ats : Attributes) (sp : Lis
     fronts = record { frames = fs; content = y; piece = p; good = g; spelled = refl; state = refl };
     fewer =
         let tail = Start (encodes n) ∷ tokens (attribute_nodes ats) in
-        omega (arith, length-append (seen_tokens fs y) (text_of (run y) ++ tail), length-append (text_of (run y)) tail, length-append (frames_tokens (frame fs y n ats sp)) []);
+        omega (arith, length-append (seen_tokens fs y) (text_of (text_run y) ++ tail), length-append (text_of (text_run y)) tail, length-append (frames_tokens (frame fs y n ats sp)) []);
   }
 
   single_before : IsFront fs y (slashed n ats sp) → TagBefore fs (single y n ats sp)
@@ -53,8 +53,8 @@ module _ (fs : Frames) (y : Content) (n : List ℕ) (ats : Attributes) (sp : Lis
     fronts = record { frames = fs; content = y; piece = slashed n ats sp; good = g; spelled = refl; state = refl };
     fewer =
         let tail = Start (encodes n) ∷ (tokens (attribute_nodes ats) ++ (End ∷ [])) in
-        let with = tokens (with_run (nodes y) (run y)) in
-        omega (arith, length-append (frames_tokens fs) (tokens (nodes y)), length-append (frames_tokens fs) (with ++ tail), length-append with tail, ap length (tokens-with_run (nodes y) (run y)), length-append (tokens (nodes y)) (text_of (run y)));
+        let with = tokens (with_run (nodes y) (text_run y)) in
+        omega (arith, length-append (frames_tokens fs) (tokens (nodes y)), length-append (frames_tokens fs) (with ++ tail), length-append with tail, ap length (tokens-with_run (nodes y) (text_run y)), length-append (tokens (nodes y)) (text_of (text_run y)));
   }
 
   end_before : (k : Content) (sp2 : List ℕ) (p : Piece) → IsFront (frame fs y n ats sp) k p → piece_spelling p ≡ 60 ∷ (47 ∷ (n ++ sp2)) → TagBefore fs (tagged y n ats sp k sp2)
@@ -64,7 +64,7 @@ module _ (fs : Frames) (y : Content) (n : List ℕ) (ats : Attributes) (sp : Lis
     parts = (simp (append_assoc, append-nil)) ∙ ap (λ l. frames_spelling fs ++ (spelling y ++ (60 ∷ (n ++ (attributes_spelling ats ++ (sp ++ (62 ∷ (spelling k ++ (l ++ (62 ∷ [])))))))))) (sym e) ∙ (simp append_assoc);
     state = state_of (frame fs y n ats sp) k p;
     fronts = record { frames = frame fs y n ats sp; content = k; piece = p; good = g; spelled = refl; state = refl };
-    fewer = omega (arith, ap length (closed_tokens fs y k n ats sp sp2), length-append (seen_tokens (frame fs y n ats sp) k) (text_of (run k) ++ (End ∷ [])), length-append (text_of (run k)) (End ∷ []));
+    fewer = omega (arith, ap length (closed_tokens fs y k n ats sp sp2), length-append (seen_tokens (frame fs y n ats sp) k) (text_of (text_run k) ++ (End ∷ [])), length-append (text_of (text_run k)) (End ∷ []));
   }
 
 pub unsnoc : (l : List ℕ) → (l ≡ []) ⊎ ((a : List ℕ) × (d : ℕ) × (l ≡ a ++ (d ∷ [])))
@@ -102,7 +102,7 @@ tag_before fs (doctype y q c d) g e = absurd (false≢true e)
 after_longer : (s t : State) → IsAfter s t → length s.tokens ≤ length t.tokens
 after_longer s t a = omega (arith, ap length a.tokens_are, length-append s.tokens a.more)
 
-pub opens_front : (c : List ℕ) (fs : Frames) (x : Content) (p : Piece) → Opens c fs x p → Fronts c (state_of fs x p)
+pub opens_front : (c : List ℕ) (fs : Frames) (x : Content) (p : Piece) → OpensFrames c fs x p → Fronts c (state_of fs x p)
 opens_front c fs x p o = record { frames = fs; content = x; piece = p; good = o.good; spelled = o.spelled; state = refl }
 
 up_nothing : (x : Content) → has_element x ≡ false → up_to_tag x ≡ nothing
@@ -120,7 +120,7 @@ up_nothing (single y n ats sp) h = absurd (true≢false h)
 up_nothing (tagged y n ats sp k sp2) h = absurd (true≢false h)
 
 -- every front has a last tag, or none
-pub last_tag : (cs : List ℕ) (fs : Frames) (x : Content) (p : Piece) → Opens cs fs x p → LastTag cs fs x
+pub last_tag : (cs : List ℕ) (fs : Frames) (x : Content) (p : Piece) → OpensFrames cs fs x p → LastTag cs fs x
 last_tag cs fs x p o = record {
   front = front;
   rest = (up_rest x).0 ++ piece_spelling p;
@@ -138,7 +138,7 @@ last_tag cs fs x p o = record {
     same_seen : seen_tokens fs (up_to_tag x) ≡ seen_tokens fs x
     same_seen = ap (λ ns. frames_tokens fs ++ tokens ns) (up_nodes x)
 
-    opens : Opens (frames_spelling fs ++ spelling (up_to_tag x)) fs (up_to_tag x) no_piece
+    opens : OpensFrames (frames_spelling fs ++ spelling (up_to_tag x)) fs (up_to_tag x) no_piece
     opens = record { good = good; spelled = append-nil (frames_spelling fs ++ spelling (up_to_tag x)) }
 
     tokens_of : tokens (nodes (close_all fs (up_to_tag x))) ≡ seen_tokens fs x ++ open_ends fs

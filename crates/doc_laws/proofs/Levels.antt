@@ -8,7 +8,7 @@ use Rattle.gcx_model.specs.Tree.{Node, Root, Under, kind_of, Tree, Start, Chars,
 use Rattle.gcx_model.specs.Members.{In}
 use Rattle.gcx_model.specs.Growth.{level}
 use Rattle.gcx_model.specs.Attributes.{Attributes, no_attribute, attribute, attributes_spelling, value_run}
-use Rattle.gcx_model.specs.Grammar.{Content, nothing, mark, space, char, reference, cdata, comment, bare, instruction, doctype, single, tagged, spelling, IsContent, run, with_run, joined, attribute_nodes, nodes}
+use Rattle.gcx_model.specs.Grammar.{Content, nothing, mark, space, char, reference, cdata, comment, bare, instruction, doctype, single, tagged, spelling, IsContent, text_run, with_run, joined, attribute_nodes, nodes}
 use Rattle.gcx_model.specs.Fronts.{Frames, bottom, frame, frames_spelling, IsFrames, inside, depth, frames_tokens, seen_tokens}
 use Rattle.gcx_model.specs.Faults.{Clean}
 use Rattle.gcx_model.specs.Within.{AreAttributesWithin, IsContentWithin}
@@ -51,11 +51,11 @@ module _ (lim : Limits) where
   content_low d (bare y n) h = content_low d y h
   content_low d (instruction y n c i) h = content_low d y h
   content_low d (doctype y g c t) h = content_low d y h
-  content_low d (single y n ats sp) h = (low_run lim.depth d (nodes y) (run y) (content_low d y h.0), h.1.1, attributes_low d ats h.1.3)
+  content_low d (single y n ats sp) h = (low_run lim.depth d (nodes y) (text_run y) (content_low d y h.0), h.1.1, attributes_low d ats h.1.3)
   content_low d (tagged y n ats sp inner sp2) h = (
-    low_run lim.depth d (nodes y) (run y) (content_low d y h.0),
+    low_run lim.depth d (nodes y) (text_run y) (content_low d y h.0),
     h.1.1,
-    low_joined lim.depth (d + 1) (attribute_nodes ats) (with_run (nodes inner) (run inner)) (attributes_low d ats h.1.3) (low_run lim.depth (d + 1) (nodes inner) (run inner) (content_low (d + 1) inner h.2)),
+    low_joined lim.depth (d + 1) (attribute_nodes ats) (with_run (nodes inner) (text_run inner)) (attributes_low d ats h.1.3) (low_run lim.depth (d + 1) (nodes inner) (text_run inner) (content_low (d + 1) inner h.2)),
   )
 
 abbrev pub NoneDeep : ℕ → Tree → Type 0
@@ -111,8 +111,8 @@ low_nodes most (element before n inner) P p h d e k =
     (low_end most (grow_all (tokens inner) P2) p (length P1.nodes) n h3)
 
 -- the tokens of a frame
-frame_tokens : (fs : Frames) (x : Content) (n : List ℕ) (ats : Attributes) (sp : List ℕ) → frames_tokens (frame fs x n ats sp) ≡ frames_tokens fs ++ (tokens (with_run (nodes x) (run x)) ++ (Start (encodes n) ∷ tokens (attribute_nodes ats)))
-frame_tokens fs x n ats sp = rw (tokens-with_run (nodes x) (run x)) (simp append_assoc)
+frame_tokens : (fs : Frames) (x : Content) (n : List ℕ) (ats : Attributes) (sp : List ℕ) → frames_tokens (frame fs x n ats sp) ≡ frames_tokens fs ++ (tokens (with_run (nodes x) (text_run x)) ++ (Start (encodes n) ∷ tokens (attribute_nodes ats)))
+frame_tokens fs x n ats sp = rw (tokens-with_run (nodes x) (text_run x)) (simp append_assoc)
 
 module _ (lim : Limits) where
   abbrev OpenLow : Frames → Type 0
@@ -135,16 +135,16 @@ module _ (lim : Limits) where
       let P : Tree = grow_all (frames_tokens fs) opening in
       let d : ℕ = depth fs + 1 in
       let e : d ≡ suc (level p) = omega (arith, outer.1) in
-      let P1 : Tree = grow_all (tokens (with_run (nodes x) (run x))) P in
-      let h1 : IsLow lim.depth P1 p = low_nodes lim.depth (with_run (nodes x) (run x)) P p outer.2 d e (low_run lim.depth d (nodes x) (run x) (content_low lim d x content)) in
+      let P1 : Tree = grow_all (tokens (with_run (nodes x) (text_run x))) P in
+      let h1 : IsLow lim.depth P1 p = low_nodes lim.depth (with_run (nodes x) (text_run x)) P p outer.2 d e (low_run lim.depth d (nodes x) (text_run x) (content_low lim d x content)) in
       let new : Node = Under p (length P1.nodes) (Element (encodes n)) in
       let P2 : Tree = grow (Start (encodes n)) P1 in
       let h2 : IsLow lim.depth P2 new = low_start lim.depth P1 p (encodes n) h1 (subst (λ (z : ℕ). z ≤ lim.depth) e in_tag.1) in
       let h3 : IsLow lim.depth (grow_all (tokens (attribute_nodes ats)) P2) new = low_nodes lim.depth (attribute_nodes ats) P2 new h2 (d + 1) (omega (arith, e)) (attributes_low lim d ats in_tag.3) in
       let same : grow_all (frames_tokens (frame fs x n ats sp)) opening ≡ grow_all (tokens (attribute_nodes ats)) P2 =
       ap (λ z. grow_all z opening) (frame_tokens fs x n ats sp)
-      ∙ grow_all-append (frames_tokens fs) (tokens (with_run (nodes x) (run x)) ++ (Start (encodes n) ∷ tokens (attribute_nodes ats))) opening
-      ∙ grow_all-append (tokens (with_run (nodes x) (run x))) (Start (encodes n) ∷ tokens (attribute_nodes ats)) P in
+      ∙ grow_all-append (frames_tokens fs) (tokens (with_run (nodes x) (text_run x)) ++ (Start (encodes n) ∷ tokens (attribute_nodes ats))) opening
+      ∙ grow_all-append (tokens (with_run (nodes x) (text_run x))) (Start (encodes n) ∷ tokens (attribute_nodes ats)) P in
       (new, omega (arith, outer.1), subst (λ (z : Tree). IsLow lim.depth z new) (sym same) h3)
 
   -- no element of a front lies deeper than may be

@@ -9,9 +9,9 @@ use Rattle.gcx_base.specs.Characters.{is_char, is_white, is_start_char, is_part_
 use Rattle.gcx_model.specs.Document.{Nodes, none, element, text, is_blank, tokens}
 use Rattle.gcx_model.specs.Tree.{Start, End, Chars}
 use Rattle.gcx_model.specs.References.{Reference, reference_char, BegunReference, letters}
-use Rattle.gcx_model.specs.Attributes.{is_text_char, is_blank_text, is_gap, is_quote, is_fresh, Value, blank_value, value_char, value_reference, Head, Attributes, no_attribute, attribute, attribute_names, is_value_char, value_run}
+use Rattle.gcx_model.specs.Attributes.{is_text_char, is_blank_text, is_gap, is_quote, is_fresh, AttributeValue, blank_value, value_char, value_reference, Head, Attributes, no_attribute, attribute, attribute_names, is_value_char, value_run}
 use Rattle.gcx_model.specs.Markup.{CommentText, blank_comment, plain, dashed, CDSect, blank_cdsect, further, InstructionData, blank_data, data_char, marks, ends_data, Declaration, blank_declaration, doc_char, literal, doc_word, is_doc_char, is_literal_char, cdata_word, brackets, one_more, ends_cdsect, settled}
-use Rattle.gcx_model.specs.Grammar.{Content, nothing, mark, space, char, reference, cdata, comment, bare, instruction, doctype, single, tagged, has_element, has_type, may_type, may_open, run, with_run, joined, attribute_nodes, nodes}
+use Rattle.gcx_model.specs.Grammar.{Content, nothing, mark, space, char, reference, cdata, comment, bare, instruction, doctype, single, tagged, has_element, has_type, may_type, may_open, text_run, with_run, joined, attribute_nodes, nodes}
 use Rattle.gcx_model.specs.Fronts.{Frames, bottom, frame, Part, no_part, spaced, part_name, name_spaced, equals, value, value_amp, Piece, no_piece, less, started, tag, slashed, ending, ended, question, target, target_mark, in_instruction, doc_wording, doc_gap, doc, doc_literal, bang, bang_dash, in_comment, comment_dash, comment_end, cdsect_word, in_cdsect, amp, names, inside, text_of, frames_tokens, seen_tokens}
 use Rattle.doc_laws.specs.Machine.{More, Done, Mode, Opening, Between, InValue, InValueReference, DocWord, DocSpace, CDSectWord, InCDSect, InReference, State, opened, closed, to_mode, refer, on_between, on_referred, behind, to_end_name, on_end, on_word, step, steps, go_on}
 use Rattle.doc_laws.specs.States.{referring, is_opening, is_nothing, typed, tag_tokens, state_of}
@@ -194,7 +194,7 @@ module _ (fs : Frames) (x : Content) where
   m_slash3 n ats sp = refl
 
   emptied_tokens : (n : List ℕ) (ats : Attributes) (sp : List ℕ) → seen_tokens fs x ++ (tag_tokens x n ats ++ (End ∷ [])) ≡ seen_tokens fs (single x n ats sp)
-  emptied_tokens n ats sp = rw (tokens-with_run (nodes x) (run x)) (simp append_assoc)
+  emptied_tokens n ats sp = rw (tokens-with_run (nodes x) (text_run x)) (simp append_assoc)
 
   pub m_single : (n : List ℕ) (ats : Attributes) (sp : List ℕ) → step (state_of fs x (slashed n ats sp)) 62 ≡ Some (state_of fs (single x n ats sp) no_piece)
   m_single n ats sp = ap (λ ts. Some (record (state_of fs (single x n ats sp) no_piece) { tokens = ts })) (emptied_tokens n ats sp)
@@ -237,22 +237,22 @@ module _ (fs : Frames) (x : Content) where
   pub m_quote : (n : List ℕ) (ats : Attributes) (h : Head) → is_quote h.quote ≡ true → step (state_of fs x (tag n ats (equals h.gap h.name h.before h.behind))) h.quote ≡ Some (state_of fs x (tag n ats (value h blank_value)))
   m_quote n ats h k = cond-false _ _ _ (quote_not_space h.quote k) ∙ cond-true _ _ _ k
 
-  pub m_value : (n : List ℕ) (ats : Attributes) (h : Head) (v : Value) (c : ℕ) → is_value_char h.quote c ≡ true → step (state_of fs x (tag n ats (value h v))) c ≡ Some (state_of fs x (tag n ats (value h (value_char v c))))
+  pub m_value : (n : List ℕ) (ats : Attributes) (h : Head) (v : AttributeValue) (c : ℕ) → is_value_char h.quote c ≡ true → step (state_of fs x (tag n ats (value h v))) c ≡ Some (state_of fs x (tag n ats (value h (value_char v c))))
   m_value n ats h v c k = cond-true _ _ _ k
 
-  pub m_value_amp : (n : List ℕ) (ats : Attributes) (h : Head) (v : Value) → is_quote h.quote ≡ true → step (state_of fs x (tag n ats (value h v))) 38 ≡ Some (state_of fs x (tag n ats (value_amp h v (letters []))))
+  pub m_value_amp : (n : List ℕ) (ats : Attributes) (h : Head) (v : AttributeValue) → is_quote h.quote ≡ true → step (state_of fs x (tag n ats (value h v))) 38 ≡ Some (state_of fs x (tag n ats (value_amp h v (letters []))))
   m_value_amp n ats h v k = cond-false (eqb 38 h.quote) _ _ (not_amp h.quote k)
 
-  pub m_value_refer : (n : List ℕ) (ats : Attributes) (h : Head) (v : Value) (r q : BegunReference) (c : ℕ) → refer (referring r) c ≡ More (referring q) → step (state_of fs x (tag n ats (value_amp h v r))) c ≡ Some (state_of fs x (tag n ats (value_amp h v q)))
+  pub m_value_refer : (n : List ℕ) (ats : Attributes) (h : Head) (v : AttributeValue) (r q : BegunReference) (c : ℕ) → refer (referring r) c ≡ More (referring q) → step (state_of fs x (tag n ats (value_amp h v r))) c ≡ Some (state_of fs x (tag n ats (value_amp h v q)))
   m_value_refer n ats h v r q c e = ap (on_referred (tag_state fs x n ats (value_amp h v r)) (InValueReference h.quote) (InValue h.quote)) e
 
-  pub m_value_referred : (n : List ℕ) (ats : Attributes) (h : Head) (v : Value) (r : BegunReference) (t : Reference) (c : ℕ) → refer (referring r) c ≡ Done (reference_char t) → step (state_of fs x (tag n ats (value_amp h v r))) c ≡ Some (state_of fs x (tag n ats (value h (value_reference v t))))
+  pub m_value_referred : (n : List ℕ) (ats : Attributes) (h : Head) (v : AttributeValue) (r : BegunReference) (t : Reference) (c : ℕ) → refer (referring r) c ≡ Done (reference_char t) → step (state_of fs x (tag n ats (value_amp h v r))) c ≡ Some (state_of fs x (tag n ats (value h (value_reference v t))))
   m_value_referred n ats h v r t c e = ap (on_referred (tag_state fs x n ats (value_amp h v r)) (InValueReference h.quote) (InValue h.quote)) e
 
-  valued_tokens : (n : List ℕ) (ats : Attributes) (h : Head) (v : Value) → tag_tokens x n ats ++ (Start (encodes h.name) ∷ (text_of (value_run v) ++ (End ∷ []))) ≡ tag_tokens x n (attribute ats h v)
+  valued_tokens : (n : List ℕ) (ats : Attributes) (h : Head) (v : AttributeValue) → tag_tokens x n ats ++ (Start (encodes h.name) ∷ (text_of (value_run v) ++ (End ∷ []))) ≡ tag_tokens x n (attribute ats h v)
   valued_tokens n ats h v = rw (tokens-with_run none (value_run v)) (simp append_assoc)
 
-  pub m_valued : (n : List ℕ) (ats : Attributes) (h : Head) (v : Value) → step (state_of fs x (tag n ats (value h v))) h.quote ≡ Some (state_of fs x (tag n (attribute ats h v) no_part))
+  pub m_valued : (n : List ℕ) (ats : Attributes) (h : Head) (v : AttributeValue) → step (state_of fs x (tag n ats (value h v))) h.quote ≡ Some (state_of fs x (tag n (attribute ats h v) no_part))
   m_valued n ats h v =
       cond-false _ _ _ (not_value h.quote)
       ∙ cond-true _ _ _ (eq-eqb h.quote h.quote refl)
@@ -342,7 +342,7 @@ module _ (fs : Frames) (x : Content) where
   m_word m c r = word_on (state_of fs x (cdsect_word m (c ∷ r))) c CDSectWord r (cond (eqb c 91) (to_mode (state_of fs x (cdsect_word m (c ∷ r))) (InCDSect 0)) None)
 
   pub m_cdsect_start : (m : List ℕ) → step (state_of fs x (cdsect_word m [])) 91 ≡ Some (state_of fs x (in_cdsect blank_cdsect))
-  m_cdsect_start m = ap (λ r. Some (record (state_of fs x (in_cdsect blank_cdsect)) { run = r })) (sym (append-nil (run x)))
+  m_cdsect_start m = ap (λ r. Some (record (state_of fs x (in_cdsect blank_cdsect)) { run = r })) (sym (append-nil (text_run x)))
 
   cdsect_run : (r s : List ℕ) (b : Bool) → cond b ((r ++ s) ++ (93 ∷ [])) (r ++ s) ≡ r ++ cond b (s ++ (93 ∷ [])) s
   cdsect_run r s true = append_assoc r s (93 ∷ [])
@@ -350,7 +350,7 @@ module _ (fs : Frames) (x : Content) where
 
   pub m_in_cdsect : (d : CDSect) (c : ℕ) → is_char c ≡ true → ends_cdsect d c ≡ false → step (state_of fs x (in_cdsect d)) c ≡ Some (state_of fs x (in_cdsect (further d c)))
   m_in_cdsect d c h k =
-      let r = run x in
+      let r = text_run x in
       let s = settled d in
       let n = brackets d in
       let put : ℕ → List ℕ → State = λ m l. record (state_of fs x (in_cdsect d)) { mode = InCDSect m; run = l } in
@@ -371,8 +371,8 @@ module _ (fs : Frames) (y k : Content) (n : List ℕ) (ats : Attributes) (sp : L
   pub m_ending : (m : List ℕ) (c : ℕ) (r : List ℕ) → step (state_of (frame fs y n ats sp) k (ending m (c ∷ r))) c ≡ Some (state_of (frame fs y n ats sp) k (ending (m ++ c ∷ []) r))
   m_ending m c r = end_on (state_of (frame fs y n ats sp) k (ending m (c ∷ r))) c (encodes r)
 
-  pub closed_tokens : (sp2 : List ℕ) → seen_tokens (frame fs y n ats sp) k ++ (text_of (run k) ++ (End ∷ [])) ≡ seen_tokens fs (tagged y n ats sp k sp2)
-  closed_tokens sp2 = rw (tokens-joined (attribute_nodes ats) (with_run (nodes k) (run k)), tokens-with_run (nodes y) (run y), tokens-with_run (nodes k) (run k)) (simp append_assoc)
+  pub closed_tokens : (sp2 : List ℕ) → seen_tokens (frame fs y n ats sp) k ++ (text_of (text_run k) ++ (End ∷ [])) ≡ seen_tokens fs (tagged y n ats sp k sp2)
+  closed_tokens sp2 = rw (tokens-joined (attribute_nodes ats) (with_run (nodes k) (text_run k)), tokens-with_run (nodes y) (text_run y), tokens-with_run (nodes k) (text_run k)) (simp append_assoc)
 
   closed_state : (sp2 : List ℕ) → closed (state_of (frame fs y n ats sp) k no_piece) (names fs) ≡ state_of fs (tagged y n ats sp k sp2) no_piece
   closed_state sp2 =

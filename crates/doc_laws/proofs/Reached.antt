@@ -5,9 +5,9 @@ use Rattle.std.proofs.lemmas.Bool.{true≢false, false≢true, and_parts}
 use lib.Utf8.{encodes}
 use Rattle.gcx_base.specs.Characters.{is_white, is_start_char, is_part_char}
 use Rattle.gcx_model.specs.References.{Reference, reference_spelling, IsReference, BegunReference, begun_spelling, IsBegun}
-use Rattle.gcx_model.specs.Attributes.{is_name, is_blank_text, is_gap, is_quote, is_fresh, Value, blank_value, value_char, value_reference, Head, Attributes, no_attribute, attribute, value_spelling, head_spelling, attributes_spelling, attribute_names, IsValue, IsHead, IsAttributes}
+use Rattle.gcx_model.specs.Attributes.{is_name, is_blank_text, is_gap, is_quote, is_fresh, AttributeValue, blank_value, value_char, value_reference, Head, Attributes, no_attribute, attribute, value_spelling, head_spelling, attributes_spelling, attribute_names, IsValue, IsHead, IsAttributes}
 use Rattle.gcx_model.specs.Markup.{CommentText, blank_comment, plain, dashed, CDSect, blank_cdsect, further, InstructionData, blank_data, data_char, data_spelling, IsInstructionData, Declaration, blank_declaration, doc_char, literal, doc_word, doc_start, is_literal_char, declaration_spelling, IsDeclaration, comment_spelling, comment_start, cdata_word, cdata_start, cdsect_spelling, IsCommentText, brackets, IsCDSect}
-use Rattle.gcx_model.specs.Grammar.{Content, nothing, mark, space, char, reference, cdata, comment, bare, instruction, doctype, single, tagged, start_tag, single_tag, end_tag, spelling, has_element, has_type, may_type, may_open, IsContent}
+use Rattle.gcx_model.specs.Grammar.{Content, nothing, mark, space, char, reference, cdata, comment, bare, instruction, doctype, single, tagged, start_tag_spelling, single_tag, end_tag_spelling, spelling, has_element, has_type, may_type, may_open, IsContent}
 use Rattle.gcx_model.specs.Fronts.{Frames, bottom, frame, Part, no_part, spaced, part_name, name_spaced, equals, value, value_amp, Piece, no_piece, less, started, tag, slashed, ending, ended, question, target, target_mark, in_instruction, doc_wording, doc_gap, doc, doc_literal, bang, bang_dash, in_comment, comment_dash, comment_end, cdsect_word, in_cdsect, amp, frames_spelling, piece_spelling, inside, IsFrames, IsPart, IsPiece, part_spelling, front_spelling, IsFront}
 use Rattle.doc_laws.specs.Machine.{State, start, steps}
 use Rattle.doc_laws.specs.States.{state_of}
@@ -74,10 +74,10 @@ module _ (fs : Frames) (x : Content) where
       equals_steps n ats h.gap h.name h.before h.behind (h.quote ∷ []) _ g.0 g.1 g.2 g.3 g.4
       (step_end (state_of fs x (tag n ats (equals h.gap h.name h.before h.behind))) (state_of fs x (tag n ats (value h blank_value))) h.quote (m_quote fs x n ats h g.5))
 
-  value_amp_steps : (n : List ℕ) (ats : Attributes) (h : Head) (v : Value) (r : BegunReference) → is_quote h.quote ≡ true → IsBegun r → steps (state_of fs x (tag n ats (value h v))) (begun_spelling r) ≡ Some (state_of fs x (tag n ats (value_amp h v r)))
+  value_amp_steps : (n : List ℕ) (ats : Attributes) (h : Head) (v : AttributeValue) (r : BegunReference) → is_quote h.quote ≡ true → IsBegun r → steps (state_of fs x (tag n ats (value h v))) (begun_spelling r) ≡ Some (state_of fs x (tag n ats (value_amp h v r)))
   value_amp_steps n ats h v r q g = begun_steps (λ r. state_of fs x (tag n ats (value_amp h v r))) (m_value_refer fs x n ats h v) (state_of fs x (tag n ats (value h v))) (m_value_amp fs x n ats h v q) r g
 
-  value_steps : (n : List ℕ) (ats : Attributes) (h : Head) (v : Value) → is_quote h.quote ≡ true → IsValue h.quote v → steps (state_of fs x (tag n ats (value h blank_value))) (value_spelling v) ≡ Some (state_of fs x (tag n ats (value h v)))
+  value_steps : (n : List ℕ) (ats : Attributes) (h : Head) (v : AttributeValue) → is_quote h.quote ≡ true → IsValue h.quote v → steps (state_of fs x (tag n ats (value h blank_value))) (value_spelling v) ≡ Some (state_of fs x (tag n ats (value h v)))
   value_steps n ats h blank_value q g = refl
   value_steps n ats h (value_char v c) q g =
       steps_on_to (state_of fs x (tag n ats (value h blank_value))) (state_of fs x (tag n ats (value h v))) (value_spelling v) (c ∷ []) _ (value_steps n ats h v q g.0)
@@ -87,10 +87,10 @@ module _ (fs : Frames) (x : Content) where
       (referred_steps (λ r. state_of fs x (tag n ats (value_amp h v r))) (m_value_refer fs x n ats h v) (state_of fs x (tag n ats (value h v))) (state_of fs x (tag n ats (value h (value_reference v t)))) (m_value_amp fs x n ats h v q) t g.1
       (λ r e. m_value_referred fs x n ats h v r t 59 e))
 
-  in_value_steps : (n : List ℕ) (ats : Attributes) (h : Head) (v : Value) → IsHead (attribute_names ats) h → IsValue h.quote v → steps (state_of fs x (tag_piece n ats)) (head_spelling h ++ value_spelling v) ≡ Some (state_of fs x (tag n ats (value h v)))
+  in_value_steps : (n : List ℕ) (ats : Attributes) (h : Head) (v : AttributeValue) → IsHead (attribute_names ats) h → IsValue h.quote v → steps (state_of fs x (tag_piece n ats)) (head_spelling h ++ value_spelling v) ≡ Some (state_of fs x (tag n ats (value h v)))
   in_value_steps n ats h v g k = steps_on_to (state_of fs x (tag_piece n ats)) (state_of fs x (tag n ats (value h blank_value))) (head_spelling h) (value_spelling v) _ (head_steps n ats h g) (value_steps n ats h v g.5 k)
 
-  behind_head : (n : List ℕ) (ats : Attributes) (h : Head) (v : Value) (cs : List ℕ) (o : Option State) → IsHead (attribute_names ats) h → IsValue h.quote v → steps (state_of fs x (tag n ats (value h v))) cs ≡ o → steps (state_of fs x (tag_piece n ats)) (head_spelling h ++ (value_spelling v ++ cs)) ≡ o
+  behind_head : (n : List ℕ) (ats : Attributes) (h : Head) (v : AttributeValue) (cs : List ℕ) (o : Option State) → IsHead (attribute_names ats) h → IsValue h.quote v → steps (state_of fs x (tag n ats (value h v))) cs ≡ o → steps (state_of fs x (tag_piece n ats)) (head_spelling h ++ (value_spelling v ++ cs)) ≡ o
   behind_head n ats h v cs o g k e =
       steps_on_to (state_of fs x (tag_piece n ats)) (state_of fs x (tag n ats (value h blank_value))) (head_spelling h) (value_spelling v ++ cs) o (head_steps n ats h g)
       (steps_on_to (state_of fs x (tag n ats (value h blank_value))) (state_of fs x (tag n ats (value h v))) (value_spelling v) cs o (value_steps n ats h v g.5 k) e)
@@ -123,7 +123,7 @@ module _ (fs : Frames) (x : Content) where
   behind_tag : (n : List ℕ) (ats : Attributes) (sp cs : List ℕ) (t : State) → is_blank_text sp ≡ true → steps (state_of fs x (tag_piece n ats)) cs ≡ Some t → steps (state_of fs x (tag n ats (spaced []))) cs ≡ Some t → steps (state_of fs x (tag_piece n ats)) (sp ++ cs) ≡ Some t
   behind_tag n ats sp cs t b e f = behind_space (state_of fs x (tag_piece n ats)) (state_of fs x (tag n ats (spaced []))) t cs (λ d h. m_space fs x n ats [] d h) (λ d h. m_space2 fs x n ats [] [] d h) e f sp b
 
-  start_steps : (n : List ℕ) (ats : Attributes) (sp : List ℕ) → may_open (inside fs) (has_element x) ≡ true → is_name n ≡ true → is_blank_text sp ≡ true → IsAttributes ats → steps (state_of fs x no_piece) (start_tag n ats sp) ≡ Some (state_of (frame fs x n ats sp) nothing no_piece)
+  start_steps : (n : List ℕ) (ats : Attributes) (sp : List ℕ) → may_open (inside fs) (has_element x) ≡ true → is_name n ≡ true → is_blank_text sp ≡ true → IsAttributes ats → steps (state_of fs x no_piece) (start_tag_spelling n ats sp) ≡ Some (state_of (frame fs x n ats sp) nothing no_piece)
   start_steps n ats sp k h b g =
       tag_steps n ats (sp ++ (62 ∷ [])) _ k h g
       (behind_tag n ats sp (62 ∷ []) _ b (step_end (state_of fs x (tag_piece n ats)) _ 62 (m_open fs x n ats sp)) (step_end (state_of fs x (tag n ats (spaced []))) _ 62 (m_open2 fs x n ats [] sp)))
@@ -275,7 +275,7 @@ module _ (fs : Frames) (y k : Content) (n : List ℕ) (ats : Attributes) (sp : L
   behind_end : (sp2 cs : List ℕ) (t : State) → is_blank_text sp2 ≡ true → steps (state_of (frame fs y n ats sp) k (ending n [])) cs ≡ Some t → steps (state_of (frame fs y n ats sp) k (ended n [] 32)) cs ≡ Some t → steps (state_of (frame fs y n ats sp) k (ending n [])) (sp2 ++ cs) ≡ Some t
   behind_end sp2 cs t b e f = behind_space (state_of (frame fs y n ats sp) k (ending n [])) (state_of (frame fs y n ats sp) k (ended n [] 32)) t cs (λ d h. m_end_space1 fs y k n ats sp n d h) (λ d h. m_end_space2 fs y k n ats sp n [] 32 d h) e f sp2 b
 
-  end_steps : (sp2 : List ℕ) → is_blank_text sp2 ≡ true → steps (state_of (frame fs y n ats sp) k no_piece) (end_tag n sp2) ≡ Some (state_of fs (tagged y n ats sp k sp2) no_piece)
+  end_steps : (sp2 : List ℕ) → is_blank_text sp2 ≡ true → steps (state_of (frame fs y n ats sp) k no_piece) (end_tag_spelling n sp2) ≡ Some (state_of fs (tagged y n ats sp k sp2) no_piece)
   end_steps sp2 b =
       steps_on_to (state_of (frame fs y n ats sp) k no_piece) (state_of (frame fs y n ats sp) k (ending n [])) (60 ∷ (47 ∷ n)) (sp2 ++ (62 ∷ [])) _ (end_name n [] (append-nil n))
       (behind_end sp2 (62 ∷ []) _ b (step_end (state_of (frame fs y n ats sp) k (ending n [])) _ 62 (m_close1 fs y k n ats sp n sp2)) (step_end (state_of (frame fs y n ats sp) k (ended n [] 32)) _ 62 (m_close2 fs y k n ats sp n sp2 [] 32)))
@@ -300,16 +300,16 @@ content_steps fs (instruction y n c d) g = steps_on_to (state_of fs nothing no_p
 content_steps fs (doctype y b a d) g = steps_on_to (state_of fs nothing no_piece) (state_of fs y no_piece) (spelling y) _ _ (content_steps fs y g.0) (doc_steps fs y b a d (62 ∷ []) _ g.1 g.2 g.3 g.4 (step_end (state_of fs y (doc b a d)) _ 62 (m_doctype fs y b a d)))
 content_steps fs (single y n ats sp) g = steps_on_to (state_of fs nothing no_piece) (state_of fs y no_piece) (spelling y) _ _ (content_steps fs y g.0) (single_steps fs y n ats sp g.1 g.2 g.3 g.4)
 content_steps fs (tagged y n ats sp k sp2) g =
-    steps_on_to (state_of fs nothing no_piece) (state_of fs y no_piece) (spelling y) (start_tag n ats sp ++ (spelling k ++ end_tag n sp2)) _ (content_steps fs y g.0)
-    (steps_on_to (state_of fs y no_piece) (state_of (frame fs y n ats sp) nothing no_piece) (start_tag n ats sp) (spelling k ++ end_tag n sp2) _ (start_steps fs y n ats sp g.1 g.2 g.3 g.6)
-    (steps_on_to (state_of (frame fs y n ats sp) nothing no_piece) (state_of (frame fs y n ats sp) k no_piece) (spelling k) (end_tag n sp2) _ (content_steps (frame fs y n ats sp) k g.4)
+    steps_on_to (state_of fs nothing no_piece) (state_of fs y no_piece) (spelling y) (start_tag_spelling n ats sp ++ (spelling k ++ end_tag_spelling n sp2)) _ (content_steps fs y g.0)
+    (steps_on_to (state_of fs y no_piece) (state_of (frame fs y n ats sp) nothing no_piece) (start_tag_spelling n ats sp) (spelling k ++ end_tag_spelling n sp2) _ (start_steps fs y n ats sp g.1 g.2 g.3 g.6)
+    (steps_on_to (state_of (frame fs y n ats sp) nothing no_piece) (state_of (frame fs y n ats sp) k no_piece) (spelling k) (end_tag_spelling n sp2) _ (content_steps (frame fs y n ats sp) k g.4)
     (end_steps fs y k n ats sp sp2 g.5)))
 
 pub frames_steps : (fs : Frames) → IsFrames fs → steps start (frames_spelling fs) ≡ Some (state_of fs nothing no_piece)
 frames_steps bottom g = refl
 frames_steps (frame fs x n ats sp) g =
-    steps_on_to start (state_of fs nothing no_piece) (frames_spelling fs) (spelling x ++ start_tag n ats sp) _ (frames_steps fs g.0)
-    (steps_on_to (state_of fs nothing no_piece) (state_of fs x no_piece) (spelling x) (start_tag n ats sp) _ (content_steps fs x g.1)
+    steps_on_to start (state_of fs nothing no_piece) (frames_spelling fs) (spelling x ++ start_tag_spelling n ats sp) _ (frames_steps fs g.0)
+    (steps_on_to (state_of fs nothing no_piece) (state_of fs x no_piece) (spelling x) (start_tag_spelling n ats sp) _ (content_steps fs x g.1)
     (start_steps fs x n ats sp g.2 g.3 g.4 g.5))
 
 piece_steps : (fs : Frames) (x : Content) (p : Piece) → IsPiece fs x p → steps (state_of fs x no_piece) (piece_spelling p) ≡ Some (state_of fs x p)

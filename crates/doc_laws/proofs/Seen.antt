@@ -6,7 +6,7 @@ use Rattle.gcx_model.specs.Document.{tokens}
 use Rattle.gcx_model.specs.Tree.{Token, End}
 use Rattle.gcx_model.specs.Attributes.{is_text_char, is_value_char, is_quote, is_fresh}
 use Rattle.gcx_model.specs.Markup.{is_doc_char, is_literal_char}
-use Rattle.gcx_model.specs.Grammar.{Content, nothing, mark, space, char, reference, cdata, comment, bare, instruction, doctype, single, tagged, spelling, has_element, may_open, IsContent, run, with_run, nodes, SpellsDocument}
+use Rattle.gcx_model.specs.Grammar.{Content, nothing, mark, space, char, reference, cdata, comment, bare, instruction, doctype, single, tagged, spelling, has_element, may_open, IsContent, text_run, with_run, nodes, SpellsDocument}
 use Rattle.gcx_model.specs.Fronts.{Frames, bottom, frame, IsFrames, frames_spelling, inside, is_inside, text_of, seen_tokens}
 use Rattle.gcx_model.specs.Seen.{up_to_tag, ends_in_tag, end_tags, open_ends}
 use Rattle.doc_laws.specs.Machine.{Referred, More, Done, Bad, Referring, Mode, Opening, Between, Less, StartName, StartSpace, AttributeName, AttributeSpace, Equals, InValue, InValueReference, ValueEnd, Slash, EndName, EndSpace, Question, Target, TargetMark, InInstruction, DocWord, DocSpace, Doc, DocLiteral, Bang, BangDash, Comment, CommentDash, CommentEnd, CDSectWord, InCDSect, InReference, State, start, begun, on_between, on_tag, on_named, on_ended, on_referred, refer, behind, to_end_name, on_end, on_word, on_mode, steps, step, go_on}
@@ -165,7 +165,7 @@ up_element (doctype y q c d) = up_element y
 up_element (single y n ats sp) = refl
 up_element (tagged y n ats sp k sp2) = refl
 
-pub up_run : (x : Content) → run (up_to_tag x) ≡ []
+pub up_run : (x : Content) → text_run (up_to_tag x) ≡ []
 up_run nothing = refl
 up_run mark = refl
 up_run (space y c) = up_run y
@@ -229,13 +229,13 @@ closes (frame fs y n ats sp) x g h r =
     record { content = s.content; good = s.good; root = s.root; tree = s.tree; spelled = s.spelled ∙ simp append_assoc }
 
 -- its tokens are those seen, the last run, and the ends
-pub closes_tokens : (fs : Frames) (x : Content) → tokens (with_run (nodes (close_all fs x)) (run (close_all fs x))) ≡ seen_tokens fs x ++ (text_of (run x) ++ open_ends fs)
-closes_tokens bottom x = tokens-with_run (nodes x) (run x) ∙ ap (λ l. tokens (nodes x) ++ l) (sym (append-nil (text_of (run x))))
+pub closes_tokens : (fs : Frames) (x : Content) → tokens (with_run (nodes (close_all fs x)) (text_run (close_all fs x))) ≡ seen_tokens fs x ++ (text_of (text_run x) ++ open_ends fs)
+closes_tokens bottom x = tokens-with_run (nodes x) (text_run x) ∙ ap (λ l. tokens (nodes x) ++ l) (sym (append-nil (text_of (text_run x))))
 closes_tokens (frame fs y n ats sp) x =
     closes_tokens fs (tagged y n ats sp x [])
     ∙ ap (λ l. l ++ open_ends fs) (sym (closed_tokens fs y x n ats sp []))
     ∙ simp append_assoc
 
-pub close_run : (fs : Frames) (x : Content) → run x ≡ [] → run (close_all fs x) ≡ []
+pub close_run : (fs : Frames) (x : Content) → text_run x ≡ [] → text_run (close_all fs x) ≡ []
 close_run bottom x e = e
 close_run (frame fs y n ats sp) x e = close_run fs (tagged y n ats sp x []) refl

@@ -8,7 +8,7 @@ use Rattle.gcx_model.specs.Tree.{Start, End}
 use Rattle.gcx_model.specs.Document.{tokens}
 use Rattle.gcx_model.specs.Attributes.{is_text_char, is_value_char, is_quote, is_fresh, Attributes}
 use Rattle.gcx_model.specs.Markup.{is_doc_char, is_literal_char}
-use Rattle.gcx_model.specs.Grammar.{Content, may_open, run, attribute_nodes}
+use Rattle.gcx_model.specs.Grammar.{Content, may_open, text_run, attribute_nodes}
 use Rattle.gcx_model.specs.Fronts.{Frames, Part, no_part, spaced, part_name, name_spaced, equals, value, value_amp, Piece, no_piece, less, started, tag, is_inside, names, text_of}
 use Rattle.gcx_model.specs.Faults.{size, IsFullTag, IsFullAttribute, IsDeep}
 use Rattle.doc_laws.specs.Machine.{Referred, More, Done, Bad, Referring, Mode, Opening, Between, Less, StartName, StartSpace, AttributeName, AttributeSpace, Equals, InValue, InValueReference, ValueEnd, Slash, EndName, EndSpace, Question, Target, TargetMark, InInstruction, DocWord, DocSpace, Doc, DocLiteral, Bang, BangDash, Comment, CommentDash, CommentEnd, CDSectWord, InCDSect, InReference, State, begun, on_between, on_tag, on_named, on_ended, on_referred, refer, behind, to_end_name, on_end, on_word, on_mode, step, steps, go_on}
@@ -149,7 +149,7 @@ goes_mode s c (InReference a) r = goes_referred s InReference Between (refer a c
 
 -- each front is so
 tag_waits : (x : Content) (n : List ℕ) (ats : Attributes) → 0 < length (tag_tokens x n ats)
-tag_waits x n ats = omega (arith, length-append (text_of (run x)) (Start (encodes n) ∷ tokens (attribute_nodes ats)))
+tag_waits x n ats = omega (arith, length-append (text_of (text_run x)) (Start (encodes n) ∷ tokens (attribute_nodes ats)))
 
 ready_part : (fs : Frames) (x : Content) (n : List ℕ) (ats : Attributes) (p : Part) → Ready (state_of fs x (tag n ats p)) (part_mode p)
 ready_part fs x n ats no_part = tag_waits x n ats

@@ -4,7 +4,7 @@ use Rattle.std.proofs.lemmas.Bool.{false≢true, and_parts, and_from}
 use Rattle.gcx_model.specs.Document.{Nodes, none, element, text, tokens}
 use Rattle.gcx_model.specs.Tree.{Token, Start, End, Chars}
 use Rattle.gcx_model.specs.Grammar.{Content, nothing, spelling, has_element, nodes, SpellsDocument, Viable}
-use Rattle.gcx_model.specs.Fronts.{Frames, bottom, frame, Part, no_part, spaced, part_name, name_spaced, equals, value, value_amp, Piece, no_piece, tag, front_spelling, IsFront, Opens}
+use Rattle.gcx_model.specs.Fronts.{Frames, bottom, frame, Part, no_part, spaced, part_name, name_spaced, equals, value, value_amp, Piece, no_piece, tag, front_spelling, IsFront, OpensFrames}
 use Rattle.doc_laws.specs.Machine.{Mode, Opening, Between, State, start, steps, step, go_on, is_whole, is_between}
 use Rattle.doc_laws.specs.States.{part_mode, is_nothing, rest_mode, piece_mode, state_of, Fronts}
 use Rattle.doc_laws.proofs.Moves.{steps_append}
@@ -133,10 +133,10 @@ spells_one b d e h k =
     tokens_one d e (ap tokens (sym h.tree) ∙ ap (λ t. t.tokens) s ∙ ap tokens k.tree)
 
 -- fronts and viable texts are the same
-pub opens_viable : (cs : List ℕ) (fs : Frames) (x : Content) (p : Piece) → Opens cs fs x p → Viable cs
+pub opens_viable : (cs : List ℕ) (fs : Frames) (x : Content) (p : Piece) → OpensFrames cs fs x p → Viable cs
 opens_viable cs fs x p o = subst Viable o.spelled (front_viable fs x p o.good)
 
-pub viable_opens : (cs : List ℕ) → Viable cs → (fs : Frames) × (x : Content) × (p : Piece) × Opens cs fs x p
+pub viable_opens : (cs : List ℕ) → Viable cs → (fs : Frames) × (x : Content) × (p : Piece) × OpensFrames cs fs x p
 viable_opens cs v =
     let l = viable_leads cs v in
     let f = fronts cs l.0 l.1 in

@@ -7,10 +7,10 @@ use lib.Utf8.{scalars, encode, encodes}
 use Rattle.gcx_base.specs.Characters.{is_start_char, is_part_char, is_white}
 use Rattle.gcx_base.specs.declared.limits.Limits.{Limits}
 use Rattle.gcx_model.specs.Document.{Nodes}
-use Rattle.gcx_model.specs.Attributes.{is_name, is_blank_text, is_gap, Value, Head, Attributes, no_attribute, attribute, value_spelling, head_spelling, attributes_spelling, IsAttributes, value_run}
+use Rattle.gcx_model.specs.Attributes.{is_name, is_blank_text, is_gap, AttributeValue, Head, Attributes, no_attribute, attribute, value_spelling, head_spelling, attributes_spelling, IsAttributes, value_run}
 use Rattle.gcx_model.specs.Markup.{comment_spelling, comment_start, cdata_start, cdsect_spelling, settled, data_spelling, doc_start, declaration_spelling}
 use Rattle.gcx_model.specs.References.{reference_spelling, reference_char}
-use Rattle.gcx_model.specs.Grammar.{Content, nothing, mark, space, char, reference, cdata, comment, bare, instruction, doctype, single, tagged, start_tag, single_tag, end_tag, spelling, has_element, may_open, IsContent, run, SpellsDocument}
+use Rattle.gcx_model.specs.Grammar.{Content, nothing, mark, space, char, reference, cdata, comment, bare, instruction, doctype, single, tagged, start_tag_spelling, single_tag, end_tag_spelling, spelling, has_element, may_open, IsContent, text_run, SpellsDocument}
 use Rattle.gcx_model.specs.Fronts.{Frames, bottom, frame, no_part, spaced, part_name, value, Piece, no_piece, less, started, tag, slashed, ending, ended, frames_spelling, piece_spelling, front_spelling, IsFrames, IsPiece, IsFront, inside, names, depth, piece_run}
 use Rattle.gcx_model.specs.Faults.{Refusal, size, Clean, FaultWithin, by_character, by_sequence, by_cut, by_end, none_yet, none_whole, FaultIs, within_limit, before_limit, past_limit}
 use Rattle.gcx_model.specs.Within.{AreAttributesWithin, IsTagWithin, IsContentWithin, IsWithin}
@@ -73,7 +73,7 @@ module _ (lim : Limits) where
 
   -- over a name and attributes
   module _ (fs : Frames) (x : Content) (n : List ℕ) (frames : IsFrames fs) (content : IsContent (inside fs) x) (may : may_open (inside fs) (has_element x) ≡ true) (name : is_name n ≡ true) where
-    name_reads : length (run x) ≤ lim.text → depth fs + 1 ≤ lim.depth → length (encodes n) ≤ lim.name → ReadsTo fs x no_piece → ReadsTo fs x (started n)
+    name_reads : length (text_run x) ≤ lim.text → depth fs + 1 ≤ lim.depth → length (encodes n) ≤ lim.name → ReadsTo fs x no_piece → ReadsTo fs x (started n)
     name_reads t d k r =
         on_along fs fs x x no_piece (started n) (60 ∷ n) (frames, content, tt) (frames, content, (may, name)) (ap (λ l. l ++ (60 ∷ n)) (sym (append-nil (frames_spelling fs ++ spelling x)))) refl
         (record { run_short = t; name_short = k; attr_short = omega arith; element = inr (omega (arith, d, depth_names fs)); attribute = inl refl }) r
@@ -84,7 +84,7 @@ module _ (lim : Limits) where
         (ap (λ l. (frames_spelling fs ++ spelling x) ++ l) (ap (λ l. 60 ∷ l) (sym (append_assoc n (attributes_spelling ats) (c ∷ []))) ∙ ap (λ l. l ++ (c ∷ [])) (sym (tag_spelled n ats))) ∙ sym (append_assoc (frames_spelling fs ++ spelling x) (piece_spelling (tag_piece n ats)) (c ∷ [])))
         (tag_deep fs x n ats c) (omega arith) (omega arith) r
 
-    attribute_reads : (ats : Attributes) (h : Head) (v : Value) (c : ℕ) (gap : List ℕ) → h.gap ≡ c ∷ gap → IsAttributes (attribute ats h v) → AreAttributesWithin lim (depth fs + 1) (attribute ats h v) → depth fs + 1 ≤ lim.depth → length (encodes n) ≤ lim.name → ReadsTo fs x (tag_piece n ats) → ReadsTo fs x (tag_piece n (attribute ats h v))
+    attribute_reads : (ats : Attributes) (h : Head) (v : AttributeValue) (c : ℕ) (gap : List ℕ) → h.gap ≡ c ∷ gap → IsAttributes (attribute ats h v) → AreAttributesWithin lim (depth fs + 1) (attribute ats h v) → depth fs + 1 ≤ lim.depth → length (encodes n) ≤ lim.name → ReadsTo fs x (tag_piece n ats) → ReadsTo fs x (tag_piece n (attribute ats h v))
     attribute_reads ats h v c gap e g k d m r =
         let white : is_white c ≡ true = (and_parts (is_white c) (list_all is_white gap) (ap is_gap (sym e) ∙ g.1.0)).0 in
         let r1 = gap_reads ats c g.0 white r in
@@ -140,25 +140,25 @@ module _ (lim : Limits) where
         (simp (append_assoc, append-nil)) (plain_deep (state_of fs x (slashed n ats sp)) 62 refl) (omega arith) (omega arith) (slash_reads ats sp g b k (tag_reads ats g k r))
 
   -- over content
-  quiet_short : (fs : Frames) (x : Content) → length (run x) ≤ lim.text → IsShort lim (state_of fs x no_piece)
+  quiet_short : (fs : Frames) (x : Content) → length (text_run x) ≤ lim.text → IsShort lim (state_of fs x no_piece)
   quiet_short fs x h = record { run_short = h; name_short = omega arith; attr_short = omega arith; element = inl refl; attribute = inl refl }
 
-  quiet_reads : (fs : Frames) (x y : Content) (m : List ℕ) → IsFrames fs → IsContent (inside fs) y → IsContent (inside fs) x → spelling x ≡ spelling y ++ m → weight (state_of fs y no_piece) ≡ weight (state_of fs x no_piece) → length (run x) ≤ lim.text → ReadsTo fs y no_piece → ReadsTo fs x no_piece
+  quiet_reads : (fs : Frames) (x y : Content) (m : List ℕ) → IsFrames fs → IsContent (inside fs) y → IsContent (inside fs) x → spelling x ≡ spelling y ++ m → weight (state_of fs y no_piece) ≡ weight (state_of fs x no_piece) → length (text_run x) ≤ lim.text → ReadsTo fs y no_piece → ReadsTo fs x no_piece
   quiet_reads fs x y m f g h e w k r =
       on_along fs fs y x no_piece no_piece m (f, g, tt) (f, h, tt) (ap (λ l. (frames_spelling fs ++ l) ++ []) e ∙ (simp (append_assoc, append-nil))) w (quiet_short fs x k) r
 
   -- over an end tag
-  close_reads : (fs : Frames) (y k : Content) (n : List ℕ) (ats : Attributes) (sp sp2 : List ℕ) → IsFrames fs → IsContent (inside fs) (tagged y n ats sp k sp2) → length (run k) ≤ lim.text → ReadsTo (frame fs y n ats sp) k no_piece → ReadsTo fs (tagged y n ats sp k sp2) no_piece
+  close_reads : (fs : Frames) (y k : Content) (n : List ℕ) (ats : Attributes) (sp sp2 : List ℕ) → IsFrames fs → IsContent (inside fs) (tagged y n ats sp k sp2) → length (text_run k) ≤ lim.text → ReadsTo (frame fs y n ats sp) k no_piece → ReadsTo fs (tagged y n ats sp k sp2) no_piece
   close_reads fs y k n ats sp sp2 f g h r = elim (unsnoc sp2) [
     | inl q ↦
         on_one (frame fs y n ats sp) fs k (tagged y n ats sp k sp2) (ending n []) no_piece 62 (frames, g.4, append-nil n) (f, g, tt)
-        (ap (λ l. (frames_spelling fs ++ (spelling y ++ (start_tag n ats sp ++ (spelling k ++ (60 ∷ (47 ∷ (n ++ (l ++ (62 ∷ []))))))))) ++ []) q ∙ (simp (append_assoc, append-nil)))
+        (ap (λ l. (frames_spelling fs ++ (spelling y ++ (start_tag_spelling n ats sp ++ (spelling k ++ (60 ∷ (47 ∷ (n ++ (l ++ (62 ∷ []))))))))) ++ []) q ∙ (simp (append_assoc, append-nil)))
         (plain_deep (state_of (frame fs y n ats sp) k (ending n [])) 62 refl) (omega arith) (omega arith) (up_to (ending n []) (60 ∷ (47 ∷ n)) (append-nil n) refl refl (record { run_short = h; name_short = omega arith; attr_short = omega arith; element = inl refl; attribute = inl refl }))
     | inr q ↦
         let blank = blank_parts q.0 q.1 (ap is_blank_text (sym q.2) ∙ g.5) in
         let p = ended n q.0 q.1 in
         on_one (frame fs y n ats sp) fs k (tagged y n ats sp k sp2) p no_piece 62 (frames, g.4, (refl, blank.0, blank.1)) (f, g, tt)
-        (ap (λ l. (frames_spelling fs ++ (spelling y ++ (start_tag n ats sp ++ (spelling k ++ (60 ∷ (47 ∷ (n ++ (l ++ (62 ∷ []))))))))) ++ []) q.2 ∙ (simp (append_assoc, append-nil)))
+        (ap (λ l. (frames_spelling fs ++ (spelling y ++ (start_tag_spelling n ats sp ++ (spelling k ++ (60 ∷ (47 ∷ (n ++ (l ++ (62 ∷ []))))))))) ++ []) q.2 ∙ (simp (append_assoc, append-nil)))
         (plain_deep (state_of (frame fs y n ats sp) k p) 62 refl) (omega arith) (omega arith) (up_to p (piece_spelling p) (refl, blank.0, blank.1) refl refl (record { run_short = h; name_short = omega arith; attr_short = omega arith; element = inl refl; attribute = inl refl }))
   ]
     where
@@ -170,13 +170,13 @@ module _ (lim : Limits) where
           on_along (frame fs y n ats sp) (frame fs y n ats sp) k k no_piece p m (frames, g.4, tt) (frames, g.4, b)
           (ap (λ l. (frames_spelling (frame fs y n ats sp) ++ spelling k) ++ l) e ∙ ap (λ l. l ++ m) (sym (append-nil (frames_spelling (frame fs y n ats sp) ++ spelling k)))) w s r
 
-  content_reads : (fs : Frames) (x : Content) → IsFrames fs → IsContent (inside fs) x → IsContentWithin lim (depth fs + 1) x → length (run x) ≤ lim.text → ReadsTo fs nothing no_piece → ReadsTo fs x no_piece
+  content_reads : (fs : Frames) (x : Content) → IsFrames fs → IsContent (inside fs) x → IsContentWithin lim (depth fs + 1) x → length (text_run x) ≤ lim.text → ReadsTo fs nothing no_piece → ReadsTo fs x no_piece
   content_reads fs nothing f g k h r = r
   content_reads fs mark f g k h r = quiet_reads fs mark nothing (65279 ∷ []) f tt g refl refl h r
   content_reads fs (space y c) f g k h r = quiet_reads fs (space y c) y _ f g.0 g refl refl h (content_reads fs y f g.0 k h r)
-  content_reads fs (char y c) f g k h r = quiet_reads fs (char y c) y _ f g.0 g refl refl h (content_reads fs y f g.0 k (omega (arith, h, length-append (run y) (encode c))) r)
-  content_reads fs (reference y t) f g k h r = quiet_reads fs (reference y t) y _ f g.0 g refl refl h (content_reads fs y f g.0 k (omega (arith, h, length-append (run y) (encode (reference_char t)))) r)
-  content_reads fs (cdata y d) f g k h r = quiet_reads fs (cdata y d) y _ f g.0 g refl refl h (content_reads fs y f g.0 k (omega (arith, h, length-append (run y) (settled d))) r)
+  content_reads fs (char y c) f g k h r = quiet_reads fs (char y c) y _ f g.0 g refl refl h (content_reads fs y f g.0 k (omega (arith, h, length-append (text_run y) (encode c))) r)
+  content_reads fs (reference y t) f g k h r = quiet_reads fs (reference y t) y _ f g.0 g refl refl h (content_reads fs y f g.0 k (omega (arith, h, length-append (text_run y) (encode (reference_char t)))) r)
+  content_reads fs (cdata y d) f g k h r = quiet_reads fs (cdata y d) y _ f g.0 g refl refl h (content_reads fs y f g.0 k (omega (arith, h, length-append (text_run y) (settled d))) r)
   content_reads fs (comment y t) f g k h r = quiet_reads fs (comment y t) y _ f g.0 g refl refl h (content_reads fs y f g.0 k h r)
   content_reads fs (bare y n) f g k h r = quiet_reads fs (bare y n) y _ f g.0 g refl refl h (content_reads fs y f g.0 k h r)
   content_reads fs (instruction y n c d) f g k h r = quiet_reads fs (instruction y n c d) y _ f g.0 g refl refl h (content_reads fs y f g.0 k h r)
@@ -191,7 +191,7 @@ module _ (lim : Limits) where
   -- content outside the root has no run
   document_reads : (x : Content) → IsContent false x → has_element x ≡ true → IsWithin lim x → Clean lim (spelling x)
   document_reads x g e k =
-      let none : length (run x) ≡ 0 = ap length (no_run x g) in
+      let none : length (text_run x) ≡ 0 = ap length (no_run x g) in
       subst (Clean lim) (append-nil (spelling x)) (content_reads bottom x tt g k (omega arith) (start_reads lim)).clean
 
   -- the other way: the tests of the last character
@@ -244,7 +244,7 @@ module _ (lim : Limits) where
   last_of n h = elim (unsnoc n) [ inl e ↦ absurd (false≢true (ap is_name (sym e) ∙ h)) | inr q ↦ q ]
 
   module _ (fs : Frames) (x : Content) (n : List ℕ) (frames : IsFrames fs) (content : IsContent (inside fs) x) (may : may_open (inside fs) (has_element x) ≡ true) (name : is_name n ≡ true) where
-    element_within : (rest : List ℕ) → Clean lim ((frames_spelling fs ++ spelling x) ++ (60 ∷ (n ++ rest))) → (length (run x) ≤ lim.text) × (depth fs + 1 ≤ lim.depth) × (length (encodes n) ≤ lim.name)
+    element_within : (rest : List ℕ) → Clean lim ((frames_spelling fs ++ spelling x) ++ (60 ∷ (n ++ rest))) → (length (text_run x) ≤ lim.text) × (depth fs + 1 ≤ lim.depth) × (length (encodes n) ≤ lim.name)
     element_within rest h = (
       run_within fs x less (n ++ rest) (frames, content, tt) (subst (Clean lim) (sym (append_assoc (frames_spelling fs ++ spelling x) (60 ∷ []) (n ++ rest))) h),
       deep n name h,
@@ -261,7 +261,7 @@ module _ (lim : Limits) where
             let d = deep_within fs x less (started (c ∷ [])) c (m ++ rest) (frames, content, tt) (frames, content, (may, ap (λ z. z && true) starts)) (sym (append_assoc (frames_spelling fs ++ spelling x) (60 ∷ []) (c ∷ []))) (subst (Clean lim) (sym (append_assoc (frames_spelling fs ++ spelling x) (60 ∷ (c ∷ [])) (m ++ rest))) h) in
             omega (arith, not_deep c (length (names fs)) starts d, depth_names fs)
 
-    attribute_within : (ats : Attributes) (k : Head) (v : Value) (rest : List ℕ) → IsAttributes (attribute ats k v) → Clean lim ((frames_spelling fs ++ spelling x) ++ (60 ∷ (n ++ (attributes_spelling ats ++ (head_spelling k ++ (value_spelling v ++ rest)))))) → (depth fs + 1 + 1 ≤ lim.depth) × (length (encodes k.name) ≤ lim.name) × (length (value_run v) ≤ lim.text)
+    attribute_within : (ats : Attributes) (k : Head) (v : AttributeValue) (rest : List ℕ) → IsAttributes (attribute ats k v) → Clean lim ((frames_spelling fs ++ spelling x) ++ (60 ∷ (n ++ (attributes_spelling ats ++ (head_spelling k ++ (value_spelling v ++ rest)))))) → (depth fs + 1 + 1 ≤ lim.depth) × (length (encodes k.name) ≤ lim.name) × (length (value_run v) ≤ lim.text)
     attribute_within ats k v rest g h = (
       deep k.name g.1.1 refl,
       let l = last_of k.name g.1.1 in
@@ -312,12 +312,12 @@ module _ (lim : Limits) where
       let all = before fs y (single_tag n ats sp) rest h in
       (content_within fs y _ f g.0 all, tag_within fs y n f g.0 g.1 g.2 ats (sp ++ (47 ∷ (62 ∷ rest))) g.4 (subst (Clean lim) (simp append_assoc) all))
   content_within fs (tagged y n ats sp k sp2) rest f g h =
-      let all = before fs y (start_tag n ats sp ++ (spelling k ++ end_tag n sp2)) rest h in
+      let all = before fs y (start_tag_spelling n ats sp ++ (spelling k ++ end_tag_spelling n sp2)) rest h in
       let frames : IsFrames (frame fs y n ats sp) = (f, g.0, g.1, g.2, g.3, g.6) in
-      let inner : Clean lim ((frames_spelling (frame fs y n ats sp) ++ spelling k) ++ (end_tag n sp2 ++ rest)) = subst (Clean lim) (simp append_assoc) all in (
+      let inner : Clean lim ((frames_spelling (frame fs y n ats sp) ++ spelling k) ++ (end_tag_spelling n sp2 ++ rest)) = subst (Clean lim) (simp append_assoc) all in (
         content_within fs y _ f g.0 all,
-        tag_within fs y n f g.0 g.1 g.2 ats (sp ++ (62 ∷ (spelling k ++ (end_tag n sp2 ++ rest)))) g.6 (subst (Clean lim) (simp append_assoc) all),
-        content_within (frame fs y n ats sp) k (end_tag n sp2 ++ rest) frames g.4 inner,
+        tag_within fs y n f g.0 g.1 g.2 ats (sp ++ (62 ∷ (spelling k ++ (end_tag_spelling n sp2 ++ rest)))) g.6 (subst (Clean lim) (simp append_assoc) all),
+        content_within (frame fs y n ats sp) k (end_tag_spelling n sp2 ++ rest) frames g.4 inner,
         run_within (frame fs y n ats sp) k less (47 ∷ (n ++ (sp2 ++ (62 ∷ rest)))) (frames, g.4, tt) (subst (Clean lim) (simp append_assoc) inner),
       )
 

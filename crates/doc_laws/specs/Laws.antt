@@ -10,7 +10,7 @@ use Rattle.gcx_model.specs.Tree.{Token, Start, Chars, End, opening}
 use Rattle.gcx_model.specs.Growth.{Leads, may_all}
 use Rattle.gcx_model.specs.Attributes.{Attributes, attribute_names}
 use Rattle.gcx_model.specs.Grammar.{Content, SpellsDocument, Viable}
-use Rattle.gcx_model.specs.Fronts.{Frames, Piece, tag, part_name, IsFront, front_spelling, Opens}
+use Rattle.gcx_model.specs.Fronts.{Frames, Piece, tag, part_name, IsFront, front_spelling, OpensFrames}
 use Rattle.gcx_model.specs.declared.fault.DocFault.{DocFault}
 use Rattle.gcx_model.specs.Faults.{AtSyntax, size, Comes, Clean, FaultIs}
 use Rattle.gcx_model.specs.Seen.{SeenIs, seen_tree, LastTag, SeenInWords}
@@ -40,11 +40,11 @@ SpelledIsDocument = (cs : List ℕ) (d : Nodes) → SpellsDocument cs d → IsDo
 
 -- Every front of a document can go on to one.
 abbrev pub FrontsAreViable : Type 0
-FrontsAreViable = (cs : List ℕ) (fs : Frames) (x : Content) (p : Piece) → Opens cs fs x p → Viable cs
+FrontsAreViable = (cs : List ℕ) (fs : Frames) (x : Content) (p : Piece) → OpensFrames cs fs x p → Viable cs
 
 -- What can go on to a document is a front of one.
 abbrev pub ViableIsFront : Type 0
-ViableIsFront = (cs : List ℕ) → Viable cs → (fs : Frames) × (x : Content) × (p : Piece) × Opens cs fs x p
+ViableIsFront = (cs : List ℕ) → Viable cs → (fs : Frames) × (x : Content) × (p : Piece) × OpensFrames cs fs x p
 
 -- The machine reads exactly the fronts of documents, each to its state.
 abbrev pub StepsAreFronts : Type 0
@@ -76,7 +76,7 @@ OneSeen = (lim : Limits) (b : List ℕ) (ended : Bool) (ts us : List Token) → 
 
 -- The longest front that ends with a tag, closed by end tags, spells a document with the tokens that are seen.
 abbrev pub SeenIsClosed : Type 0
-SeenIsClosed = (cs : List ℕ) (fs : Frames) (x : Content) (p : Piece) → Opens cs fs x p → LastTag cs fs x
+SeenIsClosed = (cs : List ℕ) (fs : Frames) (x : Content) (p : Piece) → OpensFrames cs fs x p → LastTag cs fs x
 
 -- A name that came before in its tag makes a fault where a character ends it.
 abbrev pub NamesComeOnce : Type 0

@@ -6,7 +6,7 @@ use Rattle.gcx_model.specs.Tree.{Token, Start}
 use Rattle.gcx_model.specs.References.{BegunReference, letters, number, decimals, hexadecimals, digit, value_in}
 use Rattle.gcx_model.specs.Attributes.{Attributes, attribute_names}
 use Rattle.gcx_model.specs.Markup.{marks, brackets}
-use Rattle.gcx_model.specs.Grammar.{Content, nothing, has_element, has_type, run, attribute_nodes}
+use Rattle.gcx_model.specs.Grammar.{Content, nothing, has_element, has_type, text_run, attribute_nodes}
 use Rattle.gcx_model.specs.Fronts.{Frames, Part, no_part, spaced, part_name, name_spaced, equals, value, value_amp, Piece, no_piece, less, started, tag, slashed, ending, ended, question, target, target_mark, in_instruction, doc_wording, doc_gap, doc, doc_literal, bang, bang_dash, in_comment, comment_dash, comment_end, cdsect_word, in_cdsect, amp, front_spelling, IsFront, names, inside, piece_run, text_of, seen_tokens}
 use Rattle.doc_laws.specs.Machine.{Referring, Letters, Number, Decimal, Hexadecimal, Mode, Opening, Between, Less, StartName, StartSpace, AttributeName, AttributeSpace, Equals, InValue, InValueReference, ValueEnd, Slash, EndName, EndSpace, Question, Target, TargetMark, InInstruction, DocWord, DocSpace, Doc, DocLiteral, Bang, BangDash, Comment, CommentDash, CommentEnd, CDSectWord, InCDSect, InReference, State}
 
@@ -93,7 +93,7 @@ piece_attr other = []
 
 -- the tokens of a tag that isn't whole, and of the run before it
 abbrev pub tag_tokens : Content → List ℕ → Attributes → List Token
-tag_tokens x n ats = text_of (run x) ++ (Start (encodes n) ∷ tokens (attribute_nodes ats))
+tag_tokens x n ats = text_of (text_run x) ++ (Start (encodes n) ∷ tokens (attribute_nodes ats))
 
 abbrev pub piece_pending : Content → Piece → List Token
 piece_pending x (tag n ats p) = tag_tokens x n ats

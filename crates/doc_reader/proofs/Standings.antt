@@ -17,7 +17,7 @@ use Rattle.doc_laws.proofs.Pieces.{Stands as Kept, fault_stays, end_cut, end_sho
 use Rattle.doc_laws.proofs.Unique.{fault_one}
 use Rattle.doc_tokens.specs.declared.token.Token.{Token}
 use Rattle.doc_tokens.specs.declared.token.Token.TheVariants.{EndOfDocument}
-use Rattle.doc_reader.specs.Standing.{ReaderView, end_token, waiting, with_given, Gives, GivesBy, IsFault, IsReading, HasRead, HasStopped, HasLost, GoesOnBy, GoesOn, Stands, IsRefused, with_tokens, given_token, said_of}
+use Rattle.doc_reader.specs.Standing.{ReaderView, end_token, waiting, with_given, Gives, GivesBy, IsFault, IsReading, HasRead, HasStopped, HasLost, GoesOnBy, ReaderGoesOn, Stands, IsRefused, with_tokens, given_token, said_of}
 use Rattle.doc_reader.specs.Piece.{Took, IsSame, Ends}
 use Rattle.doc_reader.proofs.Givings.{map-append, said-map, gives_open, gives_whole, gives_more}
 use Rattle.doc_reader.proofs.Pieces.{kept_of, all_read, took_more, no_fault_yet}
@@ -191,7 +191,7 @@ module _ (h : ReaderView) (ts rest : List Said) (first : h.state.tokens ≡ ts +
   goes_taken (Some (TextLong n)) q = stopped_taken q
   goes_taken (Some (TooLong n)) q = stopped_taken q
 
-  on_taken : (ended : Bool) → GoesOn ended h lim b given → GoesOn ended (with_tokens h rest) lim b (given ++ map given_token ts)
+  on_taken : (ended : Bool) → ReaderGoesOn ended h lim b given → ReaderGoesOn ended (with_tokens h rest) lim b (given ++ map given_token ts)
   on_taken true q = tt
   on_taken false q = (q.0, goes_taken h.refused q.1)
 
@@ -271,7 +271,7 @@ module _ (h : ReaderView) (ts : List Said) (lim : Limits) (b : List ℕ) (given 
   goes_put (Some (TextLong n)) q = stopped_put q
   goes_put (Some (TooLong n)) q = stopped_put q
 
-  on_put : (ended : Bool) → GoesOn ended h lim b (given ++ map given_token ts) → GoesOn ended (with_tokens h (ts ++ h.state.tokens)) lim b given
+  on_put : (ended : Bool) → ReaderGoesOn ended h lim b (given ++ map given_token ts) → ReaderGoesOn ended (with_tokens h (ts ++ h.state.tokens)) lim b given
   on_put true q = tt
   on_put false q = (q.0, goes_put h.refused q.1)
 

@@ -156,9 +156,9 @@ GoesOnBy (Some Memory) h lim b given = HasLost h.state.tokens lim b given
 GoesOnBy (Some f) h lim b given = HasStopped h.state.tokens lim b given
 
 -- what an open reader goes on from; after finish nothing goes on
-abbrev pub GoesOn : Bool → ReaderView → Limits → List ℕ → List Token → Type 0
-GoesOn false h lim b given = (h.end_waits ≡ false) × GoesOnBy h.refused h lim b given
-GoesOn true h lim b given = Unit {0}
+abbrev pub ReaderGoesOn : Bool → ReaderView → Limits → List ℕ → List Token → Type 0
+ReaderGoesOn false h lim b given = (h.end_waits ≡ false) × GoesOnBy h.refused h lim b given
+ReaderGoesOn true h lim b given = Unit {0}
 
 -- The reader with these limits was fed exactly these bytes, in whatever pieces, and gave these tokens.
 pub record Stands (h : ReaderView) (lim : Limits) (b : List ℕ) (ended : Bool) (given : List Token) : Type 0 where
@@ -168,7 +168,7 @@ pub record Stands (h : ReaderView) (lim : Limits) (b : List ℕ) (ended : Bool) 
   pub fault : IsFault h.refused lim b ended
   -- the tokens given and those that wait are those of the whole tags, each once and in order
   pub gives : GivesBy h.refused lim b ended (given ++ waiting h)
-  pub goes_on : GoesOn ended h lim b given
+  pub goes_on : ReaderGoesOn ended h lim b given
 
 -- the first token that waited was taken, or none waited
 abbrev pub Takes : Option Token → List Token → List Token → Type 0

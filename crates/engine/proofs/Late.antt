@@ -23,7 +23,7 @@ use Rattle.move_laws.proofs.Unmoved.{quiet_token}
 use Rattle.move_laws.specs.Quiet.{by_opening}
 use Rattle.run_laws.proofs.Summing.{sums_by_feed, taken_is_given}
 use Rattle.buf_tree.specs.Loose.{Passed, Loosely, StandsLoosely, GivesNone, cells_passed, last_open, one_passed, passed_cells, with_passed}
-use Rattle.buf_tree.specs.Shape.{Cell, Rising, num}
+use Rattle.buf_tree.specs.Shape.{Cell, CellsRise, num}
 use Rattle.buf_tree.specs.Stands.{Seen, StandsFor, seen, told}
 use Rattle.buf_tree.specs.View.{View, capped, num_in, level_in}
 use Rattle.buf_tree.proofs.OwnPlaces.{rows_rise}
@@ -461,11 +461,11 @@ module _ (bytes : List ℕ) (past : Past) (p q : ProjectorView) (v w : View) (be
   row : (c : Cell) × (c.place ≡ 0) × (num c ≡ one.serial) × (all.rows ≡ (with_passed places ps v).rows ++ c ∷ [])
   row = one_row_more v ps one places 0 (places_length ps)
 
-  rising : Rising ((with_passed places ps v).rows ++ row.0 ∷ [])
+  rising : CellsRise ((with_passed places ps v).rows ++ row.0 ∷ [])
   rising =
       let both : passed_in bytes p.passed ≡ ps ++ one ∷ [] = ap (passed_in bytes) split ∙ map-append (passed_of bytes) q.passed (x ∷ []) in
       let loose = subst (λ (xs : List Passed). StandsLoosely xs v past) both before.buffer in
-      subst Rising row.3 (rows_rise v (ps ++ one ∷ []) past loose (places ++ 0 ∷ []) (places_push ps 0 one)).0
+      subst CellsRise row.3 (rows_rise v (ps ++ one ∷ []) past loose (places ++ 0 ∷ []) (places_push ps 0 one)).0
 
   pub popped_dead : (a : Node) → past.tree.at ≡ Some a → roles_live past.plan past.tree past.acts a ≡ []
   popped_dead a e =

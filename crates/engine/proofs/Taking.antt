@@ -11,12 +11,12 @@ use Rattle.gcx_model.specs.Past.{Past, past_acted, is_ahead, reopened}
 use Rattle.move_laws.specs.Moves.{IsNext, NoneLeft}
 use Rattle.move_laws.proofs.Keeping.{taken_are_there}
 use Rattle.run_laws.proofs.Summing.{taken_is_given}
-use Rattle.matcher.specs.Matcher.{Stands}
+use Rattle.matcher.specs.Matcher.{MatcherAt}
 use Rattle.buf_tree.specs.Shape.{Cell}
 use Rattle.buf_tree.specs.View.{View, capped}
 use Rattle.projector.specs.Projector.{Projects, Places}
 use Rattle.projector.specs.declared.projector.Projector.{Projector}
-use Rattle.pull_eval.specs.Acting.{Beside, SamePlaces, Takes}
+use Rattle.pull_eval.specs.Acting.{Beside, SamePlaces, TakesAction}
 use Rattle.pull_eval.specs.declared.machine.Acted.{Acted}
 use Rattle.pull_eval.specs.declared.machine.Acted.TheVariants as acted
 use Rattle.pull_eval.specs.declared.position.Position.{Position}
@@ -44,7 +44,7 @@ module _ (plan : PlanTree) (p : Projector) (P : Tree) (k fed : ℕ) where
   -- what was heard before the last token doesn't change with an action
   heard_acted : (a : Action) → fed ≤ length (so_far plan P k) → Projects p (past_at plan P k fed) → Projects p (past_acted a (past_at plan P k fed))
   heard_acted a l h = record {
-    matcher = subst (λ (A : List Action). Stands p.matcher (record { plan = plan; tree = reopened P; acts = filter (is_ahead (reopened P)) A; fed = 0 }) false)
+    matcher = subst (λ (A : List Action). MatcherAt p.matcher (record { plan = plan; tree = reopened P; acts = filter (is_ahead (reopened P)) A; fed = 0 }) false)
         (sym (take-append-le fed (so_far plan P k) (a ∷ []) l)) h.matcher;
     none = h.none;
   }
@@ -81,7 +81,7 @@ goes_to : (plan : PlanTree) (P : Tree) (k j : ℕ) (u v w : List ℕ) → v ≡ 
 goes_to plan P k j u v w e g = subst (λ (z : List ℕ). Goes plan P k P j u z) e g
 
 pub did : (plan : PlanTree) (before now : Tree → Type 0) (p : Projector) (w m : Position) (v u : View) (P : Tree) (k : ℕ) (s : ActorsStand plan before p w v P k) (out new : List ℕ) (a : Acted)
-    → Takes (past_at plan P k s.fed) k m v u out new a → now P → Did plan now p m v u P k out new a
+    → TakesAction (past_at plan P k s.fed) k m v u out new a → now P → Did plan now p m v u P k out new a
 did plan before now p w m v u P k s out new (acted.Wrote n) t st =
     let same : SamePlaces v.rows u.rows = subst (λ (z : View). SamePlaces v.rows z.rows) (sym t.4) (same_places v.rows) in
     (t.1.left, stands_acted plan before now p w m v u P k s (Wrote t.0) t.1 same t.5 st, goes_to plan P k (suc k) out (out ++ t.0) new (sym t.3) (goes_act plan P k (Wrote t.0) out t.1.taken))

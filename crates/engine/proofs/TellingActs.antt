@@ -17,7 +17,7 @@ use Rattle.buf_tree.specs.View.{View}
 use Rattle.buf_tree.specs.Calls.{left_out}
 use Rattle.buf_tree.specs.Stands.{StandsFor}
 use Rattle.projector.specs.declared.projector.Projector.{Projector}
-use Rattle.pull_eval.specs.Acting.{Takes}
+use Rattle.pull_eval.specs.Acting.{TakesAction}
 use Rattle.pull_eval.specs.declared.machine.Acted.{Acted}
 use Rattle.pull_eval.specs.declared.machine.Acted.TheVariants as acted
 use Rattle.pull_eval.specs.declared.position.Position.{Position}
@@ -94,7 +94,7 @@ module _ (plan : PlanTree) (before : Tree → Type 0) (p : Projector) (w m : Pos
   abbrev past : Past
   past = past_at plan P k s.fed
 
-  tells : (a : Acted) → Takes past k m v u out new a → TellsBy a
+  tells : (a : Acted) → TakesAction past k m v u out new a → TellsBy a
   tells (acted.Wrote n) t =
       let b = t.0 in
       let stands : StandsFor v past = s.beside.buffer in
@@ -119,10 +119,10 @@ module _ (plan : PlanTree) (before : Tree → Type 0) (p : Projector) (w m : Pos
   tells acted.Blocked t = tt
   tells acted.Finished t = tt
 
-  pub tells_wrote : (a : Acted) (n : ℕ) → a ≡ acted.Wrote n → Takes past k m v u out new a → TellsOne a
+  pub tells_wrote : (a : Acted) (n : ℕ) → a ≡ acted.Wrote n → TakesAction past k m v u out new a → TellsOne a
   tells_wrote a n e t = subst TellsOne (sym e) (subst TellsBy e (tells a t))
 
-  pub tells_signed : (a : Acted) (x : Serial) (r : Role) → a ≡ acted.SignedOff x r → Takes past k m v u out new a → TellsOne a
+  pub tells_signed : (a : Acted) (x : Serial) (r : Role) → a ≡ acted.SignedOff x r → TakesAction past k m v u out new a → TellsOne a
   tells_signed a x r e t = subst TellsOne (sym e) (subst TellsBy e (tells a t))
 
 -- the lines of one action are the first of those left

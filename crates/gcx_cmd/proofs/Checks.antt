@@ -25,7 +25,7 @@ use Rattle.gcx_cmd.proofs.Stops.{causes_of, keeps_of, lacks, untouched}
 use Rattle.gcx_cmd.proofs.Wholes.{over}
 use Rattle.gcx_cmd.specs.CheckDoes.{CheckDoes, IsText, OverText, OverTrace, TraceDoes}
 use Rattle.gcx_cmd.specs.Does.{DoesIf}
-use Rattle.gcx_cmd.specs.DocumentDoes.{Over, HasFault, IsCut, ReadsTokens, TokensDoes}
+use Rattle.gcx_cmd.specs.DocumentDoes.{Over, HasFault, IsCut, SeesTokens, TokensDoes}
 use Rattle.gcx_cmd.specs.Main.{HasNoMemory}
 use Rattle.gcx_cmd.specs.Outside.{StoreView, beside}
 use Rattle.gcx_cmd.specs.QueryDoes.{AcceptsQuery}
@@ -44,7 +44,7 @@ pub record HasDocument (q d : List ℕ) (a b : ShelfView) (x : List ExprTree) (t
   pub pieces : List (List ℕ)
   pub doc : Reads d (length a.given + 1) a b pieces End
   pub reads_on : ReadsOn full_limits pieces End
-  pub tokens : ReadsTokens pieces End ts
+  pub tokens : SeesTokens pieces End ts
 
 -- the tokens of a document come one behind the other
 pub come : (d : List ℕ) (a b : ShelfView) (tokens : VecDeque Given Global) → TokensDoes d (Ok tokens) a b → may_all (map said_of tokens.items) opening ≡ true

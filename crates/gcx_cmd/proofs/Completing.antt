@@ -24,7 +24,7 @@ use Rattle.doc_laws.proofs.Unique.{fault_one}
 use Rattle.gcx_cmd.proofs.Complete.{complete_from, document_refused_from, one_refusal, refused_from, refused_not, there}
 use Rattle.gcx_cmd.proofs.Says.{DocIsClean, DocSays, QuerySays, check_doc_says, check_query_says, clean_document, explain_query_says, one_query, peak_doc_says, peak_query_says, run_doc_says, run_query_says, says_of_document, says_of_query, whole_doc_says, whole_query_says}
 use Rattle.gcx_cmd.specs.CheckDoes.{CheckDoes}
-use Rattle.gcx_cmd.specs.Commands.{LacksFile, document_of, queries_of, query_of, trace_of}
+use Rattle.gcx_cmd.specs.Commands.{LacksFile, document_of, queries_of, query_of, trace_file}
 use Rattle.gcx_cmd.specs.Completes.{AreQueries, Completes, CompletesFor, Ends, HoldsSuch, ReadsWell, WritesWell}
 use Rattle.gcx_cmd.specs.Does.{Diagnoses, Does, DoesIf, Obeys, Tells}
 use Rattle.gcx_cmd.specs.ExplainDoes.{ExplainDoes}
@@ -173,7 +173,7 @@ module _ (c : Command) (s : Status) (a m b : Outside) (keeps : Keeps c s a m) (d
   -- each file of the command is there
   lacks_none : (q : List ℕ) (P : List ℕ → Type 0) → query_of c ≡ Some q → HoldsSuch a.shelf.names q P
       → ((d : List ℕ) → document_of c ≡ Some d → (bytes : List ℕ) × (content_of a.shelf.names d ≡ Some bytes))
-      → ((t : List ℕ) → trace_of c ≡ Some t → (bytes : List ℕ) × (content_of a.shelf.names t ≡ Some bytes)) → LacksFile c a.shelf m.shelf → ⊥
+      → ((t : List ℕ) → trace_file c ≡ Some t → (bytes : List ℕ) × (content_of a.shelf.names t ≡ Some bytes)) → LacksFile c a.shelf m.shelf → ⊥
   lacks_none q P file holds docs traces lacks = elim lacks.is_file [
     | inl is ↦ there a.shelf.names lacks.name holds.0 (ap (content_of a.shelf.names) (sym (some_same q lacks.name (sym file ∙ is))) ∙ holds.1) lacks.missing
     | inr others ↦ elim others [
@@ -198,7 +198,7 @@ module _ (c : Command) (s : Status) (a m b : Outside) (keeps : Keeps c s a m) (d
     docs P holds n is = (holds.0, ap (content_of a.shelf.names) (sym (some_same d n (sym doc ∙ is))) ∙ holds.1)
 
     ends_if : HoldsSuch a.shelf.names q IsQuery → HoldsSuch a.shelf.names d IsDocument
-        → ((t : List ℕ) → trace_of c ≡ Some t → (bytes : List ℕ) × (content_of a.shelf.names t ≡ Some bytes))
+        → ((t : List ℕ) → trace_file c ≡ Some t → (bytes : List ℕ) × (content_of a.shelf.names t ≡ Some bytes))
         → ReadsWell a b → WritesWell c a b → ((n : ℕ) × (s ≡ status.TraceRefused n)) ⊎ Ends status.Ok s
     ends_if hq hd traces reads writes =
         complete_from s hq.0 hd.0 (says_of_query q hq.0 a.shelf m.shelf hq.1 s says) (says_of_document d hd.0 a.shelf m.shelf hd.1 s says_doc) hq.2 hd.2
@@ -211,8 +211,8 @@ module _ (c : Command) (s : Status) (a m b : Outside) (keeps : Keeps c s a m) (d
         (no_read reads none) (no_write writes)
 
     -- and no other file
-    module _ (alone : trace_of c ≡ None) (not_judged : (n : ℕ) → s ≡ status.TraceRefused n → ⊥) where
-      traces : (t : List ℕ) → trace_of c ≡ Some t → (bytes : List ℕ) × (content_of a.shelf.names t ≡ Some bytes)
+    module _ (alone : trace_file c ≡ None) (not_judged : (n : ℕ) → s ≡ status.TraceRefused n → ⊥) where
+      traces : (t : List ℕ) → trace_file c ≡ Some t → (bytes : List ℕ) × (content_of a.shelf.names t ≡ Some bytes)
       traces t is = absurd (none_some t (sym alone ∙ is))
 
       well_if : HoldsSuch a.shelf.names q IsQuery → HoldsSuch a.shelf.names d IsDocument → ReadsWell a b → WritesWell c a b → Ends status.Ok s

@@ -9,7 +9,7 @@ use Rattle.gcx_cmd.proofs.FileRead.{FileRead}
 use Rattle.gcx_cmd.specs.DocumentDoes.{OverDoc}
 use Rattle.gcx_cmd.specs.Outside.{Outside, sinks_of}
 use Rattle.gcx_cmd.specs.RunDoes.{EndsBy, HoldsSeen}
-use Rattle.gcx_cmd.specs.Running.{UnlessMemory}
+use Rattle.gcx_cmd.specs.Running.{UnlessOutOfMemory}
 use Rattle.gcx_cmd.specs.Runs.{DocumentRuns, SourceRuns}
 use Rattle.gcx_cmd.specs.Status.{ended_status}
 use Rattle.gcx_cmd.specs.declared.status.Status.TheVariants as status
@@ -17,7 +17,7 @@ use Rattle.gcx_cmd.specs.declared.status.Status.TheVariants as status
 module _ (tracing : Bool) (ahead : ℕ) (x : List ExprTree) (d : List ℕ) (a b : Outside) (s t : SourceView) (f : FileRead d a.shelf b.shelf s t) where
   over : (r : Report) → SourceRuns tracing ahead x r s t a.out b.out a.err b.err b.store
       → OverDoc d (λ pieces stop. EndsBy x tracing (ended_status r.ended) pieces stop (sinks_of a) (sinks_of b)
-      × UnlessMemory (ended_status r.ended) (HoldsSeen x ahead pieces stop b.store)) a.shelf b.shelf
+      × UnlessOutOfMemory (ended_status r.ended) (HoldsSeen x ahead pieces stop b.store)) a.shelf b.shelf
   over r w = record {
     pieces = w.pieces;
     stop = w.stop;
@@ -31,7 +31,7 @@ module _ (tracing : Bool) (ahead : ℕ) (x : List ExprTree) (d : List ℕ) (a b 
   document_runs r w = by_end r.ended (over r w)
     where
       by_end : (y : Ended) → OverDoc d (λ pieces stop. EndsBy x tracing (ended_status y) pieces stop (sinks_of a) (sinks_of b)
-          × UnlessMemory (ended_status y) (HoldsSeen x ahead pieces stop b.store)) a.shelf b.shelf → DocumentRuns tracing ahead x d (ended_status y) a b
+          × UnlessOutOfMemory (ended_status y) (HoldsSeen x ahead pieces stop b.store)) a.shelf b.shelf → DocumentRuns tracing ahead x d (ended_status y) a b
       by_end end.Ok o = o
       by_end (end.Refused g) o = o
       by_end end.ReadFault o = inr o

@@ -37,7 +37,7 @@ use Rattle.gcx_cmd.specs.ManyDoes.{AcceptsPlans, EachQueryEnds, FailsAtOut, HasM
 use Rattle.gcx_cmd.specs.ReadEnd.{attach_status}
 use Rattle.gcx_cmd.specs.Running.{IsPlanOf, Settles}
 use Rattle.gcx_cmd.specs.Status.{ended_status}
-use Rattle.gcx_cmd.specs.Tracing.{IsTrace}
+use Rattle.gcx_cmd.specs.Tracing.{IsQueryTrace}
 use Rattle.gcx_cmd.specs.declared.status.Status.{Status}
 use Rattle.gcx_cmd.specs.declared.status.Status.TheVariants as status
 
@@ -50,7 +50,7 @@ module _ (x : List ExprTree) (plan : PlanTree) (is : IsPlanOf x plan) where
   before_on ps stop w (AtEnd over s) = AtEnd over (settles_on x plan is _ _ w s)
 
   one_on : (end : RunEnd) (ps : List (List ℕ)) (stop : Stop) (at i : ℕ) (a b : SinkView) → EndsOne (PlanSettles plan full_limits) (PlanTrace plan full_limits) full_limits end ps stop at i a b
-      → EndsOne (Settles x) (IsTrace x) full_limits end ps stop at i a b
+      → EndsOne (Settles x) (IsQueryTrace x) full_limits end ps stop at i a b
   one_on Whole ps stop at i a b h = ends_map _ _ _ _ (settles_on x plan is) (trace_on x plan is) full_limits false Whole ps stop (alone a) (alone b) h
   one_on (Refused f) ps stop at i a b h = ends_map _ _ _ _ (settles_on x plan is) (trace_on x plan is) full_limits false (Refused f) ps stop (alone a) (alone b) h
   one_on ReadFailed ps stop at i a b h = ends_map _ _ _ _ (settles_on x plan is) (trace_on x plan is) full_limits false ReadFailed ps stop (alone a) (alone b) h

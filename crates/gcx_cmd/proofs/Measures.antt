@@ -32,11 +32,11 @@ use Rattle.gcx_cmd.specs.Main.{Accepts}
 use Rattle.gcx_cmd.specs.Outside.{Outside, StoreView}
 use Rattle.gcx_cmd.specs.Reads.{Reads}
 use Rattle.gcx_cmd.specs.RunDoes.{EndsBy, HoldsSeen, RunDoes}
-use Rattle.gcx_cmd.specs.Running.{Settles, UnlessMemory}
+use Rattle.gcx_cmd.specs.Running.{Settles, UnlessOutOfMemory}
 use Rattle.gcx_cmd.specs.Runs.{DocumentMeasures, NumbersIn, SelfRuns, SourceRuns, StopsMeasure}
 use Rattle.gcx_cmd.specs.Status.{ended_status}
 use Rattle.gcx_cmd.specs.Texts.{self_query}
-use Rattle.gcx_cmd.specs.Tracing.{IsTrace}
+use Rattle.gcx_cmd.specs.Tracing.{IsQueryTrace}
 use Rattle.gcx_cmd.specs.declared.status.Status.TheVariants as status
 
 -- ---- the answer
@@ -68,8 +68,8 @@ module _ (q : List ExprTree) (d : List ℕ) (a b : ShelfView) (s t : SourceView)
   ends_as : (y : Ended) → r.ended ≡ y → EndsBy q false (ended_status y) w.pieces w.stop (sinks o e) (sinks p g)
   ends_as y is = subst (λ (z : Ended). EndsBy q false (ended_status z) w.pieces w.stop (sinks o e) (sinks p g)) is w.ends
 
-  holds_as : (y : Ended) → r.ended ≡ y → UnlessMemory (ended_status y) (HoldsSeen q 1 w.pieces w.stop after)
-  holds_as y is = subst (λ (z : Ended). UnlessMemory (ended_status z) (HoldsSeen q 1 w.pieces w.stop after)) is w.holds
+  holds_as : (y : Ended) → r.ended ≡ y → UnlessOutOfMemory (ended_status y) (HoldsSeen q 1 w.pieces w.stop after)
+  holds_as y is = subst (λ (z : Ended). UnlessOutOfMemory (ended_status z) (HoldsSeen q 1 w.pieces w.stop after)) is w.holds
 
   over : (Says : List (List ℕ) → Stop → Type 0) → Says w.pieces w.stop → OverDoc d Says a b
   over Says says = record {
@@ -88,7 +88,7 @@ module _ (q : List ExprTree) (d : List ℕ) (a b : ShelfView) (s t : SourceView)
       (record { at_end = ends.0; clean = ends.1 }, w.numbers refl is, holds_as end.Ok is)
 
   -- the sink that keeps nothing never fails
-  never : StopsWriting (Settles q) (IsTrace q) false w.pieces w.stop (sinks o e) (sinks p g) → ⊥
+  never : StopsWriting (Settles q) (IsQueryTrace q) false w.pieces w.stop (sinks o e) (sinks p g) → ⊥
   never stops = elim stops.stops [
     | inl output ↦ (let rose : Rose o.faults p.faults = output.0.faults in absurd (omega (arith, rose, quiet)))
     | inr trace ↦ false≢true trace.0

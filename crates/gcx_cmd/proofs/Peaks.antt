@@ -12,7 +12,7 @@ use Rattle.gcx_cmd.proofs.Along.{keeps_same}
 use Rattle.gcx_cmd.proofs.Behind.{accepted_kept, both_keep, cause_later, doc_later, misses_later, opens_still, opens_two}
 use Rattle.gcx_cmd.proofs.Stops.{keeps_of, lacks}
 use Rattle.gcx_cmd.specs.Does.{DoesIf}
-use Rattle.gcx_cmd.specs.DocumentDoes.{Over, OverDoc, IsClean, ReadsTokens}
+use Rattle.gcx_cmd.specs.DocumentDoes.{Over, OverDoc, IsClean, SeesTokens}
 use Rattle.gcx_cmd.specs.Keeps.{HasCauses}
 use Rattle.gcx_cmd.specs.Main.{HasNoMemory}
 use Rattle.gcx_cmd.specs.Outside.{StoreView, Untouched, WritesAlone, beside}
@@ -143,7 +143,7 @@ module _ (q d : List ℕ) (a m b : ShelfView) (x : List ExprTree) (one : Opens 1
 
   -- its line is printed
   module _ (report : Report) (w : DocumentMeasures x d (Ok report) m b before after) (empty : after.rows ≡ map.empty) (o p : SinkView) where
-    tokens : ReadsTokens w.pieces w.stop w.says.1.tokens
+    tokens : SeesTokens w.pieces w.stop w.says.1.tokens
     tokens = record { clean = w.says.0; seen = w.says.1.seen }
 
     of : Over q d (beside a o e before) (beside b p e after) x w.pieces w.stop

@@ -17,7 +17,7 @@ use Rattle.gcx_cmd.specs.Outside.{Outside, Untouched, sinks_of}
 use Rattle.gcx_cmd.specs.QueryDoes.{AcceptsQuery}
 use Rattle.gcx_cmd.specs.Reads.{CausesFault, KeepsShelf, Opens}
 use Rattle.gcx_cmd.specs.RunDoes.{EndsBy, HoldsSeen, RunDoes, Runs}
-use Rattle.gcx_cmd.specs.Running.{UnlessMemory}
+use Rattle.gcx_cmd.specs.Running.{UnlessOutOfMemory}
 use Rattle.gcx_cmd.specs.Runs.{DocumentRuns}
 use Rattle.gcx_cmd.specs.declared.status.Status.{Status}
 use Rattle.gcx_cmd.specs.declared.status.Status.TheVariants as status
@@ -27,7 +27,7 @@ module _ (tracing : Bool) (ahead : ℕ) (q d : List ℕ) (a b : Outside) (m : Sh
   abbrev begun : Outside
   begun = record { shelf = m; out = a.out; err = a.err; store = a.store }
 
-  runs : (s : Status) → OverDoc d (λ ps stop. EndsBy x tracing s ps stop (sinks_of begun) (sinks_of b) × UnlessMemory s (HoldsSeen x ahead ps stop b.store)) m b.shelf
+  runs : (s : Status) → OverDoc d (λ ps stop. EndsBy x tracing s ps stop (sinks_of begun) (sinks_of b) × UnlessOutOfMemory s (HoldsSeen x ahead ps stop b.store)) m b.shelf
       → Runs tracing ahead q d s a b
   runs s o = record {
     x = x;
@@ -70,7 +70,7 @@ module _ (tracing : Bool) (ahead : ℕ) (q d : List ℕ) (a b : Outside) (m : Sh
   run_does (status.TraceRefused n) empty o = absurd o
 
   -- a write fault is one of the output, or of the trace that is asked for
-  write_cause : OverDoc d (λ ps stop. EndsBy x tracing status.WriteFault ps stop (sinks_of begun) (sinks_of b) × UnlessMemory status.WriteFault (HoldsSeen x ahead ps stop b.store)) m b.shelf
+  write_cause : OverDoc d (λ ps stop. EndsBy x tracing status.WriteFault ps stop (sinks_of begun) (sinks_of b) × UnlessOutOfMemory status.WriteFault (HoldsSeen x ahead ps stop b.store)) m b.shelf
       → Rose a.out.faults b.out.faults ⊎ (((tracing ≡ true) × Rose a.err.faults b.err.faults) ⊎ (⊥ × Rose a.shelf.write_faults b.shelf.write_faults))
   write_cause o = elim o.says.0.1.stops [
     | inl output ↦ inl output.0.faults

@@ -14,7 +14,7 @@ use Rattle.gcx_cmd.specs.Does.{DoesIf, Does, Diagnoses}
 use Rattle.gcx_cmd.specs.Outside.{Outside}
 use Rattle.gcx_cmd.specs.RunDoes.{Runs}
 use Rattle.gcx_cmd.specs.Running.{Settles}
-use Rattle.gcx_cmd.specs.Tracing.{IsTrace}
+use Rattle.gcx_cmd.specs.Tracing.{IsQueryTrace}
 use Rattle.gcx_cmd.specs.declared.status.Status.TheVariants as status
 
 took_denied : (xs ys : List (List ℕ)) (p q : List ℕ) (rest : List Call) → map Took xs ++ Denied p ∷ rest ≡ map Took ys ++ Denied q ∷ [] → rest ≡ []
@@ -92,7 +92,7 @@ took_less a b sure w os p o e short =
 -- err took more than what it had taken before the last thing was read, and then the output failed
 pub trace_before_output : (ahead : ℕ) (q d : List ℕ) (a b : Outside) (qs os : List (List ℕ)) (p : List ℕ) (r : Runs true ahead q d status.WriteFault a b)
     → b.out.calls ≡ a.out.calls ++ map Took os ++ Denied p ∷ [] → b.err.calls ≡ a.err.calls ++ map Took qs
-    → ((told : List ℕ) → SettlesBefore (IsTrace r.x) r.pieces r.stop told → length told < length (joined qs)) → ⊥
+    → ((told : List ℕ) → SettlesBefore (IsQueryTrace r.x) r.pieces r.stop told → length told < length (joined qs)) → ⊥
 trace_before_output ahead q d a b qs os p r out err more = elim r.ends.1.stops [
   | inl first ↦ (
       let took : Takes a.err b.err r.ends.1.told = first.1 in

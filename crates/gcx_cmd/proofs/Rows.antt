@@ -12,7 +12,7 @@ use Rattle.tree_laws.proofs.Lists.{In, In-filter}
 use Rattle.gcx_model.specs.Tree.{Node, Tree}
 use Rattle.gcx_model.specs.Past.{Past}
 use Rattle.buf_tree.specs.Row.{Row}
-use Rattle.buf_tree.specs.Shape.{Store, Cell, num, Rising, at_serial, place_for, is_under, entry_in, Shape}
+use Rattle.buf_tree.specs.Shape.{Store, Cell, num, CellsRise, at_serial, place_for, is_under, entry_in, Shape}
 use Rattle.buf_tree.specs.Spread.{SameButRoles, bare_cell}
 use Rattle.buf_tree.specs.Stands.{Seen, seen, told, parent_seen}
 use Rattle.buf_tree.specs.View.{View}
@@ -43,15 +43,15 @@ kept_tell past v ns same e =
 
 -- ---- children
 
-rising_filter : (p : Cell → Bool) (xs : List Cell) → Rising xs → Rising (filter p xs)
+rising_filter : (p : Cell → Bool) (xs : List Cell) → CellsRise xs → CellsRise (filter p xs)
 rising_filter p [] r = r
 rising_filter p (x ∷ xs) r = go (p x) (rising_filter p xs r.1)
   where
-    go : (b : Bool) → Rising (filter p xs) → Rising (cond b (x ∷ filter p xs) (filter p xs))
+    go : (b : Bool) → CellsRise (filter p xs) → CellsRise (cond b (x ∷ filter p xs) (filter p xs))
     go true rest = (λ y i. r.0 y (In-filter p y xs i).0, rest)
     go false rest = rest
 
-are_rising : (ys : List Cell) → Rising ys → AreRising (map num ys)
+are_rising : (ys : List Cell) → CellsRise ys → AreRising (map num ys)
 are_rising [] r = tt
 are_rising (y ∷ []) r = tt
 are_rising (y ∷ (z ∷ ys)) r = (r.0 z (inl refl), are_rising (z ∷ ys) r.1)

@@ -44,10 +44,10 @@ use Rattle.engine.specs.declared.report.Ended.TheVariants as end
 use Rattle.engine.specs.declared.report.Report.{Report}
 use Rattle.gcx_cmd.specs.Main.{HasNoMemory}
 use Rattle.gcx_cmd.specs.RunDoes.{EndsBy, HoldsSeen}
-use Rattle.gcx_cmd.specs.Running.{Settles, RowsAre, held_by, Holds, IsPlanOf, IsPlaced, UnlessMemory}
+use Rattle.gcx_cmd.specs.Running.{Settles, RowsAre, held_by, Holds, IsPlanOf, IsPlaced, UnlessOutOfMemory}
 use Rattle.gcx_cmd.specs.Runs.{NumbersOf, SourceRuns, stored}
 use Rattle.gcx_cmd.specs.Status.{ended_status}
-use Rattle.gcx_cmd.specs.Tracing.{IsTrace}
+use Rattle.gcx_cmd.specs.Tracing.{IsQueryTrace}
 use Rattle.engine.proofs.Nothing.{none_at_start}
 use Rattle.engine.proofs.Whole.{all_closed}
 use Rattle.gcx_cmd.proofs.Documents.{no_memory, seen_document}
@@ -60,7 +60,7 @@ module _ (q : List ExprTree) (plan : PlanTree) (is : IsPlanOf q plan) where
   pub settles_on : (b : List ℕ) (ended : Bool) (w : List ℕ) → PlanSettles plan full_limits b ended w → Settles q b ended w
   settles_on b ended w s = (s.tokens, s.seen, s.is ∙ plan_bytes q plan is.placed (seen_tree s.tokens))
 
-  pub trace_on : (b : List ℕ) (ended : Bool) (t : List ℕ) → PlanTrace plan full_limits b ended t → IsTrace q b ended t
+  pub trace_on : (b : List ℕ) (ended : Bool) (t : List ℕ) → PlanTrace plan full_limits b ended t → IsQueryTrace q b ended t
   trace_on b ended t (ts, seen, text) = (ts, seen, text ∙ ap (λ (p : PlanTree). text_of_lines (trace_lines p ts)) is.is_plan)
 
   -- the end of the run in the words of the status
@@ -120,7 +120,7 @@ module _ (plan : PlanTree) (ts : List Token) (v : View) (fed : ℕ) (st : Stands
 
 -- ---- a run
 
-unless : (x : Ended) (X Y : Type 0) → (X → Y) → UnlessLost x X → UnlessMemory (ended_status x) Y
+unless : (x : Ended) (X Y : Type 0) → (X → Y) → UnlessLost x X → UnlessOutOfMemory (ended_status x) Y
 unless end.Ok X Y f h = f h
 unless (end.Refused d) X Y f h = f h
 unless end.ReadFault X Y f h = f h
@@ -233,7 +233,7 @@ runs_nothing tracing ahead q t s o d m most memory =
           trace_front = trace_front_none tracing d (text_of_lines (trace_lines (plan_of (normal q)) w.0));
         },
       );
-      holds = subst (λ (x : Ended). UnlessMemory (ended_status x) (HoldsSeen q ahead [] More (stored m most))) (sym memory) tt;
+      holds = subst (λ (x : Ended). UnlessOutOfMemory (ended_status x) (HoldsSeen q ahead [] More (stored m most))) (sym memory) tt;
       numbers = λ one ok. absurd (apart (sym memory ∙ ok));
     }
   where

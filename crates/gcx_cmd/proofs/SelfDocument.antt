@@ -14,7 +14,7 @@ use Rattle.gcx_base.specs.Limits.{full_limits}
 use Rattle.gcx_base.specs.Name.{is_name}
 use Rattle.gcx_model.specs.Attributes.{is_text_char, no_attribute}
 use Rattle.gcx_model.specs.Document.{Nodes}
-use Rattle.gcx_model.specs.Grammar.{Content, nothing, char, tagged, start_tag, end_tag, spelling, IsContent, run, nodes, SpellsDocument}
+use Rattle.gcx_model.specs.Grammar.{Content, nothing, char, tagged, start_tag_spelling, end_tag_spelling, spelling, IsContent, text_run, nodes, SpellsDocument}
 use Rattle.gcx_model.specs.Within.{IsContentWithin, IsWithin as IsDocumentWithin}
 use Rattle.doc_laws.proofs.References.{low_char}
 use Rattle.doc_laws.proofs.Tests.{all_append}
@@ -83,9 +83,9 @@ good_text : (x : Content) (cs : List ℕ) → IsContent true x → list_all is_t
 good_text x [] g e = g
 good_text x (c ∷ cs) g e = let both = and_parts (is_text_char c) (list_all is_text_char cs) e in good_text (char x c) cs (g, refl, both.0) both.1
 
-run_text : (x : Content) (cs : List ℕ) → run (with_text x cs) ≡ run x ++ encodes cs
-run_text x [] = sym (append-nil (run x))
-run_text x (c ∷ cs) = run_text (char x c) cs ∙ append_assoc (run x) _ (encodes cs)
+run_text : (x : Content) (cs : List ℕ) → text_run (with_text x cs) ≡ text_run x ++ encodes cs
+run_text x [] = sym (append-nil (text_run x))
+run_text x (c ∷ cs) = run_text (char x c) cs ∙ append_assoc (text_run x) _ (encodes cs)
 
 within_text : (d : ℕ) (x : Content) (cs : List ℕ) → IsContentWithin full_limits d x → IsContentWithin full_limits d (with_text x cs)
 within_text d x [] w = w
@@ -100,7 +100,7 @@ pub record IsInner (depth : ℕ) (x : Content) (cs : List ℕ) : Type 0 where
   pub good : IsContent true x
   pub spelled : spelling x ≡ cs
   pub within : IsContentWithin full_limits depth x
-  pub no_run : run x ≡ []
+  pub no_run : text_run x ≡ []
 
 inner_nothing : (d : ℕ) → IsInner d nothing []
 inner_nothing d = record { good = tt; spelled = refl; within = tt; no_run = refl }
@@ -118,16 +118,16 @@ few_bytes : (n : List ℕ) → IsTagName n → length (encodes n) ≤ 1024
 few_bytes n t = omega (arith, ap length (encodes-IsAscii n t.ascii), t.few)
 
 inner_tags : (d : ℕ) (x : Content) (cs n : List ℕ) (inner : Content) (ds : List ℕ) → d ≤ 1000 → IsInner d x cs → IsTagName n → IsContent true inner → spelling inner ≡ ds
-    → IsContentWithin full_limits (d + 1) inner → length (run inner) ≤ 16777216 → IsInner d (in_tags x n inner) (cs ++ (start_tag n no_attribute [] ++ (ds ++ end_tag n [])))
+    → IsContentWithin full_limits (d + 1) inner → length (text_run inner) ≤ 16777216 → IsInner d (in_tags x n inner) (cs ++ (start_tag_spelling n no_attribute [] ++ (ds ++ end_tag_spelling n [])))
 inner_tags d x cs n inner ds low i t good spelled within short = record {
   good = (i.good, refl, t.name, refl, good, refl, tt);
-  spelled = ap (λ (s : List ℕ). s ++ (start_tag n no_attribute [] ++ (spelling inner ++ end_tag n []))) i.spelled
-      ∙ ap (λ (s : List ℕ). cs ++ (start_tag n no_attribute [] ++ (s ++ end_tag n []))) spelled;
+  spelled = ap (λ (s : List ℕ). s ++ (start_tag_spelling n no_attribute [] ++ (spelling inner ++ end_tag_spelling n []))) i.spelled
+      ∙ ap (λ (s : List ℕ). cs ++ (start_tag_spelling n no_attribute [] ++ (s ++ end_tag_spelling n []))) spelled;
   within = (i.within, (omega (arith, ap length i.no_run), low, few_bytes n t, tt), within, short);
   no_run = refl;
 }
 
-inner_leaf : (d : ℕ) (x : Content) (cs n ds : List ℕ) → d ≤ 1000 → IsInner d x cs → IsTagName n → IsShort ds → IsInner d (in_tags x n (with_text nothing ds)) (cs ++ (start_tag n no_attribute [] ++ (ds ++ end_tag n [])))
+inner_leaf : (d : ℕ) (x : Content) (cs n ds : List ℕ) → d ≤ 1000 → IsInner d x cs → IsTagName n → IsShort ds → IsInner d (in_tags x n (with_text nothing ds)) (cs ++ (start_tag_spelling n no_attribute [] ++ (ds ++ end_tag_spelling n [])))
 inner_leaf d x cs n ds low i t s =
     inner_tags d x cs n (with_text nothing ds) ds low i t (good_text nothing ds tt s.chars) (spelled_text nothing ds) (within_text (d + 1) nothing ds tt)
     (omega (arith, ap length (run_text nothing ds), ap length (encodes-IsAscii ds s.ascii), s.few))

@@ -10,7 +10,7 @@ use Rattle.gcx_model.specs.Tree.{Token}
 use Rattle.run_words.specs.Reading.{IsShort, ReadsOn}
 use Rattle.run_words.specs.Stops.{Stop, More, End, Fault, IsCalm, is_end}
 use Rattle.time_laws.specs.Checking.{Yes, No, ReadFault as Cut, IsFront, Judges, fitted, line_ends}
-use Rattle.gcx_cmd.specs.DocumentDoes.{Over, HasFault, IsClean, IsCut, ReadsTokens}
+use Rattle.gcx_cmd.specs.DocumentDoes.{Over, HasFault, IsClean, IsCut, SeesTokens}
 use Rattle.gcx_cmd.specs.Outside.{Outside, Untouched}
 use Rattle.gcx_cmd.specs.QueryDoes.{AcceptsQuery, NotBegun, RefusesQuery}
 use Rattle.gcx_cmd.specs.Reads.{Misses, Opens, Reads}
@@ -31,7 +31,7 @@ pub record OverTrace (q d t : List ℕ) (a b : Outside) (x : List ExprTree) (ts 
   pub doc_pieces : List (List ℕ)
   pub doc : Reads d (length a.shelf.given + 1) a.shelf b.shelf doc_pieces End
   pub reads_on : ReadsOn full_limits doc_pieces End
-  pub tokens : ReadsTokens doc_pieces End ts
+  pub tokens : SeesTokens doc_pieces End ts
   pub trace : Reads t (length a.shelf.given + 2) a.shelf b.shelf pieces stop
   pub short : All IsShort pieces
   pub in_time : StopsInTime (trace_text x ts) pieces

@@ -30,9 +30,9 @@ document_of (Many document pairs) = option.Some document
 document_of (Check query document trace) = option.Some document
 
 -- TRACE of a command that has one
-abbrev pub trace_of : Command → Option (List ℕ)
-trace_of (Check query document trace) = option.Some trace
-trace_of command = option.None
+abbrev pub trace_file : Command → Option (List ℕ)
+trace_file (Check query document trace) = option.Some trace
+trace_file command = option.None
 
 -- the QUERYs of `many`
 abbrev pub queries_of : Command → List (List ℕ)
@@ -57,7 +57,7 @@ IsTraced command = ⊥
 -- the command reads the file of this name
 abbrev pub HasFile : Command → List ℕ → Type 0
 HasFile command name = (query_of command ≡ option.Some name)
-    ⊎ ((document_of command ≡ option.Some name) ⊎ ((trace_of command ≡ option.Some name) ⊎ In name (queries_of command)))
+    ⊎ ((document_of command ≡ option.Some name) ⊎ ((trace_file command ≡ option.Some name) ⊎ In name (queries_of command)))
 
 -- The command has a file whose attach failed, and the shelf tells its names and this one isn't there.
 pub record LacksFile (command : Command) (a b : ShelfView) : Type 0 where

@@ -46,7 +46,7 @@ pub record IsCut (pieces : List (List ℕ)) (stop : Stop) : Type 0 where
   pub clean : FaultIs full_limits (joined pieces) false None
 
 -- The whole document was read, and these are its tokens.
-pub record ReadsTokens (pieces : List (List ℕ)) (stop : Stop) (tokens : List Token) : Type 0 where
+pub record SeesTokens (pieces : List (List ℕ)) (stop : Stop) (tokens : List Token) : Type 0 where
   pub clean : IsClean pieces stop
   pub seen : SeenIs full_limits (joined pieces) true tokens
 

@@ -18,7 +18,7 @@ use Rattle.many_run.specs.Runs.{EndsOne}
 use Rattle.gcx_cmd.specs.Main.{Accepts}
 use Rattle.gcx_cmd.specs.Outside.{Outside}
 use Rattle.gcx_cmd.specs.Running.{Settles}
-use Rattle.gcx_cmd.specs.Tracing.{IsTrace}
+use Rattle.gcx_cmd.specs.Tracing.{IsQueryTrace}
 use Rattle.gcx_cmd.specs.declared.status.Status.{Status}
 use Rattle.gcx_cmd.specs.declared.status.Status.TheVariants as status
 
@@ -47,5 +47,5 @@ WritesSettled NoMemory = ⊥
 -- Of a query that is run by itself and beside others over the same bytes, with the same end, one text is written.
 abbrev pub ManyWriteAsOne : Type 0
 ManyWriteAsOne = (x : List ExprTree) (tracing : Bool) (end : RunEnd) (ps qs : List (List ℕ)) (stop : Stop) (at i : ℕ) (a b : Sinks) (c d : SinkView)
-    → WritesSettled end → joined ps ≡ joined qs → EndsRun (Settles x) (IsTrace x) full_limits tracing end ps stop a b
-    → EndsOne (Settles x) (IsTrace x) full_limits end qs stop at i c d → (w : List ℕ) × Takes a.out b.out w × Takes c d w
+    → WritesSettled end → joined ps ≡ joined qs → EndsRun (Settles x) (IsQueryTrace x) full_limits tracing end ps stop a b
+    → EndsOne (Settles x) (IsQueryTrace x) full_limits end qs stop at i c d → (w : List ℕ) × Takes a.out b.out w × Takes c d w

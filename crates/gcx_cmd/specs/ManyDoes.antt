@@ -30,7 +30,7 @@ use Rattle.gcx_cmd.specs.QueryDoes.{AcceptsQuery, StopsInQuery}
 use Rattle.gcx_cmd.specs.Reads.{CausesFault, KeepsShelf, Opens}
 use Rattle.gcx_cmd.specs.Running.{IsPlanOf, Settles}
 use Rattle.gcx_cmd.specs.Status.{ended_status}
-use Rattle.gcx_cmd.specs.Tracing.{IsTrace}
+use Rattle.gcx_cmd.specs.Tracing.{IsQueryTrace}
 use Rattle.gcx_cmd.specs.declared.status.Status.{Status}
 use Rattle.gcx_cmd.specs.declared.status.Status.TheVariants as status
 
@@ -114,7 +114,7 @@ NoneBegun d ps (status.TraceRefused n) a b = ⊥
 -- what the end of a run says of the OUT of each query: as of `run` of this query by itself
 abbrev pub EachQueryEnds : List (List ExprTree) → RunEnd → List (List ℕ) → Stop → (at i : ℕ) → (a b : SinkView) → Type 0
 EachQueryEnds xs end pieces stop at i a b = (x : List ExprTree) → slice_get xs i ≡ Some x
-    → EndsOne (Settles x) (IsTrace x) full_limits end pieces stop at i a b
+    → EndsOne (Settles x) (IsQueryTrace x) full_limits end pieces stop at i a b
 
 -- All QUERYs were read, then all OUTs made, then DOC was opened and read, once, and each OUT took what this end says of its query.
 pub record RunsMany (d : List ℕ) (ps : List Pair) (end : RunEnd) (a b : ShelfView) : Type 0 where

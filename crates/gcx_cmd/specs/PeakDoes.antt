@@ -6,23 +6,23 @@ use Rattle.gcx_io.specs.Writing.{Takes, Owes}
 use Rattle.gcx_model.specs.Query.{ExprTree}
 use Rattle.gcx_model.specs.Tree.{Token}
 use Rattle.run_words.specs.Stops.{Stop, IsCalm}
-use Rattle.gcx_cmd.specs.DocumentDoes.{Over, HasFault, IsCut, ReadsTokens}
+use Rattle.gcx_cmd.specs.DocumentDoes.{Over, HasFault, IsCut, SeesTokens}
 use Rattle.gcx_cmd.specs.Outside.{Outside}
 use Rattle.gcx_cmd.specs.QueryDoes.{RefusesQuery, NotBegun}
 use Rattle.gcx_cmd.specs.RunDoes.{HoldsSeen}
-use Rattle.gcx_cmd.specs.Running.{UnlessMemory}
+use Rattle.gcx_cmd.specs.Running.{UnlessOutOfMemory}
 use Rattle.gcx_cmd.specs.Texts.{peak_text}
 use Rattle.gcx_cmd.specs.declared.status.Status.{Status}
 use Rattle.gcx_cmd.specs.declared.status.Status.TheVariants as status
 
 -- what a status says of DOC, of which these pieces were read, and of the line of the numbers
 abbrev pub EndsPeak : List ExprTree → Status → List (List ℕ) → Stop → (a b : SinkView) → Type 0
-EndsPeak x status.Ok ps stop a b = (ts : List Token) × ReadsTokens ps stop ts × Takes a b (peak_text x ts)
+EndsPeak x status.Ok ps stop a b = (ts : List Token) × SeesTokens ps stop ts × Takes a b (peak_text x ts)
 EndsPeak x status.Usage ps stop a b = ⊥
 EndsPeak x (status.QueryRefused f) ps stop a b = ⊥
 EndsPeak x (status.DocumentRefused f) ps stop a b = HasFault f ps stop × (b ≡ a)
 EndsPeak x status.ReadFault ps stop a b = IsCut ps stop × (b ≡ a)
-EndsPeak x status.WriteFault ps stop a b = (ts : List Token) × ReadsTokens ps stop ts × Owes a b [] (peak_text x ts)
+EndsPeak x status.WriteFault ps stop a b = (ts : List Token) × SeesTokens ps stop ts × Owes a b [] (peak_text x ts)
 EndsPeak x status.Memory ps stop a b = IsCalm stop × (b ≡ a)
 EndsPeak x (status.TraceRefused n) ps stop a b = ⊥
 
@@ -34,7 +34,7 @@ pub record Measured (q d : List ℕ) (s : Status) (a b : Outside) : Type 0 where
   pub over : Over q d a b x pieces stop
   pub ends : EndsPeak x s pieces stop a.out b.out
   pub err : b.err ≡ a.err
-  pub holds : UnlessMemory s (HoldsSeen x 1 pieces stop b.store)
+  pub holds : UnlessOutOfMemory s (HoldsSeen x 1 pieces stop b.store)
 
 abbrev pub PeakDoes : (q d : List ℕ) → Status → Outside → Outside → Type 0
 PeakDoes q d status.Ok a b = Measured q d status.Ok a b × (b.store.rows ≡ map.empty)

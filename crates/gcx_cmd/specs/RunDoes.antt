@@ -15,20 +15,20 @@ use Rattle.run_words.specs.Writing.{Sinks}
 use Rattle.gcx_cmd.specs.DocumentDoes.{Over, SpellsOneDocument}
 use Rattle.gcx_cmd.specs.Outside.{Outside, StoreView, sinks_of}
 use Rattle.gcx_cmd.specs.QueryDoes.{RefusesQuery, NotBegun}
-use Rattle.gcx_cmd.specs.Running.{Settles, Holds, UnlessMemory}
-use Rattle.gcx_cmd.specs.Tracing.{IsTrace}
+use Rattle.gcx_cmd.specs.Running.{Settles, Holds, UnlessOutOfMemory}
+use Rattle.gcx_cmd.specs.Tracing.{IsQueryTrace}
 use Rattle.gcx_cmd.specs.declared.status.Status.{Status}
 use Rattle.gcx_cmd.specs.declared.status.Status.TheVariants as status
 
 -- what a status says of a run over DOC of which these pieces were read
 abbrev pub EndsBy : List ExprTree → Bool → Status → List (List ℕ) → Stop → (a b : Sinks) → Type 0
-EndsBy x tracing status.Ok ps stop a b = EndsRun (Settles x) (IsTrace x) full_limits tracing Whole ps stop a b
+EndsBy x tracing status.Ok ps stop a b = EndsRun (Settles x) (IsQueryTrace x) full_limits tracing Whole ps stop a b
 EndsBy x tracing status.Usage ps stop a b = ⊥
 EndsBy x tracing (status.QueryRefused f) ps stop a b = ⊥
-EndsBy x tracing (status.DocumentRefused f) ps stop a b = EndsRun (Settles x) (IsTrace x) full_limits tracing (Refused f) ps stop a b
-EndsBy x tracing status.ReadFault ps stop a b = EndsRun (Settles x) (IsTrace x) full_limits tracing ReadFailed ps stop a b
-EndsBy x tracing status.WriteFault ps stop a b = EndsRun (Settles x) (IsTrace x) full_limits tracing WriteFailed ps stop a b
-EndsBy x tracing status.Memory ps stop a b = EndsRun (Settles x) (IsTrace x) full_limits tracing NoMemory ps stop a b
+EndsBy x tracing (status.DocumentRefused f) ps stop a b = EndsRun (Settles x) (IsQueryTrace x) full_limits tracing (Refused f) ps stop a b
+EndsBy x tracing status.ReadFault ps stop a b = EndsRun (Settles x) (IsQueryTrace x) full_limits tracing ReadFailed ps stop a b
+EndsBy x tracing status.WriteFault ps stop a b = EndsRun (Settles x) (IsQueryTrace x) full_limits tracing WriteFailed ps stop a b
+EndsBy x tracing status.Memory ps stop a b = EndsRun (Settles x) (IsQueryTrace x) full_limits tracing NoMemory ps stop a b
 EndsBy x tracing (status.TraceRefused n) ps stop a b = ⊥
 
 -- The lent store has the rows of exactly the nodes that are held behind the tags read.
@@ -44,7 +44,7 @@ pub record Runs (tracing : Bool) (ahead : ℕ) (q d : List ℕ) (s : Status) (a 
   pub stop : Stop
   pub over : Over q d a b x pieces stop
   pub ends : EndsBy x tracing s pieces stop (sinks_of a) (sinks_of b)
-  pub holds : UnlessMemory s (HoldsSeen x ahead pieces stop b.store)
+  pub holds : UnlessOutOfMemory s (HoldsSeen x ahead pieces stop b.store)
 
 -- What was written is the answer of the query over the one document that these pieces spell.
 pub record WritesAnswer (x : List ExprTree) (pieces : List (List ℕ)) (a b : SinkView) : Type 0 where

@@ -70,9 +70,9 @@ pub record Holds (q : List ExprTree) (ahead : ℕ) (ts : List Token) (rows : Row
   pub least : peak_of (plan_of (normal q)) ts ≤ most
   pub near : most < peak_of (plan_of (normal q)) ts + ahead
 
-abbrev pub UnlessMemory : Status → Type 0 → Type 0
-UnlessMemory Memory X = ⊤
-UnlessMemory status X = X
+abbrev pub UnlessOutOfMemory : Status → Type 0 → Type 0
+UnlessOutOfMemory Memory X = ⊤
+UnlessOutOfMemory status X = X
 
 -- The plan is that of the query.
 pub record IsPlanOf (q : List ExprTree) (plan : PlanTree) : Type 0 where

@@ -25,7 +25,7 @@ use Rattle.engine.specs.declared.report.Report.{Report}
 use Rattle.gcx_cmd.specs.DocumentDoes.{DocDoes, HasFault, IsClean, IsCut, OverDoc}
 use Rattle.gcx_cmd.specs.Outside.{Outside, StoreView, Untouched, both_sinks, sinks_of}
 use Rattle.gcx_cmd.specs.RunDoes.{EndsBy, HoldsSeen}
-use Rattle.gcx_cmd.specs.Running.{IsPlanOf, UnlessMemory}
+use Rattle.gcx_cmd.specs.Running.{IsPlanOf, UnlessOutOfMemory}
 use Rattle.gcx_cmd.specs.SelfInput.{SelfInput}
 use Rattle.gcx_cmd.specs.Status.{ended_status}
 use Rattle.gcx_cmd.specs.declared.status.Status.{Status}
@@ -55,13 +55,13 @@ pub record SourceRuns (tracing : Bool) (ahead : ℕ) (q : List ExprTree) (report
   pub gave : SourceGave left now pieces stop
   pub reads_on : ReadsOn full_limits pieces stop
   pub ends : EndsBy q tracing (ended_status report.ended) pieces stop (both_sinks out_before err_before) (both_sinks out_after err_after)
-  pub holds : UnlessMemory (ended_status report.ended) (HoldsSeen q ahead pieces stop store)
+  pub holds : UnlessOutOfMemory (ended_status report.ended) (HoldsSeen q ahead pieces stop store)
   pub numbers : ahead ≡ 1 → report.ended ≡ end.Ok → NumbersIn q pieces report
 
 -- a run over DOC, which is opened next
 abbrev pub DocumentRuns : Bool → (ahead : ℕ) → List ExprTree → (d : List ℕ) → Status → Outside → Outside → Type 0
 DocumentRuns tracing ahead q d s a b =
-    DocDoes d (λ s pieces stop. EndsBy q tracing s pieces stop (sinks_of a) (sinks_of b) × UnlessMemory s (HoldsSeen q ahead pieces stop b.store))
+    DocDoes d (λ s pieces stop. EndsBy q tracing s pieces stop (sinks_of a) (sinks_of b) × UnlessOutOfMemory s (HoldsSeen q ahead pieces stop b.store))
     (Untouched a b) s a.shelf b.shelf
 
 -- what a status says of DOC where there is no report

@@ -13,5 +13,5 @@ abbrev pub trace_text : List ExprTree → List Token → List ℕ
 trace_text q ts = text_of_lines (trace_lines (plan_of (normal q)) ts)
 
 -- t is the trace of the tags read in the bytes
-abbrev pub IsTrace : List ExprTree → List ℕ → (ended : Bool) → List ℕ → Type 0
-IsTrace q bytes ended t = (ts : List Token) × SeenIs full_limits bytes ended ts × (t ≡ trace_text q ts)
+abbrev pub IsQueryTrace : List ExprTree → List ℕ → (ended : Bool) → List ℕ → Type 0
+IsQueryTrace q bytes ended t = (ts : List Token) × SeenIs full_limits bytes ended ts × (t ≡ trace_text q ts)

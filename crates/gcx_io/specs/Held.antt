@@ -13,8 +13,8 @@ pub record File : Type 0 where
   pub room : ℕ
 
 -- the file holds the piece too, behind what it held
-abbrev pub Grows : (before after : File) → (piece : List ℕ) → Type 0
-Grows before after piece = (after.bytes ≡ before.bytes ++ piece) × (before.room ≤ after.room + length piece)
+abbrev pub FileGrows : (before after : File) → (piece : List ℕ) → Type 0
+FileGrows before after piece = (after.bytes ≡ before.bytes ++ piece) × (before.room ≤ after.room + length piece)
 
 -- a file more, of this name and these bytes, behind the others
 abbrev pub HasOneMore : (before after : List File) → (name bytes : List ℕ) → Type 0

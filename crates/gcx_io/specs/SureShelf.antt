@@ -24,23 +24,23 @@ abbrev pub sure_named : SureShelfState → ℕ → Option (List ℕ)
 sure_named s = owners s.kept
 
 -- the handle has this name, and the others have theirs
-abbrev pub NamesHandle : SureShelfState → SureShelfState → List ℕ → (handle : ℕ) → Type 0
-NamesHandle a b name handle = AddsName (sure_names a) (sure_named a) (sure_named b) name handle
+abbrev pub SureNamesHandle : SureShelfState → SureShelfState → List ℕ → (handle : ℕ) → Type 0
+SureNamesHandle a b name handle = AddsName (sure_names a) (sure_named a) (sure_named b) name handle
 
 abbrev pub sure_handles : SureShelfState → ℕ
 sure_handles s = handle_count s.kept
 
 -- the name holds these bytes, whatever it held
-abbrev pub with_put : (name bytes : List ℕ) → (room : ℕ) → SureShelfState → SureShelfState
-with_put name bytes room s = record s { kept = after_put name bytes room s.kept }
+abbrev pub sure_with_put : (name bytes : List ℕ) → (room : ℕ) → SureShelfState → SureShelfState
+sure_with_put name bytes room s = record s { kept = after_put name bytes room s.kept }
 
 -- what a write does to the names, and to what the handles of other names have left
-abbrev pub NamesExtend : {E : Type 0} → (handle : ℕ) → SureShelfState → SureShelfState → Result ℕ E → (piece : List ℕ)
+abbrev pub SureNamesExtend : {E : Type 0} → (handle : ℕ) → SureShelfState → SureShelfState → Result ℕ E → (piece : List ℕ)
     → Type 0
-NamesExtend handle a b result piece = WriteExtends (sure_names a) (sure_names b) (sure_named a handle) result piece
+SureNamesExtend handle a b result piece = WriteExtends (sure_names a) (sure_names b) (sure_named a handle) result piece
 
-abbrev pub OtherHandlesStay : (handle : ℕ) → SureShelfState → SureShelfState → Type 0
-OtherHandlesStay handle a b = OthersStay (sure_named a) (sure_left a) (sure_left b) (sure_handles a) handle
+abbrev pub SureHandlesStay : (handle : ℕ) → SureShelfState → SureShelfState → Type 0
+SureHandlesStay handle a b = OthersStay (sure_named a) (sure_left a) (sure_left b) (sure_handles a) handle
 
 abbrev pub sure_shelf_seen : SureShelfState → ShelfView
 sure_shelf_seen s = files_seen (sure_names s) 0 0 s.kept

@@ -6,7 +6,7 @@ ghost use Rattle.gcx_io.specs.FileShelf.{stream_calls};
 
 use crate::Failed;
 use crate::stream::Stream;
-use call_history::Name;
+use call_history::HandleName;
 use gcx_base::Text;
 use std::io::{Read, Write};
 use std::marker::Model;
@@ -14,7 +14,7 @@ use std::marker::Model;
 /// A handle of the file system: a stream, and the name that it was opened by.
 #[derive(Drop)]
 pub(crate) struct FileHandle<T> {
-    name: Name,
+    name: HandleName,
     stream: Stream<T>,
 }
 
@@ -33,7 +33,7 @@ impl<T: Read + Write> FileHandle<T> {
         ensures { result ≡ record { name = name.now; calls = stream_calls stream } }
     {
         FileHandle {
-            name: Name::of(name.as_bytes()),
+            name: HandleName::of(name.as_bytes()),
             stream,
         }
     }

@@ -1,5 +1,5 @@
 ghost use Rattle.std.specs.Prelude.{◌≡◌, ◌<◌, ◌++◌, [], true, false, length, take, drop, min, vec_len, vec_capacity, ◌-◌, IfOk, OnOk, OnErr, MatchOption, option_copied};
-ghost use Rattle.gcx_io.specs.Held.{held, with_file, rest_at, noted_at, Grows, HasOneMore};
+ghost use Rattle.gcx_io.specs.Held.{held, with_file, rest_at, noted_at, FileGrows, HasOneMore};
 ghost use Rattle.gcx_io.specs.Files.{opened, Sets, Keeps, KeepsPiece, IsPlaceOf, IsNewTo};
 ghost use Rattle.gcx_io.specs.Files.{after_miss, after_put, after_attach, after_read, after_call};
 ghost use Rattle.gcx_io.specs.Views.{Took, Denied, Failed};
@@ -32,7 +32,7 @@ impl Entry {
     /// Adds the piece, where memory is found for it.
     fn append(&mut self, piece: &[u8]) -> bool
         ensures name { self.new.name ≡ self.old.name }
-        ensures kept { result ≡ true → Grows self.old self.new piece.now }
+        ensures kept { result ≡ true → FileGrows self.old self.new piece.now }
         ensures lost { result ≡ false → (self.new.bytes ≡ self.old.bytes) × (self.old.room < length piece.now) }
     {
         self.bytes.extend_from_slice(piece).is_ok()

@@ -1,7 +1,7 @@
 ghost use Rattle.std.specs.Prelude.{◌≡◌, ◌-◌, IsTrue, OnOk, OnErr, [], option_copied, vec_len, vec_capacity};
 ghost use Rattle.gcx_io.specs.Held.{held};
 ghost use Rattle.gcx_io.specs.Files.{no_files};
-ghost use Rattle.gcx_io.specs.SureShelf.{with_put};
+ghost use Rattle.gcx_io.specs.SureShelf.{sure_with_put};
 
 use crate::files::Files;
 use crate::{AttachFault, Failed, Handle, Shelf};
@@ -39,7 +39,7 @@ impl SureShelf {
     pub fn put(&mut self, name: Text, bytes: Vec<u8>) -> Result<(), Memory>
         requires { self.old.kept.openings ≡ [] }
         ensures ok { OnOk result
-            (self.new ≡ with_put name bytes.items (vec_capacity bytes - vec_len bytes) self.old) }
+            (self.new ≡ sure_with_put name bytes.items (vec_capacity bytes - vec_len bytes) self.old) }
         ensures err { OnErr result (self.new ≡ self.old) }
     {
         self.files.put(name, bytes)
@@ -69,7 +69,7 @@ impl Shelf for SureShelf {
     ghost use Rattle.gcx_io.specs.Calls.{Attaches, Creates, ReadsOnce, WritesHandle};
     ghost use Rattle.gcx_io.specs.Held.{held_or_none, rest_at};
     ghost use Rattle.gcx_io.specs.Files.{views, after_attach, after_read, Makes, TakesPiece};
-    ghost use Rattle.gcx_io.specs.SureShelf.{NamesHandle, NamesExtend, OtherHandlesStay};
+    ghost use Rattle.gcx_io.specs.SureShelf.{SureNamesHandle, SureNamesExtend, SureHandlesStay};
     ghost use Rattle.gcx_io.specs.SureShelf.{sure_names, sure_left, sure_named, sure_handles, sure_shelf_seen};
     ghost use Rattle.gcx_io.specs.Files.{owner_told, rests_told, views_count, views_left, views_name};
 
@@ -106,7 +106,7 @@ impl Shelf for SureShelf {
 
     fn attach(&mut self, name: &Text) -> Result<Handle, AttachFault>
         ensures given { IfOk result (λ handle. Adds (sure_handles self.old) (sure_handles self.new) handle.0) }
-        ensures named { IfOk result (λ handle. NamesHandle self.old self.new name.now handle.0) }
+        ensures named { IfOk result (λ handle. SureNamesHandle self.old self.new name.now handle.0) }
         ensures never { IsErrOf result AttachFault.Failed → ⊥ }
         ensures ok { OnOk result (self.new ≡ record self.old { kept = after_attach name.now self.old.kept }) }
         ensures err { OnErr result (self.new ≡ self.old) }
@@ -134,7 +134,7 @@ impl Shelf for SureShelf {
 
     fn create(&mut self, name: &Text) -> Result<Handle, AttachFault>
         ensures given { IfOk result (λ handle. Adds (sure_handles self.old) (sure_handles self.new) handle.0) }
-        ensures named { IfOk result (λ handle. NamesHandle self.old self.new name.now handle.0) }
+        ensures named { IfOk result (λ handle. SureNamesHandle self.old self.new name.now handle.0) }
         ensures maps { OnOk result (Maps (sure_names self.old) (sure_names self.new) name.now []) }
         ensures never { IsErrOf result AttachFault.Failed → ⊥ }
         ensures makes { OnOk result (Makes name.now self.old.room self.old.kept self.new.kept) }
@@ -149,8 +149,8 @@ impl Shelf for SureShelf {
         requires given { handle.0 < sure_handles self.old }
         requires some { 0 < length piece.now }
         ensures bound { Moves result piece.now }
-        ensures bytes { NamesExtend handle.0 self.old self.new result piece.now }
-        ensures others { OtherHandlesStay handle.0 self.old self.new }
+        ensures bytes { SureNamesExtend handle.0 self.old self.new result piece.now }
+        ensures others { SureHandlesStay handle.0 self.old self.new }
         ensures handles { sure_handles self.new ≡ sure_handles self.old }
         ensures named { sure_named self.new ≡ sure_named self.old }
         ensures ok { result ≡ Ok (length piece.now) }

@@ -13,7 +13,7 @@ use Rattle.gcx_model.specs.Tree.{Node, Root, serial_of, kind_of, Tree}
 use Rattle.gcx_model.specs.Paths.{any, matches, value}
 use Rattle.gcx_model.specs.Values.{Value, Bytes, Units, compare}
 use Rattle.gcx_model.specs.Written.{start_tag, end_tag, escaped}
-use Rattle.gcx_model.specs.Query.{CondTree, CondTrees, Always, Exists, Compare, Not, All, Any, no_cond, more_conds, ExprTree, ExprTrees, Empty, Seq, Elem, Path, For, If, no_expr, more_exprs, exprs_of}
+use Rattle.gcx_model.specs.Query.{QueryCondTree, QueryCondTrees, Always, Exists, Compare, Not, All, Any, no_cond, more_conds, ExprTree, ExprTrees, Empty, Seq, Elem, Path, For, If, no_expr, more_exprs, exprs_of}
 use Rattle.gcx_model.specs.Document.{Nodes, tree_of}
 
 abbrev pub child_step : Step
@@ -65,7 +65,7 @@ is_any [] = false
 is_any (x ∷ xs) = true
 
 abbrev mutual
-  pub holds : CondTree → Scope → Tree → Bool
+  pub holds : QueryCondTree → Scope → Tree → Bool
   holds Always scope P = true
   holds (Exists path) scope P = is_any (found path scope P)
   holds (Compare left rel right) scope P = some_pair (compare rel) (values left scope P) (values right scope P)
@@ -73,11 +73,11 @@ abbrev mutual
   holds (All cs) scope P = holds_all cs scope P
   holds (Any cs) scope P = holds_any cs scope P
 
-  pub holds_all : CondTrees → Scope → Tree → Bool
+  pub holds_all : QueryCondTrees → Scope → Tree → Bool
   holds_all no_cond scope P = true
   holds_all (more_conds c cs) scope P = holds c scope P && holds_all cs scope P
 
-  pub holds_any : CondTrees → Scope → Tree → Bool
+  pub holds_any : QueryCondTrees → Scope → Tree → Bool
   holds_any no_cond scope P = false
   holds_any (more_conds c cs) scope P = holds c scope P || holds_any cs scope P
 
@@ -86,7 +86,7 @@ abbrev pub turns : List Clause → Scope → Tree → List Scope
 turns [] scope P = scope ∷ []
 turns (c ∷ cs) scope P = flat_map (λ n. turns cs (bind scope c.var n) P) (found c.path scope P)
 
-abbrev pub filtered : Option CondTree → Scope → Tree → Bool
+abbrev pub filtered : Option QueryCondTree → Scope → Tree → Bool
 filtered None scope P = true
 filtered (Some c) scope P = holds c scope P
 

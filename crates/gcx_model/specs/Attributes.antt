@@ -32,10 +32,10 @@ is_fresh m [] = true
 is_fresh m (n ∷ ns) = not (bytes_eq m n) && is_fresh m ns
 
 -- The text of a value, built at its end.
-pub data Value : Type 0 where
-  blank_value : Value
-  value_char : (before : Value) (c : ℕ) → Value
-  value_reference : (before : Value) (r : Reference) → Value
+pub data AttributeValue : Type 0 where
+  blank_value : AttributeValue
+  value_char : (before : AttributeValue) (c : ℕ) → AttributeValue
+  value_reference : (before : AttributeValue) (r : Reference) → AttributeValue
 
 -- What stands before a value: white space, a name, white space, '=', white space and the quote.
 pub record Head : Type 0 where
@@ -48,9 +48,9 @@ pub record Head : Type 0 where
 -- The attributes of a tag: none; or attributes and one more.
 pub data Attributes : Type 0 where
   no_attribute : Attributes
-  attribute : (before : Attributes) (head : Head) (value : Value) → Attributes
+  attribute : (before : Attributes) (head : Head) (value : AttributeValue) → Attributes
 
-abbrev pub value_spelling : Value → List ℕ
+abbrev pub value_spelling : AttributeValue → List ℕ
 value_spelling blank_value = []
 value_spelling (value_char v c) = value_spelling v ++ (c ∷ [])
 value_spelling (value_reference v r) = value_spelling v ++ reference_spelling r
@@ -67,7 +67,7 @@ abbrev pub attribute_names : Attributes → List (List ℕ)
 attribute_names no_attribute = []
 attribute_names (attribute ats h v) = encodes h.name ∷ attribute_names ats
 
-abbrev pub IsValue : (quote : ℕ) → Value → Type 0
+abbrev pub IsValue : (quote : ℕ) → AttributeValue → Type 0
 IsValue q blank_value = Unit {0}
 IsValue q (value_char v c) = IsValue q v × (is_value_char q c ≡ true)
 IsValue q (value_reference v r) = IsValue q v × IsReference r
@@ -81,7 +81,7 @@ IsAttributes no_attribute = Unit {0}
 IsAttributes (attribute ats h v) = IsAttributes ats × IsHead (attribute_names ats) h × IsValue h.quote v
 
 -- the bytes of a value
-abbrev pub value_run : Value → List ℕ
+abbrev pub value_run : AttributeValue → List ℕ
 value_run blank_value = []
 value_run (value_char v c) = value_run v ++ encode c
 value_run (value_reference v r) = value_run v ++ encode (reference_char r)

@@ -8,7 +8,7 @@ use Rattle.gcx_base.specs.declared.limits.Limits.{Limits}
 use Rattle.gcx_model.specs.Document.{Nodes}
 use Rattle.gcx_model.specs.Attributes.{Attributes}
 use Rattle.gcx_model.specs.Grammar.{Content, has_element, may_open, SpellsDocument, Viable}
-use Rattle.gcx_model.specs.Fronts.{Frames, inside, Piece, less, tag, spaced, Opens, depth, naming, piece_run}
+use Rattle.gcx_model.specs.Fronts.{Frames, inside, Piece, less, tag, spaced, OpensFrames, depth, naming, piece_run}
 use Rattle.gcx_model.specs.declared.fault.DocFault.{DocFault}
 use Rattle.gcx_model.specs.declared.fault.DocFault.TheVariants.{Utf8, Syntax, Truncated, Depth, NameLong, TextLong, TooLong}
 
@@ -29,7 +29,7 @@ pub record HasRun (c : List ℕ) (P : List ℕ → Type 0) : Type 0 where
   pub frames : Frames
   pub content : Content
   pub piece : Piece
-  pub opens : Opens c frames content piece
+  pub opens : OpensFrames c frames content piece
   pub is : P (piece_run content piece)
 
 -- c is a front whose name that is being read is such
@@ -37,14 +37,14 @@ pub record HasName (c : List ℕ) (P : List ℕ → Type 0) : Type 0 where
   pub frames : Frames
   pub content : Content
   pub piece : Piece
-  pub opens : Opens c frames content piece
+  pub opens : OpensFrames c frames content piece
   pub is : P (naming piece)
 
 -- Behind c a start tag's name begins, with as many elements open as may be.
 pub record IsFullTag (lim : Limits) (c : List ℕ) : Type 0 where
   pub frames : Frames
   pub content : Content
-  pub opens : Opens c frames content less
+  pub opens : OpensFrames c frames content less
   pub may : may_open (inside frames) (has_element content) ≡ true
   pub full : lim.depth ≤ depth frames
 
@@ -55,7 +55,7 @@ pub record IsFullAttribute (lim : Limits) (c : List ℕ) : Type 0 where
   pub name : List ℕ
   pub ats : Attributes
   pub gap : List ℕ
-  pub opens : Opens c frames content (tag name ats (spaced gap))
+  pub opens : OpensFrames c frames content (tag name ats (spaced gap))
   pub full : lim.depth ≤ depth frames + 1
 
 -- With the name character c behind the front an element too many is open; the fault stands at the '<' of a start tag, and at the character itself in an attribute.

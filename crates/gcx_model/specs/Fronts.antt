@@ -7,9 +7,9 @@ use Rattle.gcx_base.specs.Characters.{is_white, is_start_char}
 use Rattle.gcx_model.specs.Document.{is_blank, tokens}
 use Rattle.gcx_model.specs.Tree.{Token, Start, Chars}
 use Rattle.gcx_model.specs.References.{BegunReference, begun_spelling, IsBegun}
-use Rattle.gcx_model.specs.Attributes.{is_name, is_blank_text, is_gap, is_quote, is_fresh, Value, Head, Attributes, no_attribute, attribute, value_spelling, head_spelling, attributes_spelling, attribute_names, IsValue, IsHead, IsAttributes, value_run}
+use Rattle.gcx_model.specs.Attributes.{is_name, is_blank_text, is_gap, is_quote, is_fresh, AttributeValue, Head, Attributes, no_attribute, attribute, value_spelling, head_spelling, attributes_spelling, attribute_names, IsValue, IsHead, IsAttributes, value_run}
 use Rattle.gcx_model.specs.Markup.{CommentText, comment_spelling, comment_start, IsCommentText, CDSect, cdata_word, cdata_start, cdsect_spelling, IsCDSect, settled, InstructionData, data_spelling, IsInstructionData, Declaration, doc_word, doc_start, is_literal_char, declaration_spelling, IsDeclaration}
-use Rattle.gcx_model.specs.Grammar.{Content, start_tag, spelling, has_element, has_type, may_type, may_open, IsContent, run, attribute_nodes, nodes}
+use Rattle.gcx_model.specs.Grammar.{Content, start_tag_spelling, spelling, has_element, has_type, may_type, may_open, IsContent, text_run, attribute_nodes, nodes}
 
 -- the open elements, the innermost last: with each the content before it
 pub data Frames : Type 0 where
@@ -23,8 +23,8 @@ pub data Part : Type 0 where
   part_name : (gap : List ℕ) (read : List ℕ) → Part
   name_spaced : (gap : List ℕ) (name : List ℕ) (sp : List ℕ) → Part
   equals : (gap : List ℕ) (name : List ℕ) (sp : List ℕ) (sp2 : List ℕ) → Part
-  value : (head : Head) (value : Value) → Part
-  value_amp : (head : Head) (value : Value) (begun : BegunReference) → Part
+  value : (head : Head) (value : AttributeValue) → Part
+  value_amp : (head : Head) (value : AttributeValue) (begun : BegunReference) → Part
 
 -- a begun tag, comment, processing instruction, declaration, section or reference; of a word that is known the characters read and those to come
 pub data Piece : Type 0 where
@@ -54,7 +54,7 @@ pub data Piece : Type 0 where
 
 abbrev pub frames_spelling : Frames → List ℕ
 frames_spelling bottom = []
-frames_spelling (frame fs x n ats sp) = frames_spelling fs ++ (spelling x ++ start_tag n ats sp)
+frames_spelling (frame fs x n ats sp) = frames_spelling fs ++ (spelling x ++ start_tag_spelling n ats sp)
 
 abbrev pub part_spelling : Part → List ℕ
 part_spelling no_part = []
@@ -163,7 +163,7 @@ abbrev pub IsFront : Frames → Content → Piece → Type 0
 IsFront fs x p = IsFrames fs × IsContent (inside fs) x × IsPiece fs x p
 
 -- c is the open elements, the content and the piece
-pub record Opens (c : List ℕ) (fs : Frames) (x : Content) (p : Piece) : Type 0 where
+pub record OpensFrames (c : List ℕ) (fs : Frames) (x : Content) (p : Piece) : Type 0 where
   pub good : IsFront fs x p
   pub spelled : front_spelling fs x p ≡ c
 
@@ -174,10 +174,10 @@ part_run (value_amp h v r) = value_run v
 part_run other = []
 
 abbrev pub piece_run : Content → Piece → List ℕ
-piece_run x (in_cdsect d) = run x ++ settled d
+piece_run x (in_cdsect d) = text_run x ++ settled d
 piece_run x (tag n ats p) = part_run p
 piece_run x (slashed n ats sp) = []
-piece_run x other = run x
+piece_run x other = text_run x
 
 -- the name of a start tag or of an attribute that is being read, or nothing
 abbrev pub part_naming : Part → List ℕ
@@ -196,7 +196,7 @@ text_of r = if is_blank r then [] else (Chars r ∷ [])
 -- the tokens of the open elements, each with the content before it
 abbrev pub frames_tokens : Frames → List Token
 frames_tokens bottom = []
-frames_tokens (frame fs x n ats sp) = (frames_tokens fs ++ tokens (nodes x)) ++ (text_of (run x) ++ (Start (encodes n) ∷ tokens (attribute_nodes ats)))
+frames_tokens (frame fs x n ats sp) = (frames_tokens fs ++ tokens (nodes x)) ++ (text_of (text_run x) ++ (Start (encodes n) ∷ tokens (attribute_nodes ats)))
 
 -- the tokens of the whole tags of a front
 abbrev pub seen_tokens : Frames → Content → List Token

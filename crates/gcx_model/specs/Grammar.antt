@@ -28,16 +28,16 @@ pub data Content : Type 0 where
   tagged : (before : Content) (name : List ℕ) (ats : Attributes) (sp : List ℕ) (inner : Content) (sp2 : List ℕ) → Content
 
 -- <name attributes >
-abbrev pub start_tag : List ℕ → Attributes → List ℕ → List ℕ
-start_tag n ats sp = 60 ∷ (n ++ (attributes_spelling ats ++ (sp ++ (62 ∷ []))))
+abbrev pub start_tag_spelling : List ℕ → Attributes → List ℕ → List ℕ
+start_tag_spelling n ats sp = 60 ∷ (n ++ (attributes_spelling ats ++ (sp ++ (62 ∷ []))))
 
 -- <name attributes />
 abbrev pub single_tag : List ℕ → Attributes → List ℕ → List ℕ
 single_tag n ats sp = 60 ∷ (n ++ (attributes_spelling ats ++ (sp ++ (47 ∷ (62 ∷ [])))))
 
 -- </name >
-abbrev pub end_tag : List ℕ → List ℕ → List ℕ
-end_tag n sp = 60 ∷ (47 ∷ (n ++ (sp ++ (62 ∷ []))))
+abbrev pub end_tag_spelling : List ℕ → List ℕ → List ℕ
+end_tag_spelling n sp = 60 ∷ (47 ∷ (n ++ (sp ++ (62 ∷ []))))
 
 -- its characters
 abbrev pub spelling : Content → List ℕ
@@ -52,7 +52,7 @@ spelling (bare before n) = spelling before ++ (60 ∷ (63 ∷ (n ++ (63 ∷ (62 
 spelling (instruction before n c d) = spelling before ++ (60 ∷ (63 ∷ (n ++ (c ∷ (data_spelling d ++ (62 ∷ []))))))
 spelling (doctype before g c d) = spelling before ++ (doc_start ++ (g ++ (c ∷ (declaration_spelling d ++ (62 ∷ [])))))
 spelling (single before n ats sp) = spelling before ++ single_tag n ats sp
-spelling (tagged before n ats sp inner sp2) = spelling before ++ (start_tag n ats sp ++ (spelling inner ++ end_tag n sp2))
+spelling (tagged before n ats sp inner sp2) = spelling before ++ (start_tag_spelling n ats sp ++ (spelling inner ++ end_tag_spelling n sp2))
 
 abbrev pub has_element : Content → Bool
 has_element nothing = false
@@ -107,19 +107,19 @@ IsContent inside (single before n ats sp) = IsContent inside before × (may_open
 IsContent inside (tagged before n ats sp inner sp2) = IsContent inside before × (may_open inside (has_element before) ≡ true) × (is_name n ≡ true) × (is_blank_text sp ≡ true) × IsContent true inner × (is_blank_text sp2 ≡ true) × IsAttributes ats
 
 -- the bytes of the run at the end: all text behind the last tag (that comments and processing instructions don't end a run is this project's)
-abbrev pub run : Content → List ℕ
-run nothing = []
-run mark = []
-run (space before c) = run before
-run (char before c) = run before ++ encode c
-run (reference before r) = run before ++ encode (reference_char r)
-run (cdata before d) = run before ++ settled d
-run (comment before r) = run before
-run (bare before n) = run before
-run (instruction before n c d) = run before
-run (doctype before g c d) = run before
-run (single before n ats sp) = []
-run (tagged before n ats sp inner sp2) = []
+abbrev pub text_run : Content → List ℕ
+text_run nothing = []
+text_run mark = []
+text_run (space before c) = text_run before
+text_run (char before c) = text_run before ++ encode c
+text_run (reference before r) = text_run before ++ encode (reference_char r)
+text_run (cdata before d) = text_run before ++ settled d
+text_run (comment before r) = text_run before
+text_run (bare before n) = text_run before
+text_run (instruction before n c d) = text_run before
+text_run (doctype before g c d) = text_run before
+text_run (single before n ats sp) = []
+text_run (tagged before n ats sp inner sp2) = []
 
 -- a run is a text, unless it is empty or only white space
 abbrev pub with_run : Nodes → List ℕ → Nodes
@@ -148,8 +148,8 @@ nodes (comment before r) = nodes before
 nodes (bare before n) = nodes before
 nodes (instruction before n c d) = nodes before
 nodes (doctype before g c d) = nodes before
-nodes (single before n ats sp) = element (with_run (nodes before) (run before)) (encodes n) (attribute_nodes ats)
-nodes (tagged before n ats sp inner sp2) = element (with_run (nodes before) (run before)) (encodes n) (joined (attribute_nodes ats) (with_run (nodes inner) (run inner)))
+nodes (single before n ats sp) = element (with_run (nodes before) (text_run before)) (encodes n) (attribute_nodes ats)
+nodes (tagged before n ats sp inner sp2) = element (with_run (nodes before) (text_run before)) (encodes n) (joined (attribute_nodes ats) (with_run (nodes inner) (text_run inner)))
 
 -- The characters c spell the document d.
 pub record SpellsDocument (c : List ℕ) (d : Nodes) : Type 0 where

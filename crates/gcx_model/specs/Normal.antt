@@ -44,7 +44,7 @@ normal_operand (operand.Str bytes) names = Str bytes
 normal_operand (operand.Num units) names = Num units
 
 abbrev mutual
-  pub normal_cond : query.CondTree → Names → CondTree
+  pub normal_cond : query.QueryCondTree → Names → CondTree
   normal_cond query.Always names = Always
   normal_cond (query.Exists path) names = normal_exists (start_var names path.start) path.steps
   normal_cond (query.Compare left rel right) names = Compare (normal_operand left names) rel (normal_operand right names)
@@ -52,7 +52,7 @@ abbrev mutual
   normal_cond (query.All cs) names = All (normal_conds cs names)
   normal_cond (query.Any cs) names = Any (normal_conds cs names)
 
-  pub normal_conds : query.CondTrees → Names → CondTrees
+  pub normal_conds : query.QueryCondTrees → Names → CondTrees
   normal_conds query.no_cond names = no_cond
   normal_conds (query.more_conds c cs) names = more_conds (normal_cond c names) (normal_conds cs names)
 
@@ -127,7 +127,7 @@ normal_clauses [] names k inner = inner names k
 normal_clauses (c ∷ cs) names k inner = nest (start_var names c.path.start) c.path.steps k (λ y. normal_clauses cs (named names c.var y) (k + length c.path.steps) inner)
 
 -- `where` is an If with an empty other branch
-abbrev pub guarded : Option query.CondTree → Names → BodyTree → BodyTree
+abbrev pub guarded : Option query.QueryCondTree → Names → BodyTree → BodyTree
 guarded None names d = d
 guarded (Some c) names d = branch (normal_cond c names) d Nil
 

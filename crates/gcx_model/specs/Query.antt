@@ -13,17 +13,17 @@ use Rattle.gcx_model.specs.declared.query.Exprs.{Exprs, Exprs-F}
 use Rattle.gcx_model.specs.declared.query.Query.{Query}
 
 mutual
-  pub data CondTree : Type 0 where
-    Always : CondTree
-    Exists : (path : PathExpr) → CondTree
-    Compare : (left : QOperand) (rel : Rel) (right : QOperand) → CondTree
-    Not : (condition : CondTree) → CondTree
-    All : (members : CondTrees) → CondTree
-    Any : (members : CondTrees) → CondTree
+  pub data QueryCondTree : Type 0 where
+    Always : QueryCondTree
+    Exists : (path : PathExpr) → QueryCondTree
+    Compare : (left : QOperand) (rel : Rel) (right : QOperand) → QueryCondTree
+    Not : (condition : QueryCondTree) → QueryCondTree
+    All : (members : QueryCondTrees) → QueryCondTree
+    Any : (members : QueryCondTrees) → QueryCondTree
 
-  pub data CondTrees : Type 0 where
-    no_cond : CondTrees
-    more_conds : (first : CondTree) (rest : CondTrees) → CondTrees
+  pub data QueryCondTrees : Type 0 where
+    no_cond : QueryCondTrees
+    more_conds : (first : QueryCondTree) (rest : QueryCondTrees) → QueryCondTrees
 
 mutual
   pub data ExprTree : Type 0 where
@@ -31,14 +31,14 @@ mutual
     Seq : (parts : ExprTrees) → ExprTree
     Elem : (name : List ℕ) (body : ExprTrees) → ExprTree
     Path : (path : PathExpr) → ExprTree
-    For : (clauses : List Clause) (filter : Option CondTree) (body : ExprTree) → ExprTree
-    If : (condition : CondTree) (this other : ExprTree) → ExprTree
+    For : (clauses : List Clause) (filter : Option QueryCondTree) (body : ExprTree) → ExprTree
+    If : (condition : QueryCondTree) (this other : ExprTree) → ExprTree
 
   pub data ExprTrees : Type 0 where
     no_expr : ExprTrees
     more_exprs : (first : ExprTree) (rest : ExprTrees) → ExprTrees
 
-abbrev pub conds_of : List CondTree → CondTrees
+abbrev pub conds_of : List QueryCondTree → QueryCondTrees
 conds_of [] = no_cond
 conds_of (c ∷ cs) = more_conds c (conds_of cs)
 
@@ -46,7 +46,7 @@ abbrev pub exprs_of : List ExprTree → ExprTrees
 exprs_of [] = no_expr
 exprs_of (e ∷ es) = more_exprs e (exprs_of es)
 
-abbrev pub cond_layer : QCond-F CondTree CondTrees → CondTree
+abbrev pub cond_layer : QCond-F QueryCondTree QueryCondTrees → QueryCondTree
 cond_layer qcond.True = Always
 cond_layer (qcond.Exists p) = Exists p
 cond_layer (qcond.Compare l r o) = Compare l r o
@@ -54,14 +54,14 @@ cond_layer (qcond.Not c) = Not (box_value c)
 cond_layer (qcond.All cs) = All cs
 cond_layer (qcond.Any cs) = Any cs
 
-abbrev pub conds_layer : QConds-F CondTree CondTrees → CondTrees
+abbrev pub conds_layer : QConds-F QueryCondTree QueryCondTrees → QueryCondTrees
 conds_layer cs = conds_of cs.members.items
 
 -- the condition as a plain tree
-abbrev pub cond_tree : QCond → CondTree
-cond_tree c = fold-QCond CondTree CondTrees cond_layer conds_layer c
+abbrev pub cond_tree : QCond → QueryCondTree
+cond_tree c = fold-QCond QueryCondTree QueryCondTrees cond_layer conds_layer c
 
-abbrev pub cond_trees : QConds → List CondTree
+abbrev pub cond_trees : QConds → List QueryCondTree
 cond_trees cs = map cond_tree cs.members.items
 
 abbrev pub expr_layer : Expr-F ExprTree ExprTrees → ExprTree

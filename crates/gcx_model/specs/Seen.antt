@@ -4,8 +4,8 @@ use lib.Utf8.{scalar, scalars, encode, encodes}
 use Rattle.gcx_base.specs.declared.limits.Limits.{Limits}
 use Rattle.gcx_model.specs.Document.{Nodes, tokens}
 use Rattle.gcx_model.specs.Tree.{Token, End, Tree, opening, grow_all}
-use Rattle.gcx_model.specs.Grammar.{SpellsDocument, Content, nothing, mark, space, char, reference, cdata, comment, bare, instruction, doctype, single, tagged, end_tag}
-use Rattle.gcx_model.specs.Fronts.{Frames, bottom, frame, Piece, no_piece, Opens, inside, seen_tokens}
+use Rattle.gcx_model.specs.Grammar.{SpellsDocument, Content, nothing, mark, space, char, reference, cdata, comment, bare, instruction, doctype, single, tagged, end_tag_spelling}
+use Rattle.gcx_model.specs.Fronts.{Frames, bottom, frame, Piece, no_piece, OpensFrames, inside, seen_tokens}
 use Rattle.gcx_model.specs.Faults.{Clean, FaultIs}
 use Rattle.std.specs.Prelude.{◌+◌}
 use Rattle.std.specs.Prelude.{◌^◌}
@@ -18,7 +18,7 @@ pub record SeenIn (cs : List ℕ) (ts : List Token) : Type 0 where
   pub frames : Frames
   pub content : Content
   pub piece : Piece
-  pub opens : Opens cs frames content piece
+  pub opens : OpensFrames cs frames content piece
   pub tokens_are : ts ≡ seen_tokens frames content
 
 -- These are the most characters of the bytes that may be in which no fault comes.
@@ -75,13 +75,13 @@ ends_in_tag fs other = false
 pub record EndsWithTag (cs : List ℕ) : Type 0 where
   pub frames : Frames
   pub content : Content
-  pub opens : Opens cs frames content no_piece
+  pub opens : OpensFrames cs frames content no_piece
   pub tag : ends_in_tag frames content ≡ true
 
 -- the end tags of the open elements, the innermost first
 abbrev pub end_tags : Frames → List ℕ
 end_tags bottom = []
-end_tags (frame fs x n ats sp) = end_tag n [] ++ end_tags fs
+end_tags (frame fs x n ats sp) = end_tag_spelling n [] ++ end_tags fs
 
 -- as many ends
 abbrev pub open_ends : Frames → List Token

@@ -6,7 +6,7 @@ use Rattle.gcx_model.specs.declared.query.Clause.{Clause}
 use Rattle.gcx_model.specs.declared.query.QOperand.{QOperand}
 use Rattle.gcx_model.specs.declared.query.QOperand.TheVariants as operand
 use Rattle.gcx_model.specs.Paths.{any}
-use Rattle.gcx_model.specs.Query.{CondTree, CondTrees, Always, Exists, Compare, Not, All, Any, no_cond, more_conds, ExprTree, ExprTrees, Empty, Seq, Elem, Path, For, If, no_expr, more_exprs, exprs_of}
+use Rattle.gcx_model.specs.Query.{QueryCondTree, QueryCondTrees, Always, Exists, Compare, Not, All, Any, no_cond, more_conds, ExprTree, ExprTrees, Empty, Seq, Elem, Path, For, If, no_expr, more_exprs, exprs_of}
 use Rattle.gcx_model.specs.Variables.{is_child}
 
 -- each step but the last is a child step
@@ -42,13 +42,13 @@ is_literal (operand.Path path) = false
 is_literal (operand.Str bytes) = true
 is_literal (operand.Num units) = true
 
-abbrev pub two_conds : CondTrees → Bool
+abbrev pub two_conds : QueryCondTrees → Bool
 two_conds no_cond = false
 two_conds (more_conds c no_cond) = false
 two_conds (more_conds c (more_conds d ds)) = true
 
 abbrev mutual
-  pub is_cond : (scope : List (List ℕ)) → CondTree → Bool
+  pub is_cond : (scope : List (List ℕ)) → QueryCondTree → Bool
   is_cond scope Always = true
   is_cond scope (Exists path) = is_path scope path
   is_cond scope (Compare left rel right) = (is_side scope left && is_side scope right) && not (is_literal left && is_literal right)
@@ -56,7 +56,7 @@ abbrev mutual
   is_cond scope (All cs) = two_conds cs && are_conds scope cs
   is_cond scope (Any cs) = two_conds cs && are_conds scope cs
 
-  pub are_conds : (scope : List (List ℕ)) → CondTrees → Bool
+  pub are_conds : (scope : List (List ℕ)) → QueryCondTrees → Bool
   are_conds scope no_cond = true
   are_conds scope (more_conds c cs) = is_cond scope c && are_conds scope cs
 
@@ -73,7 +73,7 @@ abbrev pub has_clause : List Clause → Bool
 has_clause [] = false
 has_clause (c ∷ cs) = true
 
-abbrev pub is_filter : (scope : List (List ℕ)) → Option CondTree → Bool
+abbrev pub is_filter : (scope : List (List ℕ)) → Option QueryCondTree → Bool
 is_filter scope None = true
 is_filter scope (Some c) = is_cond scope c
 

@@ -11,8 +11,8 @@ use Rattle.clap.proofs.ValueTestLemmas.{accepts-Accepts, Accepts-accepts}
 use Rattle.clap.proofs.WalkLemmas.{one_text-rows}
 use Rattle.gcx_words.specs.Rows.{read_number, any_number_at, found_by, found_if, rows_found}
 use Rattle.gcx_words.specs.Words.{app_by}
-use Rattle.gcx_words.specs.declared.command.Name.{Name}
-use Rattle.gcx_words.specs.declared.command.Name.TheVariants as name
+use Rattle.gcx_words.specs.declared.command.CommandName.{CommandName}
+use Rattle.gcx_words.specs.declared.command.CommandName.TheVariants as name
 use Rattle.std.specs.Prelude.{IfOk}
 use Rattle.std.proofs.Common.{inl, inr, ap₂}
 use Rattle.clap.specs.Words.{App, is_simple, is_simple_and_free, fault_of, matches_of, HasMatchesOf, FailsBy, HasKind, Kinds, kind_of}
@@ -48,7 +48,7 @@ number_found {E} G only f id r none value = subst (λ o. r ≡ option_and_then r
     go (Some t) e = number_read G only t r (value t e)
 
 -- clap's definition of a simple command speaks of these
-pub takes : (n : Name) → is_simple_and_free (app_by n) ≡ true
+pub takes : (n : CommandName) → is_simple_and_free (app_by n) ≡ true
 unfolding clap_on_literals
 takes name.Run = refl
 takes name.Whole = refl

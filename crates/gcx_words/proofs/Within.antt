@@ -8,8 +8,8 @@ use Rattle.gcx_words.specs.Pairs.{are_apart, paired}
 use Rattle.gcx_words.specs.Within.{IsWithin}
 use Rattle.gcx_words.specs.declared.command.Command.{Command}
 use Rattle.gcx_words.specs.declared.command.Command.TheVariants.{Run, Whole, Explain, Peak, Gen, Selfrun, Many, Check}
-use Rattle.gcx_words.specs.declared.command.Name.{Name}
-use Rattle.gcx_words.specs.declared.command.Name.TheVariants as name
+use Rattle.gcx_words.specs.declared.command.CommandName.{CommandName}
+use Rattle.gcx_words.specs.declared.command.CommandName.TheVariants as name
 
 -- what a function of an option answers comes of what the option has
 and_then_some : {A B : Type 0} (f : A → Option B) (o : Option A) (y : B) → option_and_then f o ≡ Some y → (x : A) × (o ≡ Some x) × (f x ≡ Some y)
@@ -78,7 +78,7 @@ many_with_within document words c e = go (nat_eq (length words % 2) 0) (nat_le (
     go true false p even few apart e = let no : ⊥ = cc in absurd no
     go false b p even few apart e = let no : ⊥ = cc in absurd no
 
-found_within : (n : Name) (rows : List Row) (c : Command) → found_as n rows ≡ Some c → IsWithin c
+found_within : (n : CommandName) (rows : List Row) (c : Command) → found_as n rows ≡ Some c → IsWithin c
 found_within name.Run rows c e = as_run_within rows c e
 found_within name.Whole rows c e = let h = map_some (λ p. Whole p.0 p.1) (pair_of rows) c e in subst IsWithin h.2 tt
 found_within name.Explain rows c e = let h = map_some Explain (first_of (codes "query") rows) c e in subst IsWithin h.2 tt
@@ -98,11 +98,11 @@ found_within name.Check rows c e =
     let t = map_some (λ trace. Check p.0.0 p.0.1 trace) (first_of (codes "trace") rows) c p.2 in
     subst IsWithin t.2 tt
 
-read_within : (n : Name) (words : List Text) (c : Command) → read n words ≡ Some c → IsWithin c
+read_within : (n : CommandName) (words : List Text) (c : Command) → read n words ≡ Some c → IsWithin c
 read_within n words c e = let h = and_then_some (found_as n) (found_by (app_by n) words) c e in found_within n h.0 c h.2
 
 -- of what is read under a name
-pub if_within : (n : Name) (words : List Text) (o : Option Command) → o ≡ read n words → IfSome o IsWithin
+pub if_within : (n : CommandName) (words : List Text) (o : Option Command) → o ≡ read n words → IfSome o IsWithin
 if_within n words None is = tt
 if_within n words (Some c) is = read_within n words c (sym is)
 

@@ -10,14 +10,14 @@ use Rattle.clap.specs.declared.builder.ValueParser.TheVariants.{Unsigned}
 use Rattle.clap.specs.Lexer.{usize_max}
 use Rattle.gcx_words.specs.Pairs.{are_apart, are_paired, paired}
 use Rattle.gcx_words.specs.Rows.{flag_at, found_by, number_at}
-use Rattle.gcx_words.specs.declared.command.Name.{Name}
-use Rattle.gcx_words.specs.declared.command.Name.TheVariants as name
+use Rattle.gcx_words.specs.declared.command.CommandName.{CommandName}
+use Rattle.gcx_words.specs.declared.command.CommandName.TheVariants as name
 use Rattle.gcx_words.specs.declared.command.Command.{Command}
 use Rattle.gcx_words.specs.declared.command.Command.TheVariants.{Run, Whole, Explain, Peak, Gen, Selfrun, Many, Check}
 
 -- ---- The table of names
 
-abbrev pub named_by : Text → Option Name
+abbrev pub named_by : Text → Option CommandName
 named_by word =
     if bytes_eq word (codes "run") then Some name.Run
     else if bytes_eq word (codes "whole") then Some name.Whole
@@ -30,7 +30,7 @@ named_by word =
     else None
 
 -- the command that the first word names
-abbrev pub named : List Text → Option Name
+abbrev pub named : List Text → Option CommandName
 named [] = None
 named (word ∷ words) = named_by word
 
@@ -76,7 +76,7 @@ abbrev pub many_app : App
 many_app = with_rule (with_rule (new_app (codes "many")) (wanted (codes "document"))) pair_rule
 
 -- the command of this name
-abbrev pub app_by : Name → App
+abbrev pub app_by : CommandName → App
 app_by name.Run = run_app
 app_by name.Whole = pair_app (codes "whole")
 app_by name.Explain = single_app
@@ -129,7 +129,7 @@ abbrev pub as_many : List Row → Option Command
 as_many rows = option_and_then (λ document. option_and_then (many_with document) (all_of (codes "pair") rows))
     (first_of (codes "document") rows)
 
-abbrev pub found_as : Name → List Row → Option Command
+abbrev pub found_as : CommandName → List Row → Option Command
 found_as name.Run rows = as_run rows
 found_as name.Whole rows = as_whole rows
 found_as name.Explain rows = as_explain rows
@@ -140,7 +140,7 @@ found_as name.Many rows = as_many rows
 found_as name.Check rows = as_check rows
 
 -- what all of the words ask for, where the first one names this command
-abbrev pub read : Name → List Text → Option Command
+abbrev pub read : CommandName → List Text → Option Command
 read n words = option_and_then (found_as n) (found_by (app_by n) words)
 
 -- Command

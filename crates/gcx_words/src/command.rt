@@ -3,7 +3,7 @@ use gcx_base::Text;
 
 /// The commands by their names.
 #[derive(Clone, Copy, Debug, PartialEq, Eq)]
-pub enum Name {
+pub enum CommandName {
     Run,
     Whole,
     Explain,

@@ -7,6 +7,6 @@ mod pairs;
 mod parsers;
 mod reading;
 
-pub use command::{Command, Name};
+pub use command::{Command, CommandName};
 pub use pairs::{Pair, Pairs};
 pub use reading::command_of;

@@ -3,7 +3,7 @@ ghost use Rattle.std.specs.Prelude.{◌≡◌, IfOk};
 ghost use Rattle.clap.specs.Words.{app_of, with_rule};
 ghost use Rattle.gcx_words.specs.Words.{ahead_rule, app_by, check_app, many_app, numbers_app, pair_app, pair_rule, run_app, single_app, trace_rule, wanted, wanted_number};
 
-use crate::command::Name;
+use crate::command::CommandName;
 use clap::builder::ValueParser;
 use clap::{Arg, ArgAction, Command};
 use gcx_base::Memory;
@@ -123,17 +123,17 @@ fn many_parser<'a>(alloc: Global) -> Result<Command<'a>, Memory>
 }
 
 /// The parser of the command of this name.
-pub(crate) fn parser_of<'a>(alloc: Global, name: Name) -> Result<Command<'a>, Memory>
+pub(crate) fn parser_of<'a>(alloc: Global, name: CommandName) -> Result<Command<'a>, Memory>
     ensures { IfOk result (λ c. app_of c ≡ app_by name) }
 {
     match name {
-        Name::Run => run_parser(alloc),
-        Name::Whole => pair_parser(alloc, "whole"),
-        Name::Explain => single_parser(alloc),
-        Name::Peak => pair_parser(alloc, "peak"),
-        Name::Gen => numbers_parser(alloc, "gen"),
-        Name::Selfrun => numbers_parser(alloc, "selfrun"),
-        Name::Many => many_parser(alloc),
-        Name::Check => check_parser(alloc),
+        CommandName::Run => run_parser(alloc),
+        CommandName::Whole => pair_parser(alloc, "whole"),
+        CommandName::Explain => single_parser(alloc),
+        CommandName::Peak => pair_parser(alloc, "peak"),
+        CommandName::Gen => numbers_parser(alloc, "gen"),
+        CommandName::Selfrun => numbers_parser(alloc, "selfrun"),
+        CommandName::Many => many_parser(alloc),
+        CommandName::Check => check_parser(alloc),
     }
 }

@@ -6,7 +6,7 @@ ghost use Rattle.gcx_words.specs.Words.{as_many, many_with, pair_of, as_peak, re
 ghost use Rattle.gcx_words.specs.Pairs.{are_paired};
 ghost use Rattle.gcx_words.specs.Within.{IsWithin};
 
-use crate::command::{Command, Name};
+use crate::command::{Command, CommandName};
 use crate::found::{flag_found, number_found, own_found, parsed, texts_found};
 use crate::pairs::{Pairs, are_apart};
 use crate::parsers::parser_of;
@@ -15,32 +15,32 @@ use gcx_base::{Memory, Text};
 use std::alloc::Global;
 
 /// The command of this name.
-fn named_by(word: &[u8]) -> Option<Name>
+fn named_by(word: &[u8]) -> Option<CommandName>
     ensures { result ≡ named_by word.now }
 {
     if word == b"run".as_slice() {
-        Some(Name::Run)
+        Some(CommandName::Run)
     } else if word == b"whole".as_slice() {
-        Some(Name::Whole)
+        Some(CommandName::Whole)
     } else if word == b"explain".as_slice() {
-        Some(Name::Explain)
+        Some(CommandName::Explain)
     } else if word == b"peak".as_slice() {
-        Some(Name::Peak)
+        Some(CommandName::Peak)
     } else if word == b"gen".as_slice() {
-        Some(Name::Gen)
+        Some(CommandName::Gen)
     } else if word == b"selfrun".as_slice() {
-        Some(Name::Selfrun)
+        Some(CommandName::Selfrun)
     } else if word == b"many".as_slice() {
-        Some(Name::Many)
+        Some(CommandName::Many)
     } else if word == b"check".as_slice() {
-        Some(Name::Check)
+        Some(CommandName::Check)
     } else {
         None
     }
 }
 
 /// The command that the first word names.
-fn named(words: &[Text]) -> Option<Name>
+fn named(words: &[Text]) -> Option<CommandName>
     ensures { result ≡ named words.now }
 {
     named_by(words.first()?.as_bytes())
@@ -204,23 +204,27 @@ fn as_many(alloc: Global, matches: &ArgMatches) -> Result<Option<Command>, Memor
 }
 
 /// The command of this name of what was found.
-fn found_as(alloc: Global, name: Name, matches: &ArgMatches) -> Result<Option<Command>, Memory>
+fn found_as(
+    alloc: Global,
+    name: CommandName,
+    matches: &ArgMatches,
+) -> Result<Option<Command>, Memory>
     ensures { IfOk result (λ c. c ≡ found_as name (rows_of (found_of matches.now))) }
 {
     match name {
-        Name::Run => as_run(alloc, matches),
-        Name::Whole => as_whole(alloc, matches),
-        Name::Explain => as_explain(alloc, matches),
-        Name::Peak => as_peak(alloc, matches),
-        Name::Gen => Ok(as_gen(matches)),
-        Name::Selfrun => Ok(as_selfrun(matches)),
-        Name::Many => as_many(alloc, matches),
-        Name::Check => as_check(alloc, matches),
+        CommandName::Run => as_run(alloc, matches),
+        CommandName::Whole => as_whole(alloc, matches),
+        CommandName::Explain => as_explain(alloc, matches),
+        CommandName::Peak => as_peak(alloc, matches),
+        CommandName::Gen => Ok(as_gen(matches)),
+        CommandName::Selfrun => Ok(as_selfrun(matches)),
+        CommandName::Many => as_many(alloc, matches),
+        CommandName::Check => as_check(alloc, matches),
     }
 }
 
 /// The command that all of the words ask for, where the first one names this command.
-fn read(alloc: Global, name: Name, words: &[&str]) -> Result<Option<Command>, Memory>
+fn read(alloc: Global, name: CommandName, words: &[&str]) -> Result<Option<Command>, Memory>
     ensures { IfOk result (λ c. c ≡ read name (map (λ w. w.now) words.now)) }
 {
     match parsed(parser_of(alloc, name)?, words)? {

@@ -25,7 +25,7 @@ use Rattle.path_states.specs.Lists.{Holds}
 use Rattle.path_states.specs.PathTree.{IsWay, kind_with, tail_with}
 use Rattle.matcher.specs.Frames.{Hit}
 use Rattle.matcher.specs.Frame.{IsFrame}
-use Rattle.matcher.specs.Matcher.{Stands}
+use Rattle.matcher.specs.Matcher.{MatcherAt}
 use Rattle.matcher.specs.Ahead.{Target, AreVars, AreBases}
 use Rattle.matcher.specs.View.{FrameView, MatcherView, innermost_frame}
 use Rattle.matcher.specs.declared.frames.Found.{Found}
@@ -87,7 +87,7 @@ pub record IsBase (plan : PlanTree) (P : Tree) (n : Node) (o : OffTree) (l : ℕ
   pub hit : hits 0 (path_of plan o.base) node ≡ true
   pub reached : reaches P o node n ≡ true
 
-module _ (m : MatcherView) (past : Past) (text : Bool) (s : Stands m past text) where
+module _ (m : MatcherView) (past : Past) (text : Bool) (s : MatcherAt m past text) where
   abbrev P : Tree
   P = past.tree
 

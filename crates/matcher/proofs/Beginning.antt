@@ -34,7 +34,7 @@ use Rattle.path_states.specs.declared.paths.Way.{Way}
 use Rattle.path_states.proofs.Looking.{some_at, one_at, in_some, in_not_none}
 use Rattle.matcher.specs.Frame.{IsPending, IsInside, IsFirst, IsFound, IsFrame}
 use Rattle.matcher.specs.Frames.{HasRole}
-use Rattle.matcher.specs.Matcher.{Stands, IsSign}
+use Rattle.matcher.specs.Matcher.{MatcherAt, IsSign}
 use Rattle.matcher.specs.Parts.{NodeMarks, new_marks, open_context}
 use Rattle.matcher.specs.Signs.{InTurn}
 use Rattle.matcher.specs.View.{FrameView, MatcherView, frame_of}
@@ -238,7 +238,7 @@ not_sign plan x i = false≢true i.is
 
 -- a matcher with the frame of the document node alone stands for the opening tree
 pub stands_open : (m : MatcherView) (core : BodyTree) → Good core → (plan : PlanTree) → Placed core plan → IsPathTree plan m.tree → (x : StateView) → StartsAs m.tree.states.items x → IsMade m.tree.states.items x
-    → m.frames ≡ frame_of x (new_marks x.contexts []) ∷ [] → m.idle ≡ 0 → m.text ≡ false → m.signs ≡ [] → Stands m (opening_past plan) false
+    → m.frames ≡ frame_of x (new_marks x.contexts []) ∷ [] → m.idle ≡ 0 → m.text ≡ false → m.signs ≡ [] → MatcherAt m (opening_past plan) false
 stands_open m core good plan placed s x starts made frames idle text signs = record {
   is_past = past_opens core good plan placed;
   tree = s;
@@ -267,7 +267,7 @@ stands_open m core good plan placed s x starts made frames idle text signs = rec
         subst (λ (z : Node). IsFrame plan opening m.tree.states.items s.path frame z) d (subst (λ (z : FrameView). IsFrame plan opening m.tree.states.items s.path z Root) same (root_frame plan m.tree s x starts made))
 
 -- the roles that the state of the document node gives are those of the document node
-pub document_given : (m : MatcherView) (past : Past) (text : Bool) → Stands m past text → (x : StateView) (k : NodeMarks) → slice_get m.frames 0 ≡ Some (frame_of x k) → IsMade m.tree.states.items x → (rs : List ℕ) → rs ≡ x.given → rs ≡ roles_given past.plan past.tree Root
+pub document_given : (m : MatcherView) (past : Past) (text : Bool) → MatcherAt m past text → (x : StateView) (k : NodeMarks) → slice_get m.frames 0 ≡ Some (frame_of x k) → IsMade m.tree.states.items x → (rs : List ℕ) → rs ≡ x.given → rs ≡ roles_given past.plan past.tree Root
 document_given m past text S x k at made rs e =
     let w = grown_from past.tree S.is_past.grown in
     let R = S.frames Root (frame_of x k) (root_above S.here) at in

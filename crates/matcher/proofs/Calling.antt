@@ -16,7 +16,7 @@ use Rattle.path_states.proofs.Looking.{one_at}
 use Rattle.matcher.specs.Calls.{GivesNext, GivesNode, KeepsStanding, StandsBehind, StandsIn, StandsNext}
 use Rattle.matcher.specs.Entering.{AddsFrame, AddsGiven, FindsAll, FindsHere, Firsts, GivesInside, Goes, Halts, IsIdle, IsIdled, IsVain}
 use Rattle.matcher.specs.Frames.{AreBoth, AreRoles}
-use Rattle.matcher.specs.Matcher.{Stands}
+use Rattle.matcher.specs.Matcher.{MatcherAt}
 use Rattle.matcher.specs.Parts.{NodeMarks, new_marks}
 use Rattle.matcher.specs.Stacks.{AreMatched}
 use Rattle.matcher.specs.View.{FrameView, GoTogether, MatcherView, frames_of, innermost_frame, matcher_view}
@@ -33,8 +33,8 @@ same_keeps old new e s S = subst (λ (z : MatcherView). StandsIn z s) (sym e) S
 
 -- behind a new node
 behind_by : (old new : MatcherView) (kind : Kind)
-    → ((past : Past) → Stands old past false → may_come (token_for kind) past.tree ≡ true → ((p : Node) → past.tree.at ≡ Some p → level p ≤ 1000) → Stands new (past_grown (token_for kind) past) (is_text kind)) → StandsBehind old new kind
-behind_by old new kind f s S may = f s.0 (subst (λ (b : Bool). Stands old s.0 b) may.0 S) may.1.0 may.1.1
+    → ((past : Past) → MatcherAt old past false → may_come (token_for kind) past.tree ≡ true → ((p : Node) → past.tree.at ≡ Some p → level p ≤ 1000) → MatcherAt new (past_grown (token_for kind) past) (is_text kind)) → StandsBehind old new kind
+behind_by old new kind f s S may = f s.0 (subst (λ (b : Bool). MatcherAt old s.0 b) may.0 S) may.1.0 may.1.1
 
 -- the roles of whole subtrees of the innermost frame are those of the innermost state
 pub inside_whole : (v : StatesView) (ms : List NodeMarks) → GoTogether v ms → (x : StateView) → last_state v.states ≡ Some x → (frame : FrameView) → innermost_frame (frames_of v ms) ≡ Some frame → frame.whole ≡ x.whole
@@ -115,7 +115,7 @@ module _ (m : MatcherView) (kind : Kind) (node : IsNode kind) (text : Bool) (fla
   pub next_entered : (now : MatcherView) (number : ℕ) → m.idle ≡ 0 → IsNameNumber m.names kind number → StandsNext m now number text → StandsBehind m now kind
   next_entered now number here by d = behind_by m now kind (λ past S may few.
       let G : Goes m past kind = record { stands = S; node = node; may = may } in
-      subst (λ (z : Bool). Stands now (past_grown (token_for kind) past) z) flag (d past kind (record { goes = G; by = by; flag = sym flag; here = here }) few))
+      subst (λ (z : Bool). MatcherAt now (past_grown (token_for kind) past) z) flag (d past kind (record { goes = G; by = by; flag = sym flag; here = here }) few))
 
   pub next_given : (given : List Role) (number : ℕ) → m.idle ≡ 0 → IsNameNumber m.names kind number → GivesNext m number text given → GivesNode m kind given
   next_given given number here by g past n S may op =
@@ -135,7 +135,7 @@ module _ (v : StatesView) (ms : List NodeMarks) (idle : ℕ) (was : Bool) (signs
   pub halted_stands : (now : MatcherView) → Halts v number text → IsIdled old now text → StandsNext old now number text
   halted_stands now halts d past kind B few =
       let q = halts_goes old past kind B.goes v ms number text refl refl go B.by B.flag B.here halts in
-      subst (λ (z : Bool). Stands now (past_grown (token_for kind) past) z) B.flag (idle_stands old past kind B.goes q.0 q.1 few now (subst (λ (z : Bool). IsIdled old now z) (sym B.flag) d))
+      subst (λ (z : Bool). MatcherAt now (past_grown (token_for kind) past) z) B.flag (idle_stands old past kind B.goes q.0 q.1 few now (subst (λ (z : Bool). IsIdled old now z) (sym B.flag) d))
 
   pub halted_given : (given : List Role) → Halts v number text → GivesInside old given → GivesNext old number text given
   halted_given given halts g past kind n B op = told old past kind B.goes (halts_goes old past kind B.goes v ms number text refl refl go B.by B.flag B.here halts).0 given g n op
@@ -145,8 +145,8 @@ module _ (v : StatesView) (ms : List NodeMarks) (idle : ℕ) (was : Bool) (signs
     pub added_stands : StandsNext old (matcher_view v2 later idle text signs) number text
     added_stands past kind B few =
         let same : view_with v2 (frames_of v2 later) idle (is_text kind) signs ≡ view_with v (frames_of v2 later) idle (is_text kind) signs = ap (λ (z : StatesView). view_with z (frames_of v2 later) idle (is_text kind) signs) E.is in
-        subst (λ (z : Bool). Stands (matcher_view v2 later idle z signs) (past_grown (token_for kind) past) z) B.flag
-        (subst (λ (z : MatcherView). Stands z (past_grown (token_for kind) past) (is_text kind)) (sym same) (advanced_stands old past kind B.goes B.here v v2 ms later number found refl refl go B.by E A))
+        subst (λ (z : Bool). MatcherAt (matcher_view v2 later idle z signs) (past_grown (token_for kind) past) z) B.flag
+        (subst (λ (z : MatcherView). MatcherAt z (past_grown (token_for kind) past) (is_text kind)) (sym same) (advanced_stands old past kind B.goes B.here v v2 ms later number found refl refl go B.by E A))
 
     pub added_given : (given : List Role) → AreRoles v2.tree.states.items A.state.whole A.state.active found (map (λ (r : Role). r.0) given) → GivesNext old number text given
     added_given given roles past kind n B op =

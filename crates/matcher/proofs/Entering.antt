@@ -24,7 +24,7 @@ use Rattle.path_states.specs.Lists.{From, Gains, Holds}
 use Rattle.matcher.specs.Frame.{IsFound, IsFrame, IsInside, IsPending}
 use Rattle.path_states.specs.Active.{ActiveBelow, Waits}
 use Rattle.gcx_base.specs.Kinds.{is_text}
-use Rattle.matcher.specs.Matcher.{IsSign, Stands}
+use Rattle.matcher.specs.Matcher.{IsSign, MatcherAt}
 use Rattle.matcher.specs.Entering.{Comes, Goes, Halts, IsIdle, IsIdled}
 use Rattle.matcher.specs.Parts.{NodeMarks}
 use Rattle.matcher.specs.View.{FrameView, GoTogether, MatcherView, frames_of, innermost_frame}
@@ -78,7 +78,7 @@ none_below tree kind c (inl f) = f.member
 none_below tree kind c (inr f) = f.member
 
 module _ (m : MatcherView) (past : Past) (kind : Kind) (G : Goes m past kind) where
-  abbrev S : Stands m past false
+  abbrev S : MatcherAt m past false
   S = G.stands
 
   abbrev P : Tree
@@ -306,13 +306,13 @@ module _ (m : MatcherView) (past : Past) (kind : Kind) (G : Goes m past kind) wh
       old_frame past.plan m.tree.states.items path P w t n o [] (λ q j. absurd j) (λ q d. none_found h q d) frame frame a (opened a i) (S.frames a frame i f)
       (record { active = refl; pending = refl; whole = refl; found_same = refl; signed = refl; open_to = λ r j. (j, λ b. b); open_from = λ r s. s.0 })
 
-  pub idle_stands : Unled → Quiet → ((p : Node) → past.tree.at ≡ Some p → level p ≤ 1000) → (k : MatcherView) → IsIdled m k (is_text kind) → Stands k (past_grown (token_for kind) past) (is_text kind)
+  pub idle_stands : Unled → Quiet → ((p : Node) → past.tree.at ≡ Some p → level p ≤ 1000) → (k : MatcherView) → IsIdled m k (is_text kind) → MatcherAt k (past_grown (token_for kind) past) (is_text kind)
   idle_stands h q few k d =
       let e = S.levels in
       let l = S.some in
       let b = few here at in
       let c : m.idle < 2 ^ 32 - 1 = omega arith in
-      subst (λ (z : MatcherView). Stands z (past_grown t past) (is_text kind)) (sym (d.is ∙ ap (λ (z : ℕ). record m { idle = z; text = is_text kind }) (d.idle c))) (record {
+      subst (λ (z : MatcherView). MatcherAt z (past_grown t past) (is_text kind)) (sym (d.is ∙ ap (λ (z : ℕ). record m { idle = z; text = is_text kind }) (d.idle c))) (record {
         is_past = past_new past t S.is_past G.may;
         tree = S.tree;
         flag = refl;

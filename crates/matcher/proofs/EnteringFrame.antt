@@ -27,7 +27,7 @@ use Rattle.matcher.specs.Frame.{IsFound, IsFrame}
 use Rattle.matcher.specs.Frames.{AreRoles}
 use Rattle.matcher.specs.Parts.{NodeMarks, at_level, new_marks}
 use Rattle.matcher.specs.Stacks.{AreMatched}
-use Rattle.matcher.specs.Matcher.{Stands}
+use Rattle.matcher.specs.Matcher.{MatcherAt}
 use Rattle.matcher.specs.Entering.{AddsFrame, Comes, Firsts, Goes, LeadsTo}
 use Rattle.matcher.specs.View.{FrameView, GoTogether, MatcherView, frame_of, frames_of, frames_with, innermost_frame}
 use Rattle.matcher.specs.declared.frames.Found.{Found}
@@ -43,7 +43,7 @@ use Rattle.matcher.proofs.Entering.{last, last_here, comes, o, u, opened, some, 
 -- The frames behind a new node: each is that of before, or the new one, where first matches are found.
 module _ (m : MatcherView) (past : Past) (kind : Kind) (G : Goes m past kind) (idle : m.idle ≡ 0) (x : StateView) (leads : LeadsFrom m.tree.states.items (last m past kind G).frame kind x) (made : IsMade m.tree.states.items x) (found : List Found)
     (first : (f : Found) → (In f found → IsFound past.plan (grow (token_for kind) past.tree) (Under G.stands.here (length past.tree.nodes) kind) f) × (IsFound past.plan (grow (token_for kind) past.tree) (Under G.stands.here (length past.tree.nodes) kind) f → In f found)) where
-  abbrev S : Stands m past false
+  abbrev S : MatcherAt m past false
   S = G.stands
 
   abbrev n : Node
@@ -123,7 +123,7 @@ module _ (m : MatcherView) (past : Past) (kind : Kind) (G : Goes m past kind) (i
           | inr e ↦ (let d = e.0 in absurd (omega arith))
         ]
 
-    pub frame_stands : Stands (record m { frames = now; text = is_text kind }) (past_grown (token_for kind) past) (is_text kind)
+    pub frame_stands : MatcherAt (record m { frames = now; text = is_text kind }) (past_grown (token_for kind) past) (is_text kind)
     frame_stands =
         let l = S.levels in
         let c = as_many in
@@ -253,7 +253,7 @@ module _ (m : MatcherView) (past : Past) (kind : Kind) (G : Goes m past kind) (i
       let b = as_before in
       frames_length v2.states later (omega arith) ∙ omega arith
 
-  pub advanced_stands : Stands (record m { frames = frames_of v2 later; text = is_text kind }) (past_grown (token_for kind) past) (is_text kind)
+  pub advanced_stands : MatcherAt (record m { frames = frames_of v2 later; text = is_text kind }) (past_grown (token_for kind) past) (is_text kind)
   advanced_stands = frame_stands m past kind G idle E.state leads made found first (frames_of v2 later) count_now matched not_here
 
   pub advanced_given : (given : List Role) → AreRoles v2.tree.states.items A.state.whole A.state.active found (map (λ (r : Role). r.0) given)

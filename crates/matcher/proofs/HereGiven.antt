@@ -31,7 +31,7 @@ use Rattle.matcher.specs.Calls.{GivesCount, GivesHere, GivesNewly, GivesSet}
 use Rattle.matcher.specs.Entering.{GivesInside}
 use Rattle.matcher.specs.Frame.{IsFound, IsInside}
 use Rattle.matcher.specs.Frames.{AreBoth, AreRoles}
-use Rattle.matcher.specs.Matcher.{Stands}
+use Rattle.matcher.specs.Matcher.{MatcherAt}
 use Rattle.matcher.specs.Parts.{NodeMarks}
 use Rattle.matcher.specs.View.{FrameView, MatcherView, frame_of, innermost_frame}
 use Rattle.matcher.specs.declared.frames.Found.{Found}
@@ -41,7 +41,7 @@ use Rattle.matcher.proofs.NewFrame.{end_of, ended, first_tail, whole_tail}
 use Rattle.matcher.proofs.Entering.{le_or_less}
 use Rattle.matcher.proofs.GivenRoles.{IsWholeMatch, both_alone, climbs_same, newly_told, roles_of_both, roles_told}
 
-module _ (m : MatcherView) (past : Past) (text : Bool) (S : Stands m past text) where
+module _ (m : MatcherView) (past : Past) (text : Bool) (S : MatcherAt m past text) where
   abbrev path : ℕ → List Step
   path = S.tree.path
 
@@ -177,7 +177,7 @@ set_is s xs h = same_set nat_cmp_total nat_cmp-IsAntisymmetric s (from_list xs) 
     same_bools _ _ (λ e. listed xs q ((h q).0 e)) (λ e. (h q).1 (in_listed xs q e)) ∙ sym (contains-from_list nat_cmp_total xs q))
 
 -- of the roles of whole subtrees its state tells those whose paths lead to it
-whole_matched : (m : MatcherView) (x : StateView) (k : NodeMarks) → innermost_frame m.frames ≡ Some (frame_of x k) → IsMade m.tree.states.items x → m.idle ≡ 0 → (past : Past) (text : Bool) (S : Stands m past text) → (r : ℕ) → In r x.whole_here ↔ IsWholeMatch past.plan S.here r
+whole_matched : (m : MatcherView) (x : StateView) (k : NodeMarks) → innermost_frame m.frames ≡ Some (frame_of x k) → IsMade m.tree.states.items x → m.idle ≡ 0 → (past : Past) (text : Bool) (S : MatcherAt m past text) → (r : ℕ) → In r x.whole_here ↔ IsWholeMatch past.plan S.here r
 whole_matched m x k at made none past text S r =
     let R = here_frame m past text S (frame_of x k) at none in (
       (λ i. (

@@ -20,7 +20,7 @@ use Rattle.tree_laws.proofs.Fed.{grown_from}
 use Rattle.tree_laws.proofs.Growing.{level_above}
 use Rattle.path_states.specs.declared.paths.PathState.{PathState}
 use Rattle.matcher.specs.Frame.{IsFirst, IsFound, IsFrame}
-use Rattle.matcher.specs.Matcher.{IsSign, Stands}
+use Rattle.matcher.specs.Matcher.{IsSign, MatcherAt}
 use Rattle.matcher.specs.Signs.{InTurn}
 use Rattle.matcher.specs.View.{FrameView, MatcherView, innermost_frame}
 use Rattle.matcher.specs.declared.frames.Found.{Found}
@@ -68,7 +68,7 @@ level_not l k h = go (eqb l k) refl
 abbrev pub Dropped : FrameView → ℕ → (before now : List Sign) → Type 0
 Dropped frame l before now = ((frame.signed ≡ true) × (now ≡ filter (λ s. not (eqb s.level l)) before)) ⊎ ((frame.signed ≡ false) × (now ≡ before))
 
-module _ (m : MatcherView) (past : Past) (text : Bool) (S : Stands m past text) (Q : Tree) (p : Node) (s : ℕ) (k : Kind) (here : S.here ≡ Under p s k) (nodes : Q.nodes ≡ past.tree.nodes) (at : Q.at ≡ Some p) (is_past : IsPast (record past { tree = Q })) where
+module _ (m : MatcherView) (past : Past) (text : Bool) (S : MatcherAt m past text) (Q : Tree) (p : Node) (s : ℕ) (k : Kind) (here : S.here ≡ Under p s k) (nodes : Q.nodes ≡ past.tree.nodes) (at : Q.at ≡ Some p) (is_past : IsPast (record past { tree = Q })) where
   up : (a : Node) → In a (above p) → In a (above S.here)
   up a i = subst (λ (z : Node). In a (above z)) (sym here) (inr i)
 
@@ -95,7 +95,7 @@ module _ (m : MatcherView) (past : Past) (text : Bool) (S : Stands m past text) 
   )
 
   -- the innermost node has no frame
-  left_idle : (idle : ℕ) → idle + 1 ≡ m.idle → ((o : OffTree) → signed past.acts o S.here ≡ false) → Stands (record m { idle = idle; text = false }) (record past { tree = Q }) false
+  left_idle : (idle : ℕ) → idle + 1 ≡ m.idle → ((o : OffTree) → signed past.acts o S.here ≡ false) → MatcherAt (record m { idle = idle; text = false }) (record past { tree = Q }) false
   left_idle idle fewer unsigned = record {
     is_past = is_past;
     tree = S.tree;
@@ -123,7 +123,7 @@ module _ (m : MatcherView) (past : Past) (text : Bool) (S : Stands m past text) 
 
   -- its frame is taken away
   left_frame : (frames : List FrameView) (frame : FrameView) (signs : List Sign) → m.idle ≡ 0 → frames ≡ take (max 1 (length m.frames - 1)) m.frames → innermost_frame m.frames ≡ Some frame → Dropped frame (length m.frames - 1) m.signs signs
-      → Stands (record m { frames = frames; text = false; signs = signs }) (record past { tree = Q }) false
+      → MatcherAt (record m { frames = frames; text = false; signs = signs }) (record past { tree = Q }) false
   left_frame frames frame signs none taken last dropped = record {
     is_past = is_past;
     tree = S.tree;
@@ -171,20 +171,20 @@ module _ (m : MatcherView) (past : Past) (text : Bool) (S : Stands m past text) 
       ]
 
 -- a text
-module _ (m : MatcherView) (past : Past) (S : Stands m past true) where
-  pub idle_text : (idle : ℕ) → idle + 1 ≡ m.idle → Stands (record m { idle = idle; text = false }) past false
+module _ (m : MatcherView) (past : Past) (S : MatcherAt m past true) where
+  pub idle_text : (idle : ℕ) → idle + 1 ≡ m.idle → MatcherAt (record m { idle = idle; text = false }) past false
   idle_text idle fewer =
       let q = S.innermost in
       left_idle m past true S past.tree q.0 q.1 (Text q.2) q.4 refl q.5 S.is_past idle fewer (S.fresh refl)
 
   pub frame_text : (frames : List FrameView) (frame : FrameView) (signs : List Sign) → m.idle ≡ 0 → frames ≡ take (max 1 (length m.frames - 1)) m.frames → innermost_frame m.frames ≡ Some frame → Dropped frame (length m.frames - 1) m.signs signs
-      → Stands (record m { frames = frames; text = false; signs = signs }) past false
+      → MatcherAt (record m { frames = frames; text = false; signs = signs }) past false
   frame_text frames frame signs none taken last dropped =
       let q = S.innermost in
       left_frame m past true S past.tree q.0 q.1 (Text q.2) q.4 refl q.5 S.is_past frames frame signs none taken last dropped
 
 -- an element
-module _ (m : MatcherView) (past : Past) (p : Node) (s : ℕ) (k : Kind) (S : Stands m past false) (at : past.tree.at ≡ Some (Under p s k)) where
+module _ (m : MatcherView) (past : Past) (p : Node) (s : ℕ) (k : Kind) (S : MatcherAt m past false) (at : past.tree.at ≡ Some (Under p s k)) where
   here : S.here ≡ Under p s k
   here = let e : Some S.here ≡ Some (Under p s k) = sym S.innermost ∙ at in cc
 
@@ -211,9 +211,9 @@ module _ (m : MatcherView) (past : Past) (p : Node) (s : ℕ) (k : Kind) (S : St
           let l : length m.frames ≤ level S.here = (let z = S.levels in omega arith) in
           absurd (false≢true (sym (S.idle S.here (above_self S.here) l h.0 h.1) ∙ h.2))
 
-  pub idle_element : (idle : ℕ) → idle + 1 ≡ m.idle → Stands (record m { idle = idle; text = false }) (past_grown End past) false
+  pub idle_element : (idle : ℕ) → idle + 1 ≡ m.idle → MatcherAt (record m { idle = idle; text = false }) (past_grown End past) false
   idle_element idle fewer = left_idle m past false S (grow End past.tree) p s k here nodes at_parent grown idle fewer (unsigned (omega arith))
 
   pub frame_element : (frames : List FrameView) (frame : FrameView) (signs : List Sign) → m.idle ≡ 0 → frames ≡ take (max 1 (length m.frames - 1)) m.frames → innermost_frame m.frames ≡ Some frame → Dropped frame (length m.frames - 1) m.signs signs
-      → Stands (record m { frames = frames; text = false; signs = signs }) (past_grown End past) false
+      → MatcherAt (record m { frames = frames; text = false; signs = signs }) (past_grown End past) false
   frame_element frames frame signs none taken last dropped = left_frame m past false S (grow End past.tree) p s k here nodes at_parent grown frames frame signs none taken last dropped

@@ -20,7 +20,7 @@ use Rattle.past_laws.proofs.PastForms.{past_acts, offed_same}
 use Rattle.tree_laws.proofs.Fed.{grown_from}
 use Rattle.path_states.specs.Lists.{Gains}
 use Rattle.matcher.specs.Frame.{IsFrame}
-use Rattle.matcher.specs.Matcher.{Stands, IsSign}
+use Rattle.matcher.specs.Matcher.{MatcherAt, IsSign}
 use Rattle.matcher.specs.Signs.{InTurn}
 use Rattle.matcher.specs.View.{FrameView, MatcherView}
 use Rattle.matcher.specs.declared.signs.Sign.{Sign}
@@ -35,7 +35,7 @@ pub record SignedFrames (before now : List FrameView) (at : ℕ) : Type 0 where
   pub each : (i : ℕ) (f : FrameView) → slice_get now i ≡ Some f → (g : FrameView) × (slice_get before i ≡ Some g) × ((f ≡ record g { signed = f.signed }) × ((g.signed ≡ true → f.signed ≡ true) × (i ≡ at → f.signed ≡ true)))
 
 -- a frame may be noted so though no statement is signed at its node
-pub noted_more : (m : MatcherView) (past : Past) (text : Bool) → Stands m past text → (frames : List FrameView) (at : ℕ) → SignedFrames m.frames frames at → Stands (record m { frames = frames }) past text
+pub noted_more : (m : MatcherView) (past : Past) (text : Bool) → MatcherAt m past text → (frames : List FrameView) (at : ℕ) → SignedFrames m.frames frames at → MatcherAt (record m { frames = frames }) past text
 noted_more m past text S frames at noted = record {
   is_past = S.is_past;
   tree = S.tree;
@@ -59,7 +59,7 @@ noted_more m past text S frames at noted = record {
   fresh = S.fresh;
 }
 
-module _ (m : MatcherView) (past : Past) (text : Bool) (S : Stands m past text) (o : OffTree) (of : In o (offs_in past.plan.body)) (k : Node) (is_open : In k (open_nodes past.tree))
+module _ (m : MatcherView) (past : Past) (text : Bool) (S : MatcherAt m past text) (o : OffTree) (of : In o (offs_in past.plan.body)) (k : Node) (is_open : In k (open_nodes past.tree))
     (base : In k (matches past.tree 0 (path_of past.plan o.base))) (x : Sign) (role : o.role ≡ x.role) (at : level k ≡ x.level) (steps : length o.rel ≡ x.steps)
     (frames : List FrameView) (signs : List Sign) (noted : SignedFrames m.frames frames x.level) (gains : Gains m.signs signs (λ s. x ≡ s)) (turn : InTurn signs) where
   w : Grown past.tree
@@ -123,7 +123,7 @@ module _ (m : MatcherView) (past : Past) (text : Bool) (S : Stands m past text) 
     | inr g ↦ (above_here text S.here S.innermost).1 e g.1
   ])
 
-  pub signs_more : Stands (record m { frames = frames; signs = signs }) (past_acted (Offed o (serial_of k)) past) text
+  pub signs_more : MatcherAt (record m { frames = frames; signs = signs }) (past_acted (Offed o (serial_of k)) past) text
   signs_more = record {
     is_past = (past_acts past S.is_past).1 o k of base;
     tree = S.tree;

@@ -24,7 +24,7 @@ use Rattle.placed_laws.proofs.Unique.{row_below}
 use Rattle.placed_laws.proofs.PlanStatements.{one_statement_law}
 use Rattle.path_states.specs.Lists.{Climbs, Holds}
 use Rattle.path_states.specs.PathTree.{IsWay}
-use Rattle.matcher.specs.Matcher.{Stands, IsSign}
+use Rattle.matcher.specs.Matcher.{MatcherAt, IsSign}
 use Rattle.matcher.specs.Signs.{SignAt}
 use Rattle.matcher.specs.Ahead.{Target, AreBases, HasSign, AreTaken}
 use Rattle.matcher.specs.View.{MatcherView}
@@ -37,7 +37,7 @@ use Rattle.matcher.proofs.GivenRoles.{climbs_filtered}
 use Rattle.matcher.proofs.Reaching.{gives_to, gives_from}
 use Rattle.matcher.proofs.Aheads.{innermost_in, innermost_same, given_target, target_given, base_of, of_base}
 
-module _ (m : MatcherView) (past : Past) (text : Bool) (s : Stands m past text) where
+module _ (m : MatcherView) (past : Past) (text : Bool) (s : MatcherAt m past text) where
   w : Grown past.tree
   w = grown_from past.tree s.is_past.grown
 

@@ -21,7 +21,7 @@ use Rattle.path_states.specs.declared.paths.PathState.{PathState}
 use Rattle.path_states.specs.declared.paths.PathTree.{PathTree}
 use Rattle.matcher.specs.Frame.{IsFound, IsFrame, IsRole}
 use Rattle.matcher.specs.Frames.{AreRoles}
-use Rattle.matcher.specs.Matcher.{Stands}
+use Rattle.matcher.specs.Matcher.{MatcherAt}
 use Rattle.matcher.specs.Parts.{NodeMarks, new_marks}
 use Rattle.matcher.specs.Stacks.{AreMatched}
 use Rattle.matcher.specs.View.{FrameView, GoTogether, MatcherView, frames_of, innermost_frame}
@@ -87,7 +87,7 @@ IsIdle m text = (0 < m.idle) ⊎ (((text ≡ true) × (m.tree.texts ≡ false)) 
 
 -- a node of this kind may come
 pub record Goes (m : MatcherView) (past : Past) (kind : Kind) : Type 0 where
-  pub stands : Stands m past false
+  pub stands : MatcherAt m past false
   pub node : IsNode kind
   pub may : may_come (token_for kind) past.tree ≡ true
 

@@ -27,7 +27,7 @@ pub record IsSign (past : Past) (a : Node) (s : Sign) : Type 0 where
 
 -- The matcher stands for the tree of the past with its actions; `text` says whether the innermost node is the last text.
 -- The nodes from the document node on have frames. A node below them is hit by no path, and so is none that comes below it.
-pub record Stands (m : MatcherView) (past : Past) (text : Bool) : Type 0 where
+pub record MatcherAt (m : MatcherView) (past : Past) (text : Bool) : Type 0 where
   pub is_past : IsPast past
   pub tree : IsPathTree past.plan m.tree
   pub flag : m.text ≡ text

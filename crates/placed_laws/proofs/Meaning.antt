@@ -231,7 +231,7 @@ module _ (P : Tree) (w : Grown P) (o : Ordered P) (over : P.at ≡ None) where
   either_is false b = refl
 
   mutual
-    truth_is : (c : query.CondTree) (names : Names) (env : Env) → In_P env → env 0 ≡ Root → truth (normal_cond c names) env P ≡ Known_as (holds c (λ x. env (names x)) P)
+    truth_is : (c : query.QueryCondTree) (names : Names) (env : Env) → In_P env → env 0 ≡ Root → truth (normal_cond c names) env P ≡ Known_as (holds c (λ x. env (names x)) P)
     truth_is query.Always names env h e = refl
     truth_is (query.Exists path) names env h e = exists_is (start_var names path.start) path.steps env h ∙ ap (λ (n : Node). Known_as (is_any (matches P (serial_of n) path.steps))) (sym (start_is names env path.start e))
     truth_is (query.Compare l rel r) names env h e =
@@ -242,13 +242,13 @@ module _ (P : Tree) (w : Grown P) (o : Ordered P) (over : P.at ≡ None) where
     truth_is (query.All cs) names env h e = all_is cs names env h e
     truth_is (query.Any cs) names env h e = any_is cs names env h e
 
-    all_is : (cs : query.CondTrees) (names : Names) (env : Env) → In_P env → env 0 ≡ Root → truth_all (normal_conds cs names) env P ≡ Known_as (holds_all cs (λ x. env (names x)) P)
+    all_is : (cs : query.QueryCondTrees) (names : Names) (env : Env) → In_P env → env 0 ≡ Root → truth_all (normal_conds cs names) env P ≡ Known_as (holds_all cs (λ x. env (names x)) P)
     all_is query.no_cond names env h e = refl
     all_is (query.more_conds c cs) names env h e =
         ap (λ v. both v (truth_all (normal_conds cs names) env P)) (truth_is c names env h e)
         ∙ (ap (both (Known_as (holds c (λ x. env (names x)) P))) (all_is cs names env h e) ∙ both_is (holds c (λ x. env (names x)) P) (holds_all cs (λ x. env (names x)) P))
 
-    any_is : (cs : query.CondTrees) (names : Names) (env : Env) → In_P env → env 0 ≡ Root → truth_any (normal_conds cs names) env P ≡ Known_as (holds_any cs (λ x. env (names x)) P)
+    any_is : (cs : query.QueryCondTrees) (names : Names) (env : Env) → In_P env → env 0 ≡ Root → truth_any (normal_conds cs names) env P ≡ Known_as (holds_any cs (λ x. env (names x)) P)
     any_is query.no_cond names env h e = refl
     any_is (query.more_conds c cs) names env h e =
         ap (λ v. either v (truth_any (normal_conds cs names) env P)) (truth_is c names env h e)
@@ -371,7 +371,7 @@ module _ (P : Tree) (w : Grown P) (o : Ordered P) (over : P.at ≡ None) where
       go false = h
 
   -- a condition uses only variables below k
-  cond_low : (c : query.CondTree) (names : Names) (k : ℕ) → Low names k → cond_in (count 0 k) (normal_cond c names)
+  cond_low : (c : query.QueryCondTree) (names : Names) (k : ℕ) → Low names k → cond_in (count 0 k) (normal_cond c names)
   cond_low c names k l = cond_scoped c names (count 0 k) (below_in k 0 l.0, λ x. below_in k (names x) (l.1 x))
 
   fresh : (e : ExprTree) (names : Names) (k j : ℕ) → j ≤ k → (z : ℕ) → In z (vars (normal_expr e names k)) → In z (count 0 j) → ⊥
@@ -399,7 +399,7 @@ module _ (P : Tree) (w : Grown P) (o : Ordered P) (over : P.at ≡ None) where
       ∙ (ap (λ (m : Node). flat_map F (matches P (serial_of m) c.path.steps)) (sym (start_is names env c.path.start e))
       ∙ sym (flat_map-flat_map G (λ m. turns cs (meaning.bind (λ x. env (names x)) c.var m) P) (found c.path (λ x. env (names x)) P))))
 
-  said_filtered : (f : Option query.CondTree) (e : ExprTree) (ns : Names) (j : ℕ) (v : Env) → Low ns j → In_P v → v 0 ≡ Root → said (normal_expr e ns j) v ≡ answer_expr e (λ x. v (ns x)) P
+  said_filtered : (f : Option query.QueryCondTree) (e : ExprTree) (ns : Names) (j : ℕ) (v : Env) → Low ns j → In_P v → v 0 ≡ Root → said (normal_expr e ns j) v ≡ answer_expr e (λ x. v (ns x)) P
       → said (guarded f ns (normal_expr e ns j)) v ≡ cond (meaning.filtered f (λ x. v (ns x)) P) (answer_expr e (λ x. v (ns x)) P) []
   said_filtered None e ns j v l h z m = m
   said_filtered (Some c) e ns j v l h z m =

@@ -66,7 +66,7 @@ vars-clauses (c ∷ cs) names k inner vs h =
     (λ z. vars-clauses cs (named names c.var z) (k + n) inner vs (λ ns. ap (λ (j : ℕ). vars (inner ns j)) (add_assoc k n (clause_loops cs)) ∙ h ns))
     ∙ (sym (append_assoc (count k n) (count (k + n) (clause_loops cs)) vs) ∙ ap (λ z. z ++ vs) (sym (count-append k n (clause_loops cs))))
 
-vars-filtered : (f : Option query.CondTree) (names : Names) (d : BodyTree) → vars (guarded f names d) ≡ vars d
+vars-filtered : (f : Option query.QueryCondTree) (names : Names) (d : BodyTree) → vars (guarded f names d) ≡ vars d
 vars-filtered None names d = refl
 vars-filtered (Some c) names d = vars-branch (normal_cond c names) d Nil ∙ append-nil (vars d)
 
@@ -181,7 +181,7 @@ exists_scoped x [] L i = tt
 exists_scoped x (t ∷ rest) L i = i
 
 mutual
-  pub cond_scoped : (c : query.CondTree) (names : Names) (L : List ℕ) → Scoped names L → cond_in L (normal_cond c names)
+  pub cond_scoped : (c : query.QueryCondTree) (names : Names) (L : List ℕ) → Scoped names L → cond_in L (normal_cond c names)
   cond_scoped query.Always names L s = tt
   cond_scoped (query.Exists path) names L s = exists_scoped (start_var names path.start) path.steps L (start_in names L path.start s)
   cond_scoped (query.Compare l rel r) names L s = (operand_scoped l names L s, operand_scoped r names L s)
@@ -189,7 +189,7 @@ mutual
   cond_scoped (query.All cs) names L s = conds_scoped cs names L s
   cond_scoped (query.Any cs) names L s = conds_scoped cs names L s
 
-  conds_scoped : (cs : query.CondTrees) (names : Names) (L : List ℕ) → Scoped names L → conds_in L (normal_conds cs names)
+  conds_scoped : (cs : query.QueryCondTrees) (names : Names) (L : List ℕ) → Scoped names L → conds_in L (normal_conds cs names)
   conds_scoped query.no_cond names L s = tt
   conds_scoped (query.more_conds c cs) names L s = (cond_scoped c names L s, conds_scoped cs names L s)
 
@@ -203,7 +203,7 @@ clauses_in (c ∷ cs) names k inner L s h =
     nest_in (start_var names c.path.start) c.path.steps k (λ y. normal_clauses cs (named names c.var y) (k + length c.path.steps) inner) L (start_in names L c.path.start s)
     (λ z M i g. clauses_in cs (named names c.var z) (k + length c.path.steps) inner M (scoped_named names L M c.var z s g i) h)
 
-filtered_in : (f : Option query.CondTree) (names : Names) (d : BodyTree) (L : List ℕ) → Scoped names L → BodyIn true L d → BodyIn true L (guarded f names d)
+filtered_in : (f : Option query.QueryCondTree) (names : Names) (d : BodyTree) (L : List ℕ) → Scoped names L → BodyIn true L d → BodyIn true L (guarded f names d)
 filtered_in None names d L s q = q
 filtered_in (Some c) names d L s q = branch_in L (normal_cond c names) d Nil (cond_scoped c names L s) q tt
 

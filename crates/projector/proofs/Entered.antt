@@ -22,7 +22,7 @@ use Rattle.past_laws.proofs.Ahead.{new_node, open_is}
 use Rattle.spread_laws.proofs.Newly.{kept_newly}
 use Rattle.node_store.specs.declared.store.Place.{Place}
 use Rattle.matcher.specs.Calls.{GivesHere, GivesPlainly, StandsBehind}
-use Rattle.matcher.specs.Matcher.{Stands}
+use Rattle.matcher.specs.Matcher.{MatcherAt}
 use Rattle.matcher.specs.View.{MatcherView}
 use Rattle.buf_tree.specs.declared.ahead.Ahead.{Ahead}
 use Rattle.buf_tree.specs.Calls.{Opened, less, new_roles, numbers}
@@ -51,12 +51,12 @@ told_stands v past e h = stands_told v v (ap (λ (ws : List Ahead). record v { w
 -- ---- what the matcher tells of the new node is what the buffer asks
 
 pub enters_by : (m n : MatcherView) (kind : Kind) → StandsBehind m n kind
-    → (past : Past) → Stands m past false → may_come (token_for kind) past.tree ≡ true → ((p : Node) → past.tree.at ≡ Some p → level p ≤ 1000) → Stands n (past_grown (token_for kind) past) (is_text kind)
+    → (past : Past) → MatcherAt m past false → may_come (token_for kind) past.tree ≡ true → ((p : Node) → past.tree.at ≡ Some p → level p ≤ 1000) → MatcherAt n (past_grown (token_for kind) past) (is_text kind)
 enters_by m n kind f past S may low = f (past, false) S (refl, (may, low))
 
 module _ (m n : MatcherView) (v : View) (kind : Kind) (k : IsNode kind) (given ahead : List Role)
-    (enters : (past : Past) → Stands m past false → may_come (token_for kind) past.tree ≡ true → ((p : Node) → past.tree.at ≡ Some p → level p ≤ 1000) → Stands n (past_grown (token_for kind) past) (is_text kind))
-    (gives : (past : Past) (a : Node) → Stands m past false → may_come (token_for kind) past.tree ≡ true → ((p : Node) → past.tree.at ≡ Some p → level p ≤ 1000) → Opens past.tree (token_for kind) a
+    (enters : (past : Past) → MatcherAt m past false → may_come (token_for kind) past.tree ≡ true → ((p : Node) → past.tree.at ≡ Some p → level p ≤ 1000) → MatcherAt n (past_grown (token_for kind) past) (is_text kind))
+    (gives : (past : Past) (a : Node) → MatcherAt m past false → may_come (token_for kind) past.tree ≡ true → ((p : Node) → past.tree.at ≡ Some p → level p ≤ 1000) → Opens past.tree (token_for kind) a
     → numbers given ≡ roles_given past.plan (grow (token_for kind) past.tree) a)
     (takes : TellsTaken n ahead) (levels : (c : Cell) → In c v.rows → c.row.is_open ≡ true → c.row.level ≤ 1000) where
   pub gives_to : (past : Past) → StandsFor v past → HasHeard m past → may_come (token_for kind) past.tree ≡ true → GivenTo past (token_for kind) given ahead
@@ -86,8 +86,8 @@ module _ (m n : MatcherView) (v : View) (kind : Kind) (k : IsNode kind) (given a
 
 -- the roles of the innermost node are those of the node that was entered
 pub entered_gives : (m n : MatcherView) (kind : Kind) → IsNode kind → (given : List Role)
-    → ((past : Past) → Stands m past false → may_come (token_for kind) past.tree ≡ true → ((p : Node) → past.tree.at ≡ Some p → level p ≤ 1000) → Stands n (past_grown (token_for kind) past) (is_text kind)) → GivesHere n given
-    → (past : Past) (a : Node) → Stands m past false → may_come (token_for kind) past.tree ≡ true → ((p : Node) → past.tree.at ≡ Some p → level p ≤ 1000) → Opens past.tree (token_for kind) a
+    → ((past : Past) → MatcherAt m past false → may_come (token_for kind) past.tree ≡ true → ((p : Node) → past.tree.at ≡ Some p → level p ≤ 1000) → MatcherAt n (past_grown (token_for kind) past) (is_text kind)) → GivesHere n given
+    → (past : Past) (a : Node) → MatcherAt m past false → may_come (token_for kind) past.tree ≡ true → ((p : Node) → past.tree.at ≡ Some p → level p ≤ 1000) → Opens past.tree (token_for kind) a
     → numbers given ≡ roles_given past.plan (grow (token_for kind) past.tree) a
 entered_gives m n kind k given enters here past a S may low o =
     let b = is_open past.tree (token_for kind) may in
@@ -108,7 +108,7 @@ entered_to m v kind k given ahead e here taken =
 
 -- the matcher entered it
 pub entered_behind : (m n : MatcherView) (v : View) (kind : Kind)
-    → ((past : Past) → Stands m past false → may_come (token_for kind) past.tree ≡ true → ((p : Node) → past.tree.at ≡ Some p → level p ≤ 1000) → Stands n (past_grown (token_for kind) past) (is_text kind))
+    → ((past : Past) → MatcherAt m past false → may_come (token_for kind) past.tree ≡ true → ((p : Node) → past.tree.at ≡ Some p → level p ≤ 1000) → MatcherAt n (past_grown (token_for kind) past) (is_text kind))
     → ((c : Cell) → In c v.rows → c.row.is_open ≡ true → c.row.level ≤ 1000) → MayBeFed (HasHeard m) v (token_for kind) → MayOpenEntered n v kind
 entered_behind m n v kind enters levels e =
     let a = is_open e.past.tree (token_for kind) e.may in

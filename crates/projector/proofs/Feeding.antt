@@ -18,7 +18,7 @@ use Rattle.gcx_model.specs.Growth.{may_come, level}
 use Rattle.gcx_model.specs.Members.{In}
 use Rattle.gcx_model.specs.Past.{Past, IsPast, past_fed, Opens, token_for, past_grown, IsNode}
 use Rattle.node_store.specs.declared.store.Place.{Place}
-use Rattle.matcher.specs.Matcher.{Stands}
+use Rattle.matcher.specs.Matcher.{MatcherAt}
 use Rattle.matcher.specs.View.{MatcherView}
 use Rattle.buf_tree.specs.declared.ahead.Ahead.{Ahead}
 use Rattle.gcx_base.specs.Kinds.{is_text}
@@ -37,16 +37,16 @@ use Rattle.projector.proofs.Grown.{behind, added_then, opens, heard_here, projec
 use Rattle.projector.proofs.Places.{Up, below_nodes, element_place, shallow, text_place}
 
 -- the matcher hears of all that waits
-pub hears : (m0 m : MatcherView) (v : View) (ws : List Ahead) → ws ≡ v.waiting → HearsOf m0 m ws → (past : Past) → StandsFor v past → Stands m0 (heard past) false → (t : Token) → may_come t past.tree ≡ true → HasHeard m past
+pub hears : (m0 m : MatcherView) (v : View) (ws : List Ahead) → ws ≡ v.waiting → HearsOf m0 m ws → (past : Past) → StandsFor v past → MatcherAt m0 (heard past) false → (t : Token) → may_come t past.tree ≡ true → HasHeard m past
 hears m0 m v ws e told past h q t c =
     let a = is_open past.tree t c in
     let r = reopened_same past.tree a.0 a.1 in
-    let s : Stands m0 (ahead_in past.tree (take past.fed past.acts) past) false = subst (λ (T : Tree). Stands m0 (ahead_in T (take past.fed past.acts) past) false) r q in
+    let s : MatcherAt m0 (ahead_in past.tree (take past.fed past.acts) past) false = subst (λ (T : Tree). MatcherAt m0 (ahead_in T (take past.fed past.acts) past) false) r q in
     let x = all_heard past h.is_past v.waiting h.waiting in
     let told' : HearsOf m0 m v.waiting = subst (λ (z : List Ahead). HearsOf m0 m z) e told in
     let s' = told' (ahead_in past.tree (take past.fed past.acts) past) x.0 s x.1 in
     record {
-      matcher = subst (λ (T : Tree). Stands m (ahead_in T past.acts past) false) (sym r) (subst (λ (A : List Action). Stands m (record { plan = past.plan; tree = past.tree; acts = A; fed = 0 }) false) x.2 s');
+      matcher = subst (λ (T : Tree). MatcherAt m (ahead_in T past.acts past) false) (sym r) (subst (λ (A : List Action). MatcherAt m (record { plan = past.plan; tree = past.tree; acts = A; fed = 0 }) false) x.2 s');
     }
 
 -- so behind a past behind which the token may come it may once the matcher has heard of them
@@ -72,19 +72,19 @@ module _ (past : Past) (is : IsPast past) (kind : Kind) (k : IsNode kind) (may :
   open_then (Element v) k n e = (Under n (length past.tree.nodes) (Element v), ap (λ z. (grow_at z (Start v) past.tree).at) e)
   open_then (Text v) k n e = (n, ap (λ z. (grow_at z (Chars v) past.tree).at) e)
 
-  pub projects_node : (p : ProjectorView) → p.passed ≡ [] → (m : MatcherView) → HasHeard m past → (m' : MatcherView) → ((n : Node) → past.tree.at ≡ Some n → level n ≤ 1000) → ((q : Past) → Stands m q false → may_come (token_for kind) q.tree ≡ true → ((n : Node) → q.tree.at ≡ Some n → level n ≤ 1000) → Stands m' (past_grown (token_for kind) q) (is_text kind))
-      → (is_text kind ≡ true → (q : Past) → Stands m' q true → Stands p.matcher q false) → (is_text kind ≡ false → p.matcher ≡ m') → Projects p (past_fed (token_for kind) past)
+  pub projects_node : (p : ProjectorView) → p.passed ≡ [] → (m : MatcherView) → HasHeard m past → (m' : MatcherView) → ((n : Node) → past.tree.at ≡ Some n → level n ≤ 1000) → ((q : Past) → MatcherAt m q false → may_come (token_for kind) q.tree ≡ true → ((n : Node) → q.tree.at ≡ Some n → level n ≤ 1000) → MatcherAt m' (past_grown (token_for kind) q) (is_text kind))
+      → (is_text kind ≡ true → (q : Past) → MatcherAt m' q true → MatcherAt p.matcher q false) → (is_text kind ≡ false → p.matcher ≡ m') → Projects p (past_fed (token_for kind) past)
   projects_node p none m h m' low enters leaves stays =
       let s = enters (ahead_in past.tree past.acts past) (heard_here m past a.0 a.1 h) may low in
       let b = open_then kind k a.0 a.1 in
       projects_fed p none past is (token_for kind) may b.0 b.1 (go (is_text kind) refl s)
     where
-      go : (c : Bool) → is_text kind ≡ c → Stands m' (past_grown (token_for kind) (ahead_in past.tree past.acts past)) (is_text kind) → Stands p.matcher (past_grown (token_for kind) (ahead_in past.tree past.acts past)) false
-      go true e s = leaves e (past_grown (token_for kind) (ahead_in past.tree past.acts past)) (subst (λ (z : Bool). Stands m' (past_grown (token_for kind) (ahead_in past.tree past.acts past)) z) e s)
-      go false e s = subst (λ (z : MatcherView). Stands z (past_grown (token_for kind) (ahead_in past.tree past.acts past)) false) (sym (stays e)) (subst (λ (z : Bool). Stands m' (past_grown (token_for kind) (ahead_in past.tree past.acts past)) z) e s)
+      go : (c : Bool) → is_text kind ≡ c → MatcherAt m' (past_grown (token_for kind) (ahead_in past.tree past.acts past)) (is_text kind) → MatcherAt p.matcher (past_grown (token_for kind) (ahead_in past.tree past.acts past)) false
+      go true e s = leaves e (past_grown (token_for kind) (ahead_in past.tree past.acts past)) (subst (λ (z : Bool). MatcherAt m' (past_grown (token_for kind) (ahead_in past.tree past.acts past)) z) e s)
+      go false e s = subst (λ (z : MatcherView). MatcherAt z (past_grown (token_for kind) (ahead_in past.tree past.acts past)) false) (sym (stays e)) (subst (λ (z : Bool). MatcherAt m' (past_grown (token_for kind) (ahead_in past.tree past.acts past)) z) e s)
 
   pub does_node : (given : List Role) (count : ℕ) → count ≡ length past.tree.nodes → (m : MatcherView) → HasHeard m past → ((n : Node) → past.tree.at ≡ Some n → level n ≤ 1000)
-      → ((q : Past) (n : Node) → Stands m q false → may_come (token_for kind) q.tree ≡ true → ((p : Node) → q.tree.at ≡ Some p → level p ≤ 1000) → Opens q.tree (token_for kind) n
+      → ((q : Past) (n : Node) → MatcherAt m q false → may_come (token_for kind) q.tree ≡ true → ((p : Node) → q.tree.at ≡ Some p → level p ≤ 1000) → Opens q.tree (token_for kind) n
       → numbers given ≡ roles_given q.plan (grow (token_for kind) q.tree) n)
       → (n : Node) × Opens past.tree (token_for kind) n × (serial_of n ≡ count) × (numbers given ≡ roles_given past.plan (grow (token_for kind) past.tree) n)
   does_node given count e m h low told =
@@ -113,7 +113,7 @@ node_place kept place now v u q past h kind given stood o k text element = go (i
 -- a node that was opened, and went to
 module _ (old now : ProjectorView) (between : MatcherView) (v w : View) (parent : ℕ) (below : Innermost v.rows parent) (kind : Kind) (k : IsNode kind) (place : Option Place) (given : List Role)
     (o : OpensBelow old.matcher between v w parent kind (place, given)) (here : Past) (there : StandsFor v here) (depth : (c : Cell) → In c v.rows → c.row.is_open ≡ true → c.row.level ≤ 1000) (kept : Places old v) (none : now.passed ≡ [])
-    (text : is_text kind ≡ true → (q : Past) → Stands between q true → Stands now.matcher q false) (element : is_text kind ≡ false → now.matcher ≡ between)
+    (text : is_text kind ≡ true → (q : Past) → MatcherAt between q true → MatcherAt now.matcher q false) (element : is_text kind ≡ false → now.matcher ≡ between)
     (text_place : is_text kind ≡ true → now.at ≡ old.at) (element_place : is_text kind ≡ false → now.at ≡ place) where
   low_here : (past : Past) → StandsFor v past → may_come (token_for kind) past.tree ≡ true → (n : Node) → past.tree.at ≡ Some n → level n ≤ 1000
   low_here past h m = let a = is_open past.tree (token_for kind) m in shallow_one past.tree a.0 a.1 (shallow v past h a.0 a.1 depth)

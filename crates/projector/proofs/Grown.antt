@@ -19,7 +19,7 @@ use Rattle.past_laws.proofs.Ahead.{ahead_takes, ahead_before}
 use Rattle.past_laws.proofs.Bases.{is_grown}
 use Rattle.past_laws.proofs.PastForms.{past_feeds}
 use Rattle.gcx_base.specs.Kinds.{is_text}
-use Rattle.matcher.specs.Matcher.{Stands}
+use Rattle.matcher.specs.Matcher.{MatcherAt}
 use Rattle.matcher.specs.View.{MatcherView}
 use Rattle.buf_tree.specs.Stands.{GivenTo}
 use Rattle.buf_tree.specs.Calls.{numbers}
@@ -74,8 +74,8 @@ new_innermost P (Text v) k a e n h =
     (a, length P.nodes, v, P.nodes, sym g, ap (λ o. (grow_at o (Chars v) P).at) e, ap (λ o. (grow_at o (Chars v) P).nodes) e ∙ ap (λ z. P.nodes ++ z ∷ []) g)
 
 -- where a node is open, the matcher that has heard of all stands for the tree itself
-pub heard_here : (m : MatcherView) (past : Past) (a : Node) → past.tree.at ≡ Some a → HasHeard m past → Stands m (ahead_in past.tree past.acts past) false
-heard_here m past a e h = subst (λ (T : Tree). Stands m (ahead_in T past.acts past) false) (reopened_same past.tree a e) h.matcher
+pub heard_here : (m : MatcherView) (past : Past) (a : Node) → past.tree.at ≡ Some a → HasHeard m past → MatcherAt m (ahead_in past.tree past.acts past) false
+heard_here m past a e h = subst (λ (T : Tree). MatcherAt m (ahead_in T past.acts past) false) (reopened_same past.tree a e) h.matcher
 
 -- a node of the token's kind comes below the innermost open one
 pub added_then : (past : Past) (kind : Kind) → IsNode kind → (n : Node) → past.tree.at ≡ Some n → added (token_for kind) past.tree ≡ Under n (length past.tree.nodes) kind ∷ []
@@ -115,19 +115,19 @@ heard_fed past t = ap (λ A. ahead_in (reopened (grow t past.tree)) A past) (tak
 
 -- Where a node is open then, the matcher that stands for the new tree with all that was in advance before the token stands for what is in advance behind it.
 pub matcher_fed : (q : MatcherView) (past : Past) → IsPast past → (t : Token) → may_come t past.tree ≡ true → (a : Node) → (grow t past.tree).at ≡ Some a
-    → Stands q (past_grown t (ahead_in past.tree past.acts past)) false → Stands q (heard (past_fed t past)) false
+    → MatcherAt q (past_grown t (ahead_in past.tree past.acts past)) false → MatcherAt q (heard (past_fed t past)) false
 matcher_fed q past is t m a e s =
-    subst (λ (z : Past). Stands q z false) (sym (heard_fed past t ∙ ap (λ T. ahead_in T past.acts past) (reopened_same (grow t past.tree) a e)))
+    subst (λ (z : Past). MatcherAt q z false) (sym (heard_fed past t ∙ ap (λ T. ahead_in T past.acts past) (reopened_same (grow t past.tree) a e)))
     (moved q (past_grown t (ahead_in past.tree past.acts past)) (filter (is_ahead (grow t past.tree)) past.acts) s (fewer (past_fed t past) (past_feeds past is t m)) (signed_behind past is t))
 
 pub projects_fed : (p : ProjectorView) → p.passed ≡ [] → (past : Past) → IsPast past → (t : Token) → may_come t past.tree ≡ true → (a : Node) → (grow t past.tree).at ≡ Some a
-    → Stands p.matcher (past_grown t (ahead_in past.tree past.acts past)) false → Projects p (past_fed t past)
+    → MatcherAt p.matcher (past_grown t (ahead_in past.tree past.acts past)) false → Projects p (past_fed t past)
 projects_fed p none past is t m a e s = record { matcher = matcher_fed p.matcher past is t m a e s; none = none }
 
 -- at the document's end the matcher stays
 pub projects_ended : (p : ProjectorView) → p.passed ≡ [] → (past : Past) → past.tree.at ≡ Some Root → HasHeard p.matcher past → Projects p (past_fed End past)
 projects_ended p none past e h = record {
-  matcher = subst (λ (z : Past). Stands p.matcher z false) (ap (λ T. ahead_in T past.acts past) same ∙ sym (heard_fed past End)) h.matcher;
+  matcher = subst (λ (z : Past). MatcherAt p.matcher z false) (ap (λ T. ahead_in T past.acts past) same ∙ sym (heard_fed past End)) h.matcher;
   none = none;
 }
   where

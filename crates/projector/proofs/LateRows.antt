@@ -10,7 +10,7 @@ use Rattle.tree_laws.proofs.Lists.{In-append, In-left, In-right}
 use Rattle.node_store.specs.declared.store.Place.{Place}
 use Rattle.buf_tree.specs.Loose.{Passed, Loosely, StandsLoosely, last_open, passed_cell, cells_passed, with_passed}
 use Rattle.buf_tree.specs.PassedCalls.{OpenedPassed, RestsLoosely}
-use Rattle.buf_tree.specs.Shape.{Cell, Rising, num}
+use Rattle.buf_tree.specs.Shape.{Cell, CellsRise, num}
 use Rattle.buf_tree.specs.View.{View, Innermost, num_in, level_in}
 use Rattle.buf_tree.proofs.OpenRows.{row_there}
 use Rattle.buf_tree.proofs.OwnPlaces.{rows_rise}
@@ -23,12 +23,12 @@ use Rattle.projector.specs.Late.{IsShallow, Made, MakesRows, MakesSome, most_lat
 use Rattle.projector.specs.LateRows.{MayMake}
 use Rattle.projector.proofs.Places.{none_open}
 
-rising_front : (cs ds : List Cell) → Rising (cs ++ ds) → Rising cs
+rising_front : (cs ds : List Cell) → CellsRise (cs ++ ds) → CellsRise cs
 rising_front [] ds r = tt
 rising_front (c ∷ cs) ds r = (λ y i. r.0 y (In-left y cs ds i), rising_front cs ds r.1)
 
 -- those behind are greater
-pub rising_behind : (cs ds : List Cell) → Rising (cs ++ ds) → (c : Cell) → In c cs → (d : Cell) → In d ds → num c < num d
+pub rising_behind : (cs ds : List Cell) → CellsRise (cs ++ ds) → (c : Cell) → In c cs → (d : Cell) → In d ds → num c < num d
 rising_behind [] ds r c i d j = absurd i
 rising_behind (x ∷ cs) ds r c (inl e) d j = let l = r.0 d (In-right d cs ds j) in let f = ap num e in omega arith
 rising_behind (x ∷ cs) ds r c (inr i) d j = rising_behind cs ds r.1 c i d j

@@ -15,11 +15,11 @@ use Rattle.tree_laws.proofs.Lists.{In-append, In-left, In-right}
 use Rattle.tree_laws.proofs.Matches.{added, grow_nodes}
 use Rattle.node_store.specs.declared.store.Place.{Place}
 use Rattle.matcher.specs.Calls.{GivesCount, GivesHere, LeavesElement, StandsBehind}
-use Rattle.matcher.specs.Matcher.{Stands}
+use Rattle.matcher.specs.Matcher.{MatcherAt}
 use Rattle.matcher.specs.View.{MatcherView}
 use Rattle.buf_tree.specs.declared.ahead.Ahead.{Ahead}
 use Rattle.buf_tree.specs.Loose.{Passed, Loosely, StandsLoosely, GivesNone, cells_passed, last_open, one_passed, passed_cell, with_passed}
-use Rattle.buf_tree.specs.Shape.{Cell, Rising, num}
+use Rattle.buf_tree.specs.Shape.{Cell, CellsRise, num}
 use Rattle.buf_tree.specs.Stands.{StandsFor, past_told}
 use Rattle.buf_tree.specs.View.{View, num_in, level_in}
 use Rattle.buf_tree.proofs.Feeding.{added_end, top_is}
@@ -85,7 +85,7 @@ pub settles_all : (bytes : List ℕ) (p q : ProjectorView) (v w : View) → q.ma
 settles_all bytes p q v w same none m k = record {
   rows = m.rows;
   stands = λ past st. (
-    record { matcher = subst (λ (z : MatcherView). Stands z (heard past) false) (sym same) st.matcher; none = none },
+    record { matcher = subst (λ (z : MatcherView). MatcherAt z (heard past) false) (sym same) st.matcher; none = none },
     made_stands (passed_in bytes p.passed) v w m past st.buffer,
   );
   place = k;
@@ -167,11 +167,11 @@ module _ (bytes : List ℕ) (p : ProjectorView) (m : MatcherView) (v : View) (ws
         let a = is_open past.tree t may in
         shallow_one past.tree a.0 a.1 (shallow (with_passed (places_of xs) xs v) past (some_rows xs v past st.buffer) a.0 a.1 (deep (places_of xs) (places_length xs)))
 
-    here : (past : Past) → StandLoosely bytes p v past → may_come t past.tree ≡ true → Stands m (ahead_in past.tree past.acts past) false
+    here : (past : Past) → StandLoosely bytes p v past → may_come t past.tree ≡ true → MatcherAt m (ahead_in past.tree past.acts past) false
     here past st may = let a = is_open past.tree t may in heard_here m past a.0 a.1 (late_heard past st t may)
 
     -- it went to the node
-    late_entered : (past : Past) → StandLoosely bytes p v past → may_come t past.tree ≡ true → Stands m' (past_grown t (ahead_in past.tree past.acts past)) (is_text kind)
+    late_entered : (past : Past) → StandLoosely bytes p v past → may_come t past.tree ≡ true → MatcherAt m' (past_grown t (ahead_in past.tree past.acts past)) (is_text kind)
     late_entered past st may = enters_by m m' kind behind (ahead_in past.tree past.acts past) (here past st may) may (late_low past st may)
 
     -- which is given no role
@@ -179,7 +179,7 @@ module _ (bytes : List ℕ) (p : ProjectorView) (m : MatcherView) (v : View) (ws
     late_none g past st may n o = sym (entered_gives m m' kind k [] (enters_by m m' kind behind) g (ahead_in past.tree past.acts past) n (here past st may) may (late_low past st may) o)
 
     -- behind it the matcher stands for what was heard, where it left a text
-    pub late_matcher : (q : MatcherView) → ((past : Past) → Stands m' past (is_text kind) → Stands q past false) → (past : Past) → StandLoosely bytes p v past → may_come t past.tree ≡ true → Stands q (heard (past_fed t past)) false
+    pub late_matcher : (q : MatcherView) → ((past : Past) → MatcherAt m' past (is_text kind) → MatcherAt q past false) → (past : Past) → StandLoosely bytes p v past → may_come t past.tree ≡ true → MatcherAt q (heard (past_fed t past)) false
     late_matcher q goes past st may =
         let xs = passed_in bytes p.passed in
         let is : IsPast past = (some_rows xs v past st.buffer).is_past in
@@ -200,7 +200,7 @@ module _ (bytes : List ℕ) (p : ProjectorView) (m m' : MatcherView) (v : View) 
       → q.passed ≡ p.passed ++ record { from = from; to = to; serial = v.nodes } ∷ [] → w ≡ one_passed (cleared v) → PassesToken bytes p q v w (Start (slice_range bytes from to))
   passes_start from to part behind q w same place pushed is = record {
     stands = λ past st may. record {
-      matcher = subst (λ (z : MatcherView). Stands z (heard (past_fed (Start name) past)) false) (sym same) (late_matcher bytes p m v ws waits told deep m' (Element name) tt behind m' (λ past s. s) past st may);
+      matcher = subst (λ (z : MatcherView). MatcherAt z (heard (past_fed (Start name) past)) false) (sym same) (late_matcher bytes p m v ws waits told deep m' (Element name) tt behind m' (λ past s. s) past st may);
       buffer = subst (λ (z : View). StandsLoosely (passed_in bytes q.passed) z (past_fed (Start name) past)) (sym is)
           (subst (λ (xs : List Passed). StandsLoosely xs (one_passed (cleared v)) (past_fed (Start name) past)) (sym (ap (passed_in bytes) pushed ∙ map-append (passed_of bytes) p.passed (x ∷ [])))
           (passes_element (cleared v) (passed_in bytes p.passed) (past_told past) name (loosely_told (passed_in bytes p.passed) v past st.buffer) refl may (gives past st may)));
@@ -223,7 +223,7 @@ module _ (bytes : List ℕ) (p : ProjectorView) (m m' : MatcherView) (v : View) 
       gives : (past : Past) → StandLoosely bytes p v past → may_come (Start (slice_range bytes from to)) past.tree ≡ true → GivesNone past (Start (slice_range bytes from to))
       gives = late_none bytes p m v ws waits told deep m' (Element (slice_range bytes from to)) tt behind none
 
-  pub passes_chars : (text : List ℕ) → StandsBehind m m' (Text text) → (q : ProjectorView) (w : View) → ((past : Past) → Stands m' past true → Stands q.matcher past false) → q.at ≡ p.at → q.passed ≡ p.passed
+  pub passes_chars : (text : List ℕ) → StandsBehind m m' (Text text) → (q : ProjectorView) (w : View) → ((past : Past) → MatcherAt m' past true → MatcherAt q.matcher past false) → q.at ≡ p.at → q.passed ≡ p.passed
       → w ≡ one_passed (cleared v) → PassesToken bytes p q v w (Chars text)
   passes_chars text behind q w leaves place same is = record {
     stands = λ past st may. record {
@@ -248,7 +248,7 @@ not_root : (ys : List Passed) (x : Passed) (v : View) (past : Past) → StandsLo
 not_root ys x v past h a e =
     let there = (row_there v (ys ++ x ∷ []) past a h e).1 in
     let rise = (rows_rise v (ys ++ x ∷ []) past h (places_of ys ++ 0 ∷ []) (places_push ys 0 x)).0 in
-    let low : num there.cell < x.serial = rising_behind base (c ∷ []) (subst (λ (rows : List Cell). Rising rows) push rise) there.cell (In-left there.cell v.rows (cells_passed (places_of ys) ys v.rows) there.among) c (inl refl) in
+    let low : num there.cell < x.serial = rising_behind base (c ∷ []) (subst (λ (rows : List Cell). CellsRise rows) push rise) there.cell (In-left there.cell v.rows (cells_passed (places_of ys) ys v.rows) there.among) c (inl refl) in
     let s : StandsFor all past = h (places_of ys ++ 0 ∷ []) (places_push ys 0 x) in
     let q = open_row all past s a e in
     let i = innermost_at all past s a e q.0 q.1 q.2 in
@@ -301,7 +301,7 @@ passes_end bytes p m v ws waits told q w leaves place x split is = record {
     loose : (past : Past) → StandLoosely bytes p v past → StandsLoosely (passed_in bytes q.passed ++ passed_of bytes x ∷ []) v past
     loose past st = subst (λ (zs : List Passed). StandsLoosely zs v past) (ap (passed_in bytes) split ∙ map-append (passed_of bytes) q.passed (x ∷ [])) st.buffer
 
-    under : (past : Past) → StandLoosely bytes p v past → may_come End past.tree ≡ true → (a : Node) → past.tree.at ≡ Some a → 0 < serial_of a → Stands q.matcher (heard (past_fed End past)) false
+    under : (past : Past) → StandLoosely bytes p v past → may_come End past.tree ≡ true → (a : Node) → past.tree.at ≡ Some a → 0 < serial_of a → MatcherAt q.matcher (heard (past_fed End past)) false
     under past st may Root e low = absurd (omega arith)
     under past st may (Under n s k) e low =
         matcher_fed q.matcher past (some_rows (passed_in bytes p.passed) v past st.buffer).is_past End may n (ap (λ z. (grow_at z End past.tree).at) e)

@@ -13,7 +13,7 @@ use Rattle.base_laws.proofs.Bools.{same_bools}
 use Rattle.tree_laws.proofs.Lists.{In-filter, In-kept}
 use Rattle.past_laws.proofs.Ahead.{ahead_before, open_is}
 use Rattle.tree_laws.proofs.OffsSigned.{signed_is_off}
-use Rattle.matcher.specs.Matcher.{Stands, IsSign}
+use Rattle.matcher.specs.Matcher.{MatcherAt, IsSign}
 use Rattle.matcher.specs.View.{MatcherView}
 use Rattle.matcher.specs.declared.signs.Sign.{Sign}
 
@@ -24,7 +24,7 @@ with_acts A past = record { plan = past.plan; tree = past.tree; acts = A; fed = 
 abbrev pub SameSigned : Tree → List Action → List Action → Type 0
 SameSigned P A B = (o : OffTree) (n : Node) → In n (open_nodes P) → signed A o n ≡ signed B o n
 
-pub moved : (m : MatcherView) (past : Past) (A : List Action) → Stands m past false → IsPast (with_acts A past) → SameSigned past.tree past.acts A → Stands m (with_acts A past) false
+pub moved : (m : MatcherView) (past : Past) (A : List Action) → MatcherAt m past false → IsPast (with_acts A past) → SameSigned past.tree past.acts A → MatcherAt m (with_acts A past) false
 moved m past A h is same = record {
   is_past = is;
   tree = h.tree;

@@ -20,7 +20,7 @@ use Rattle.node_store.specs.declared.store.Place.{Place}
 use Rattle.gcx_base.specs.Kinds.{is_text}
 use Rattle.base_laws.proofs.Members.{from_map}
 use Rattle.buf_tree.specs.Rows.{shut_row}
-use Rattle.buf_tree.specs.Shape.{Cell, num, Rising, at_place, at_serial, place_for, with_at}
+use Rattle.buf_tree.specs.Shape.{Cell, num, CellsRise, at_place, at_serial, place_for, with_at}
 use Rattle.buf_tree.specs.Purge.{is_gone}
 use Rattle.buf_tree.specs.View.{View, Innermost, num_in, level_in, serial_at}
 use Rattle.buf_tree.specs.Calls.{Started, Closed, new_row, with_new}
@@ -36,7 +36,7 @@ serial_told : (past : Past) (c : Cell) (n : Node) → seen c ≡ told past n →
 serial_told past c n e = ap (λ (s : Seen). s.serial) e
 
 -- rows rise as their nodes do
-rise_rows : (past : Past) (xs : List Cell) (ns : List Node) → map seen xs ≡ map (told past) ns → NodesRise ns → Rising xs
+rise_rows : (past : Past) (xs : List Cell) (ns : List Node) → map seen xs ≡ map (told past) ns → NodesRise ns → CellsRise xs
 rise_rows past [] ns e r = tt
 rise_rows past (x ∷ xs) [] e r = absurd (cc)
 rise_rows past (x ∷ xs) (n ∷ ns) e r =
@@ -58,7 +58,7 @@ module _ (v : View) (past : Past) (h : StandsFor v past) where
   w : Grown past.tree
   w = is_grown past h.is_past
 
-  pub rising : Rising v.rows
+  pub rising : CellsRise v.rows
   rising = rise_rows past v.rows (held past.plan P past.acts) h.rows (Rising-filter 0 (is_held past.plan P past.acts) P.nodes w.numbered)
 
   -- the node of a row
@@ -158,7 +158,7 @@ pub serial_is : (xs : List Cell) → ((a b : Cell) → In a xs → In b xs → a
 serial_is xs apart c i q e = ap (λ (o : Option Cell). num_in o) (ap (λ p. at_place p xs) (sym e) ∙ at_place_is xs apart c i)
 
 -- the first row is that of the document node
-pub first_row : (xs : List Cell) → Rising xs → (c : Cell) → In c xs → num c ≡ 0 → head xs ≡ Some c
+pub first_row : (xs : List Cell) → CellsRise xs → (c : Cell) → In c xs → num c ≡ 0 → head xs ≡ Some c
 first_row [] r c i z = absurd i
 first_row (x ∷ xs) r c (inl e) z = ap (λ y. Some y) e
 first_row (x ∷ xs) r c (inr i) z = let l = r.0 c i in absurd (omega arith)

@@ -5,7 +5,7 @@ use Rattle.gcx_model.specs.Tree.{Token, Start, Chars, End}
 use Rattle.gcx_model.specs.Members.{In}
 use Rattle.gcx_model.specs.Growth.{may_come}
 use Rattle.gcx_model.specs.Past.{Past, past_fed}
-use Rattle.matcher.specs.Matcher.{Stands}
+use Rattle.matcher.specs.Matcher.{MatcherAt}
 use Rattle.buf_tree.specs.Loose.{Passed, StandsLoosely, GivesNone, cells_passed, one_passed}
 use Rattle.buf_tree.specs.Shape.{Cell}
 use Rattle.buf_tree.specs.View.{View}
@@ -42,7 +42,7 @@ passed_in bytes xs = map (passed_of bytes) xs
 -- The projector has fed the tokens of the past, and the buffer stands for it but for the rows of the passed elements,
 -- whose names lie in these bytes.
 pub record StandLoosely (bytes : List ℕ) (p : ProjectorView) (v : View) (past : Past) : Type 0 where
-  pub matcher : Stands p.matcher (heard past) false
+  pub matcher : MatcherAt p.matcher (heard past) false
   pub buffer : StandsLoosely (passed_in bytes p.passed) v past
   pub names : AreNamed bytes p.passed
 

@@ -9,7 +9,7 @@ use Rattle.gcx_model.specs.Held.{roles_given, roles_taken}
 use Rattle.gcx_model.specs.Run.{Action}
 use Rattle.gcx_model.specs.Past.{Past, is_ahead, reopened, Opens, IsNode, token_for}
 use Rattle.node_store.specs.declared.store.Place.{Place}
-use Rattle.matcher.specs.Matcher.{Stands}
+use Rattle.matcher.specs.Matcher.{MatcherAt}
 use Rattle.buf_tree.specs.Shape.{Cell, num}
 use Rattle.buf_tree.specs.View.{View, Innermost, serial_at}
 use Rattle.buf_tree.specs.Calls.{Opened as OpenedBelow, Closed as ClosedAt, numbers}
@@ -28,7 +28,7 @@ heard past = ahead_in (reopened past.tree) (take past.fed past.acts) past
 
 -- The projector has fed the tokens of the past, and none of the open elements is passed.
 pub record Projects (p : ProjectorView) (past : Past) : Type 0 where
-  pub matcher : Stands p.matcher (heard past) false
+  pub matcher : MatcherAt p.matcher (heard past) false
   pub none : p.passed ≡ []
 
 -- The place kept is that of the innermost open node. Where none is kept no other node than the document node is open.

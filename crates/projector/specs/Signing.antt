@@ -10,7 +10,7 @@ use Rattle.gcx_model.specs.Placed.{offs_in}
 use Rattle.gcx_model.specs.Growth.{level}
 use Rattle.gcx_model.specs.Held.{path_of}
 use Rattle.gcx_model.specs.Past.{Past, open_nodes}
-use Rattle.matcher.specs.Matcher.{Stands}
+use Rattle.matcher.specs.Matcher.{MatcherAt}
 use Rattle.matcher.specs.View.{MatcherView}
 use Rattle.buf_tree.specs.declared.ahead.Ahead.{Ahead}
 
@@ -39,5 +39,5 @@ with_more A past = record past { acts = past.acts ++ A }
 
 -- telling a matcher of these statements made this of it
 abbrev pub HearsOf : (m n : MatcherView) → List Ahead → Type 0
-HearsOf m n waiting = (past : Past) (ns : List Node) → Stands m past false → AreDue past.plan past.tree waiting ns
-    → Stands n (with_more (carried waiting ns) past) false
+HearsOf m n waiting = (past : Past) (ns : List Node) → MatcherAt m past false → AreDue past.plan past.tree waiting ns
+    → MatcherAt n (with_more (carried waiting ns) past) false

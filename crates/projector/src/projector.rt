@@ -8,7 +8,7 @@ ghost use Rattle.gcx_model.specs.PlanView.{plan_tree};
 ghost use Rattle.gcx_model.specs.Past.{Past, IsNode, token_for};
 ghost use Rattle.doc_reader.specs.Standing.{said_of};
 ghost use Rattle.matcher.specs.Calls.{GivesCount};
-ghost use Rattle.matcher.specs.Matcher.{Stands};
+ghost use Rattle.matcher.specs.Matcher.{MatcherAt};
 ghost use Rattle.node_store.specs.Rows.{parent_of};
 ghost use Rattle.buf_tree.specs.Shape.{Cell, Shape, at_place};
 ghost use Rattle.buf_tree.specs.Spread.{SameButRoles};
@@ -178,7 +178,7 @@ impl Projector {
 /// Goes to the new node, which has this place. A text is left at once.
 #[inline(always)]
 pub(crate) fn go_to(matcher: &mut Matcher, at: &mut Option<Place>, text: bool, place: Option<Place>)
-    ensures text { text ≡ true → (past : Past) → Stands matcher.old past true → Stands matcher.new past false }
+    ensures text { text ≡ true → (past : Past) → MatcherAt matcher.old past true → MatcherAt matcher.new past false }
     ensures text_place { text ≡ true → at.new ≡ at.old }
     ensures element { text ≡ false → matcher.new ≡ matcher.old }
     ensures element_place { text ≡ false → at.new ≡ place }

@@ -76,7 +76,7 @@ beside_new plan w v n s e = record {
 
 -- ---- the document node
 
-first_place : (rows : List Cell) (p : ℕ) → shape.Rising rows → Some p ≡ option_map (λ (c : Cell). c.place) (head rows) → PlacedAt rows 0 p
+first_place : (rows : List Cell) (p : ℕ) → shape.CellsRise rows → Some p ≡ option_map (λ (c : Cell). c.place) (head rows) → PlacedAt rows 0 p
 first_place [] p r e c i z = absurd i
 first_place (x ∷ xs) p r e c (inl same) z = let f : p ≡ x.place = cc in ap (λ (d : Cell). d.place) (sym same) ∙ sym f
 first_place (x ∷ xs) p r e c (inr i) z = let l = r.0 c i in absurd (omega arith)

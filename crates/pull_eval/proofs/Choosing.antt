@@ -9,7 +9,7 @@ use Rattle.move_laws.specs.Moves.{NoneLeft}
 use Rattle.move_laws.proofs.Moving.{branch_waits}
 use Rattle.buf_tree.specs.View.{View}
 use Rattle.cond_eval.specs.Asking.{Asked}
-use Rattle.pull_eval.specs.Acting.{Beside, IsNextItem, Chosen}
+use Rattle.pull_eval.specs.Acting.{Beside, IsNextItem, ChosenBranch}
 use Rattle.pull_eval.specs.declared.position.Position.{Position}
 use Rattle.pull_eval.proofs.Frames.{at_item}
 use Rattle.pull_eval.proofs.HeldRows.{holds, held_rows}
@@ -28,11 +28,11 @@ module _ (w : Position) (v : View) (past : Past) (k : ℕ) (b : Beside w v past 
   pub waits : Unknown ≡ truth c (at_item w v past k b (If c this other) d n).env past.tree → NoneLeft past.plan past.tree k false
   waits e = let a = at_item w v past k b (If c this other) d n in branch_waits past.plan past.tree k c this other d a.env a.below a.point (sym e)
 
-  pub this_chosen : True ≡ truth c (at_item w v past k b (If c this other) d n).env past.tree → Chosen past.tree b.position.fs c this other this
-  this_chosen e = subst (λ (z : List Frame). Chosen past.tree z c this other this) (sym (at_item w v past k b (If c this other) d n).frames_are) (inl (sym e, refl))
+  pub this_chosen : True ≡ truth c (at_item w v past k b (If c this other) d n).env past.tree → ChosenBranch past.tree b.position.fs c this other this
+  this_chosen e = subst (λ (z : List Frame). ChosenBranch past.tree z c this other this) (sym (at_item w v past k b (If c this other) d n).frames_are) (inl (sym e, refl))
 
-  pub other_chosen : False ≡ truth c (at_item w v past k b (If c this other) d n).env past.tree → Chosen past.tree b.position.fs c this other other
-  other_chosen e = subst (λ (z : List Frame). Chosen past.tree z c this other other) (sym (at_item w v past k b (If c this other) d n).frames_are) (inr (sym e, refl))
+  pub other_chosen : False ≡ truth c (at_item w v past k b (If c this other) d n).env past.tree → ChosenBranch past.tree b.position.fs c this other other
+  other_chosen e = subst (λ (z : List Frame). ChosenBranch past.tree z c this other other) (sym (at_item w v past k b (If c this other) d n).frames_are) (inr (sym e, refl))
 
 pub same_condition : (c k : CondTree) (this other x y d e : BodyTree) → Then (If c this other) d ≡ Then (If k x y) e → c ≡ k
 same_condition c k this other x y d e h = cc

@@ -41,7 +41,7 @@ use Rattle.cond_eval.specs.Bindings.{Bindings}
 use Rattle.cond_eval.specs.Reads.{NodeAt}
 use Rattle.pull_eval.specs.Turns.{TurnsStand}
 use Rattle.pull_eval.specs.Position.{items, AreFrames}
-use Rattle.pull_eval.specs.Acting.{Beside, IsNextItem, Takes, SoughtRound, SamePlaces, leaving}
+use Rattle.pull_eval.specs.Acting.{Beside, IsNextItem, TakesAction, SoughtRound, SamePlaces, leaving}
 use Rattle.pull_eval.specs.declared.block.Round.{Round as CodeRound}
 use Rattle.pull_eval.specs.declared.block.Block.{Block}
 use Rattle.pull_eval.specs.declared.position.Position.{Position}
@@ -216,7 +216,7 @@ module _ (m : Position) (v : View) (past : Past) (k : ℕ) (b : Beside m v past 
         position = stands_plainly n w.rows past.plan Q (suc k) fs (copying ∙ next.no_copy) (is_begun ∙ begun) turns move.1 frames bound;
       }
 
-      signs : (number : Serial) → number.0 ≡ serial_of base → (out : List ℕ) → Takes past k n v w out out (SignedOff number off.role)
+      signs : (number : Serial) → number.0 ≡ serial_of base → (out : List ℕ) → TakesAction past k n v w out out (SignedOff number off.role)
       signs number e out =
           subst (λ (z : ℕ). (o : OffTree) × IsNext past.plan past.tree k (Offed o z) × (o.role ≡ off.role.0) × (out ≡ out) × (w.gone ≡ v.gone ++ leaving past (Offed o z)) × SamePlaces v.rows w.rows × Beside n w (past_acted (Offed o z) past) (suc k))
           (sym e) (s, move.0, refl, refl, gone, g.places, beside)
@@ -224,7 +224,7 @@ module _ (m : Position) (v : View) (past : Past) (k : ℕ) (b : Beside m v past 
   -- in the words of the code
   pub signs_there : (p : ℕ) (number : Serial) → ((q t : ℕ) → map.get m.env off.base.0 ≡ Some (q, t) → p ≡ q) → number.0 ≡ serial_at p v.rows → ((c : Cell) → In c v.rows → c.place ≡ p → num c ≡ number.0) → (w : View)
       → ((q : Past) → StandsFor v q → In s (offs_in q.plan.body) → StandsFor w (past_acted (Offed s (serial_at p v.rows)) q)) → Signed v w off.role.0 → (n : Position) → n.top ≡ after → after.round ≡ m.top.round → after.seen ≡ 0 → SoughtRound m.top.round
-      → n.below.items ≡ m.below.items → n.env ≡ m.env → n.copying ≡ m.copying → n.turns.items ≡ m.turns.items → n.is_begun ≡ m.is_begun → (out : List ℕ) → Takes past k n v w out out (SignedOff number off.role)
+      → n.below.items ≡ m.below.items → n.env ≡ m.env → n.copying ≡ m.copying → n.turns.items ≡ m.turns.items → n.is_begun ≡ m.is_begun → (out : List ℕ) → TakesAction past k n v w out out (SignedOff number off.role)
   signs_there p number bound_at told row w stands g n top round anew sought blocks env_is copying turns_are is_begun out =
       let e = base_number m v past k b begun off (items after.rest.now) next p number.0 bound_at row in
       let st : StandsFor w then_past = subst (λ (z : ℕ). StandsFor w (past_acted (Offed s z) past)) (sym told ∙ e) (stands past b.buffer (stated m v past k b begun off (items after.rest.now) next)) in

@@ -17,7 +17,7 @@ use Rattle.cond_eval.specs.Bindings.{Bindings}
 use Rattle.pull_eval.specs.Turns.{TurnsStand}
 use Rattle.pull_eval.specs.Position.{items, AreFrames, none, alone, in_round, Copies}
 use Rattle.pull_eval.specs.Weight.{weigh_body, weigh_item, weigh_round, weigh_blocks, weigh_copying, weight}
-use Rattle.pull_eval.specs.Acting.{Beside, IsNextItem, Chosen, IsOver, Moves}
+use Rattle.pull_eval.specs.Acting.{Beside, IsNextItem, ChosenBranch, IsOver, Moves}
 use Rattle.pull_eval.specs.declared.block.Block.{Block}
 use Rattle.pull_eval.specs.declared.block.Copying.{Copying}
 use Rattle.pull_eval.specs.declared.machine.Acted.{Acted}
@@ -30,12 +30,12 @@ use Rattle.pull_eval.proofs.Writing.{beside_wrote, beside_still}
 
 -- the branch that the condition tells is the point's next one
 chosen_point : (plan : PlanTree) (P : Tree) (k : ℕ) (c : CondTree) (this other branch d : BodyTree) (env : Env) (fs : List Frame) → AtPoint plan P k (Rest (Then (If c this other) d) env ∷ fs)
-    → Chosen P (Rest (Then (If c this other) d) env ∷ fs) c this other branch → PointAt plan P k (Rest branch env ∷ Rest d env ∷ fs)
+    → ChosenBranch P (Rest (Then (If c this other) d) env ∷ fs) c this other branch → PointAt plan P k (Rest branch env ∷ Rest d env ∷ fs)
 chosen_point plan P k c this other branch d env fs a (inl h) = subst (λ (z : BodyTree). PointAt plan P k (Rest z env ∷ Rest d env ∷ fs)) (sym h.1) ((branch_move plan P k c this other d env fs a).0 h.0)
 chosen_point plan P k c this other branch d env fs a (inr h) = subst (λ (z : BodyTree). PointAt plan P k (Rest z env ∷ Rest d env ∷ fs)) (sym h.1) ((branch_move plan P k c this other d env fs a).1 h.0)
 
 -- each branch weighs less than its item
-lighter : (rows : ℕ) (P : Tree) (fs : List Frame) (c : CondTree) (this other branch : BodyTree) → Chosen P fs c this other branch → suc (weigh_body rows branch) < weigh_item rows (If c this other)
+lighter : (rows : ℕ) (P : Tree) (fs : List Frame) (c : CondTree) (this other branch : BodyTree) → ChosenBranch P fs c this other branch → suc (weigh_body rows branch) < weigh_item rows (If c this other)
 lighter rows P [] c this other branch h = absurd h
 lighter rows P (Rest d env ∷ fs) c this other branch (inl h) = let e = ap (weigh_body rows) h.1 in omega arith
 lighter rows P (Rest d env ∷ fs) c this other branch (inr h) = let e = ap (weigh_body rows) h.1 in omega arith
@@ -120,12 +120,12 @@ module _ (w m : Position) (v : View) (past : Past) (k : ℕ) (b : Beside w v pas
       )
 
   pub branch_begun : (c : CondTree) (this other : BodyTree) (r : Block) → IsNextItem w (If c this other) (items r.rest.now) → r.round ≡ w.top.round → r.seen ≡ 0
-      → m.below.items ≡ w.below.items ++ r ∷ [] → m.top.round ≡ None → m.top.seen ≡ 0 → Chosen past.tree b.position.fs c this other (items m.top.rest.now) → Beside m v past k × (weight v.rows m < weight v.rows w)
+      → m.below.items ≡ w.below.items ++ r ∷ [] → m.top.round ≡ None → m.top.seen ≡ 0 → ChosenBranch past.tree b.position.fs c this other (items m.top.rest.now) → Beside m v past k × (weight v.rows m < weight v.rows w)
   branch_begun c this other r n round seen pushed free anew chosen =
       let a = at_item w v past k b (If c this other) (items r.rest.now) n in
       let tops = goes_on w v past k b (If c this other) r n (λ off. off) round seen in
       let blocks : r ∷ reverse w.below.items ≡ reverse m.below.items = sym (ap reverse pushed ∙ below_pushed w.below.items r) in
-      let point = chosen_point past.plan past.tree k c this other (items m.top.rest.now) (items r.rest.now) a.env a.below a.point (subst (λ (z : List Frame). Chosen past.tree z c this other (items m.top.rest.now)) a.frames_are chosen) in
+      let point = chosen_point past.plan past.tree k c this other (items m.top.rest.now) (items r.rest.now) a.env a.below a.point (subst (λ (z : List Frame). ChosenBranch past.tree z c this other (items m.top.rest.now)) a.frames_are chosen) in
       let frames = alone {b = m.top} free (begins_anew past.tree b.buffer.is_past.grown a.env (items m.top.rest.now) m.top.seen anew) (subst (λ (z : List Block). AreFrames v.rows past.tree z (Rest (items r.rest.now) a.env ∷ a.below)) blocks tops) in
       let back : (x : ℕ) (p : Node) → Bound_in x p a.below → Bound_in x p b.position.fs = λ x p h. subst (λ (z : List Frame). Bound_in x p z) (sym a.frames_are) h in
       let light = lighter (length v.rows) past.tree b.position.fs c this other (items m.top.rest.now) chosen in

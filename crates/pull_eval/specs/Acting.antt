@@ -51,20 +51,20 @@ abbrev pub SamePlaces : List Cell → List Cell → Type 0
 SamePlaces before now = (c : Cell) → In c now → (d : Cell) × In d before × (d.place ≡ c.place) × (num d ≡ num c)
 
 -- the action that was taken is the next one, or none is left
-abbrev pub Takes : Past → (k : ℕ) → Position → (v w : View) → (before after : List ℕ) → Acted → Type 0
-Takes past k m v w before after (Wrote n) = (b : List ℕ) × IsNext past.plan past.tree k (run.Wrote b) × (n ≡ length b) × (after ≡ before ++ b) × (w ≡ v) × Beside m w (past_acted (run.Wrote b) past) (suc k)
-Takes past k m v w before after (SignedOff s r) = (o : OffTree) × IsNext past.plan past.tree k (Offed o s.0) × (o.role ≡ r.0) × (after ≡ before) × (w.gone ≡ v.gone ++ leaving past (Offed o s.0)) × SamePlaces v.rows w.rows × Beside m w (past_acted (Offed o s.0) past) (suc k)
-Takes past k m v w before after Blocked = NoneLeft past.plan past.tree k false × (after ≡ before) × (w ≡ v) × Beside m w past k
-Takes past k m v w before after Finished = NoneLeft past.plan past.tree k true × (after ≡ before) × (w ≡ v) × Beside m w past k
+abbrev pub TakesAction : Past → (k : ℕ) → Position → (v w : View) → (before after : List ℕ) → Acted → Type 0
+TakesAction past k m v w before after (Wrote n) = (b : List ℕ) × IsNext past.plan past.tree k (run.Wrote b) × (n ≡ length b) × (after ≡ before ++ b) × (w ≡ v) × Beside m w (past_acted (run.Wrote b) past) (suc k)
+TakesAction past k m v w before after (SignedOff s r) = (o : OffTree) × IsNext past.plan past.tree k (Offed o s.0) × (o.role ≡ r.0) × (after ≡ before) × (w.gone ≡ v.gone ++ leaving past (Offed o s.0)) × SamePlaces v.rows w.rows × Beside m w (past_acted (Offed o s.0) past) (suc k)
+TakesAction past k m v w before after Blocked = NoneLeft past.plan past.tree k false × (after ≡ before) × (w ≡ v) × Beside m w past k
+TakesAction past k m v w before after Finished = NoneLeft past.plan past.tree k true × (after ≡ before) × (w ≡ v) × Beside m w past k
 
 -- the same of a move from the position m to n, where it may take no action: then fewer moves without one are left
 abbrev pub Moves : Past → (k : ℕ) → (m n : Position) → (v w : View) → (before after : List ℕ) → Option Acted → Type 0
 Moves past k m n v w before after None = (after ≡ before) × (w ≡ v) × Beside n w past k × (weight v.rows n < weight v.rows m)
-Moves past k m n v w before after (Some a) = Takes past k n v w before after a
+Moves past k m n v w before after (Some a) = TakesAction past k n v w before after a
 
 -- for each past beside which the machine stood
 abbrev pub Acts : (before after : Tree → Type 0) → (m n : Position) → (v w : View) → (old new : List ℕ) → Acted → Type 0
-Acts before after m n v w old new a = (past : Past) (k : ℕ) → Beside m v past k → before past.tree → Takes past k n v w old new a × after past.tree
+Acts before after m n v w old new a = (past : Past) (k : ℕ) → Beside m v past k → before past.tree → TakesAction past k n v w old new a × after past.tree
 
 abbrev pub MovesOn : (before after : Tree → Type 0) → (m n : Position) → (v w : View) → (old new : List ℕ) → Option Acted → Type 0
 MovesOn before after m n v w old new a = (past : Past) (k : ℕ) → Beside m v past k → before past.tree → Moves past k m n v w old new a × after past.tree
@@ -85,11 +85,11 @@ pub record IsNextItem (w : Position) (i : ItemTree) (d : BodyTree) : Type 0 wher
   pub no_copy : w.copying ≡ None
 
 -- of the condition that comes next at these frames this branch is taken
-abbrev pub Chosen : Tree → List Frame → CondTree → (this other branch : BodyTree) → Type 0
-Chosen P [] c this other branch = ⊥
-Chosen P (Rest d env ∷ fs) c this other branch = ((truth c env P ≡ True) × (branch ≡ this)) ⊎ ((truth c env P ≡ False) × (branch ≡ other))
-Chosen P (Round x y s e env n ∷ fs) c this other branch = ⊥
-Chosen P (Part x env made ∷ fs) c this other branch = ⊥
+abbrev pub ChosenBranch : Tree → List Frame → CondTree → (this other branch : BodyTree) → Type 0
+ChosenBranch P [] c this other branch = ⊥
+ChosenBranch P (Rest d env ∷ fs) c this other branch = ((truth c env P ≡ True) × (branch ≡ this)) ⊎ ((truth c env P ≡ False) × (branch ≡ other))
+ChosenBranch P (Round x y s e env n ∷ fs) c this other branch = ⊥
+ChosenBranch P (Part x env made ∷ fs) c this other branch = ⊥
 
 -- of the round at the top of the frames no match comes, and at those that are left its body does nothing
 abbrev pub IsLast : Tree → List Frame → Type 0

@@ -12,7 +12,7 @@ use Rattle.buf_tree.specs.Shape.{Cell, num}
 use Rattle.buf_tree.specs.Match.{IsChild, Unreached, FirstReached}
 use Rattle.buf_tree.specs.Stands.{StandsFor}
 use Rattle.buf_tree.specs.View.{View, serial_at}
-use Rattle.pull_eval.specs.Acting.{Beside, Moves, IsNextItem, Chosen, IsOver}
+use Rattle.pull_eval.specs.Acting.{Beside, Moves, IsNextItem, ChosenBranch, IsOver}
 use Rattle.pull_eval.specs.Copies.{risen}
 use Rattle.pull_eval.specs.Position.{items}
 use Rattle.pull_eval.specs.declared.block.Copying.{Copying}
@@ -35,7 +35,7 @@ MovesAsking before after m n v a = (past : Past) (k : ℕ) (out : List ℕ) → 
 -- into this branch of the condition that comes next, where it is chosen
 abbrev pub MovesInto : (m n : Position) → (branch rest : BodyTree) → Option Acted → Type 0
 MovesInto m n branch rest a = (c : CondTree) (this other : BodyTree) (v : View) (past : Past) (k : ℕ) (out : List ℕ) → IsNextItem m (If c this other) rest → (b : Beside m v past k)
-    → Chosen past.tree b.position.fs c this other branch → Moves past k m n v v out out a
+    → ChosenBranch past.tree b.position.fs c this other branch → Moves past k m n v v out out a
 
 -- behind a body that is over
 abbrev pub MovesBehind : (m n : Position) → Option Acted → Type 0

@@ -23,7 +23,7 @@ use Rattle.tree_laws.proofs.Fed.{root_from}
 use Rattle.tree_laws.proofs.Freeze.{within_self}
 use Rattle.placed_laws.proofs.Stays.{new_serial}
 use Rattle.time_laws.specs.Times.{Clock, IsClock, tree_at, is_there, TimedAct, timed_acts, due}
-use Rattle.time_laws.specs.Leaving.{count_offs, freed_of, left_where, is_freed, is_over, act_told, acts_told, next_due, tokens_told, told_by_times}
+use Rattle.time_laws.specs.Leaving.{count_offs, freed_of, left_where, is_freed, is_closed_and_freed, act_told, acts_told, next_due, tokens_told, told_by_times}
 use Rattle.time_laws.specs.Laws.{TraceByTimes}
 use Rattle.time_laws.proofs.Runs.{run_by_times}
 use Rattle.time_laws.proofs.Lives.{lead_to, lead_step, held_then, known_there}
@@ -227,7 +227,7 @@ module _ (core : BodyTree) (good : Good core) (plan : PlanTree) (pl : Placed cor
 
   token_step : (j : ℕ) → suc j ≤ length full → (t : Token) → tree_at full (suc j) ≡ grow t (tree_at full j)
       → left (held plan (tree_at full j) (actions plan (tree_at full j)) ++ drop (length (tree_at full j).nodes) (tree_at full (suc j)).nodes) (held plan (tree_at full (suc j)) (actions plan (tree_at full j)))
-      ≡ left_where (grow_all full opening) (is_over c (grow_all full opening) (actions plan (grow_all full opening)) (suc j) (count_offs (actions plan (tree_at full j))))
+      ≡ left_where (grow_all full opening) (is_closed_and_freed c (grow_all full opening) (actions plan (grow_all full opening)) (suc j) (count_offs (actions plan (tree_at full j))))
   token_step j lj t e =
       ap (λ z. map Left (map serial_of (reverse z)))
       (ap (λ z. filter g (held plan P A ++ z)) dropped
@@ -257,7 +257,7 @@ module _ (core : BodyTree) (good : Good core) (plan : PlanTree) (pl : Placed cor
       g n = not (has_serial (held plan (tree_at full (suc j)) (actions plan (tree_at full j))) (serial_of n))
 
       q : Node → Bool
-      q = is_over c (grow_all full opening) (actions plan (grow_all full opening)) (suc j) (count_offs (actions plan (tree_at full j)))
+      q = is_closed_and_freed c (grow_all full opening) (actions plan (grow_all full opening)) (suc j) (count_offs (actions plan (tree_at full j)))
 
       nodes_are : (tree_at full (suc j)).nodes ≡ (tree_at full j).nodes ++ added t (tree_at full j)
       nodes_are = ap (λ (z : Tree). z.nodes) e ∙ grow_nodes t (tree_at full j)
@@ -353,7 +353,7 @@ module _ (core : BodyTree) (good : Good core) (plan : PlanTree) (pl : Placed cor
       T' = timed_acts c (grow_all full opening) plan
 
       over : List Action → List Line
-      over a = left_where (grow_all full opening) (is_over c (grow_all full opening) (actions plan (grow_all full opening)) (suc j) (count_offs a))
+      over a = left_where (grow_all full opening) (is_closed_and_freed c (grow_all full opening) (actions plan (grow_all full opening)) (suc j) (count_offs a))
 
       acts_by : List Action → List Action → List Line
       acts_by a more = acts_told c (grow_all full opening) (actions plan (grow_all full opening)) (suc j) (count_offs a) more

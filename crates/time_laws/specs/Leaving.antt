@@ -41,8 +41,8 @@ abbrev pub is_freed : Clock → Tree → List Action → (j k : ℕ) → Node �
 is_freed c C all j k n = nat_le (c.closed (serial_of n)) j && (freed_of C all n == k)
 
 -- the node is closed at the time j, and none of the statements behind the first k is wanted for it
-abbrev pub is_over : Clock → Tree → List Action → (j k : ℕ) → Node → Bool
-is_over c C all j k n = (c.closed (serial_of n) == j) && nat_le (freed_of C all n) k
+abbrev pub is_closed_and_freed : Clock → Tree → List Action → (j k : ℕ) → Node → Bool
+is_closed_and_freed c C all j k n = (c.closed (serial_of n) == j) && nat_le (freed_of C all n) k
 
 -- an action at the time j, behind k statements
 abbrev pub act_told : Clock → Tree → List Action → (j k : ℕ) → Action → List Line
@@ -64,7 +64,7 @@ abbrev pub tokens_told : PlanTree → Clock → Tree → List TimedAct → List 
 tokens_told plan c C T all [] P j = []
 tokens_told plan c C T all (t ∷ ts) P j =
     feed_line plan t P.at P (grow t P)
-    ++ (left_where C (is_over c C all (suc j) (count_offs (due j T)))
+    ++ (left_where C (is_closed_and_freed c C all (suc j) (count_offs (due j T)))
     ++ (acts_told c C all (suc j) (count_offs (due j T)) (next_due T j)
     ++ tokens_told plan c C T all ts (grow t P) (suc j)))
 

@@ -10,7 +10,7 @@ use Rattle.gcx_model.specs.Run.{Action}
 use Rattle.gcx_model.specs.Tree.{Node, Root, Under, serial_of, within, Tree, Token, Start, Chars, End, grow, grow_at, is_open_at, is_closed}
 use Rattle.tree_laws.proofs.Lists.{In-append, In-filter, In-kept, filter_none}
 use Rattle.tree_laws.proofs.Matches.{Grown, Numbered, Numbered-low}
-use Rattle.time_laws.specs.Leaving.{freed_of, is_over, left_where}
+use Rattle.time_laws.specs.Leaving.{freed_of, is_closed_and_freed, left_where}
 use Rattle.time_laws.specs.Times.{Clock, IsClock, is_there, tree_at}
 use Rattle.doc_tree.specs.Rows.{node_at}
 use Rattle.trace_check.specs.Telling.{fed_node, over_line}
@@ -121,8 +121,8 @@ left_one C w q k l alone =
 
 -- the nodes that are over at the time of a token
 pub over_told : (c : Clock) (C : Tree) → Grown C → (all : List Action) (j k n : ℕ) → n < length C.nodes → ((m : Node) → In m C.nodes → c.closed (serial_of m) ≡ j → serial_of m ≡ n)
-    → left_where C (is_over c C all j k) ≡ over_line c (by_node C (freed_of C all)) j k n
+    → left_where C (is_closed_and_freed c C all j k) ≡ over_line c (by_node C (freed_of C all)) j k n
 over_told c C w all j k n l alone =
-    left_one C w (is_over c C all j k) n l (λ m i t. alone m i (eqb-true (c.closed (serial_of m)) j (and_parts (eqb (c.closed (serial_of m)) j) (leb (freed_of C all m) k) t).0))
+    left_one C w (is_closed_and_freed c C all j k) n l (λ m i t. alone m i (eqb-true (c.closed (serial_of m)) j (and_parts (eqb (c.closed (serial_of m)) j) (leb (freed_of C all m) k) t).0))
     ∙ (ap (λ (s : ℕ). cond (eqb (c.closed s) j && leb (freed_of C all (node_at C.nodes n)) k) (Left n ∷ []) []) (number_of C w n l)
     ∙ ap (λ (u : ℕ). cond (eqb (c.closed n) j && leb u k) (Left n ∷ []) []) (sym (get_or-map (freed_of C all) C.nodes n Root 0 l)))

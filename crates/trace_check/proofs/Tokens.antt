@@ -6,7 +6,7 @@ use Rattle.gcx_model.specs.Demand.{Line, feed_line}
 use Rattle.gcx_model.specs.Run.{Action}
 use Rattle.gcx_model.specs.Tree.{Tree, Token, opening, grow, grow_all}
 use Rattle.tree_laws.proofs.Growing.{grow_all-append}
-use Rattle.time_laws.specs.Leaving.{acts_told, count_offs, is_over, left_where, next_due, tokens_told}
+use Rattle.time_laws.specs.Leaving.{acts_told, count_offs, is_closed_and_freed, left_where, next_due, tokens_told}
 use Rattle.time_laws.specs.Times.{Clock, TimedAct, due, tree_at}
 use Rattle.trace_check.specs.Telling.{Puts}
 use Rattle.trace_check.proofs.Told.{Leaves, leaves_on, puts_then}
@@ -30,7 +30,7 @@ module _ (plan : PlanTree) (c : Clock) (C : Tree) (T : List TimedAct) (all : Lis
   -- one more is told
   pub token_on : (i : ℕ) (d : Token) (text one two three : List ℕ) (F O A : List Line) → i < length ts
       → F ≡ feed_line plan (get_or ts i d) (tree_at ts i).at (tree_at ts i) (grow (get_or ts i d) (tree_at ts i))
-      → O ≡ left_where C (is_over c C all (suc i) (count_offs (due i T)))
+      → O ≡ left_where C (is_closed_and_freed c C all (suc i) (count_offs (due i T)))
       → A ≡ acts_told c C all (suc i) (count_offs (due i T)) (next_due T i)
       → Puts text one F → Puts one two O → Puts two three A → AreLeft i text → AreLeft (suc i) three
   token_on i d text one two three F O A l f o a p q r left =
@@ -39,7 +39,7 @@ module _ (plan : PlanTree) (c : Clock) (C : Tree) (T : List TimedAct) (all : Lis
       let rest : List Line = tokens_told plan c C T all (drop (suc i) ts) (grow t P) (suc i) in
       let lines : tokens_told plan c C T all (drop i ts) P i ≡ (F ++ (O ++ A)) ++ rest
       = ap (λ (us : List Token). tokens_told plan c C T all us P i) (drop_token ts i d l)
-      ∙ (ap (λ (x : List Line). x ++ (left_where C (is_over c C all (suc i) (count_offs (due i T))) ++ (acts_told c C all (suc i) (count_offs (due i T)) (next_due T i) ++ rest))) (sym f)
+      ∙ (ap (λ (x : List Line). x ++ (left_where C (is_closed_and_freed c C all (suc i) (count_offs (due i T))) ++ (acts_told c C all (suc i) (count_offs (due i T)) (next_due T i) ++ rest))) (sym f)
       ∙ (ap (λ (x : List Line). F ++ (x ++ (acts_told c C all (suc i) (count_offs (due i T)) (next_due T i) ++ rest))) (sym o)
       ∙ (ap (λ (x : List Line). F ++ (O ++ (x ++ rest))) (sym a)
       ∙ (ap (λ (x : List Line). F ++ x) (sym (append_assoc O A rest)) ∙ sym (append_assoc F (O ++ A) rest))))) in

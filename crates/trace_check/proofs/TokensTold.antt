@@ -15,7 +15,7 @@ use Rattle.tree_laws.proofs.Growing.{grow_all-append}
 use Rattle.tree_laws.proofs.Matches.{Grown, Grown-all, Grown-opening}
 use Rattle.time_laws.proofs.Clocks.{no_fewer}
 use Rattle.time_laws.specs.Laws.{TimesRise}
-use Rattle.time_laws.specs.Leaving.{acts_told, count_offs, is_over, left_where, next_due, told_by_times, tokens_told}
+use Rattle.time_laws.specs.Leaving.{acts_told, count_offs, is_closed_and_freed, left_where, next_due, told_by_times, tokens_told}
 use Rattle.time_laws.specs.Times.{IsClock, TimedAct, due, timed_acts, tree_at}
 use Rattle.trace_check.specs.Telling.{IsCourse, IsTelling, IsToldTo, Puts, acts_in, due_in, fed_counted, fed_node, fed_told, line_in, over_line}
 use Rattle.trace_check.specs.Timing.{clock_in, fed_all, fed_at}
@@ -213,7 +213,7 @@ module _ (rise : TimesRise) (plan : PlanTree) (ts : List Token) (c : Course) (is
       let A : List Line = acts_told (clock_in c.timed) C (acts_in plan c) (suc i) mid.signed (drop mid.acts (due_in plan c (suc i))) in
       let feeds : F ≡ feed_line plan t P.at P (grow t P)
       = ap (λ (k : ℕ). fed_told plan c k f) h.opened ∙ sym (line_fed plan c clock.grown P grown_at t (drop (suc i) us) whole_on f did) in
-      let overs : O ≡ left_where C (is_over (clock_in c.timed) C (acts_in plan c) (suc i) (count_offs (due i T)))
+      let overs : O ≡ left_where C (is_closed_and_freed (clock_in c.timed) C (acts_in plan c) (suc i) (count_offs (due i T)))
       = ap (λ (k : ℕ). over_line (clock_in c.timed) c.leaving.until.items (suc i) k node) signed
       ∙ (ap (λ (u : List ℕ). over_line (clock_in c.timed) u (suc i) (count_offs (due i T)) node) is.wanted.until_is
       ∙ sym (over_told (clock_in c.timed) C clock.grown (acts_in plan c) (suc i) (count_offs (due i T)) node (subst (λ (k : ℕ). k < length C.nodes) (sym is_node) there) (λ m k e. alone m k e ∙ sym is_node))) in

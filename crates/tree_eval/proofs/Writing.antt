@@ -7,7 +7,7 @@ use Rattle.std.proofs.lemmas.List.{map_more, get_or-map, length-map, length_push
 use Rattle.gcx_model.specs.declared.query.Clause.{Clause}
 use Rattle.gcx_model.specs.Tree.{Node, Tree}
 use Rattle.gcx_model.specs.declared.query.Expr.{Expr}
-use Rattle.gcx_model.specs.Query.{CondTree, ExprTree, exprs_of, expr_tree}
+use Rattle.gcx_model.specs.Query.{QueryCondTree, ExprTree, exprs_of, expr_tree}
 use Rattle.gcx_model.specs.Written.{start_tag, end_tag}
 use Rattle.gcx_model.specs.Answer.{Scope, bind, found, turns, answer_expr, answer_exprs}
 use Rattle.tree_eval.specs.declared.scope.Binding.{Binding}
@@ -33,7 +33,7 @@ flat_map-flat_map g h [] = refl
 flat_map-flat_map g h (x ∷ xs) = flat_map-append g (h x) (flat_map h xs) ∙ ap (λ l. flat_map g (h x) ++ l) (flat_map-flat_map g h xs)
 
 -- the turns of a clause
-pub turns_more : (c : Clause) (cs : List Clause) (filter : Option CondTree) (body : ExprTree) (scope : Scope) (P : Tree)
+pub turns_more : (c : Clause) (cs : List Clause) (filter : Option QueryCondTree) (body : ExprTree) (scope : Scope) (P : Tree)
     → turns_bytes (c ∷ cs) filter body scope P ≡ flat_map (λ n. turns_bytes cs filter body (bind scope c.var n) P) (found c.path scope P)
 turns_more c cs filter body scope P = flat_map-flat_map (turn_bytes filter body P) (λ n. turns cs (bind scope c.var n) P) (found c.path scope P)
 

@@ -75,7 +75,7 @@ path_put from y ss steps k v copy loops e f c i p =
     ∙ (ap (λ x. nest x ss k (λ z. one (Copy z))) e ∙ ap (λ ts. nest y ts k (λ z. one (Copy z))) f)))
 
 -- a clause more
-pub turns_put : (c : Clause) (cs all : List Clause) (f : Option query.CondTree) (e : ExprTree) (names inside : Names) (k v next from : ℕ) (ss : List Step) (out inner loops now : BodyTree) → all ≡ c ∷ cs
+pub turns_put : (c : Clause) (cs all : List Clause) (f : Option query.QueryCondTree) (e : ExprTree) (names inside : Names) (k v next from : ℕ) (ss : List Step) (out inner loops now : BodyTree) → all ≡ c ∷ cs
     → from ≡ start_var names c.path.start → ss ≡ c.path.steps → v ≡ innermost from (length ss) k → inside ≡ named names c.var v → next ≡ k + length ss
     → inner ≡ raw_turns cs f e inside next → loops ≡ nest from ss k (λ z. inner) → now ≡ join out loops → now ≡ join out (raw_turns all f e names k)
 turns_put c cs all f e names inside k v next from ss out inner loops now a s t i n j r l p =

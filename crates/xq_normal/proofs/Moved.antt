@@ -28,7 +28,7 @@ moved-clauses (c ∷ cs) names k inner =
     moved-nest (start_var names c.path.start) c.path.steps k (λ y. normal_clauses cs (named names c.var y) (k + length c.path.steps) inner)
     ∙ ap (λ (f : ℕ → BodyTree). nest (start_var names c.path.start) c.path.steps k f) (fun_ext (λ y. moved-clauses cs (named names c.var y) (k + length c.path.steps) inner))
 
-moved-filtered : (f : Option query.CondTree) (names : Names) (d : BodyTree) → moved (raw_filtered f names d) ≡ guarded f names (moved d)
+moved-filtered : (f : Option query.QueryCondTree) (names : Names) (d : BodyTree) → moved (raw_filtered f names d) ≡ guarded f names (moved d)
 moved-filtered None names d = refl
 moved-filtered (Some c) names d = join-nil (branch (normal_cond c names) (moved d) Nil)
 

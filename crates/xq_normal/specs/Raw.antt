@@ -8,7 +8,7 @@ use Rattle.gcx_model.specs.Query.{ExprTree, ExprTrees}
 use Rattle.gcx_model.specs.Core.{CondTree, ItemTree, Write, Copy, For, If, Off, BodyTree, Nil, Then}
 use Rattle.gcx_model.specs.Normal.{join, one, Names, start_var, normal_cond, has_loop, half, branch, nest, normal_clauses, loops}
 
-abbrev pub raw_filtered : Option query.CondTree → Names → BodyTree → BodyTree
+abbrev pub raw_filtered : Option query.QueryCondTree → Names → BodyTree → BodyTree
 raw_filtered None names d = d
 raw_filtered (Some c) names d = one (If (normal_cond c names) d Nil)
 
@@ -40,7 +40,7 @@ abbrev mutual
   moved (Then i d) = join (moved_item i) (moved d)
 
 -- the loops of the clauses, with the filter and the body inside
-abbrev pub raw_turns : List Clause → Option query.CondTree → ExprTree → Names → (k : ℕ) → BodyTree
+abbrev pub raw_turns : List Clause → Option query.QueryCondTree → ExprTree → Names → (k : ℕ) → BodyTree
 raw_turns cs filter e names k = normal_clauses cs names k (λ inner j. raw_filtered filter inner (raw_expr e inner j))
 
 -- the variable of the innermost of nested loops from y on, the first of which has the number k

@@ -8,7 +8,7 @@ use Rattle.gcx_base.specs.declared.steps.Test.TheVariants as tests
 use Rattle.gcx_model.specs.declared.query.Clause.{Clause}
 use Rattle.gcx_model.specs.declared.query.QOperand.TheVariants as sides
 use Rattle.gcx_model.specs.Query as q
-use Rattle.gcx_model.specs.Query.{CondTree, ExprTree, exprs_of}
+use Rattle.gcx_model.specs.Query.{QueryCondTree, ExprTree, exprs_of}
 use Rattle.xq_lex.specs.declared.sign.Sign.{Sign}
 use Rattle.xq_lex.specs.declared.sign.Sign.TheVariants as signs
 use Rattle.xq_parse.specs.declared.refusal.Why.{Why}
@@ -17,7 +17,7 @@ use Rattle.xq_parse.specs.declared.marks.Marks.{Marks}
 use Rattle.xq_parse.specs.Signs.{sign_eq}
 use Rattle.xq_parse.specs.Tokens.{Token, TName, TVar, TNum, TStr, TSlash, TSlashes, TSign, for_, in_, where_, return_, if_, then_, else_, or_, and_, not_, true_, exists_}
 use Rattle.xq_parse.specs.Grammar as g
-use Rattle.xq_parse.specs.Grammar.{a_step, a_clause, any_of, seq_of, test_tokens, test_tree, step_tokens, step_tree, steps_tokens, path_tokens, path_tree, source_tokens, operand_tokens, operand_tree, literal_token, literal_tree, rel_sign, cond_tokens, cond_tree, ors_tokens, ors_tree, all_tokens, all_tree, ands_tokens, ands_tree, atom_tokens, atom_tree, CondFits, OrsFits, AllFits, AndsFits, AtomFits, clause_tokens, clause_tree, clauses_tokens, clauses_tree, where_tokens, where_tree, WhereFits, expr_tokens, expr_tree, ExprFits, inner_tokens, inner_tree, InnerFits, rest_tokens, rest_tree, RestFits, tag_tokens, tag_tree, TagFits, content_tokens, content_tree, ContentFits}
+use Rattle.xq_parse.specs.Grammar.{a_step, a_clause, any_of, seq_of, test_tokens, test_tree, step_tokens, step_tree, steps_tokens, path_tokens, path_tree, source_tokens, operand_tokens, operand_tree, literal_token, literal_tree, rel_sign, cond_tokens, derived_cond, ors_tokens, ors_tree, all_tokens, all_tree, ands_tokens, ands_tree, atom_tokens, atom_tree, CondFits, OrsFits, AllFits, AndsFits, AtomFits, clause_tokens, clause_tree, clauses_tokens, clauses_tree, where_tokens, where_tree, WhereFits, expr_tokens, derived_expr, ExprFits, inner_tokens, inner_tree, InnerFits, rest_tokens, rest_tree, RestFits, tag_tokens, tag_tree, TagFits, content_tokens, content_tree, ContentFits}
 use Rattle.xq_parse.specs.Places.{Scope, clause_scope, clauses_scope}
 use Rattle.xq_parse.specs.Machine.{State, Found, done, sign, word, end_name, var, name, axis, axis_or_name, test, call_or_name, first_step, steps, source, path, rel, operand, atom, ands, ors, expr, rest, inner, clauses, condition, tag, content, steps_behind, path_seen, after_nested, more_ands, more_ors, more_rest, more_clauses, with_filter, all_state, cond_state, clause_state, for_state, head_state, if_state, elem_state, group_state, not_state, exists_state, true_state, literal_state, compare_state, braces_state, listed_state, members, kind_test, axis_named, step, whole, at_atom, at_expr, opens}
 use Rattle.xq_parse.specs.Reading.{a_found}
@@ -28,54 +28,54 @@ use Rattle.xq_parse.proofs.PathsBack.{along, axis_back, chosen, double_back, fir
 -- ---- conditions
 
 -- an empty rest of atoms, of alternatives
-pub no_and_back : (limit n : ℕ) (sc : Scope) (m : Marks) (bs : List CondTree) (k : Marks → List CondTree → State) (ts : List Token) (p : Found) → Lang limit (k m bs) ts p → Lang limit (ands n sc m bs k) ts p
-no_and_back limit n sc m bs k ts p h = (g.no_and, tt, record { behind = ts; parts = refl; goes_on = subst (λ (l : List CondTree). Lang limit (k m l) ts p) (sym (append-nil bs)) h })
+pub no_and_back : (limit n : ℕ) (sc : Scope) (m : Marks) (bs : List QueryCondTree) (k : Marks → List QueryCondTree → State) (ts : List Token) (p : Found) → Lang limit (k m bs) ts p → Lang limit (ands n sc m bs k) ts p
+no_and_back limit n sc m bs k ts p h = (g.no_and, tt, record { behind = ts; parts = refl; goes_on = subst (λ (l : List QueryCondTree). Lang limit (k m l) ts p) (sym (append-nil bs)) h })
 
-pub no_or_back : (limit n : ℕ) (sc : Scope) (m : Marks) (bs : List CondTree) (k : Marks → List CondTree → State) (ts : List Token) (p : Found) → Lang limit (k m bs) ts p → Lang limit (ors n sc m bs k) ts p
-no_or_back limit n sc m bs k ts p h = (g.no_or, tt, record { behind = ts; parts = refl; goes_on = subst (λ (l : List CondTree). Lang limit (k m l) ts p) (sym (append-nil bs)) h })
+pub no_or_back : (limit n : ℕ) (sc : Scope) (m : Marks) (bs : List QueryCondTree) (k : Marks → List QueryCondTree → State) (ts : List Token) (p : Found) → Lang limit (k m bs) ts p → Lang limit (ors n sc m bs k) ts p
+no_or_back limit n sc m bs k ts p h = (g.no_or, tt, record { behind = ts; parts = refl; goes_on = subst (λ (l : List QueryCondTree). Lang limit (k m l) ts p) (sym (append-nil bs)) h })
 
 -- what a rule begins with, and a property of what is behind it
-abbrev AllThen : ℕ → ℕ → Scope → Marks → (Marks → CondTree → State) → List Token → Found → Type 0
+abbrev AllThen : ℕ → ℕ → Scope → Marks → (Marks → QueryCondTree → State) → List Token → Found → Type 0
 AllThen limit n sc m k ts p = (a : g.All) × AllFits limit n a × Begins (all_tokens a) ts (λ ws. Lang limit (k (all_marks sc m a) (all_tree a)) ws p)
 
-abbrev CondThen : ℕ → ℕ → Scope → Marks → (Marks → CondTree → State) → List Token → Found → Type 0
-CondThen limit n sc m k ts p = (c : g.Cond) × CondFits limit n c × Begins (cond_tokens c) ts (λ ws. Lang limit (k (cond_marks sc m c) (cond_tree c)) ws p)
+abbrev CondThen : ℕ → ℕ → Scope → Marks → (Marks → QueryCondTree → State) → List Token → Found → Type 0
+CondThen limit n sc m k ts p = (c : g.Cond) × CondFits limit n c × Begins (cond_tokens c) ts (λ ws. Lang limit (k (cond_marks sc m c) (derived_cond c)) ws p)
 
-all_then : (limit n : ℕ) (sc : Scope) (m : Marks) (k : Marks → CondTree → State) (ts : List Token) (p : Found) → Lang limit (all_state n sc m k) ts p → AllThen limit n sc m k ts p
+all_then : (limit n : ℕ) (sc : Scope) (m : Marks) (k : Marks → QueryCondTree → State) (ts : List Token) (p : Found) → Lang limit (all_state n sc m k) ts p → AllThen limit n sc m k ts p
 unfolding all_state
 all_then limit n sc m k ts p l =
     let r = l.2.goes_on in
     (g.all l.0 r.0, (l.1, r.1), record { behind = r.2.behind; parts = seq2 (atom_tokens l.0) (ands_tokens r.0) r.2.behind l.2.parts r.2.parts; goes_on = r.2.goes_on })
 
-cond_then : (limit n : ℕ) (sc : Scope) (m : Marks) (k : Marks → CondTree → State) (ts : List Token) (p : Found) → Lang limit (cond_state n sc m k) ts p → CondThen limit n sc m k ts p
+cond_then : (limit n : ℕ) (sc : Scope) (m : Marks) (k : Marks → QueryCondTree → State) (ts : List Token) (p : Found) → Lang limit (cond_state n sc m k) ts p → CondThen limit n sc m k ts p
 unfolding cond_state
 cond_then limit n sc m k ts p h =
     let l = all_then limit n sc m (more_ors n sc [] (λ m os. k m (any_of os))) ts p h in
     let r = l.2.goes_on in
     (g.cond_of l.0 r.0, (l.1, r.1), record { behind = r.2.behind; parts = seq2 (all_tokens l.0) (ors_tokens r.0) r.2.behind l.2.parts r.2.parts; goes_on = r.2.goes_on })
 
-abbrev GroupThen : ℕ → ℕ → Scope → Marks → (Marks → CondTree → State) → List Token → Found → Type 0
-GroupThen limit n sc m k ts p = (c : g.Cond) × CondFits limit n c × Begins (cond_tokens c ++ (TSign signs.ParenClose ∷ [])) ts (λ ws. Lang limit (k (cond_marks sc m c) (cond_tree c)) ws p)
+abbrev GroupThen : ℕ → ℕ → Scope → Marks → (Marks → QueryCondTree → State) → List Token → Found → Type 0
+GroupThen limit n sc m k ts p = (c : g.Cond) × CondFits limit n c × Begins (cond_tokens c ++ (TSign signs.ParenClose ∷ [])) ts (λ ws. Lang limit (k (cond_marks sc m c) (derived_cond c)) ws p)
 
-group_then : (limit n : ℕ) (sc : Scope) (m : Marks) (k : Marks → CondTree → State) (ts : List Token) (p : Found) → Lang limit (group_state n sc m k) ts p → GroupThen limit n sc m k ts p
+group_then : (limit n : ℕ) (sc : Scope) (m : Marks) (k : Marks → QueryCondTree → State) (ts : List Token) (p : Found) → Lang limit (group_state n sc m k) ts p → GroupThen limit n sc m k ts p
 unfolding group_state
 group_then limit n sc m k ts p h =
     let l = cond_then limit n sc m (λ m c. sign signs.ParenClose (k m c)) ts p h in
     let r = l.2.goes_on in
     (l.0, l.1, record { behind = r.behind; parts = seq2 (cond_tokens l.0) (TSign signs.ParenClose ∷ []) r.behind l.2.parts r.parts; goes_on = r.goes_on })
 
-not_back : (limit n : ℕ) (sc : Scope) (m : Marks) (k : Marks → CondTree → State) (w : List Token) (p : Found) → nat_lt n limit ≡ true → Lang limit (not_state (n + 1) sc m k) w p → Lang limit (atom n sc m k) (TName not_ ∷ w) p
+not_back : (limit n : ℕ) (sc : Scope) (m : Marks) (k : Marks → QueryCondTree → State) (w : List Token) (p : Found) → nat_lt n limit ≡ true → Lang limit (not_state (n + 1) sc m k) w p → Lang limit (atom n sc m k) (TName not_ ∷ w) p
 unfolding not_state
 not_back limit n sc m k w p f l =
     let r = group_then limit (n + 1) sc m (λ m c. k m (q.Not c)) l.behind p l.goes_on in
     (g.negated r.0, (f, r.1), record { behind = r.2.behind; parts = ap (λ (l : List Token). TName not_ ∷ l) (l.parts ∙ ap (λ (l : List Token). TSign signs.ParenOpen ∷ l) r.2.parts); goes_on = r.2.goes_on })
 
-true_back : (limit n : ℕ) (sc : Scope) (m : Marks) (k : Marks → CondTree → State) (w : List Token) (p : Found) → Lang limit (true_state m k) w p → Lang limit (atom n sc m k) (TName true_ ∷ w) p
+true_back : (limit n : ℕ) (sc : Scope) (m : Marks) (k : Marks → QueryCondTree → State) (w : List Token) (p : Found) → Lang limit (true_state m k) w p → Lang limit (atom n sc m k) (TName true_ ∷ w) p
 true_back limit n sc m k w p l =
     let r = l.goes_on in
     (g.always, tt, record { behind = r.behind; parts = ap (λ (l : List Token). TName true_ ∷ l) (l.parts ∙ ap (λ (l : List Token). TSign signs.ParenOpen ∷ l) r.parts); goes_on = r.goes_on })
 
-exists_back : (limit n : ℕ) (sc : Scope) (m : Marks) (k : Marks → CondTree → State) (w : List Token) (p : Found) → Lang limit (exists_state sc m k) w p → Lang limit (atom n sc m k) (TName exists_ ∷ w) p
+exists_back : (limit n : ℕ) (sc : Scope) (m : Marks) (k : Marks → QueryCondTree → State) (w : List Token) (p : Found) → Lang limit (exists_state sc m k) w p → Lang limit (atom n sc m k) (TName exists_ ∷ w) p
 unfolding exists_state
 exists_back limit n sc m k w p l =
     let r = l.goes_on in
@@ -89,7 +89,7 @@ exists_back limit n sc m k w p l =
       },
     )
 
-literal_back : (limit n : ℕ) (sc : Scope) (m : Marks) (k : Marks → CondTree → State) (x : g.Literal) (w : List Token) (p : Found) → Lang limit (literal_state (literal_tree x) sc m k) w p → Lang limit (atom n sc m k) (literal_token x ∷ w) p
+literal_back : (limit n : ℕ) (sc : Scope) (m : Marks) (k : Marks → QueryCondTree → State) (x : g.Literal) (w : List Token) (p : Found) → Lang limit (literal_state (literal_tree x) sc m k) w p → Lang limit (atom n sc m k) (literal_token x ∷ w) p
 unfolding literal_state
 literal_back limit n sc m k x w p l =
     let r = l.1.goes_on in (
@@ -102,7 +102,7 @@ literal_back limit n sc m k x w p l =
       },
     )
 
-compare_back : (limit n : ℕ) (sc : Scope) (m : Marks) (k : Marks → CondTree → State) (ts : List Token) (p : Found) → Lang limit (path (compare_state sc m k)) ts p → Lang limit (atom n sc m k) ts p
+compare_back : (limit n : ℕ) (sc : Scope) (m : Marks) (k : Marks → QueryCondTree → State) (ts : List Token) (p : Found) → Lang limit (path (compare_state sc m k)) ts p → Lang limit (atom n sc m k) ts p
 compare_back limit n sc m k ts p l =
     let r = l.1.goes_on in
     let o = r.1.goes_on in (
@@ -115,7 +115,7 @@ compare_back limit n sc m k ts p l =
       },
     )
 
-atom_back : (limit n : ℕ) (sc : Scope) (m : Marks) (k : Marks → CondTree → State) (t : Token) (w : List Token) (p : Found) (u : State) → at_atom limit n sc m k t ≡ okay u → Lang limit u w p → Lang limit (atom n sc m k) (t ∷ w) p
+atom_back : (limit n : ℕ) (sc : Scope) (m : Marks) (k : Marks → QueryCondTree → State) (t : Token) (w : List Token) (p : Found) (u : State) → at_atom limit n sc m k t ≡ okay u → Lang limit u w p → Lang limit (atom n sc m k) (t ∷ w) p
 atom_back limit n sc m k (TName x) w p u e h = not_or (chosen (bytes_eq x not_) (opens limit n (not_state (n + 1) sc m k)) (cond (bytes_eq x true_) (Ok (true_state m k)) (cond (bytes_eq x exists_) (Ok (exists_state sc m k)) (Err Syntax))) (okay u) e)
   where
     named_as : (y : List ℕ) → bytes_eq x y ≡ true → Lang limit (atom n sc m k) (TName y ∷ w) p → Lang limit (atom n sc m k) (TName x ∷ w) p
@@ -142,7 +142,7 @@ atom_back limit n sc m k (TSlash at) w p u e h = compare_back limit n sc m k (TS
 atom_back limit n sc m k (TSlashes at) w p u e h = compare_back limit n sc m k (TSlashes at ∷ w) p (path_back limit (compare_state sc m k) (TSlashes at) w p u e h)
 atom_back limit n sc m k (TSign s) w p u e h = absurd cc
 
-and_back : (limit n : ℕ) (sc : Scope) (m : Marks) (bs : List CondTree) (k : Marks → List CondTree → State) (w : List Token) (p : Found) → Lang limit (atom n sc m (more_ands n sc bs k)) w p → Lang limit (ands n sc m bs k) (TName and_ ∷ w) p
+and_back : (limit n : ℕ) (sc : Scope) (m : Marks) (bs : List QueryCondTree) (k : Marks → List QueryCondTree → State) (w : List Token) (p : Found) → Lang limit (atom n sc m (more_ands n sc bs k)) w p → Lang limit (ands n sc m bs k) (TName and_ ∷ w) p
 and_back limit n sc m bs k w p l =
     let r = l.2.goes_on in (
       g.and_more l.0 r.0,
@@ -150,11 +150,11 @@ and_back limit n sc m bs k w p l =
       record {
         behind = r.2.behind;
         parts = ap (λ (l : List Token). TName and_ ∷ l) (seq2 (atom_tokens l.0) (ands_tokens r.0) r.2.behind l.2.parts r.2.parts);
-        goes_on = subst (λ (b : List CondTree). Lang limit (k (ands_marks sc (atom_marks sc m l.0) r.0) b) r.2.behind p) (append_assoc bs (atom_tree l.0 ∷ []) (ands_tree r.0)) r.2.goes_on;
+        goes_on = subst (λ (b : List QueryCondTree). Lang limit (k (ands_marks sc (atom_marks sc m l.0) r.0) b) r.2.behind p) (append_assoc bs (atom_tree l.0 ∷ []) (ands_tree r.0)) r.2.goes_on;
       },
     )
 
-or_back : (limit n : ℕ) (sc : Scope) (m : Marks) (bs : List CondTree) (k : Marks → List CondTree → State) (w : List Token) (p : Found) → Lang limit (all_state n sc m (more_ors n sc bs k)) w p → Lang limit (ors n sc m bs k) (TName or_ ∷ w) p
+or_back : (limit n : ℕ) (sc : Scope) (m : Marks) (bs : List QueryCondTree) (k : Marks → List QueryCondTree → State) (w : List Token) (p : Found) → Lang limit (all_state n sc m (more_ors n sc bs k)) w p → Lang limit (ors n sc m bs k) (TName or_ ∷ w) p
 or_back limit n sc m bs k w p h =
     let l = all_then limit n sc m (more_ors n sc bs k) w p h in
     let r = l.2.goes_on in (
@@ -163,7 +163,7 @@ or_back limit n sc m bs k w p h =
       record {
         behind = r.2.behind;
         parts = ap (λ (l : List Token). TName or_ ∷ l) (seq2 (all_tokens l.0) (ors_tokens r.0) r.2.behind l.2.parts r.2.parts);
-        goes_on = subst (λ (b : List CondTree). Lang limit (k (ors_marks sc (all_marks sc m l.0) r.0) b) r.2.behind p) (append_assoc bs (all_tree l.0 ∷ []) (ors_tree r.0)) r.2.goes_on;
+        goes_on = subst (λ (b : List QueryCondTree). Lang limit (k (ors_marks sc (all_marks sc m l.0) r.0) b) r.2.behind p) (append_assoc bs (all_tree l.0 ∷ []) (ors_tree r.0)) r.2.goes_on;
       },
     )
 
@@ -195,12 +195,12 @@ clauses_back limit sc m cs k w p h =
       },
     )
 
-where_back : (limit n : ℕ) (sc : Scope) (m : Marks) (k : Marks → Option CondTree → State) (w : List Token) (p : Found) → Lang limit (cond_state n sc m (with_filter k)) w p → Lang limit (condition n sc m k) (TName where_ ∷ w) p
+where_back : (limit n : ℕ) (sc : Scope) (m : Marks) (k : Marks → Option QueryCondTree → State) (w : List Token) (p : Found) → Lang limit (cond_state n sc m (with_filter k)) w p → Lang limit (condition n sc m k) (TName where_ ∷ w) p
 where_back limit n sc m k w p h =
     let l = cond_then limit n sc m (with_filter k) w p h in
     (g.where_cond l.0, l.1, put (TName where_) l.2)
 
-pub no_where_back : (limit n : ℕ) (sc : Scope) (m : Marks) (k : Marks → Option CondTree → State) (ts : List Token) (p : Found) → Lang limit (k m None) ts p → Lang limit (condition n sc m k) ts p
+pub no_where_back : (limit n : ℕ) (sc : Scope) (m : Marks) (k : Marks → Option QueryCondTree → State) (ts : List Token) (p : Found) → Lang limit (k m None) ts p → Lang limit (condition n sc m k) ts p
 no_where_back limit n sc m k ts p h = (g.no_where, tt, record { behind = ts; parts = refl; goes_on = h })
 
 pub no_rest_back : (limit n : ℕ) (sc : Scope) (m : Marks) (es : List ExprTree) (k : Marks → List ExprTree → State) (ts : List Token) (p : Found) → Lang limit (k m es) ts p → Lang limit (rest n sc m es k) ts p
@@ -214,7 +214,7 @@ rest_back limit n sc m es k w p l =
       record {
         behind = r.2.behind;
         parts = ap (λ (l : List Token). TSign signs.Comma ∷ l) (seq2 (expr_tokens l.0) (rest_tokens r.0) r.2.behind l.2.parts r.2.parts);
-        goes_on = subst (λ (b : List ExprTree). Lang limit (k (rest_marks sc (expr_marks sc m l.0) r.0) b) r.2.behind p) (append_assoc es (expr_tree l.0 ∷ []) (rest_tree r.0)) r.2.goes_on;
+        goes_on = subst (λ (b : List ExprTree). Lang limit (k (rest_marks sc (expr_marks sc m l.0) r.0) b) r.2.behind p) (append_assoc es (derived_expr l.0 ∷ []) (rest_tree r.0)) r.2.goes_on;
       },
     )
 
@@ -243,7 +243,7 @@ if_back : (limit n : ℕ) (sc : Scope) (m : Marks) (k : Marks → ExprTree → S
 unfolding if_state head_state
 if_back limit n sc m k w p f h =
     let d = n + 1 in
-    let next : Marks → CondTree → State = λ m c. sign signs.ParenClose (word then_ (expr d sc m (λ m a. word else_ (expr d sc m (λ m b. k m (q.If c a b)))))) in
+    let next : Marks → QueryCondTree → State = λ m c. sign signs.ParenClose (word then_ (expr d sc m (λ m a. word else_ (expr d sc m (λ m b. k m (q.If c a b)))))) in
     let c = cond_then limit d sc m next h.behind p h.goes_on in
     let pc = c.2.goes_on in
     let th = pc.goes_on in
@@ -367,7 +367,7 @@ content_back limit n sc m x es k (TSign signs.BraceOpen) w p u e h =
         behind = c.2.behind;
         parts = ap (λ (l : List Token). TSign signs.BraceOpen ∷ l) (seq2 (expr_tokens l.0) (rest_tokens r.0 ++ (TSign signs.BraceClose ∷ content_tokens x c.0)) c.2.behind l.2.parts
             (seq2 (rest_tokens r.0) (TSign signs.BraceClose ∷ content_tokens x c.0) c.2.behind r.2.parts (b.parts ∙ ap (λ (l : List Token). TSign signs.BraceClose ∷ l) c.2.parts)));
-        goes_on = subst (λ (b : List ExprTree). Lang limit (k (content_marks sc (rest_marks sc (expr_marks sc m l.0) r.0) c.0) b) c.2.behind p) (append_assoc es (expr_tree l.0 ∷ rest_tree r.0) (content_tree c.0)) c.2.goes_on;
+        goes_on = subst (λ (b : List ExprTree). Lang limit (k (content_marks sc (rest_marks sc (expr_marks sc m l.0) r.0) c.0) b) c.2.behind p) (append_assoc es (derived_expr l.0 ∷ rest_tree r.0) (content_tree c.0)) c.2.goes_on;
       },
     )
 content_back limit n sc m x es k (TName y) w p u e h = absurd cc

@@ -12,7 +12,7 @@ use Rattle.gcx_model.specs.declared.query.Clause.{Clause}
 use Rattle.gcx_model.specs.declared.query.QOperand.{QOperand}
 use Rattle.gcx_model.specs.declared.query.QOperand.TheVariants as sides
 use Rattle.gcx_model.specs.Query as q
-use Rattle.gcx_model.specs.Query.{CondTree, ExprTree, exprs_of}
+use Rattle.gcx_model.specs.Query.{QueryCondTree, ExprTree, exprs_of}
 use Rattle.xq_lex.specs.declared.sign.Sign.TheVariants as signs
 use Rattle.xq_parse.specs.declared.refusal.Why.{Why}
 use Rattle.xq_parse.specs.declared.route.Trail.{Trail}
@@ -20,7 +20,7 @@ use Rattle.xq_parse.specs.declared.route.Route.{Route}
 use Rattle.xq_parse.specs.declared.marks.Marks.{Marks}
 use Rattle.xq_parse.specs.Tokens.{Token, TName, TVar, TNum, TStr, TSlash, TSlashes, TSign, return_, then_, else_, or_, and_, text_, node_, child_, descendant_}
 use Rattle.xq_parse.specs.Grammar as g
-use Rattle.xq_parse.specs.Grammar.{a_step, a_clause, all_of, any_of, seq_of, test_tokens, test_tree, step_tokens, step_tree, steps_tokens, path_tokens, path_tree, source_tokens, operand_tokens, operand_tree, literal_token, literal_tree, rel_sign, cond_tokens, cond_tree, ors_tokens, ors_tree, all_tokens, all_tree, ands_tokens, ands_tree, atom_tokens, atom_tree, CondFits, OrsFits, AllFits, AndsFits, AtomFits, clause_tokens, clause_tree, clauses_tokens, clauses_tree, where_tokens, where_tree, WhereFits, expr_tokens, expr_tree, ExprFits, inner_tokens, inner_tree, InnerFits, rest_tokens, rest_tree, RestFits, tag_tokens, tag_tree, TagFits, content_tokens, content_tree, ContentFits}
+use Rattle.xq_parse.specs.Grammar.{a_step, a_clause, all_of, any_of, seq_of, test_tokens, test_tree, step_tokens, step_tree, steps_tokens, path_tokens, path_tree, source_tokens, operand_tokens, operand_tree, literal_token, literal_tree, rel_sign, cond_tokens, derived_cond, ors_tokens, ors_tree, all_tokens, all_tree, ands_tokens, ands_tree, atom_tokens, atom_tree, CondFits, OrsFits, AllFits, AndsFits, AtomFits, clause_tokens, clause_tree, clauses_tokens, clauses_tree, where_tokens, where_tree, WhereFits, expr_tokens, derived_expr, ExprFits, inner_tokens, inner_tree, InnerFits, rest_tokens, rest_tree, RestFits, tag_tokens, tag_tree, TagFits, content_tokens, content_tree, ContentFits}
 use Rattle.xq_parse.specs.Places.{Scope, step_place, clause_scope, clauses_scope}
 use Rattle.xq_parse.specs.Machine.{State, Found, done, sign, word, axis, axis_or_name, test, call_or_name, first_step, steps, source, path, rel, operand, atom, ands, ors, expr, rest, inner, clauses, condition, tag, content, no_trail, a_var, a_route, no_marks, seen, seen_in_order, steps_behind, steps_state, with_start, side_seen, path_seen, close_list, after_brace, after_nested, more_ands, more_ors, more_rest, more_clauses, atoms_state, all_state, alls_state, cond_state, clause_state, clauses_state, list_state, for_state, head_state, if_state, elem_state, group_state, not_state, exists_state, literal_state, compare_state, members, step, start}
 use Rattle.xq_parse.specs.Reading.{a_found}
@@ -210,7 +210,7 @@ more_over w x s over f h = go (bytes_eq x w) h
     go true h = absurd cc
     go false h = refl
 
-ands_over : (limit n : ℕ) (sc : Scope) (m : Marks) (bs : List CondTree) (k : Marks → List CondTree → State) (ts : List Token) → no_word and_ ts ≡ true → reads limit (ands n sc m bs k) ts ≡ reads limit (k m bs) ts
+ands_over : (limit n : ℕ) (sc : Scope) (m : Marks) (bs : List QueryCondTree) (k : Marks → List QueryCondTree → State) (ts : List Token) → no_word and_ ts ≡ true → reads limit (ands n sc m bs k) ts ≡ reads limit (k m bs) ts
 ands_over limit n sc m bs k [] h = refl
 ands_over limit n sc m bs k (TName x ∷ ts) h = more_over and_ x (atom n sc m (more_ands n sc bs k)) (step limit (k m bs) (TName x)) (λ u. reads limit u ts) h
 ands_over limit n sc m bs k (TVar at y ∷ ts) h = refl
@@ -220,7 +220,7 @@ ands_over limit n sc m bs k (TSlash at ∷ ts) h = refl
 ands_over limit n sc m bs k (TSlashes at ∷ ts) h = refl
 ands_over limit n sc m bs k (TSign s ∷ ts) h = refl
 
-ors_over : (limit n : ℕ) (sc : Scope) (m : Marks) (bs : List CondTree) (k : Marks → List CondTree → State) (ts : List Token) → no_word or_ ts ≡ true → reads limit (ors n sc m bs k) ts ≡ reads limit (k m bs) ts
+ors_over : (limit n : ℕ) (sc : Scope) (m : Marks) (bs : List QueryCondTree) (k : Marks → List QueryCondTree → State) (ts : List Token) → no_word or_ ts ≡ true → reads limit (ors n sc m bs k) ts ≡ reads limit (k m bs) ts
 ors_over limit n sc m bs k [] h = refl
 ors_over limit n sc m bs k (TName x ∷ ts) h = more_over or_ x (all_state n sc m (more_ors n sc bs k)) (step limit (k m bs) (TName x)) (λ u. reads limit u ts) h
 ors_over limit n sc m bs k (TVar at y ∷ ts) h = refl
@@ -254,71 +254,71 @@ rel_reads limit k rels.Le ts = refl
 rel_reads limit k rels.Gt ts = refl
 rel_reads limit k rels.Ge ts = refl
 
-atom_first : (limit n : ℕ) (sc : Scope) (m : Marks) (k : Marks → CondTree → State) (p : g.Path) (ts : List Token) → reads limit (atom n sc m k) (path_tokens p ++ ts) ≡ reads limit (path (compare_state sc m k)) (path_tokens p ++ ts)
+atom_first : (limit n : ℕ) (sc : Scope) (m : Marks) (k : Marks → QueryCondTree → State) (p : g.Path) (ts : List Token) → reads limit (atom n sc m k) (path_tokens p ++ ts) ≡ reads limit (path (compare_state sc m k)) (path_tokens p ++ ts)
 atom_first limit n sc m k (g.from_var at x ss) ts = refl
 atom_first limit n sc m k (g.from_root (g.plain at t) ss) ts = refl
 atom_first limit n sc m k (g.from_root (g.child at t) ss) ts = refl
 atom_first limit n sc m k (g.from_root (g.descendant at t) ss) ts = refl
 atom_first limit n sc m k (g.from_root (g.double at t) ss) ts = refl
 
-exists_reads : (limit : ℕ) (sc : Scope) (m : Marks) (k : Marks → CondTree → State) (p : g.Path) (ts : List Token) → reads limit (exists_state sc m k) (TSign signs.ParenOpen ∷ (path_tokens p ++ (TSign signs.ParenClose ∷ ts))) ≡ reads limit (k (path_marks sc m p) (q.Exists (path_tree p))) ts
+exists_reads : (limit : ℕ) (sc : Scope) (m : Marks) (k : Marks → QueryCondTree → State) (p : g.Path) (ts : List Token) → reads limit (exists_state sc m k) (TSign signs.ParenOpen ∷ (path_tokens p ++ (TSign signs.ParenClose ∷ ts))) ≡ reads limit (k (path_marks sc m p) (q.Exists (path_tree p))) ts
 unfolding exists_state
 exists_reads limit sc m k p ts = path_reads limit (λ r. sign signs.ParenClose (k (seen sc m r) (q.Exists r.path))) p (TSign signs.ParenClose ∷ ts) refl
 
-literal_reads : (limit : ℕ) (sc : Scope) (m : Marks) (k : Marks → CondTree → State) (l : QOperand) (r : Rel) (p : g.Path) (ts : List Token) → no_step ts ≡ true → reads limit (literal_state l sc m k) (TSign (rel_sign r) ∷ (path_tokens p ++ ts)) ≡ reads limit (k (path_marks sc m p) (q.Compare l r (sides.Path (path_tree p)))) ts
+literal_reads : (limit : ℕ) (sc : Scope) (m : Marks) (k : Marks → QueryCondTree → State) (l : QOperand) (r : Rel) (p : g.Path) (ts : List Token) → no_step ts ≡ true → reads limit (literal_state l sc m k) (TSign (rel_sign r) ∷ (path_tokens p ++ ts)) ≡ reads limit (k (path_marks sc m p) (q.Compare l r (sides.Path (path_tree p)))) ts
 unfolding literal_state
 literal_reads limit sc m k l r p ts h = rel_reads limit (λ c. path (λ r. k (seen sc m r) (q.Compare l c (sides.Path r.path)))) r (path_tokens p ++ ts) ∙ path_reads limit (λ s. k (seen sc m s) (q.Compare l r (sides.Path s.path))) p ts h
 
 ends_paren : (ts : List Token) → EndsCond (TSign signs.ParenClose ∷ ts)
 ends_paren ts = record { all = record { path = refl; ands = refl }; ors = refl }
 
-abbrev close_cond : (Marks → CondTree → State) → Marks → CondTree → State
+abbrev close_cond : (Marks → QueryCondTree → State) → Marks → QueryCondTree → State
 close_cond k m c = sign signs.ParenClose (k m c)
 
-group_reads : (limit n : ℕ) (sc : Scope) (m : Marks) (k : Marks → CondTree → State) (c : g.Cond) (ts : List Token) →
-    reads limit (cond_state n sc m (close_cond k)) (cond_tokens c ++ (TSign signs.ParenClose ∷ ts)) ≡ reads limit (k (cond_marks sc m c) (cond_tree c)) ts →
-    reads limit (group_state n sc m k) ((cond_tokens c ++ (TSign signs.ParenClose ∷ [])) ++ ts) ≡ reads limit (k (cond_marks sc m c) (cond_tree c)) ts
+group_reads : (limit n : ℕ) (sc : Scope) (m : Marks) (k : Marks → QueryCondTree → State) (c : g.Cond) (ts : List Token) →
+    reads limit (cond_state n sc m (close_cond k)) (cond_tokens c ++ (TSign signs.ParenClose ∷ ts)) ≡ reads limit (k (cond_marks sc m c) (derived_cond c)) ts →
+    reads limit (group_state n sc m k) ((cond_tokens c ++ (TSign signs.ParenClose ∷ [])) ++ ts) ≡ reads limit (k (cond_marks sc m c) (derived_cond c)) ts
 unfolding group_state
 group_reads limit n sc m k c ts e = ap (reads limit (cond_state n sc m (close_cond k))) (append_assoc (cond_tokens c) (TSign signs.ParenClose ∷ []) ts) ∙ e
 
-abbrev any_then : (Marks → CondTree → State) → Marks → List CondTree → State
+abbrev any_then : (Marks → QueryCondTree → State) → Marks → List QueryCondTree → State
 any_then k m os = k m (any_of os)
 
-abbrev all_then : (Marks → CondTree → State) → Marks → List CondTree → State
+abbrev all_then : (Marks → QueryCondTree → State) → Marks → List QueryCondTree → State
 all_then k m bs = k m (all_of bs)
 
 mutual
   unfolding cond_state all_state not_state
 
-  pub cond_reads : (limit n : ℕ) (sc : Scope) (m : Marks) (k : Marks → CondTree → State) (c : g.Cond) (ts : List Token) → CondFits limit n c → EndsCond ts → reads limit (cond_state n sc m k) (cond_tokens c ++ ts) ≡ reads limit (k (cond_marks sc m c) (cond_tree c)) ts
+  pub cond_reads : (limit n : ℕ) (sc : Scope) (m : Marks) (k : Marks → QueryCondTree → State) (c : g.Cond) (ts : List Token) → CondFits limit n c → EndsCond ts → reads limit (cond_state n sc m k) (cond_tokens c ++ ts) ≡ reads limit (k (cond_marks sc m c) (derived_cond c)) ts
   cond_reads limit n sc m k (g.cond_of a os) ts f h =
       ap (reads limit (alls_state n sc m (any_then k))) (append_assoc (all_tokens a) (ors_tokens os) ts)
       ∙ all_reads limit n sc m (more_ors n sc [] (any_then k)) a (ors_tokens os ++ ts) f.0 (ors_ends os ts h.all)
       ∙ ors_reads limit n sc (all_marks sc m a) (all_tree a ∷ []) (any_then k) os ts f.1 h
 
-  pub ors_reads : (limit n : ℕ) (sc : Scope) (m : Marks) (bs : List CondTree) (k : Marks → List CondTree → State) (os : g.Ors) (ts : List Token) → OrsFits limit n os → EndsCond ts → reads limit (ors n sc m bs k) (ors_tokens os ++ ts) ≡ reads limit (k (ors_marks sc m os) (bs ++ ors_tree os)) ts
-  ors_reads limit n sc m bs k g.no_or ts f h = ors_over limit n sc m bs k ts h.ors ∙ ap (λ (l : List CondTree). reads limit (k m l) ts) (sym (append-nil bs))
+  pub ors_reads : (limit n : ℕ) (sc : Scope) (m : Marks) (bs : List QueryCondTree) (k : Marks → List QueryCondTree → State) (os : g.Ors) (ts : List Token) → OrsFits limit n os → EndsCond ts → reads limit (ors n sc m bs k) (ors_tokens os ++ ts) ≡ reads limit (k (ors_marks sc m os) (bs ++ ors_tree os)) ts
+  ors_reads limit n sc m bs k g.no_or ts f h = ors_over limit n sc m bs k ts h.ors ∙ ap (λ (l : List QueryCondTree). reads limit (k m l) ts) (sym (append-nil bs))
   ors_reads limit n sc m bs k (g.or_more a os) ts f h =
       ap (reads limit (all_state n sc m (more_ors n sc bs k))) (append_assoc (all_tokens a) (ors_tokens os) ts)
       ∙ all_reads limit n sc m (more_ors n sc bs k) a (ors_tokens os ++ ts) f.0 (ors_ends os ts h.all)
       ∙ ors_reads limit n sc (all_marks sc m a) (bs ++ (all_tree a ∷ [])) k os ts f.1 h
-      ∙ ap (λ (l : List CondTree). reads limit (k (ors_marks sc (all_marks sc m a) os) l) ts) (append_assoc bs (all_tree a ∷ []) (ors_tree os))
+      ∙ ap (λ (l : List QueryCondTree). reads limit (k (ors_marks sc (all_marks sc m a) os) l) ts) (append_assoc bs (all_tree a ∷ []) (ors_tree os))
 
-  pub all_reads : (limit n : ℕ) (sc : Scope) (m : Marks) (k : Marks → CondTree → State) (a : g.All) (ts : List Token) → AllFits limit n a → EndsAll ts → reads limit (all_state n sc m k) (all_tokens a ++ ts) ≡ reads limit (k (all_marks sc m a) (all_tree a)) ts
+  pub all_reads : (limit n : ℕ) (sc : Scope) (m : Marks) (k : Marks → QueryCondTree → State) (a : g.All) (ts : List Token) → AllFits limit n a → EndsAll ts → reads limit (all_state n sc m k) (all_tokens a ++ ts) ≡ reads limit (k (all_marks sc m a) (all_tree a)) ts
   all_reads limit n sc m k (g.all a bs) ts f h =
       ap (reads limit (atoms_state n sc m (all_then k))) (append_assoc (atom_tokens a) (ands_tokens bs) ts)
       ∙ atom_reads limit n sc m (more_ands n sc [] (all_then k)) a (ands_tokens bs ++ ts) f.0 (ands_ends bs ts h.path)
       ∙ ands_reads limit n sc (atom_marks sc m a) (atom_tree a ∷ []) (all_then k) bs ts f.1 h
 
-  pub ands_reads : (limit n : ℕ) (sc : Scope) (m : Marks) (bs : List CondTree) (k : Marks → List CondTree → State) (os : g.Ands) (ts : List Token) → AndsFits limit n os → EndsAll ts → reads limit (ands n sc m bs k) (ands_tokens os ++ ts) ≡ reads limit (k (ands_marks sc m os) (bs ++ ands_tree os)) ts
-  ands_reads limit n sc m bs k g.no_and ts f h = ands_over limit n sc m bs k ts h.ands ∙ ap (λ (l : List CondTree). reads limit (k m l) ts) (sym (append-nil bs))
+  pub ands_reads : (limit n : ℕ) (sc : Scope) (m : Marks) (bs : List QueryCondTree) (k : Marks → List QueryCondTree → State) (os : g.Ands) (ts : List Token) → AndsFits limit n os → EndsAll ts → reads limit (ands n sc m bs k) (ands_tokens os ++ ts) ≡ reads limit (k (ands_marks sc m os) (bs ++ ands_tree os)) ts
+  ands_reads limit n sc m bs k g.no_and ts f h = ands_over limit n sc m bs k ts h.ands ∙ ap (λ (l : List QueryCondTree). reads limit (k m l) ts) (sym (append-nil bs))
   ands_reads limit n sc m bs k (g.and_more a os) ts f h =
       ap (reads limit (atom n sc m (more_ands n sc bs k))) (append_assoc (atom_tokens a) (ands_tokens os) ts)
       ∙ atom_reads limit n sc m (more_ands n sc bs k) a (ands_tokens os ++ ts) f.0 (ands_ends os ts h.path)
       ∙ ands_reads limit n sc (atom_marks sc m a) (bs ++ (atom_tree a ∷ [])) k os ts f.1 h
-      ∙ ap (λ (l : List CondTree). reads limit (k (ands_marks sc (atom_marks sc m a) os) l) ts) (append_assoc bs (atom_tree a ∷ []) (ands_tree os))
+      ∙ ap (λ (l : List QueryCondTree). reads limit (k (ands_marks sc (atom_marks sc m a) os) l) ts) (append_assoc bs (atom_tree a ∷ []) (ands_tree os))
 
-  pub atom_reads : (limit n : ℕ) (sc : Scope) (m : Marks) (k : Marks → CondTree → State) (a : g.Atom) (ts : List Token) → AtomFits limit n a → no_step ts ≡ true → reads limit (atom n sc m k) (atom_tokens a ++ ts) ≡ reads limit (k (atom_marks sc m a) (atom_tree a)) ts
+  pub atom_reads : (limit n : ℕ) (sc : Scope) (m : Marks) (k : Marks → QueryCondTree → State) (a : g.Atom) (ts : List Token) → AtomFits limit n a → no_step ts ≡ true → reads limit (atom n sc m k) (atom_tokens a ++ ts) ≡ reads limit (k (atom_marks sc m a) (atom_tree a)) ts
   atom_reads limit n sc m k (g.negated c) ts f h = rw (f.0) (group_reads limit (n + 1) sc m (λ m c. k m (q.Not c)) c ts (cond_reads limit (n + 1) sc m (close_cond (λ m c. k m (q.Not c))) c (TSign signs.ParenClose ∷ ts) f.1 (ends_paren ts)))
   atom_reads limit n sc m k g.always ts f h = refl
   atom_reads limit n sc m k (g.existing p) ts f h =
@@ -362,10 +362,10 @@ where_ends : (w : g.Where) (ts : List Token) → no_step (where_tokens w ++ (TNa
 where_ends g.no_where ts = refl
 where_ends (g.where_cond c) ts = refl
 
-abbrev filter_then : ℕ → (Scope → Marks → List Clause → Option CondTree → State) → Scope → Marks → List Clause → State
+abbrev filter_then : ℕ → (Scope → Marks → List Clause → Option QueryCondTree → State) → Scope → Marks → List Clause → State
 filter_then n k sc m cs = condition n sc m (λ m w. word return_ (k sc m cs w))
 
-where_reads : (limit n : ℕ) (sc : Scope) (m : Marks) (cs : List Clause) (k : Scope → Marks → List Clause → Option CondTree → State) (w : g.Where) (ts : List Token) → WhereFits limit n w →
+where_reads : (limit n : ℕ) (sc : Scope) (m : Marks) (cs : List Clause) (k : Scope → Marks → List Clause → Option QueryCondTree → State) (w : g.Where) (ts : List Token) → WhereFits limit n w →
     reads limit (clauses sc m cs (filter_then n k)) (where_tokens w ++ (TName return_ ∷ ts)) ≡ reads limit (k sc (where_marks sc m w) cs (where_tree w)) ts
 where_reads limit n sc m cs k g.no_where ts f = refl
 where_reads limit n sc m cs k (g.where_cond c) ts f = cond_reads limit n sc m (λ m c. word return_ (k sc m cs (Some c))) c (TName return_ ∷ ts) f (record { all = record { path = refl; ands = refl }; ors = refl })
@@ -407,10 +407,10 @@ bytes_same x = (bytes_eq-Decides x x).1 refl
 mutual
   unfolding for_state if_state head_state elem_state
 
-  pub expr_reads : (limit n : ℕ) (sc : Scope) (m : Marks) (k : Marks → ExprTree → State) (e : g.Expr) (ts : List Token) → ExprFits limit n e → no_step ts ≡ true → reads limit (expr n sc m k) (expr_tokens e ++ ts) ≡ reads limit (k (expr_marks sc m e) (expr_tree e)) ts
+  pub expr_reads : (limit n : ℕ) (sc : Scope) (m : Marks) (k : Marks → ExprTree → State) (e : g.Expr) (ts : List Token) → ExprFits limit n e → no_step ts ≡ true → reads limit (expr n sc m k) (expr_tokens e ++ ts) ≡ reads limit (k (expr_marks sc m e) (derived_expr e)) ts
   expr_reads limit n sc m k (g.for_expr c cs w e) ts f h =
       let d = n + 1 in
-      let body : Scope → Marks → List Clause → Option CondTree → State = λ sc m cs w. expr d sc m (λ m e. k m (q.For cs w e)) in
+      let body : Scope → Marks → List Clause → Option QueryCondTree → State = λ sc m cs w. expr d sc m (λ m e. k m (q.For cs w e)) in
       let behind : List Token = where_tokens w ++ (TName return_ ∷ (expr_tokens e ++ ts)) in
       let inside : Scope = clauses_scope (clause_scope sc c) cs in
       let marked : Marks = clauses_marks (clause_scope sc c) (clause_marks sc m c) cs in
@@ -423,17 +423,17 @@ mutual
       ∙ expr_reads limit d inside (where_marks inside marked w) (λ m e. k m (q.For (clause_tree c ∷ clauses_tree cs) (where_tree w) e)) e ts f.2 h)
   expr_reads limit n sc m k (g.if_expr c a b) ts f h =
       let d = n + 1 in
-      let other : CondTree → Marks → ExprTree → State = λ c m a. expr d sc m (λ m b. k m (q.If c a b)) in
-      let this : Marks → CondTree → State = λ m c. expr d sc m (λ m a. word else_ (other c m a)) in
-      let next : Marks → CondTree → State = λ m c. sign signs.ParenClose (word then_ (this m c)) in
+      let other : QueryCondTree → Marks → ExprTree → State = λ c m a. expr d sc m (λ m b. k m (q.If c a b)) in
+      let this : Marks → QueryCondTree → State = λ m c. expr d sc m (λ m a. word else_ (other c m a)) in
+      let next : Marks → QueryCondTree → State = λ m c. sign signs.ParenClose (word then_ (this m c)) in
       let last : List Token = TName else_ ∷ (expr_tokens b ++ ts) in
       let marked : Marks = cond_marks sc m c in
       rw (f.0) (
       ap (reads limit (cond_state d sc m next)) (append_assoc (cond_tokens c) (TSign signs.ParenClose ∷ TName then_ ∷ (expr_tokens a ++ (TName else_ ∷ expr_tokens b))) ts)
       ∙ cond_reads limit d sc m next c (TSign signs.ParenClose ∷ TName then_ ∷ ((expr_tokens a ++ (TName else_ ∷ expr_tokens b)) ++ ts)) f.1 (record { all = record { path = refl; ands = refl }; ors = refl })
-      ∙ ap (reads limit (this marked (cond_tree c))) (append_assoc (expr_tokens a) (TName else_ ∷ expr_tokens b) ts)
-      ∙ expr_reads limit d sc marked (λ m a. word else_ (other (cond_tree c) m a)) a last f.2 refl
-      ∙ expr_reads limit d sc (expr_marks sc marked a) (λ m b. k m (q.If (cond_tree c) (expr_tree a) b)) b ts f.3 h)
+      ∙ ap (reads limit (this marked (derived_cond c))) (append_assoc (expr_tokens a) (TName else_ ∷ expr_tokens b) ts)
+      ∙ expr_reads limit d sc marked (λ m a. word else_ (other (derived_cond c) m a)) a last f.2 refl
+      ∙ expr_reads limit d sc (expr_marks sc marked a) (λ m b. k m (q.If (derived_cond c) (derived_expr a) b)) b ts f.3 h)
   expr_reads limit n sc m k (g.elem_expr x t) ts f h = rw (f.0) (tag_reads limit (n + 1) sc m x (λ m es. k m (q.Elem x (exprs_of es))) t ts f.1)
   expr_reads limit n sc m k (g.paren_expr i) ts f h = rw (f.0) (inner_reads limit (n + 1) sc m k i ts f.1)
   expr_reads limit n sc m k (g.path_expr p) ts f h = expr_first limit n sc m k p ts ∙ path_reads limit (path_seen sc m k) p ts h
@@ -444,15 +444,15 @@ mutual
       ap (reads limit (inner n sc m k)) (three (expr_tokens e) (rest_tokens r) (TSign signs.ParenClose ∷ []) ts)
       ∙ inner_first limit n sc m k e (rest_tokens r ++ (TSign signs.ParenClose ∷ ts))
       ∙ expr_reads limit n sc m (members n sc k) e (rest_tokens r ++ (TSign signs.ParenClose ∷ ts)) f.0 (rest_ends r (TSign signs.ParenClose ∷ ts) refl)
-      ∙ rest_reads limit n sc (expr_marks sc m e) (expr_tree e ∷ []) (close_list k) r (TSign signs.ParenClose ∷ ts) f.1 refl
+      ∙ rest_reads limit n sc (expr_marks sc m e) (derived_expr e ∷ []) (close_list k) r (TSign signs.ParenClose ∷ ts) f.1 refl
 
   pub rest_reads : (limit n : ℕ) (sc : Scope) (m : Marks) (es : List ExprTree) (k : Marks → List ExprTree → State) (r : g.Rest) (ts : List Token) → RestFits limit n r → no_step ts ≡ true → reads limit (rest n sc m es k) (rest_tokens r ++ ts) ≡ reads limit (rest n sc (rest_marks sc m r) (es ++ rest_tree r) k) ts
   rest_reads limit n sc m es k g.no_rest ts f h = ap (λ (l : List ExprTree). reads limit (rest n sc m l k) ts) (sym (append-nil es))
   rest_reads limit n sc m es k (g.rest_more e r) ts f h =
       ap (reads limit (expr n sc m (more_rest n sc es k))) (append_assoc (expr_tokens e) (rest_tokens r) ts)
       ∙ expr_reads limit n sc m (more_rest n sc es k) e (rest_tokens r ++ ts) f.0 (rest_ends r ts h)
-      ∙ rest_reads limit n sc (expr_marks sc m e) (es ++ (expr_tree e ∷ [])) k r ts f.1 h
-      ∙ ap (λ (l : List ExprTree). reads limit (rest n sc (rest_marks sc (expr_marks sc m e) r) l k) ts) (append_assoc es (expr_tree e ∷ []) (rest_tree r))
+      ∙ rest_reads limit n sc (expr_marks sc m e) (es ++ (derived_expr e ∷ [])) k r ts f.1 h
+      ∙ ap (λ (l : List ExprTree). reads limit (rest n sc (rest_marks sc (expr_marks sc m e) r) l k) ts) (append_assoc es (derived_expr e ∷ []) (rest_tree r))
 
   pub tag_reads : (limit n : ℕ) (sc : Scope) (m : Marks) (x : List ℕ) (k : Marks → List ExprTree → State) (t : g.Tag) (ts : List Token) → TagFits limit n t → reads limit (tag n sc m x k) (tag_tokens x t ++ ts) ≡ reads limit (k (tag_marks sc m t) (tag_tree t)) ts
   tag_reads limit n sc m x k g.short ts f = refl
@@ -472,9 +472,9 @@ mutual
       let marked : Marks = rest_marks sc (expr_marks sc m e) r in
       ap (reads limit (list_state n sc m next)) (three (expr_tokens e) (rest_tokens r) (TSign signs.BraceClose ∷ content_tokens x c) ts)
       ∙ expr_reads limit n sc m (more_rest n sc [] next) e (rest_tokens r ++ last) f.0 (rest_ends r last refl)
-      ∙ rest_reads limit n sc (expr_marks sc m e) (expr_tree e ∷ []) next r last f.1 refl
-      ∙ content_reads limit n sc marked x (es ++ (expr_tree e ∷ rest_tree r)) k c ts f.2
-      ∙ ap (λ (l : List ExprTree). reads limit (k (content_marks sc marked c) l) ts) (append_assoc es (expr_tree e ∷ rest_tree r) (content_tree c))
+      ∙ rest_reads limit n sc (expr_marks sc m e) (derived_expr e ∷ []) next r last f.1 refl
+      ∙ content_reads limit n sc marked x (es ++ (derived_expr e ∷ rest_tree r)) k c ts f.2
+      ∙ ap (λ (l : List ExprTree). reads limit (k (content_marks sc marked c) l) ts) (append_assoc es (derived_expr e ∷ rest_tree r) (content_tree c))
 
 -- what the machine finds of a derivation
 abbrev pub found_of : g.Derivation → Found
@@ -486,4 +486,4 @@ derives_reads limit ts d s =
     ap (reads limit start) (sym s.spelled)
     ∙ ap (λ (l : List Token). reads limit start (expr_tokens d.first ++ l)) (sym (append-nil (rest_tokens d.others)))
     ∙ expr_reads limit 0 [] no_marks (λ m e. rest 0 [] m (e ∷ []) (λ m es. done m es)) d.first (rest_tokens d.others ++ []) s.fits.0 (rest_ends d.others [] refl)
-    ∙ rest_reads limit 0 [] (expr_marks [] no_marks d.first) (expr_tree d.first ∷ []) (λ m es. done m es) d.others [] s.fits.1 refl
+    ∙ rest_reads limit 0 [] (expr_marks [] no_marks d.first) (derived_expr d.first ∷ []) (λ m es. done m es) d.others [] s.fits.1 refl

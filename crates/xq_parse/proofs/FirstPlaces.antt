@@ -3,23 +3,23 @@ use Rattle.std.proofs.Common.{ℕ, suc, ◌≡◌, ◌<◌, ◌+◌, Bool, true,
 use Rattle.std.specs.Option.{is_some}
 use Rattle.std.proofs.lemmas.Bool.{ne_eqb, eq-eqb}
 use Rattle.gcx_model.specs.Paths.{any}
-use Rattle.xq_parse.specs.Bindings.{first_from, first_of, or_else, unless_at}
+use Rattle.xq_parse.specs.Bindings.{first_from, first_of, place_or_else, unless_at}
 
 -- the place of the name n, if it is q
 abbrev last : (at : ℕ) (q n : List ℕ) → Option ℕ
 last at q n = if bytes_eq q n then Some at else None
 
-more_from : (at : ℕ) (q : List ℕ) (ns : List (List ℕ)) (n : List ℕ) → first_from at q (ns ++ n ∷ []) ≡ or_else (first_from at q ns) (last (at + length ns) q n)
+more_from : (at : ℕ) (q : List ℕ) (ns : List (List ℕ)) (n : List ℕ) → first_from at q (ns ++ n ∷ []) ≡ place_or_else (first_from at q ns) (last (at + length ns) q n)
 more_from at q [] n = ap (λ (k : ℕ). last k q n) (omega arith)
-more_from at q (m ∷ ns) n = go (bytes_eq q m) (more_from (suc at) q ns n ∙ ap (λ (k : ℕ). or_else (first_from (suc at) q ns) (last k q n)) (omega arith))
+more_from at q (m ∷ ns) n = go (bytes_eq q m) (more_from (suc at) q ns n ∙ ap (λ (k : ℕ). place_or_else (first_from (suc at) q ns) (last k q n)) (omega arith))
   where
-    go : (b : Bool) → first_from (suc at) q (ns ++ n ∷ []) ≡ or_else (first_from (suc at) q ns) (last (at + length (m ∷ ns)) q n) →
-        (if b then Some at else first_from (suc at) q (ns ++ n ∷ [])) ≡ or_else (if b then Some at else first_from (suc at) q ns) (last (at + length (m ∷ ns)) q n)
+    go : (b : Bool) → first_from (suc at) q (ns ++ n ∷ []) ≡ place_or_else (first_from (suc at) q ns) (last (at + length (m ∷ ns)) q n) →
+        (if b then Some at else first_from (suc at) q (ns ++ n ∷ [])) ≡ place_or_else (if b then Some at else first_from (suc at) q ns) (last (at + length (m ∷ ns)) q n)
     go true e = refl
     go false e = e
 
-one_more : (q : List ℕ) (ns : List (List ℕ)) (n : List ℕ) → first_of q (ns ++ n ∷ []) ≡ or_else (first_of q ns) (last (length ns) q n)
-one_more q ns n = more_from 0 q ns n ∙ ap (λ (k : ℕ). or_else (first_of q ns) (last k q n)) (omega arith)
+one_more : (q : List ℕ) (ns : List (List ℕ)) (n : List ℕ) → first_of q (ns ++ n ∷ []) ≡ place_or_else (first_of q ns) (last (length ns) q n)
+one_more q ns n = more_from 0 q ns n ∙ ap (λ (k : ℕ). place_or_else (first_of q ns) (last k q n)) (omega arith)
 
 below : (at : ℕ) (q : List ℕ) (ns : List (List ℕ)) (k : ℕ) → first_from at q ns ≡ Some k → k < at + length ns
 below at q [] k e = absurd cc
@@ -43,8 +43,8 @@ is_bound q ns e = found 0 q ns ∙ e
 
 -- behind one name more
 pub comes : (f g : List ℕ → Option ℕ) (ns all : List (List ℕ)) (n : List ℕ) (place : ℕ) → all ≡ ns ++ n ∷ [] → place ≡ length ns → ((q : List ℕ) → f q ≡ first_of q ns) →
-    ((q : List ℕ) → g q ≡ or_else (f q) (last place q n)) → (q : List ℕ) → g q ≡ first_of q all
-comes f g ns all n place a p h put q = put q ∙ (λ i. or_else (h q i) (last (p i) q n)) ∙ sym (one_more q ns n) ∙ ap (first_of q) (sym a)
+    ((q : List ℕ) → g q ≡ place_or_else (f q) (last place q n)) → (q : List ℕ) → g q ≡ first_of q all
+comes f g ns all n place a p h put q = put q ∙ (λ i. place_or_else (h q i) (last (p i) q n)) ∙ sym (one_more q ns n) ∙ ap (first_of q) (sym a)
 
 -- and without it again
 pub goes : (f g : List ℕ → Option ℕ) (all ns : List (List ℕ)) (n : List ℕ) (place : ℕ) → all ≡ ns ++ n ∷ [] → place ≡ length ns → ((q : List ℕ) → f q ≡ first_of q all) →
@@ -52,11 +52,11 @@ pub goes : (f g : List ℕ → Option ℕ) (all ns : List (List ℕ)) (n : List 
 goes f g all ns n place a p h taken q =
     taken q ∙ (λ i. if bytes_eq q n then unless_at (p i) (before i) else before i) ∙ go (first_of q ns) (below 0 q ns) (bytes_eq q n)
   where
-    before : f q ≡ or_else (first_of q ns) (last (length ns) q n)
+    before : f q ≡ place_or_else (first_of q ns) (last (length ns) q n)
     before = h q ∙ ap (first_of q) a ∙ one_more q ns n
 
     go : (o : Option ℕ) → ((k : ℕ) → o ≡ Some k → k < 0 + length ns) → (b : Bool) →
-        (if b then unless_at (length ns) (or_else o (if b then Some (length ns) else None)) else or_else o (if b then Some (length ns) else None)) ≡ o
+        (if b then unless_at (length ns) (place_or_else o (if b then Some (length ns) else None)) else place_or_else o (if b then Some (length ns) else None)) ≡ o
     go None less true = ap (λ (b : Bool). if b then None else Some (length ns)) (eq-eqb (length ns) (length ns) refl)
     go None less false = refl
     go (Some k) less true = ap (λ (b : Bool). if b then None else Some k) (ne_eqb k (length ns) (λ e. let s = less k refl in omega arith))

@@ -8,7 +8,7 @@ use Rattle.gcx_base.specs.declared.steps.Axis.TheVariants as axes
 use Rattle.gcx_base.specs.declared.steps.Step.{Step}
 use Rattle.gcx_base.specs.declared.steps.Test.TheVariants as tests
 use Rattle.gcx_model.specs.declared.query.QOperand.{QOperand}
-use Rattle.gcx_model.specs.Query.{CondTree, ExprTree}
+use Rattle.gcx_model.specs.Query.{QueryCondTree, ExprTree}
 use Rattle.xq_lex.specs.declared.sign.Sign.{Sign}
 use Rattle.xq_lex.specs.declared.sign.Sign.TheVariants as signs
 use Rattle.xq_parse.specs.declared.refusal.Why.{Why}
@@ -137,7 +137,7 @@ expr_growth limit n sc m k (TSign signs.Lt) = opens_growth limit n (elem_state (
 expr_growth limit n sc m k (TSign signs.ParenOpen) = opens_growth limit n (inner (n + 1) sc m k)
 expr_growth limit n sc m k t = steady limit _ (path_not (path_seen sc m k) t)
 
-atom_growth : (limit n : ℕ) (sc : Scope) (m : Marks) (k : Marks → CondTree → State) (t : Token) → Growth limit (λ l. at_atom l n sc m k t)
+atom_growth : (limit n : ℕ) (sc : Scope) (m : Marks) (k : Marks → QueryCondTree → State) (t : Token) → Growth limit (λ l. at_atom l n sc m k t)
 atom_growth limit n sc m k (TName x) =
     cond_growth limit (bytes_eq x not_) (λ l. opens l n (not_state (n + 1) sc m k)) (λ _. cond (bytes_eq x true_) (Ok (true_state m k)) (cond (bytes_eq x exists_) (Ok (exists_state sc m k)) (Err Syntax))) (opens_growth limit n (not_state (n + 1) sc m k))
     (steady limit _ (cond_not (bytes_eq x true_) (Ok (true_state m k)) (cond (bytes_eq x exists_) (Ok (exists_state sc m k)) (Err Syntax)) tt (cond_not (bytes_eq x exists_) (Ok (exists_state sc m k)) (Err Syntax) tt tt)))

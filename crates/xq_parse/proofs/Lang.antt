@@ -9,7 +9,7 @@ use Rattle.xq_lex.specs.declared.sign.Sign.TheVariants as signs
 use Rattle.xq_parse.specs.declared.refusal.Why.{Why}
 use Rattle.xq_parse.specs.Tokens.{Token, TName, TVar, TSign, child_, descendant_}
 use Rattle.xq_parse.specs.Grammar as g
-use Rattle.xq_parse.specs.Grammar.{a_step, test_tokens, test_tree, step_tokens, step_tree, steps_tokens, path_tokens, source_tokens, operand_tokens, operand_tree, rel_sign, ors_tokens, ors_tree, ands_tokens, ands_tree, atom_tokens, atom_tree, OrsFits, AndsFits, AtomFits, clauses_tokens, clauses_tree, where_tokens, where_tree, WhereFits, expr_tokens, expr_tree, ExprFits, inner_tokens, inner_tree, InnerFits, rest_tokens, rest_tree, RestFits, tag_tokens, tag_tree, TagFits, content_tokens, content_tree, ContentFits}
+use Rattle.xq_parse.specs.Grammar.{a_step, test_tokens, test_tree, step_tokens, step_tree, steps_tokens, path_tokens, source_tokens, operand_tokens, operand_tree, rel_sign, ors_tokens, ors_tree, ands_tokens, ands_tree, atom_tokens, atom_tree, OrsFits, AndsFits, AtomFits, clauses_tokens, clauses_tree, where_tokens, where_tree, WhereFits, expr_tokens, derived_expr, ExprFits, inner_tokens, inner_tree, InnerFits, rest_tokens, rest_tree, RestFits, tag_tokens, tag_tree, TagFits, content_tokens, content_tree, ContentFits}
 use Rattle.xq_parse.specs.Places.{step_place, clauses_scope}
 use Rattle.xq_parse.specs.Machine.{State, Found, done, sign, word, end_name, var, name, axis, axis_or_name, test, call_or_name, first_step, steps, source, path, rel, operand, atom, ands, ors, expr, rest, inner, clauses, condition, tag, content, kind_test, axis_named, step, whole}
 use Rattle.xq_parse.specs.Reading.{a_found}
@@ -91,7 +91,7 @@ Lang limit (operand sc m k) ts f = (o : g.Operand) × Begins (operand_tokens o) 
 Lang limit (atom n sc m k) ts f = (a : g.Atom) × AtomFits limit n a × Begins (atom_tokens a) ts (λ ws. Lang limit (k (atom_marks sc m a) (atom_tree a)) ws f)
 Lang limit (ands n sc m cs k) ts f = (a : g.Ands) × AndsFits limit n a × Begins (ands_tokens a) ts (λ ws. Lang limit (k (ands_marks sc m a) (cs ++ ands_tree a)) ws f)
 Lang limit (ors n sc m cs k) ts f = (o : g.Ors) × OrsFits limit n o × Begins (ors_tokens o) ts (λ ws. Lang limit (k (ors_marks sc m o) (cs ++ ors_tree o)) ws f)
-Lang limit (expr n sc m k) ts f = (e : g.Expr) × ExprFits limit n e × Begins (expr_tokens e) ts (λ ws. Lang limit (k (expr_marks sc m e) (expr_tree e)) ws f)
+Lang limit (expr n sc m k) ts f = (e : g.Expr) × ExprFits limit n e × Begins (expr_tokens e) ts (λ ws. Lang limit (k (expr_marks sc m e) (derived_expr e)) ws f)
 Lang limit (rest n sc m es k) ts f = (r : g.Rest) × RestFits limit n r × Begins (rest_tokens r) ts (λ ws. Lang limit (k (rest_marks sc m r) (es ++ rest_tree r)) ws f)
 Lang limit (inner n sc m k) ts f = (i : g.Inner) × InnerFits limit n i × Begins (inner_tokens i) ts (λ ws. Lang limit (k (inner_marks sc m i) (inner_tree i)) ws f)
 Lang limit (clauses sc m cs k) ts f = (c : g.Clauses) × Begins (clauses_tokens c) ts (λ ws. Lang limit (k (clauses_scope sc c) (clauses_marks sc m c) (cs ++ clauses_tree c)) ws f)

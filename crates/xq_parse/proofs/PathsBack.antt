@@ -22,7 +22,7 @@ use Rattle.xq_parse.specs.declared.marks.Marks.{Marks}
 use Rattle.xq_parse.specs.Signs.{sign_code, sign_eq}
 use Rattle.xq_parse.specs.Tokens.{Token, TName, TVar, TNum, TStr, TSlash, TSlashes, TSign, text_, node_, child_, descendant_}
 use Rattle.xq_parse.specs.Grammar as g
-use Rattle.xq_parse.specs.Grammar.{a_step, a_clause, any_of, seq_of, test_tokens, test_tree, step_tokens, step_tree, steps_tokens, path_tokens, path_tree, source_tokens, operand_tokens, operand_tree, literal_token, literal_tree, rel_sign, cond_tokens, cond_tree, ors_tokens, ors_tree, all_tokens, all_tree, ands_tokens, ands_tree, atom_tokens, atom_tree, CondFits, OrsFits, AllFits, AndsFits, AtomFits, clause_tokens, clause_tree, clauses_tokens, clauses_tree, where_tokens, where_tree, WhereFits, expr_tokens, expr_tree, ExprFits, inner_tokens, inner_tree, InnerFits, rest_tokens, rest_tree, RestFits, tag_tokens, tag_tree, TagFits, content_tokens, content_tree, ContentFits}
+use Rattle.xq_parse.specs.Grammar.{a_step, a_clause, any_of, seq_of, test_tokens, test_tree, step_tokens, step_tree, steps_tokens, path_tokens, path_tree, source_tokens, operand_tokens, operand_tree, literal_token, literal_tree, rel_sign, cond_tokens, derived_cond, ors_tokens, ors_tree, all_tokens, all_tree, ands_tokens, ands_tree, atom_tokens, atom_tree, CondFits, OrsFits, AllFits, AndsFits, AtomFits, clause_tokens, clause_tree, clauses_tokens, clauses_tree, where_tokens, where_tree, WhereFits, expr_tokens, derived_expr, ExprFits, inner_tokens, inner_tree, InnerFits, rest_tokens, rest_tree, RestFits, tag_tokens, tag_tree, TagFits, content_tokens, content_tree, ContentFits}
 use Rattle.xq_parse.specs.Places.{Scope}
 use Rattle.xq_parse.specs.Machine.{State, Found, axis, axis_or_name, test, call_or_name, first_step, steps, source, path, rel, operand, no_trail, a_var, steps_behind, steps_state, with_start, side_seen, kind_test, rel_of, at_test, at_axis, at_step, at_path, at_source, at_found, at_operand}
 use Rattle.xq_parse.proofs.Lang.{AxisTest, child_axis, descendant_axis, no_axis, axis_tree, axis_tokens, Behind, colons, bare, colons_tokens, colons_tree, Call, called, uncalled, call_tokens, call_tree, Begins, Lang}

@@ -3,10 +3,10 @@ use Rattle.std.proofs.Common.{ℕ, ◌≡◌, Bool, true, false, not, ◌&&◌, 
 use Rattle.std.specs.Prelude.{bytes_eq}
 use Rattle.gcx_model.specs.Paths.{any}
 use Rattle.gcx_model.specs.Variables.{is_child}
-use Rattle.gcx_model.specs.Query.{CondTree, ExprTree, conds_of, exprs_of}
+use Rattle.gcx_model.specs.Query.{QueryCondTree, ExprTree, conds_of, exprs_of}
 use Rattle.gcx_model.specs.Sound.{only_last, has_step, is_path, is_ordered_path, is_side, is_literal, is_cond, are_conds, are_clauses, scope_of, is_filter, is_expr, are_exprs, is_sound}
 use Rattle.xq_parse.specs.Grammar as g
-use Rattle.xq_parse.specs.Grammar.{all_of, any_of, seq_of, step_tree, steps_tree, path_tree, source_tree, operand_tree, literal_tree, cond_tree, ors_tree, all_tree, ands_tree, atom_tree, clause_tree, clauses_tree, where_tree, expr_tree, inner_tree, rest_tree, tag_tree, content_tree, derivation_tree}
+use Rattle.xq_parse.specs.Grammar.{all_of, any_of, seq_of, step_tree, steps_tree, path_tree, source_tree, operand_tree, literal_tree, derived_cond, ors_tree, all_tree, ands_tree, atom_tree, clause_tree, clauses_tree, where_tree, derived_expr, inner_tree, rest_tree, tag_tree, content_tree, derivation_tree}
 use Rattle.xq_parse.specs.Places.{Scope, descent, late_behind, steps_late, path_unknown, source_unknown, operand_unknown, cond_unknown, ors_unknown, all_unknown, ands_unknown, atom_unknown, clauses_unknown, clauses_scope, loop_scope, where_unknown, expr_unknown, inner_unknown, rest_unknown, tag_unknown, content_unknown, unknown_of, path_late, source_late, clauses_late, expr_late, inner_late, rest_late, tag_late, content_late, late_of}
 
 abbrev pub none : List ℕ → Bool
@@ -87,11 +87,11 @@ operand_is sc (g.path_operand p) = path_is sc p
 operand_is sc (g.literal_operand (g.text x)) = refl
 operand_is sc (g.literal_operand (g.number u)) = refl
 
-any_is : (sc : Scope) (c : CondTree) (os : g.Ors) → is_cond sc (any_of (c ∷ ors_tree os)) ≡ is_cond sc c && are_conds sc (conds_of (ors_tree os))
+any_is : (sc : Scope) (c : QueryCondTree) (os : g.Ors) → is_cond sc (any_of (c ∷ ors_tree os)) ≡ is_cond sc c && are_conds sc (conds_of (ors_tree os))
 any_is sc c g.no_or = sym (and_true (is_cond sc c))
 any_is sc c (g.or_more a os) = refl
 
-all_is : (sc : Scope) (c : CondTree) (bs : g.Ands) → is_cond sc (all_of (c ∷ ands_tree bs)) ≡ is_cond sc c && are_conds sc (conds_of (ands_tree bs))
+all_is : (sc : Scope) (c : QueryCondTree) (bs : g.Ands) → is_cond sc (all_of (c ∷ ands_tree bs)) ≡ is_cond sc c && are_conds sc (conds_of (ands_tree bs))
 all_is sc c g.no_and = sym (and_true (is_cond sc c))
 all_is sc c (g.and_more a bs) = refl
 
@@ -100,7 +100,7 @@ literal_side sc (g.text x) b = and_true b
 literal_side sc (g.number u) b = and_true b
 
 mutual
-  cond_is : (sc : Scope) (c : g.Cond) → is_cond sc (cond_tree c) ≡ none (cond_unknown sc c)
+  cond_is : (sc : Scope) (c : g.Cond) → is_cond sc (derived_cond c) ≡ none (cond_unknown sc c)
   cond_is sc (g.cond_of a os) = any_is sc (all_tree a) os ∙ both _ _ (all_unknown sc a) (ors_unknown sc os) (alls_is sc a) (ors_are sc os)
 
   ors_are : (sc : Scope) (os : g.Ors) → are_conds sc (conds_of (ors_tree os)) ≡ none (ors_unknown sc os)
@@ -147,13 +147,13 @@ exprs_join sc [] fs = refl
 exprs_join sc (e ∷ es) fs = ap (λ (b : Bool). is_expr sc e && b) (exprs_join sc es fs) ∙ sym (and_assoc (is_expr sc e) (are_exprs sc (exprs_of es)) (are_exprs sc (exprs_of fs)))
 
 mutual
-  expr_is : (sc : Scope) (e : g.Expr) → is_expr sc (expr_tree e) ≡ none (expr_unknown sc e) && none (expr_late e)
+  expr_is : (sc : Scope) (e : g.Expr) → is_expr sc (derived_expr e) ≡ none (expr_unknown sc e) && none (expr_late e)
   expr_is sc (g.for_expr c cs w e) =
       let inside : Scope = loop_scope sc c cs in
       let there : Scope = scope_of sc (clauses_tree (g.clause_more c cs)) in
       let same : there ≡ inside = scope_is sc (g.clause_more c cs) in
       joined _ _ (clauses_unknown sc (g.clause_more c cs)) (clauses_late (g.clause_more c cs)) (where_unknown inside w ++ expr_unknown inside e) (expr_late e) (clauses_are sc (g.clause_more c cs))
-      (ap (λ (s : Scope). is_filter s (where_tree w) && is_expr s (expr_tree e)) same
+      (ap (λ (s : Scope). is_filter s (where_tree w) && is_expr s (derived_expr e)) same
       ∙ joined _ _ (where_unknown inside w) [] (expr_unknown inside e) (expr_late e) (alone _ (where_unknown inside w) (filter_is inside w)) (expr_is inside e))
   expr_is sc (g.if_expr c a b) =
       joined _ _ (cond_unknown sc c) [] (expr_unknown sc a ++ expr_unknown sc b) (expr_late a ++ expr_late b) (alone _ (cond_unknown sc c) (cond_is sc c))
@@ -164,7 +164,7 @@ mutual
 
   inner_is : (sc : Scope) (i : g.Inner) → is_expr sc (inner_tree i) ≡ none (inner_unknown sc i) && none (inner_late i)
   inner_is sc g.closed = refl
-  inner_is sc (g.listed e r) = seq_is sc (expr_tree e) r ∙ joined _ _ (expr_unknown sc e) (expr_late e) (rest_unknown sc r) (rest_late r) (expr_is sc e) (rest_is sc r)
+  inner_is sc (g.listed e r) = seq_is sc (derived_expr e) r ∙ joined _ _ (expr_unknown sc e) (expr_late e) (rest_unknown sc r) (rest_late r) (expr_is sc e) (rest_is sc r)
 
   rest_is : (sc : Scope) (r : g.Rest) → are_exprs sc (exprs_of (rest_tree r)) ≡ none (rest_unknown sc r) && none (rest_late r)
   rest_is sc g.no_rest = refl
@@ -178,7 +178,7 @@ mutual
   content_is sc g.ended = refl
   content_is sc (g.nested y t c) = joined _ _ (tag_unknown sc t) (tag_late t) (content_unknown sc c) (content_late c) (tag_is sc t) (content_is sc c)
   content_is sc (g.braced e r c) =
-      ap (λ (b : Bool). is_expr sc (expr_tree e) && b) (exprs_join sc (rest_tree r) (content_tree c))
+      ap (λ (b : Bool). is_expr sc (derived_expr e) && b) (exprs_join sc (rest_tree r) (content_tree c))
       ∙ joined _ _ (expr_unknown sc e) (expr_late e) (rest_unknown sc r ++ content_unknown sc c) (rest_late r ++ content_late c) (expr_is sc e)
       (joined _ _ (rest_unknown sc r) (rest_late r) (content_unknown sc c) (content_late c) (rest_is sc r) (content_is sc c))
 

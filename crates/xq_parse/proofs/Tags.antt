@@ -10,7 +10,7 @@ use Rattle.gcx_model.specs.declared.query.Clause.{Clause}
 use Rattle.gcx_model.specs.declared.query.QOperand.{QOperand}
 use Rattle.gcx_model.specs.declared.query.QOperand.TheVariants as sides
 use Rattle.gcx_model.specs.Query as q
-use Rattle.gcx_model.specs.Query.{CondTree, ExprTree, exprs_of}
+use Rattle.gcx_model.specs.Query.{QueryCondTree, ExprTree, exprs_of}
 use Rattle.xq_lex.specs.declared.sign.Sign.{Sign}
 use Rattle.xq_lex.specs.declared.sign.Sign.TheVariants as signs
 use Rattle.xq_parse.specs.declared.refusal.Why.{Why}
@@ -50,22 +50,22 @@ Keeps (source k) = (r : Route) → Keeps (k r) × IsOther (k r)
 Keeps (path k) = (r : Route) → Keeps (k r) × IsOther (k r)
 Keeps (rel k) = (r : Rel) → Keeps (k r) × IsOther (k r)
 Keeps (operand sc m k) = (m : Marks) (o : QOperand) → Keeps (k m o) × IsOther (k m o)
-Keeps (atom n sc m k) = (m : Marks) (c : CondTree) → Keeps (k m c) × IsOther (k m c)
-Keeps (ands n sc m bs k) = (m : Marks) (cs : List CondTree) → Keeps (k m cs) × IsOther (k m cs)
-Keeps (ors n sc m os k) = (m : Marks) (cs : List CondTree) → Keeps (k m cs) × IsOther (k m cs)
+Keeps (atom n sc m k) = (m : Marks) (c : QueryCondTree) → Keeps (k m c) × IsOther (k m c)
+Keeps (ands n sc m bs k) = (m : Marks) (cs : List QueryCondTree) → Keeps (k m cs) × IsOther (k m cs)
+Keeps (ors n sc m os k) = (m : Marks) (cs : List QueryCondTree) → Keeps (k m cs) × IsOther (k m cs)
 Keeps (expr n sc m k) = (m : Marks) (e : ExprTree) → Keeps (k m e) × IsOther (k m e)
 Keeps (rest n sc m es k) = (m : Marks) (es : List ExprTree) → Keeps (k m es) × IsOther (k m es)
 Keeps (inner n sc m k) = (m : Marks) (e : ExprTree) → Keeps (k m e) × IsOther (k m e)
 Keeps (clauses sc m cs k) = (sc : Scope) (m : Marks) (cs : List Clause) → Keeps (k sc m cs) × IsOther (k sc m cs)
-Keeps (condition n sc m k) = (m : Marks) (c : Option CondTree) → Keeps (k m c) × IsOther (k m c)
+Keeps (condition n sc m k) = (m : Marks) (c : Option QueryCondTree) → Keeps (k m c) × IsOther (k m c)
 Keeps (tag n sc m x k) = (m : Marks) (es : List ExprTree) → Keeps (k m es) × IsOther (k m es)
 Keeps (content n sc m x es k) = (m : Marks) (es : List ExprTree) → Keeps (k m es) × IsOther (k m es)
 
 abbrev pub Calm : State → Type 0
 Calm s = Keeps s × IsOther s
 
-abbrev CalmCond : (Marks → CondTree → State) → Type 0
-CalmCond k = (m : Marks) (c : CondTree) → Calm (k m c)
+abbrev CalmCond : (Marks → QueryCondTree → State) → Type 0
+CalmCond k = (m : Marks) (c : QueryCondTree) → Calm (k m c)
 
 abbrev CalmExpr : (Marks → ExprTree → State) → Type 0
 CalmExpr k = (m : Marks) (e : ExprTree) → Calm (k m e)
@@ -93,34 +93,34 @@ calm_cond false x y p q = q
 
 -- ---- rules
 
-all_calm : (n : ℕ) (sc : Scope) (m : Marks) (k : Marks → CondTree → State) → CalmCond k → Calm (all_state n sc m k)
+all_calm : (n : ℕ) (sc : Scope) (m : Marks) (k : Marks → QueryCondTree → State) → CalmCond k → Calm (all_state n sc m k)
 unfolding all_state
-all_calm n sc m k h = (λ (m : Marks) (a : CondTree). (λ (m : Marks) (bs : List CondTree). h m (all_of bs), tt), tt)
+all_calm n sc m k h = (λ (m : Marks) (a : QueryCondTree). (λ (m : Marks) (bs : List QueryCondTree). h m (all_of bs), tt), tt)
 
-cond_calm : (n : ℕ) (sc : Scope) (m : Marks) (k : Marks → CondTree → State) → CalmCond k → Calm (cond_state n sc m k)
+cond_calm : (n : ℕ) (sc : Scope) (m : Marks) (k : Marks → QueryCondTree → State) → CalmCond k → Calm (cond_state n sc m k)
 unfolding cond_state
-cond_calm n sc m k h = all_calm n sc m (more_ors n sc [] (λ m os. k m (any_of os))) (λ (m : Marks) (a : CondTree). (λ (m : Marks) (os : List CondTree). h m (any_of os), tt))
+cond_calm n sc m k h = all_calm n sc m (more_ors n sc [] (λ m os. k m (any_of os))) (λ (m : Marks) (a : QueryCondTree). (λ (m : Marks) (os : List QueryCondTree). h m (any_of os), tt))
 
-group_calm : (n : ℕ) (sc : Scope) (m : Marks) (k : Marks → CondTree → State) → CalmCond k → Calm (group_state n sc m k)
+group_calm : (n : ℕ) (sc : Scope) (m : Marks) (k : Marks → QueryCondTree → State) → CalmCond k → Calm (group_state n sc m k)
 unfolding group_state
-group_calm n sc m k h = cond_calm n sc m (λ m c. sign signs.ParenClose (k m c)) (λ (m : Marks) (c : CondTree). ((h m c, refl), tt))
+group_calm n sc m k h = cond_calm n sc m (λ m c. sign signs.ParenClose (k m c)) (λ (m : Marks) (c : QueryCondTree). ((h m c, refl), tt))
 
-not_calm : (n : ℕ) (sc : Scope) (m : Marks) (k : Marks → CondTree → State) → CalmCond k → Calm (not_state n sc m k)
+not_calm : (n : ℕ) (sc : Scope) (m : Marks) (k : Marks → QueryCondTree → State) → CalmCond k → Calm (not_state n sc m k)
 unfolding not_state
-not_calm n sc m k h = ((group_calm n sc m (λ m c. k m (q.Not c)) (λ (m : Marks) (c : CondTree). h m (q.Not c)), refl), tt)
+not_calm n sc m k h = ((group_calm n sc m (λ m c. k m (q.Not c)) (λ (m : Marks) (c : QueryCondTree). h m (q.Not c)), refl), tt)
 
-true_calm : (m : Marks) (k : Marks → CondTree → State) → CalmCond k → Calm (true_state m k)
+true_calm : (m : Marks) (k : Marks → QueryCondTree → State) → CalmCond k → Calm (true_state m k)
 true_calm m k h = (((((h m q.Always, refl), tt), refl)), tt)
 
-exists_calm : (sc : Scope) (m : Marks) (k : Marks → CondTree → State) → CalmCond k → Calm (exists_state sc m k)
+exists_calm : (sc : Scope) (m : Marks) (k : Marks → QueryCondTree → State) → CalmCond k → Calm (exists_state sc m k)
 unfolding exists_state
 exists_calm sc m k h = (((λ (r : Route). ((h (seen sc m r) (q.Exists r.path), refl), tt), tt), refl), tt)
 
-literal_calm : (l : QOperand) (sc : Scope) (m : Marks) (k : Marks → CondTree → State) → CalmCond k → Calm (literal_state l sc m k)
+literal_calm : (l : QOperand) (sc : Scope) (m : Marks) (k : Marks → QueryCondTree → State) → CalmCond k → Calm (literal_state l sc m k)
 unfolding literal_state
 literal_calm l sc m k h = (λ (c : Rel). (λ (r : Route). h (seen sc m r) (q.Compare l c (sides.Path r.path)), tt), tt)
 
-compare_calm : (sc : Scope) (m : Marks) (k : Marks → CondTree → State) → CalmCond k → (r : Route) → Calm (compare_state sc m k r)
+compare_calm : (sc : Scope) (m : Marks) (k : Marks → QueryCondTree → State) → CalmCond k → (r : Route) → Calm (compare_state sc m k r)
 compare_calm sc m k h r = (λ (c : Rel). (λ (m : Marks) (o : QOperand). h m (q.Compare (sides.Path r.path) c o), tt), tt)
 
 clause_calm : (sc : Scope) (m : Marks) (k : Marks → Clause → State) → ((m : Marks) (c : Clause) → Calm (k m c)) → Calm (clause_state sc m k)
@@ -131,13 +131,13 @@ for_calm : (n : ℕ) (sc : Scope) (m : Marks) (k : Marks → ExprTree → State)
 unfolding for_state
 for_calm n sc m k h =
     clause_calm sc m (more_clauses sc [] (λ sc m cs. condition n sc m (λ m w. word return_ (expr n sc m (λ m e. k m (q.For cs w e))))))
-    (λ (m : Marks) (c : Clause). (λ (sc : Scope) (m : Marks) (cs : List Clause). (λ (m : Marks) (w : Option CondTree). ((λ (m : Marks) (e : ExprTree). h m (q.For cs w e), tt), tt), tt), tt))
+    (λ (m : Marks) (c : Clause). (λ (sc : Scope) (m : Marks) (cs : List Clause). (λ (m : Marks) (w : Option QueryCondTree). ((λ (m : Marks) (e : ExprTree). h m (q.For cs w e), tt), tt), tt), tt))
 
 if_calm : (n : ℕ) (sc : Scope) (m : Marks) (k : Marks → ExprTree → State) → CalmExpr k → Calm (if_state n sc m k)
 unfolding if_state head_state
 if_calm n sc m k h =
-    let next : Marks → CondTree → State = λ m c. sign signs.ParenClose (word then_ (expr n sc m (λ m a. word else_ (expr n sc m (λ m b. k m (q.If c a b)))))) in
-    ((cond_calm n sc m next (λ (m : Marks) (c : CondTree). (((((λ (m : Marks) (a : ExprTree). ((λ (m : Marks) (b : ExprTree). h m (q.If c a b), tt), tt), tt), tt), refl)), tt)), refl), tt)
+    let next : Marks → QueryCondTree → State = λ m c. sign signs.ParenClose (word then_ (expr n sc m (λ m a. word else_ (expr n sc m (λ m b. k m (q.If c a b)))))) in
+    ((cond_calm n sc m next (λ (m : Marks) (c : QueryCondTree). (((((λ (m : Marks) (a : ExprTree). ((λ (m : Marks) (b : ExprTree). h m (q.If c a b), tt), tt), tt), tt), refl)), tt)), refl), tt)
 
 elem_calm : (n : ℕ) (sc : Scope) (m : Marks) (k : Marks → ExprTree → State) → CalmExpr k → Calm (elem_state n sc m k)
 unfolding elem_state
@@ -199,7 +199,7 @@ operand_kept sc m k (TStr x) h = h m (sides.Str x)
 operand_kept sc m k (TNum x) h = h m (sides.Num x)
 operand_kept sc m k t h = path_kept (side_seen sc m k) t (λ (r : Route). h (seen sc m r) (sides.Path r.path))
 
-atom_kept : (limit n : ℕ) (sc : Scope) (m : Marks) (k : Marks → CondTree → State) (t : Token) → CalmCond k → Kept t (at_atom limit n sc m k t)
+atom_kept : (limit n : ℕ) (sc : Scope) (m : Marks) (k : Marks → QueryCondTree → State) (t : Token) → CalmCond k → Kept t (at_atom limit n sc m k t)
 atom_kept limit n sc m k (TName x) h =
     kept_cond (bytes_eq x not_) (TName x) (opens limit n (not_state (n + 1) sc m k)) (cond (bytes_eq x true_) (Ok (true_state m k)) (cond (bytes_eq x exists_) (Ok (exists_state sc m k)) (Err Syntax)))
     (opens_kept limit n (TName x) (not_state (n + 1) sc m k) (not_calm (n + 1) sc m k h))
@@ -253,9 +253,9 @@ step_kept limit (rel k) (TSign s) h o = rel_kept k s h
 step_kept limit (rel k) t h o = tt
 step_kept limit (operand sc m k) t h o = operand_kept sc m k t h
 step_kept limit (atom n sc m k) t h o = atom_kept limit n sc m k t h
-step_kept limit (ands n sc m bs k) (TName x) h o = let c = h m bs in kept_cond (bytes_eq x and_) (TName x) (Ok (atom n sc m (more_ands n sc bs k))) (step limit (k m bs) (TName x)) (λ (m : Marks) (a : CondTree). (h, tt), tt) (step_kept limit (k m bs) (TName x) c.0 c.1)
+step_kept limit (ands n sc m bs k) (TName x) h o = let c = h m bs in kept_cond (bytes_eq x and_) (TName x) (Ok (atom n sc m (more_ands n sc bs k))) (step limit (k m bs) (TName x)) (λ (m : Marks) (a : QueryCondTree). (h, tt), tt) (step_kept limit (k m bs) (TName x) c.0 c.1)
 step_kept limit (ands n sc m bs k) t h o = let c = h m bs in step_kept limit (k m bs) t c.0 c.1
-step_kept limit (ors n sc m os k) (TName x) h o = let c = h m os in kept_cond (bytes_eq x or_) (TName x) (Ok (all_state n sc m (more_ors n sc os k))) (step limit (k m os) (TName x)) (all_calm n sc m (more_ors n sc os k) (λ (m : Marks) (a : CondTree). (h, tt))) (step_kept limit (k m os) (TName x) c.0 c.1)
+step_kept limit (ors n sc m os k) (TName x) h o = let c = h m os in kept_cond (bytes_eq x or_) (TName x) (Ok (all_state n sc m (more_ors n sc os k))) (step limit (k m os) (TName x)) (all_calm n sc m (more_ors n sc os k) (λ (m : Marks) (a : QueryCondTree). (h, tt))) (step_kept limit (k m os) (TName x) c.0 c.1)
 step_kept limit (ors n sc m os k) t h o = let c = h m os in step_kept limit (k m os) t c.0 c.1
 step_kept limit (expr n sc m k) t h o = expr_kept limit n sc m k t h
 step_kept limit (rest n sc m es k) (TSign signs.Comma) h o = (λ (m : Marks) (e : ExprTree). (h, tt), tt)
@@ -270,7 +270,7 @@ step_kept limit (inner n sc m k) (TSlashes at) h o = expr_kept limit n sc m (mem
 step_kept limit (inner n sc m k) (TSign s) h o = expr_kept limit n sc m (members n sc k) (TSign s) (members_calm n sc k h)
 step_kept limit (clauses sc m cs k) (TSign signs.Comma) h o = clause_calm sc m (more_clauses sc cs k) (λ (m : Marks) (c : Clause). (h, tt))
 step_kept limit (clauses sc m cs k) t h o = let c = h sc m cs in step_kept limit (k sc m cs) t c.0 c.1
-step_kept limit (condition n sc m k) (TName x) h o = let c = h m None in kept_cond (bytes_eq x where_) (TName x) (Ok (cond_state n sc m (with_filter k))) (step limit (k m None) (TName x)) (cond_calm n sc m (with_filter k) (λ (m : Marks) (c : CondTree). h m (Some c))) (step_kept limit (k m None) (TName x) c.0 c.1)
+step_kept limit (condition n sc m k) (TName x) h o = let c = h m None in kept_cond (bytes_eq x where_) (TName x) (Ok (cond_state n sc m (with_filter k))) (step limit (k m None) (TName x)) (cond_calm n sc m (with_filter k) (λ (m : Marks) (c : QueryCondTree). h m (Some c))) (step_kept limit (k m None) (TName x) c.0 c.1)
 step_kept limit (condition n sc m k) t h o = let c = h m None in step_kept limit (k m None) t c.0 c.1
 step_kept limit (tag n sc m x k) (TSign signs.EmptyEnd) h o = h m []
 step_kept limit (tag n sc m x k) (TSign signs.Gt) h o = (h, tt)

@@ -7,11 +7,11 @@ use Rattle.gcx_base.specs.declared.steps.Step.{Step}
 use Rattle.gcx_base.specs.declared.steps.Test.TheVariants as tests
 use Rattle.gcx_model.specs.declared.query.QOperand.TheVariants as sides
 use Rattle.gcx_model.specs.Query as q
-use Rattle.gcx_model.specs.Query.{CondTree, ExprTree, exprs_of}
+use Rattle.gcx_model.specs.Query.{QueryCondTree, ExprTree, exprs_of}
 use Rattle.xq_lex.specs.declared.sign.Sign.TheVariants as signs
 use Rattle.xq_parse.specs.Tokens.{Token, TName, TVar, TStr, TSign}
 use Rattle.xq_parse.specs.Grammar as g
-use Rattle.xq_parse.specs.Grammar.{a_step, a_clause, any_of, seq_of, test_tokens, test_tree, step_tokens, step_tree, steps_tokens, path_tokens, path_tree, source_tokens, operand_tokens, operand_tree, literal_token, literal_tree, rel_sign, cond_tokens, cond_tree, ors_tokens, ors_tree, all_tokens, all_tree, ands_tokens, ands_tree, atom_tokens, atom_tree, CondFits, OrsFits, AllFits, AndsFits, AtomFits, clause_tokens, clause_tree, clauses_tokens, clauses_tree, where_tokens, where_tree, WhereFits, expr_tokens, expr_tree, ExprFits, inner_tokens, inner_tree, InnerFits, rest_tokens, rest_tree, RestFits, tag_tokens, tag_tree, TagFits, content_tokens, content_tree, ContentFits}
+use Rattle.xq_parse.specs.Grammar.{a_step, a_clause, any_of, seq_of, test_tokens, test_tree, step_tokens, step_tree, steps_tokens, path_tokens, path_tree, source_tokens, operand_tokens, operand_tree, literal_token, literal_tree, rel_sign, cond_tokens, derived_cond, ors_tokens, ors_tree, all_tokens, all_tree, ands_tokens, ands_tree, atom_tokens, atom_tree, CondFits, OrsFits, AllFits, AndsFits, AtomFits, clause_tokens, clause_tree, clauses_tokens, clauses_tree, where_tokens, where_tree, WhereFits, expr_tokens, derived_expr, ExprFits, inner_tokens, inner_tree, InnerFits, rest_tokens, rest_tree, RestFits, tag_tokens, tag_tree, TagFits, content_tokens, content_tree, ContentFits}
 use Rattle.xq_parse.specs.Machine.{State, Found, done, sign, word, end_name, var, name, axis, axis_or_name, test, call_or_name, first_step, steps, source, path, rel, operand, atom, ands, ors, expr, rest, inner, clauses, condition, tag, content}
 use Rattle.xq_parse.specs.Reading.{a_found}
 use Rattle.xq_parse.proofs.Lang.{no_axis, Lang}

@@ -4,7 +4,7 @@ use Rattle.std.specs.Prelude.{ℕ, ◌≡◌, ◌+◌, ◌-◌, ◌<◌, ◌≤�
 use Rattle.gcx_base.specs.declared.steps.Axis.TheVariants as axes
 use Rattle.gcx_base.specs.declared.steps.Step.{Step}
 use Rattle.gcx_model.specs.declared.query.QOperand.{QOperand}
-use Rattle.gcx_model.specs.Query.{CondTree, ExprTree}
+use Rattle.gcx_model.specs.Query.{QueryCondTree, ExprTree}
 use Rattle.xq_lex.specs.declared.sign.Sign.TheVariants as signs
 use Rattle.xq_parse.specs.declared.route.Var.{Var}
 use Rattle.xq_parse.specs.declared.route.Route.{Route}
@@ -31,7 +31,7 @@ operand_behind None sc m k = path (side_seen sc m k)
 operand_behind (Some o) sc m k = k m o
 
 -- what stands behind the beginning of an atom
-abbrev pub atom_behind : ℕ → Scope → Marks → AtomStart → (Marks → CondTree → State) → State
+abbrev pub atom_behind : ℕ → Scope → Marks → AtomStart → (Marks → QueryCondTree → State) → State
 atom_behind n sc m atoms.Not k = not_state (n + 1) sc m k
 atom_behind n sc m atoms.True k = true_state m k
 atom_behind n sc m atoms.Exists k = exists_state sc m k

@@ -11,9 +11,9 @@ abbrev pub first_of : List ℕ → List (List ℕ) → Option ℕ
 first_of name ns = first_from 0 name ns
 
 -- the first place, or else the second
-abbrev pub or_else : Option ℕ → Option ℕ → Option ℕ
-or_else None b = b
-or_else (Some k) b = Some k
+abbrev pub place_or_else : Option ℕ → Option ℕ → Option ℕ
+place_or_else None b = b
+place_or_else (Some k) b = Some k
 
 -- the place, unless it is this one
 abbrev pub unless_at : (place : ℕ) → Option ℕ → Option ℕ
@@ -22,7 +22,7 @@ unless_at place (Some k) = if k == place then None else Some k
 
 -- the place of the name q, where `name` gets this place unless it had one
 abbrev pub place_put : (name : List ℕ) (place : ℕ) (q : List ℕ) → Option ℕ → Option ℕ
-place_put name place q had = or_else had (if bytes_eq q name then Some place else None)
+place_put name place q had = place_or_else had (if bytes_eq q name then Some place else None)
 
 -- and where that place of `name` is taken back
 abbrev pub place_taken : (name : List ℕ) (place : ℕ) (q : List ℕ) → Option ℕ → Option ℕ

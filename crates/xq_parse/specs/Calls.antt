@@ -8,7 +8,7 @@ use Rattle.gcx_base.specs.declared.steps.Test.TheVariants as tests
 use Rattle.gcx_model.specs.declared.query.Clause.{Clause}
 use Rattle.gcx_model.specs.declared.query.QOperand.{QOperand}
 use Rattle.gcx_model.specs.Query as trees
-use Rattle.gcx_model.specs.Query.{CondTree, ExprTree, cond_tree}
+use Rattle.gcx_model.specs.Query.{QueryCondTree, ExprTree, cond_tree}
 use Rattle.xq_lex.specs.declared.sign.Sign.TheVariants as signs
 use Rattle.xq_lex.specs.declared.token.Tok.{Tok}
 use Rattle.xq_parse.specs.declared.refusal.Refusal.{Refusal}
@@ -54,24 +54,24 @@ ParsesClauses asked before after r =
     Proceeds {K = Scope → Marks → List Clause → State} (asked before.scope before.marks) (λ k cs. k after.scope after.marks cs) before.cursor.rest.now after.cursor.rest.now r
 
 -- and the condition of a loop
-abbrev pub ParsesHead : (asked : Scope → Marks → (Scope → Marks → List Clause → Option CondTree → State) → State) → (before after : Parser) → Result LoopHead Refusal → Type 0
+abbrev pub ParsesHead : (asked : Scope → Marks → (Scope → Marks → List Clause → Option QueryCondTree → State) → State) → (before after : Parser) → Result LoopHead Refusal → Type 0
 ParsesHead asked before after r =
-    Proceeds {K = Scope → Marks → List Clause → Option CondTree → State} (asked before.scope before.marks)
+    Proceeds {K = Scope → Marks → List Clause → Option QueryCondTree → State} (asked before.scope before.marks)
     (λ k h. k after.scope after.marks h.clauses (option_map cond_tree h.filter)) before.cursor.rest.now after.cursor.rest.now r
 
 -- ---- separators: what stands behind one is read, or what stands behind the list
 
 abbrev pub TakesAnd : (before after : List Tok) → Bool → Type 0
-TakesAnd before after b = (n : ℕ) (sc : Scope) (m : Marks) (bs : List CondTree)
-    → Branches {K = Marks → List CondTree → State} (ands n sc m bs) (λ k. atom n sc m (more_ands n sc bs k)) (λ k. k m bs) before after b
+TakesAnd before after b = (n : ℕ) (sc : Scope) (m : Marks) (bs : List QueryCondTree)
+    → Branches {K = Marks → List QueryCondTree → State} (ands n sc m bs) (λ k. atom n sc m (more_ands n sc bs k)) (λ k. k m bs) before after b
 
 abbrev pub TakesOr : (before after : List Tok) → Bool → Type 0
-TakesOr before after b = (n : ℕ) (sc : Scope) (m : Marks) (bs : List CondTree)
-    → Branches {K = Marks → List CondTree → State} (ors n sc m bs) (λ k. all_state n sc m (more_ors n sc bs k)) (λ k. k m bs) before after b
+TakesOr before after b = (n : ℕ) (sc : Scope) (m : Marks) (bs : List QueryCondTree)
+    → Branches {K = Marks → List QueryCondTree → State} (ors n sc m bs) (λ k. all_state n sc m (more_ors n sc bs k)) (λ k. k m bs) before after b
 
 abbrev pub TakesWhere : (before after : List Tok) → Bool → Type 0
 TakesWhere before after b = (n : ℕ) (sc : Scope) (m : Marks)
-    → Branches {K = Marks → Option CondTree → State} (condition n sc m) (λ k. cond_state n sc m (with_filter k)) (λ k. k m None) before after b
+    → Branches {K = Marks → Option QueryCondTree → State} (condition n sc m) (λ k. cond_state n sc m (with_filter k)) (λ k. k m None) before after b
 
 -- of expressions, and of clauses
 abbrev pub TakesComma : (before after : List Tok) → Bool → Type 0
@@ -116,7 +116,7 @@ StepsAre next tokens = (k : Trail → State) → run deepest (steps no_trail k) 
 
 abbrev pub ReadsAtomStart : (depth : ℕ) → (before after : List Tok) → Result AtomStart Refusal → Type 0
 ReadsAtomStart n before after r = (sc : Scope) (m : Marks)
-    → Proceeds {K = Marks → CondTree → State} (atom n sc m) (λ k s. atom_behind n sc m s k) before after r
+    → Proceeds {K = Marks → QueryCondTree → State} (atom n sc m) (λ k s. atom_behind n sc m s k) before after r
 
 abbrev pub ReadsExprStart : (depth : ℕ) → (before after : List Tok) → Result ExprStart Refusal → Type 0
 ReadsExprStart n before after r = (sc : Scope) (m : Marks)

@@ -12,7 +12,7 @@ use Rattle.gcx_model.specs.declared.query.Clause.{Clause as LoopClause}
 use Rattle.gcx_model.specs.declared.query.QOperand.{QOperand}
 use Rattle.gcx_model.specs.declared.query.QOperand.TheVariants as sides
 use Rattle.gcx_model.specs.Query as q
-use Rattle.gcx_model.specs.Query.{CondTree, ExprTree, conds_of, exprs_of}
+use Rattle.gcx_model.specs.Query.{QueryCondTree, ExprTree, conds_of, exprs_of}
 use Rattle.xq_lex.specs.declared.sign.Sign.{Sign}
 use Rattle.xq_lex.specs.declared.sign.Sign.TheVariants as signs
 use Rattle.xq_parse.specs.Tokens.{Token, TName, TVar, TNum, TStr, TSlash, TSlashes, TSign, for_, in_, where_, return_, if_, then_, else_, or_, and_, not_, true_, exists_, text_, node_, child_, descendant_}
@@ -136,12 +136,12 @@ rel_sign rels.Gt = signs.Gt
 rel_sign rels.Ge = signs.Ge
 
 -- one member alone is that member
-abbrev pub all_of : List CondTree → CondTree
+abbrev pub all_of : List QueryCondTree → QueryCondTree
 all_of [] = q.All (conds_of [])
 all_of (c ∷ []) = c
 all_of (c ∷ d ∷ ds) = q.All (conds_of (c ∷ d ∷ ds))
 
-abbrev pub any_of : List CondTree → CondTree
+abbrev pub any_of : List QueryCondTree → QueryCondTree
 any_of [] = q.Any (conds_of [])
 any_of (c ∷ []) = c
 any_of (c ∷ d ∷ ds) = q.Any (conds_of (c ∷ d ∷ ds))
@@ -195,25 +195,25 @@ abbrev mutual
   atom_tokens (literal_first l r p) = literal_token l ∷ TSign (rel_sign r) ∷ path_tokens p
 
 abbrev mutual
-  pub cond_tree : Cond → CondTree
-  cond_tree (cond_of a os) = any_of (all_tree a ∷ ors_tree os)
+  pub derived_cond : Cond → QueryCondTree
+  derived_cond (cond_of a os) = any_of (all_tree a ∷ ors_tree os)
 
-  pub ors_tree : Ors → List CondTree
+  pub ors_tree : Ors → List QueryCondTree
   ors_tree no_or = []
   ors_tree (or_more a os) = all_tree a ∷ ors_tree os
 
-  pub all_tree : All → CondTree
+  pub all_tree : All → QueryCondTree
   all_tree (all a bs) = all_of (atom_tree a ∷ ands_tree bs)
 
-  pub ands_tree : Ands → List CondTree
+  pub ands_tree : Ands → List QueryCondTree
   ands_tree no_and = []
   ands_tree (and_more a bs) = atom_tree a ∷ ands_tree bs
 
-  pub atom_tree : Atom → CondTree
-  atom_tree (negated c) = q.Not (cond_tree c)
+  pub atom_tree : Atom → QueryCondTree
+  atom_tree (negated c) = q.Not (derived_cond c)
   atom_tree always = q.Always
   atom_tree (existing p) = q.Exists (path_tree p)
-  atom_tree (grouped c) = cond_tree c
+  atom_tree (grouped c) = derived_cond c
   atom_tree (compared p r o) = q.Compare (sides.Path (path_tree p)) r (operand_tree o)
   atom_tree (literal_first l r p) = q.Compare (literal_tree l) r (sides.Path (path_tree p))
 
@@ -276,9 +276,9 @@ abbrev pub where_tokens : Where → List Token
 where_tokens no_where = []
 where_tokens (where_cond c) = TName where_ ∷ cond_tokens c
 
-abbrev pub where_tree : Where → Option CondTree
+abbrev pub where_tree : Where → Option QueryCondTree
 where_tree no_where = None
-where_tree (where_cond c) = Some (cond_tree c)
+where_tree (where_cond c) = Some (derived_cond c)
 
 abbrev pub WhereFits : (limit n : ℕ) → Where → Type 0
 WhereFits limit n no_where = Unit {0}
@@ -350,20 +350,20 @@ seq_of (e ∷ []) = e
 seq_of (e ∷ f ∷ fs) = q.Seq (exprs_of (e ∷ f ∷ fs))
 
 abbrev mutual
-  pub expr_tree : Expr → ExprTree
-  expr_tree (for_expr c cs w e) = q.For (clause_tree c ∷ clauses_tree cs) (where_tree w) (expr_tree e)
-  expr_tree (if_expr c a b) = q.If (cond_tree c) (expr_tree a) (expr_tree b)
-  expr_tree (elem_expr x t) = q.Elem x (exprs_of (tag_tree t))
-  expr_tree (paren_expr i) = inner_tree i
-  expr_tree (path_expr p) = q.Path (path_tree p)
+  pub derived_expr : Expr → ExprTree
+  derived_expr (for_expr c cs w e) = q.For (clause_tree c ∷ clauses_tree cs) (where_tree w) (derived_expr e)
+  derived_expr (if_expr c a b) = q.If (derived_cond c) (derived_expr a) (derived_expr b)
+  derived_expr (elem_expr x t) = q.Elem x (exprs_of (tag_tree t))
+  derived_expr (paren_expr i) = inner_tree i
+  derived_expr (path_expr p) = q.Path (path_tree p)
 
   pub inner_tree : Inner → ExprTree
   inner_tree closed = q.Empty
-  inner_tree (listed e r) = seq_of (expr_tree e ∷ rest_tree r)
+  inner_tree (listed e r) = seq_of (derived_expr e ∷ rest_tree r)
 
   pub rest_tree : Rest → List ExprTree
   rest_tree no_rest = []
-  rest_tree (rest_more e r) = expr_tree e ∷ rest_tree r
+  rest_tree (rest_more e r) = derived_expr e ∷ rest_tree r
 
   pub tag_tree : Tag → List ExprTree
   tag_tree short = []
@@ -372,7 +372,7 @@ abbrev mutual
   pub content_tree : Content → List ExprTree
   content_tree ended = []
   content_tree (nested y t c) = q.Elem y (exprs_of (tag_tree t)) ∷ content_tree c
-  content_tree (braced e r c) = (expr_tree e ∷ rest_tree r) ++ content_tree c
+  content_tree (braced e r c) = (derived_expr e ∷ rest_tree r) ++ content_tree c
 
 abbrev mutual
   pub ExprFits : (limit n : ℕ) → Expr → Type 0
@@ -408,7 +408,7 @@ abbrev pub derivation_tokens : Derivation → List Token
 derivation_tokens d = expr_tokens d.first ++ rest_tokens d.others
 
 abbrev pub derivation_tree : Derivation → List ExprTree
-derivation_tree d = expr_tree d.first ∷ rest_tree d.others
+derivation_tree d = derived_expr d.first ∷ rest_tree d.others
 
 -- The derivation spells the tokens, and nests at most `limit` constructs.
 pub record Derives (limit : ℕ) (ts : List Token) (d : Derivation) : Type 0 where

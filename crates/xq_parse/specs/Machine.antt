@@ -13,7 +13,7 @@ use Rattle.gcx_model.specs.declared.query.QOperand.{QOperand}
 use Rattle.gcx_model.specs.declared.query.QOperand.TheVariants as sides
 use Rattle.gcx_model.specs.Paths.{any}
 use Rattle.gcx_model.specs.Query as q
-use Rattle.gcx_model.specs.Query.{CondTree, ExprTree, exprs_of}
+use Rattle.gcx_model.specs.Query.{QueryCondTree, ExprTree, exprs_of}
 use Rattle.xq_lex.specs.declared.sign.Sign.{Sign}
 use Rattle.xq_lex.specs.declared.sign.Sign.TheVariants as signs
 use Rattle.xq_parse.specs.declared.refusal.Why.{Why}
@@ -89,30 +89,30 @@ pub data State : Type 0 where
   path : (Route → State) → State
   rel : (Rel → State) → State
   operand : Scope → Marks → (Marks → QOperand → State) → State
-  atom : ℕ → Scope → Marks → (Marks → CondTree → State) → State
-  ands : ℕ → Scope → Marks → List CondTree → (Marks → List CondTree → State) → State
-  ors : ℕ → Scope → Marks → List CondTree → (Marks → List CondTree → State) → State
+  atom : ℕ → Scope → Marks → (Marks → QueryCondTree → State) → State
+  ands : ℕ → Scope → Marks → List QueryCondTree → (Marks → List QueryCondTree → State) → State
+  ors : ℕ → Scope → Marks → List QueryCondTree → (Marks → List QueryCondTree → State) → State
   expr : ℕ → Scope → Marks → (Marks → ExprTree → State) → State
   rest : ℕ → Scope → Marks → List ExprTree → (Marks → List ExprTree → State) → State
   inner : ℕ → Scope → Marks → (Marks → ExprTree → State) → State
   clauses : Scope → Marks → List Clause → (Scope → Marks → List Clause → State) → State
-  condition : ℕ → Scope → Marks → (Marks → Option CondTree → State) → State
+  condition : ℕ → Scope → Marks → (Marks → Option QueryCondTree → State) → State
   tag : ℕ → Scope → Marks → List ℕ → (Marks → List ExprTree → State) → State
   content : ℕ → Scope → Marks → List ℕ → List ExprTree → (Marks → List ExprTree → State) → State
 
 -- ---- rules that begin in one way
 
 -- Atom {"and" Atom}, All {"or" All}
-abbrev pub atoms_state : ℕ → Scope → Marks → (Marks → List CondTree → State) → State
+abbrev pub atoms_state : ℕ → Scope → Marks → (Marks → List QueryCondTree → State) → State
 atoms_state n sc m k = atom n sc m (λ m a. ands n sc m (a ∷ []) k)
 
-unfoldable pub all_state : ℕ → Scope → Marks → (Marks → CondTree → State) → State
+unfoldable pub all_state : ℕ → Scope → Marks → (Marks → QueryCondTree → State) → State
 all_state n sc m k = atoms_state n sc m (λ m bs. k m (all_of bs))
 
-abbrev pub alls_state : ℕ → Scope → Marks → (Marks → List CondTree → State) → State
+abbrev pub alls_state : ℕ → Scope → Marks → (Marks → List QueryCondTree → State) → State
 alls_state n sc m k = all_state n sc m (λ m a. ors n sc m (a ∷ []) k)
 
-unfoldable pub cond_state : ℕ → Scope → Marks → (Marks → CondTree → State) → State
+unfoldable pub cond_state : ℕ → Scope → Marks → (Marks → QueryCondTree → State) → State
 cond_state n sc m k = alls_state n sc m (λ m os. k m (any_of os))
 
 unfoldable pub clause_state : Scope → Marks → (Marks → Clause → State) → State
@@ -125,7 +125,7 @@ abbrev pub list_state : ℕ → Scope → Marks → (Marks → List ExprTree →
 list_state n sc m k = expr n sc m (λ m e. rest n sc m (e ∷ []) k)
 
 -- Clause {"," Clause} ["where" Cond]
-abbrev pub loop_head_state : ℕ → Scope → Marks → (Scope → Marks → List Clause → Option CondTree → State) → State
+abbrev pub loop_head_state : ℕ → Scope → Marks → (Scope → Marks → List Clause → Option QueryCondTree → State) → State
 loop_head_state n sc m k = clauses_state sc m (λ sc m cs. condition n sc m (λ m w. k sc m cs w))
 
 -- "return" Expr
@@ -136,7 +136,7 @@ unfoldable pub for_state : ℕ → Scope → Marks → (Marks → ExprTree → S
 for_state n sc m k = loop_head_state n sc m (λ sc m cs w. loop_body_state n sc m (λ m e. k m (q.For cs w e)))
 
 -- "(" Cond ")" "then"
-unfoldable pub head_state : ℕ → Scope → Marks → (Marks → CondTree → State) → State
+unfoldable pub head_state : ℕ → Scope → Marks → (Marks → QueryCondTree → State) → State
 head_state n sc m k = sign signs.ParenOpen (cond_state n sc m (λ m c. sign signs.ParenClose (word then_ (k m c))))
 
 -- "else" Expr
@@ -149,16 +149,16 @@ if_state n sc m k = head_state n sc m (λ m c. expr n sc m (λ m a. else_state n
 unfoldable pub elem_state : ℕ → Scope → Marks → (Marks → ExprTree → State) → State
 elem_state n sc m k = name (λ x. tag n sc m x (λ m es. k m (q.Elem x (exprs_of es))))
 
-unfoldable pub group_state : ℕ → Scope → Marks → (Marks → CondTree → State) → State
+unfoldable pub group_state : ℕ → Scope → Marks → (Marks → QueryCondTree → State) → State
 group_state n sc m k = cond_state n sc m (λ m c. sign signs.ParenClose (k m c))
 
-unfoldable pub not_state : ℕ → Scope → Marks → (Marks → CondTree → State) → State
+unfoldable pub not_state : ℕ → Scope → Marks → (Marks → QueryCondTree → State) → State
 not_state n sc m k = sign signs.ParenOpen (group_state n sc m (λ m c. k m (q.Not c)))
 
-unfoldable pub exists_state : Scope → Marks → (Marks → CondTree → State) → State
+unfoldable pub exists_state : Scope → Marks → (Marks → QueryCondTree → State) → State
 exists_state sc m k = sign signs.ParenOpen (path (λ r. sign signs.ParenClose (k (seen sc m r) (q.Exists r.path))))
 
-abbrev pub true_state : Marks → (Marks → CondTree → State) → State
+abbrev pub true_state : Marks → (Marks → QueryCondTree → State) → State
 true_state m k = sign signs.ParenOpen (sign signs.ParenClose (k m q.Always))
 
 -- ---- one token
@@ -262,13 +262,13 @@ at_operand sc m k (TStr x) = Ok (k m (sides.Str x))
 at_operand sc m k (TNum u) = Ok (k m (sides.Num u))
 at_operand sc m k t = at_path (side_seen sc m k) t
 
-abbrev pub compare_state : Scope → Marks → (Marks → CondTree → State) → Route → State
+abbrev pub compare_state : Scope → Marks → (Marks → QueryCondTree → State) → Route → State
 compare_state sc m k r = rel (λ c. operand sc (seen sc m r) (λ m o. k m (q.Compare (sides.Path r.path) c o)))
 
-unfoldable pub literal_state : QOperand → Scope → Marks → (Marks → CondTree → State) → State
+unfoldable pub literal_state : QOperand → Scope → Marks → (Marks → QueryCondTree → State) → State
 literal_state l sc m k = rel (λ c. path (λ r. k (seen sc m r) (q.Compare l c (sides.Path r.path))))
 
-abbrev pub at_atom : ℕ → ℕ → Scope → Marks → (Marks → CondTree → State) → Token → Result State Why
+abbrev pub at_atom : ℕ → ℕ → Scope → Marks → (Marks → QueryCondTree → State) → Token → Result State Why
 at_atom limit n sc m k (TName x) =
     if bytes_eq x not_ then opens limit n (not_state (n + 1) sc m k)
     else if bytes_eq x true_ then Ok (true_state m k)
@@ -335,10 +335,10 @@ at_content limit n sc m x body k (TSign signs.BraceOpen) = Ok (braces_state n sc
 at_content limit n sc m x body k t = Err Syntax
 
 -- one member more behind a separator
-abbrev pub more_ands : ℕ → Scope → List CondTree → (Marks → List CondTree → State) → Marks → CondTree → State
+abbrev pub more_ands : ℕ → Scope → List QueryCondTree → (Marks → List QueryCondTree → State) → Marks → QueryCondTree → State
 more_ands n sc bs k m a = ands n sc m (bs ++ (a ∷ [])) k
 
-abbrev pub more_ors : ℕ → Scope → List CondTree → (Marks → List CondTree → State) → Marks → CondTree → State
+abbrev pub more_ors : ℕ → Scope → List QueryCondTree → (Marks → List QueryCondTree → State) → Marks → QueryCondTree → State
 more_ors n sc os k m a = ors n sc m (os ++ (a ∷ [])) k
 
 abbrev pub more_rest : ℕ → Scope → List ExprTree → (Marks → List ExprTree → State) → Marks → ExprTree → State
@@ -347,7 +347,7 @@ more_rest n sc es k m e = rest n sc m (es ++ (e ∷ [])) k
 abbrev pub more_clauses : Scope → List Clause → (Scope → Marks → List Clause → State) → Marks → Clause → State
 more_clauses sc cs k m c = clauses (c.var ∷ sc) m (cs ++ (c ∷ [])) k
 
-abbrev pub with_filter : (Marks → Option CondTree → State) → Marks → CondTree → State
+abbrev pub with_filter : (Marks → Option QueryCondTree → State) → Marks → QueryCondTree → State
 with_filter k m c = k m (Some c)
 
 abbrev pub step : ℕ → State → Token → Result State Why

@@ -4,11 +4,11 @@ use Rattle.gcx_base.specs.declared.steps.Step.{Step}
 use Rattle.gcx_model.specs.declared.query.PathExpr.{PathExpr}
 use Rattle.gcx_model.specs.declared.query.Clause.{Clause}
 use Rattle.gcx_model.specs.Query as query
-use Rattle.gcx_model.specs.Query.{CondTree, ExprTree, ExprTrees, exprs_of}
+use Rattle.gcx_model.specs.Query.{QueryCondTree, ExprTree, ExprTrees, exprs_of}
 use Rattle.xq_lex.specs.declared.sign.Sign.TheVariants as signs
 use Rattle.xq_parse.specs.Tokens.{Token, TName, TVar, TSign, for_, in_, where_, return_, if_, then_, else_}
 use Rattle.xq_parse.specs.Grammar as g
-use Rattle.xq_parse.specs.Grammar.{a_path, a_clause, seq_of, source_tokens, source_tree, cond_tokens, clause_tokens, clause_tree, clauses_tokens, clauses_tree, where_tokens, where_tree, WhereFits, expr_tokens, expr_tree, rest_tokens, rest_tree, ExprFits, RestFits, derivation_tokens, derivation_tree}
+use Rattle.xq_parse.specs.Grammar.{a_path, a_clause, seq_of, source_tokens, source_tree, cond_tokens, clause_tokens, clause_tree, clauses_tokens, clauses_tree, where_tokens, where_tree, WhereFits, expr_tokens, derived_expr, rest_tokens, rest_tree, ExprFits, RestFits, derivation_tokens, derivation_tree}
 use Rattle.xq_print.proofs.Pieces.{Piece, word, mark, blank, comma, path_pieces, step_pieces, cond_pieces, clause_pieces, filter_pieces, end_tag_pieces, expr_pieces, exprs_pieces, query_pieces}
 use Rattle.xq_print.proofs.Placing.{place, later, behind, placed, in_place}
 use Rattle.xq_print.proofs.Shape.{MayOpen, HasStep, AreClauses, FilterShape, SomeExprs, CondShape, ExprShape, PartsShape, LaterShape, QueryShape}
@@ -75,19 +75,19 @@ clauses_at (c ∷ cs) h ps =
       spelled = ap (λ (ts : List Token). TSign signs.Comma ∷ ts) (in_place (later ps) (clause_pieces c) (later_clauses cs) one.spelled more.spelled);
     }
 
-abbrev FilterAt : (limit n : ℕ) → List ℕ → Option CondTree → Type 0
+abbrev FilterAt : (limit n : ℕ) → List ℕ → Option QueryCondTree → Type 0
 FilterAt limit n ps f = Derived where_tokens where_tree (WhereFits limit n) f (placed ps (filter_pieces f))
 
-filter_at : (limit n : ℕ) (f : Option CondTree) → FilterShape limit n f → (ps : List ℕ) → FilterAt limit n ps f
+filter_at : (limit n : ℕ) (f : Option QueryCondTree) → FilterShape limit n f → (ps : List ℕ) → FilterAt limit n ps f
 filter_at limit n None h ps = record { derivation = g.no_where; fits = tt; tree_is = refl; spelled = refl }
 filter_at limit n (Some c) h ps =
     let cond : CondAt limit n (later ps) c = cond_at limit c n (later ps) h in
-    record { derivation = g.where_cond cond.derivation; fits = cond.fits; tree_is = ap (λ (d : CondTree). Some d) cond.tree_is; spelled = ap (λ (ts : List Token). TName where_ ∷ ts) cond.spelled }
+    record { derivation = g.where_cond cond.derivation; fits = cond.fits; tree_is = ap (λ (d : QueryCondTree). Some d) cond.tree_is; spelled = ap (λ (ts : List Token). TName where_ ∷ ts) cond.spelled }
 
 -- ---- Expressions
 
 abbrev ExprAt : (limit n : ℕ) → List ℕ → ExprTree → Type 0
-ExprAt limit n ps e = Derived expr_tokens expr_tree (ExprFits limit n) e (placed ps (expr_pieces e))
+ExprAt limit n ps e = Derived expr_tokens derived_expr (ExprFits limit n) e (placed ps (expr_pieces e))
 
 abbrev later_parts : ExprTrees → List Piece
 later_parts es = flat_map (λ q. comma ++ q) (exprs_pieces es)
@@ -119,7 +119,7 @@ elem_at : (limit n : ℕ) (ps x : List ℕ) (e : ExprTree) (es : ExprTrees) → 
 elem_at limit n ps x e es m a r = record {
   derivation = g.elem_expr x (g.long (g.braced a.derivation r.derivation g.ended));
   fits = (m, (a.fits, r.fits, tt));
-  tree_is = ap (λ (l : List ExprTree). query.Elem x (exprs_of (expr_tree a.derivation ∷ l))) (append-nil (rest_tree r.derivation)) ∙ (λ i. query.Elem x (query.more_exprs (a.tree_is i) (r.tree_is i)));
+  tree_is = ap (λ (l : List ExprTree). query.Elem x (exprs_of (derived_expr a.derivation ∷ l))) (append-nil (rest_tree r.derivation)) ∙ (λ i. query.Elem x (query.more_exprs (a.tree_is i) (r.tree_is i)));
   spelled =
       ap (λ (ts : List Token). TSign signs.Lt ∷ TName x ∷ TSign signs.Gt ∷ TSign signs.BraceOpen ∷ ts)
       (regrouped (expr_tokens a.derivation) (rest_tokens r.derivation) (TSign signs.BraceClose ∷ []) ended
@@ -136,7 +136,7 @@ elem_at limit n ps x e es m a r = record {
     regrouped : (a r b t : List Token) → a ++ (r ++ (b ++ t)) ≡ ((a ++ r) ++ b) ++ t
     regrouped a r b t = simp append_assoc
 
-for_at : (limit n : ℕ) (ps : List ℕ) (c : Clause) (cs : List Clause) (f : Option CondTree) (e : ExprTree) → MayOpen limit n → AreClauses (c ∷ cs) → FilterShape limit (n + 1) f →
+for_at : (limit n : ℕ) (ps : List ℕ) (c : Clause) (cs : List Clause) (f : Option QueryCondTree) (e : ExprTree) → MayOpen limit n → AreClauses (c ∷ cs) → FilterShape limit (n + 1) f →
     ((qs : List ℕ) → ExprAt limit (n + 1) qs e) → ExprAt limit n ps (query.For (c ∷ cs) f e)
 for_at limit n ps c cs f e m h k body_at =
     let from : List ℕ = later ps in
@@ -156,7 +156,7 @@ for_at limit n ps c cs f e m h k body_at =
           (in_place (behind loop from) (filter_pieces f) (blank ∷ word return_ ∷ blank ∷ expr_pieces e) filter.spelled (ap (λ (ts : List Token). TName return_ ∷ ts) body.spelled)));
     }
 
-if_at : (limit n : ℕ) (ps : List ℕ) (c : CondTree) (a b : ExprTree) → MayOpen limit n → CondShape limit (n + 1) c → ((qs : List ℕ) → ExprAt limit (n + 1) qs a) → ((qs : List ℕ) → ExprAt limit (n + 1) qs b) →
+if_at : (limit n : ℕ) (ps : List ℕ) (c : QueryCondTree) (a b : ExprTree) → MayOpen limit n → CondShape limit (n + 1) c → ((qs : List ℕ) → ExprAt limit (n + 1) qs a) → ((qs : List ℕ) → ExprAt limit (n + 1) qs b) →
     ExprAt limit n ps (query.If c a b)
 if_at limit n ps c a b m h at_a at_b =
     let from : List ℕ = later (later ps) in

@@ -8,7 +8,7 @@ use Rattle.gcx_model.specs.declared.query.Clause.{Clause}
 use Rattle.gcx_model.specs.declared.query.QOperand.{QOperand}
 use Rattle.gcx_model.specs.declared.query.QOperand.TheVariants as operand
 use Rattle.gcx_model.specs.Query as query
-use Rattle.gcx_model.specs.Query.{CondTree, CondTrees, ExprTree, ExprTrees}
+use Rattle.gcx_model.specs.Query.{QueryCondTree, QueryCondTrees, ExprTree, ExprTrees}
 use Rattle.xq_lex.specs.declared.token.TokKind.{TokKind}
 use Rattle.xq_lex.specs.declared.token.TokKind.TheVariants as kinds
 use Rattle.xq_lex.specs.Form.{Form, IsForm, kind_of, is_too_wide}
@@ -48,7 +48,7 @@ LexicalOperand (operand.Str value) = IsKind (kinds.Str value)
 LexicalOperand (operand.Num units) = IsKind (kinds.Number units)
 
 abbrev mutual
-  pub LexicalCond : CondTree → Type 0
+  pub LexicalCond : QueryCondTree → Type 0
   LexicalCond query.Always = Unit {0}
   LexicalCond (query.Exists path) = LexicalPath path
   LexicalCond (query.Compare left rel right) = LexicalOperand left × LexicalOperand right
@@ -56,7 +56,7 @@ abbrev mutual
   LexicalCond (query.All members) = LexicalConds members
   LexicalCond (query.Any members) = LexicalConds members
 
-  pub LexicalConds : CondTrees → Type 0
+  pub LexicalConds : QueryCondTrees → Type 0
   LexicalConds query.no_cond = Unit {0}
   LexicalConds (query.more_conds c cs) = LexicalCond c × LexicalConds cs
 
@@ -69,7 +69,7 @@ abbrev pub LexicalClauses : List Clause → Type 0
 LexicalClauses [] = Unit {0}
 LexicalClauses (c ∷ cs) = LexicalClause c × LexicalClauses cs
 
-abbrev pub LexicalFilter : Option CondTree → Type 0
+abbrev pub LexicalFilter : Option QueryCondTree → Type 0
 LexicalFilter None = Unit {0}
 LexicalFilter (Some c) = LexicalCond c
 

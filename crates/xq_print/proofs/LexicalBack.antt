@@ -2,7 +2,7 @@
 use Rattle.std.proofs.Common.{ℕ, List, [], ◌∷◌, ◌++◌, sym, subst}
 use Rattle.std.specs.Prelude.{length}
 use Rattle.std.specs.Str.{chars, encode_utf8_all}
-use Rattle.gcx_model.specs.Query.{CondTree, ExprTree, conds_of, exprs_of}
+use Rattle.gcx_model.specs.Query.{QueryCondTree, ExprTree, conds_of, exprs_of}
 use Rattle.xq_lex.specs.declared.sign.Sign.{Sign}
 use Rattle.xq_lex.specs.declared.sign.Sign.TheVariants as signs
 use Rattle.xq_lex.specs.declared.token.Tok.{Tok}
@@ -11,7 +11,7 @@ use Rattle.xq_lex.specs.declared.token.TokKind.TheVariants as kinds
 use Rattle.xq_lex.specs.Lex.{Lexes, Reads, ReadsAll}
 use Rattle.xq_parse.specs.Tokens.{Token, TName, TVar, TNum, TStr, TSlash, TSlashes, TSign, token_at, tokens_of, return_, then_, else_}
 use Rattle.xq_parse.specs.Grammar as g
-use Rattle.xq_parse.specs.Grammar.{all_of, any_of, seq_of, test_tokens, test_tree, step_tokens, step_tree, steps_tokens, steps_tree, path_tokens, path_tree, source_tokens, source_tree, operand_tokens, operand_tree, cond_tokens, cond_tree, ors_tokens, ors_tree, all_tokens, all_tree, ands_tokens, ands_tree, atom_tokens, atom_tree, clause_tokens, clause_tree, clauses_tokens, clauses_tree, where_tokens, where_tree, expr_tokens, expr_tree, inner_tokens, inner_tree, rest_tokens, rest_tree, tag_tokens, tag_tree, content_tokens, content_tree, derivation_tokens, derivation_tree}
+use Rattle.xq_parse.specs.Grammar.{all_of, any_of, seq_of, test_tokens, test_tree, step_tokens, step_tree, steps_tokens, steps_tree, path_tokens, path_tree, source_tokens, source_tree, operand_tokens, operand_tree, cond_tokens, derived_cond, ors_tokens, ors_tree, all_tokens, all_tree, ands_tokens, ands_tree, atom_tokens, atom_tree, clause_tokens, clause_tree, clauses_tokens, clauses_tree, where_tokens, where_tree, expr_tokens, derived_expr, inner_tokens, inner_tree, rest_tokens, rest_tree, tag_tokens, tag_tree, content_tokens, content_tree, derivation_tokens, derivation_tree}
 use Rattle.xq_parse.specs.Spelling.{Spells}
 use Rattle.xq_print.proofs.Lexical.{IsKind, LexicalTest, LexicalSteps, LexicalPath, LexicalOperand, LexicalCond, LexicalConds, LexicalClause, LexicalClauses, LexicalFilter, LexicalExpr, LexicalExprs, Lexical}
 
@@ -86,18 +86,18 @@ operand_leaves (g.literal_operand (g.number u)) h = h.0
 
 -- ---- Conditions
 
-in_all : (cs : List CondTree) → LexicalConds (conds_of cs) → LexicalCond (all_of cs)
+in_all : (cs : List QueryCondTree) → LexicalConds (conds_of cs) → LexicalCond (all_of cs)
 in_all [] h = h
 in_all (c ∷ []) h = h.0
 in_all (c ∷ d ∷ ds) h = h
 
-in_any : (cs : List CondTree) → LexicalConds (conds_of cs) → LexicalCond (any_of cs)
+in_any : (cs : List QueryCondTree) → LexicalConds (conds_of cs) → LexicalCond (any_of cs)
 in_any [] h = h
 in_any (c ∷ []) h = h.0
 in_any (c ∷ d ∷ ds) h = h
 
 mutual
-  cond_leaves : (c : g.Cond) → Leaves (cond_tokens c) → LexicalCond (cond_tree c)
+  cond_leaves : (c : g.Cond) → Leaves (cond_tokens c) → LexicalCond (derived_cond c)
   cond_leaves (g.cond_of a os) h =
       let parts : Leaves (all_tokens a) × Leaves (ors_tokens os) = split (all_tokens a) (ors_tokens os) h in
       in_any (all_tree a ∷ ors_tree os) (all_leaves a parts.0, ors_leaves os parts.1)
@@ -149,7 +149,7 @@ join_exprs [] fs h k = k
 join_exprs (e ∷ es) fs h k = (h.0, join_exprs es fs h.1 k)
 
 mutual
-  expr_leaves : (e : g.Expr) → Leaves (expr_tokens e) → LexicalExpr (expr_tree e)
+  expr_leaves : (e : g.Expr) → Leaves (expr_tokens e) → LexicalExpr (derived_expr e)
   expr_leaves (g.for_expr c cs w e) h =
       let loop : Leaves (clause_tokens c) × Leaves (clauses_tokens cs ++ (where_tokens w ++ (TName return_ ∷ expr_tokens e))) = split (clause_tokens c) (clauses_tokens cs ++ (where_tokens w ++ (TName return_ ∷ expr_tokens e))) h.1 in
       let more : Leaves (clauses_tokens cs) × Leaves (where_tokens w ++ (TName return_ ∷ expr_tokens e)) = split (clauses_tokens cs) (where_tokens w ++ (TName return_ ∷ expr_tokens e)) loop.1 in
@@ -167,7 +167,7 @@ mutual
   inner_leaves g.closed h = tt
   inner_leaves (g.listed e r) h =
       let parts : Leaves (expr_tokens e) × Leaves (rest_tokens r ++ (TSign signs.ParenClose ∷ [])) = split (expr_tokens e) (rest_tokens r ++ (TSign signs.ParenClose ∷ [])) h in
-      in_seq (expr_tree e ∷ rest_tree r) (expr_leaves e parts.0, rest_leaves r (split (rest_tokens r) (TSign signs.ParenClose ∷ []) parts.1).0)
+      in_seq (derived_expr e ∷ rest_tree r) (expr_leaves e parts.0, rest_leaves r (split (rest_tokens r) (TSign signs.ParenClose ∷ []) parts.1).0)
 
   rest_leaves : (r : g.Rest) → Leaves (rest_tokens r) → LexicalExprs (exprs_of (rest_tree r))
   rest_leaves g.no_rest h = tt

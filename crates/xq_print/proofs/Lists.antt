@@ -5,7 +5,7 @@ use Rattle.std.proofs.lemmas.Bool.{ne_eqb}
 use Rattle.gcx_model.specs.Written.{start_tag, end_tag}
 use Rattle.gcx_model.specs.declared.query.QCond.{QCond}
 use Rattle.gcx_model.specs.declared.query.Expr.{Expr}
-use Rattle.gcx_model.specs.Query.{CondTree, ExprTree, conds_of, cond_tree, exprs_of, expr_tree}
+use Rattle.gcx_model.specs.Query.{QueryCondTree, ExprTree, conds_of, cond_tree, exprs_of, expr_tree}
 use Rattle.xq_print.specs.declared.cond.Joint.{Joint}
 use Rattle.xq_print.specs.Printed.{cond_text, expr_text, expr_texts, body_text, enclosed, is_enclosed, joined, joint_text, member_texts}
 use Rattle.xq_print.proofs.Joining.{IsJoined, all_joined, after, is_later}
@@ -35,7 +35,7 @@ pub one_member : (out a b c now between text : List ℕ) (later around : Bool) �
 one_member out a b c now between text later true p q r s = after out a now (cond later between []) (enclosed true text) p (after a b now (codes "(") (text ++ codes ")") q (after b c now text (codes ")") r s))
 one_member out a b c now between text later false p q r s = after out a now (cond later between []) text p (s ∙ (append-nil c ∙ (r ∙ ap (λ (x : List ℕ). x ++ text) (q ∙ append-nil a))))
 
-pub members_done : (joint : Joint) (old out : List ℕ) (cs : List QCond) (ts : List CondTree) (i : ℕ) (later : Bool) → IsJoined QCond (member_text joint) (joint_text joint) old cs i out later → length cs ≤ i →
+pub members_done : (joint : Joint) (old out : List ℕ) (cs : List QCond) (ts : List QueryCondTree) (i : ℕ) (later : Bool) → IsJoined QCond (member_text joint) (joint_text joint) old cs i out later → length cs ≤ i →
     map cond_tree cs ≡ ts → out ≡ old ++ joined (joint_text joint) (member_texts joint (conds_of ts))
 members_done joint old out cs ts i later j h e =
     all_joined (member_text joint) (joint_text joint) old cs i out later j h

@@ -11,7 +11,7 @@ use Rattle.gcx_model.specs.declared.query.Clause.{Clause}
 use Rattle.gcx_model.specs.declared.query.QOperand.{QOperand}
 use Rattle.gcx_model.specs.declared.query.QOperand.TheVariants as operand
 use Rattle.gcx_model.specs.Query as query
-use Rattle.gcx_model.specs.Query.{CondTree, CondTrees, ExprTree, ExprTrees}
+use Rattle.gcx_model.specs.Query.{QueryCondTree, QueryCondTrees, ExprTree, ExprTrees}
 use Rattle.xq_lex.specs.declared.sign.Sign.{Sign}
 use Rattle.xq_lex.specs.declared.sign.Sign.TheVariants as signs
 use Rattle.xq_lex.specs.declared.token.TokKind.{TokKind}
@@ -91,7 +91,7 @@ enclosed_pieces true ps = in_parens ps
 enclosed_pieces false ps = ps
 
 abbrev mutual
-  pub cond_pieces : CondTree → List Piece
+  pub cond_pieces : QueryCondTree → List Piece
   cond_pieces query.Always = word true_ ∷ mark signs.ParenOpen ∷ mark signs.ParenClose ∷ []
   cond_pieces (query.Exists path) = (word exists_ ∷ mark signs.ParenOpen ∷ []) ++ (path_pieces path ++ (mark signs.ParenClose ∷ []))
   cond_pieces (query.Compare left rel right) = operand_pieces left ++ (rel_pieces rel ++ operand_pieces right)
@@ -99,7 +99,7 @@ abbrev mutual
   cond_pieces (query.All members) = joined_pieces (joint_pieces And) (members_pieces And members)
   cond_pieces (query.Any members) = joined_pieces (joint_pieces Or) (members_pieces Or members)
 
-  pub members_pieces : Joint → CondTrees → List (List Piece)
+  pub members_pieces : Joint → QueryCondTrees → List (List Piece)
   members_pieces joint query.no_cond = []
   members_pieces joint (query.more_conds c cs) = enclosed_pieces (is_enclosed joint c) (cond_pieces c) ∷ members_pieces joint cs
 
@@ -108,7 +108,7 @@ abbrev mutual
 abbrev pub clause_pieces : Clause → List Piece
 clause_pieces c = (put (kinds.Var c.var) ∷ []) ++ ((blank ∷ word in_ ∷ blank ∷ []) ++ path_pieces c.path)
 
-abbrev pub filter_pieces : Option CondTree → List Piece
+abbrev pub filter_pieces : Option QueryCondTree → List Piece
 filter_pieces None = []
 filter_pieces (Some c) = (blank ∷ word where_ ∷ blank ∷ []) ++ cond_pieces c
 

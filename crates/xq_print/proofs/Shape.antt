@@ -7,7 +7,7 @@ use Rattle.gcx_model.specs.declared.query.Clause.{Clause}
 use Rattle.gcx_model.specs.declared.query.QOperand.{QOperand}
 use Rattle.gcx_model.specs.declared.query.QOperand.TheVariants as operand
 use Rattle.gcx_model.specs.Query as query
-use Rattle.gcx_model.specs.Query.{CondTree, CondTrees, ExprTree, ExprTrees}
+use Rattle.gcx_model.specs.Query.{QueryCondTree, QueryCondTrees, ExprTree, ExprTrees}
 use Rattle.xq_print.specs.declared.cond.Joint.{Joint}
 use Rattle.xq_print.specs.declared.cond.Joint.TheVariants.{And, Or}
 use Rattle.xq_print.specs.Printed.{is_enclosed}
@@ -48,11 +48,11 @@ AreSides (operand.Num u) o = IsPathSide o
 
 -- ---- Conditions
 
-abbrev pub SomeConds : CondTrees → Type 0
+abbrev pub SomeConds : QueryCondTrees → Type 0
 SomeConds query.no_cond = ⊥
 SomeConds (query.more_conds c cs) = Unit {0}
 
-abbrev pub TwoConds : CondTrees → Type 0
+abbrev pub TwoConds : QueryCondTrees → Type 0
 TwoConds query.no_cond = ⊥
 TwoConds (query.more_conds c cs) = SomeConds cs
 
@@ -62,7 +62,7 @@ Around limit n true P = MayOpen limit n × P (n + 1)
 Around limit n false P = P n
 
 abbrev mutual
-  pub CondShape : (limit n : ℕ) → CondTree → Type 0
+  pub CondShape : (limit n : ℕ) → QueryCondTree → Type 0
   CondShape limit n query.Always = Unit {0}
   CondShape limit n (query.Exists p) = IsPath p
   CondShape limit n (query.Compare l r o) = AreSides l o
@@ -70,11 +70,11 @@ abbrev mutual
   CondShape limit n (query.All cs) = TwoConds cs × MembersShape limit n And cs
   CondShape limit n (query.Any cs) = TwoConds cs × MembersShape limit n Or cs
 
-  pub MembersShape : (limit n : ℕ) → Joint → CondTrees → Type 0
+  pub MembersShape : (limit n : ℕ) → Joint → QueryCondTrees → Type 0
   MembersShape limit n joint query.no_cond = Unit {0}
   MembersShape limit n joint (query.more_conds c cs) = Around limit n (is_enclosed joint c) (λ m. CondShape limit m c) × MembersShape limit n joint cs
 
-abbrev pub MemberShape : (limit n : ℕ) → Joint → CondTree → Type 0
+abbrev pub MemberShape : (limit n : ℕ) → Joint → QueryCondTree → Type 0
 MemberShape limit n joint c = Around limit n (is_enclosed joint c) (λ m. CondShape limit m c)
 
 -- ---- Expressions
@@ -87,7 +87,7 @@ abbrev pub IsLoop : List Clause → Type 0
 IsLoop [] = ⊥
 IsLoop (c ∷ cs) = AreClauses (c ∷ cs)
 
-abbrev pub FilterShape : (limit n : ℕ) → Option CondTree → Type 0
+abbrev pub FilterShape : (limit n : ℕ) → Option QueryCondTree → Type 0
 FilterShape limit n None = Unit {0}
 FilterShape limit n (Some c) = CondShape limit n c
 
@@ -133,7 +133,7 @@ around_before limit n true P f h = (may_before limit n h.0, f (n + 1) h.1)
 around_before limit n false P f h = f n h
 
 mutual
-  pub cond_before : (limit n : ℕ) (c : CondTree) → CondShape limit (n + 1) c → CondShape limit n c
+  pub cond_before : (limit n : ℕ) (c : QueryCondTree) → CondShape limit (n + 1) c → CondShape limit n c
   cond_before limit n query.Always h = h
   cond_before limit n (query.Exists p) h = h
   cond_before limit n (query.Compare l r o) h = h
@@ -141,12 +141,12 @@ mutual
   cond_before limit n (query.All cs) h = (h.0, members_before limit n And cs h.1)
   cond_before limit n (query.Any cs) h = (h.0, members_before limit n Or cs h.1)
 
-  members_before : (limit n : ℕ) (joint : Joint) (cs : CondTrees) → MembersShape limit (n + 1) joint cs → MembersShape limit n joint cs
+  members_before : (limit n : ℕ) (joint : Joint) (cs : QueryCondTrees) → MembersShape limit (n + 1) joint cs → MembersShape limit n joint cs
   members_before limit n joint query.no_cond h = h
   members_before limit n joint (query.more_conds c cs) h =
       (around_before limit n (is_enclosed joint c) (λ m. CondShape limit m c) (λ m. cond_before limit m c) h.0, members_before limit n joint cs h.1)
 
-filter_before : (limit n : ℕ) (f : Option CondTree) → FilterShape limit (n + 1) f → FilterShape limit n f
+filter_before : (limit n : ℕ) (f : Option QueryCondTree) → FilterShape limit (n + 1) f → FilterShape limit n f
 filter_before limit n None h = h
 filter_before limit n (Some c) h = cond_before limit n c h
 

@@ -1,9 +1,9 @@
 -- The tree of a derivation has its shape: a parenthesis that is read and not printed leaves room.
 use Rattle.std.proofs.Common.{ℕ, ◌+◌, Bool, true, false, List, [], ◌∷◌, ◌++◌}
 use Rattle.gcx_model.specs.Query as query
-use Rattle.gcx_model.specs.Query.{CondTree, CondTrees, ExprTree, ExprTrees, conds_of, exprs_of}
+use Rattle.gcx_model.specs.Query.{QueryCondTree, QueryCondTrees, ExprTree, ExprTrees, conds_of, exprs_of}
 use Rattle.xq_parse.specs.Grammar as g
-use Rattle.xq_parse.specs.Grammar.{path_tree, source_tree, operand_tree, literal_tree, cond_tree, ors_tree, all_tree, ands_tree, atom_tree, clause_tree, clauses_tree, where_tree, expr_tree, inner_tree, rest_tree, tag_tree, content_tree, derivation_tree, CondFits, OrsFits, AllFits, AndsFits, AtomFits, WhereFits, ExprFits, InnerFits, RestFits, TagFits, ContentFits}
+use Rattle.xq_parse.specs.Grammar.{path_tree, source_tree, operand_tree, literal_tree, derived_cond, ors_tree, all_tree, ands_tree, atom_tree, clause_tree, clauses_tree, where_tree, derived_expr, inner_tree, rest_tree, tag_tree, content_tree, derivation_tree, CondFits, OrsFits, AllFits, AndsFits, AtomFits, WhereFits, ExprFits, InnerFits, RestFits, TagFits, ContentFits}
 use Rattle.xq_print.specs.declared.cond.Joint.TheVariants.{And, Or}
 use Rattle.xq_print.specs.Printed.{is_enclosed}
 use Rattle.xq_print.proofs.Shape.{MayOpen, IsPath, IsSide, Around, CondShape, MembersShape, MemberShape, HasStep, AreClauses, FilterShape, ExprShape, PartsShape, LaterShape, QueryShape, cond_before, expr_before}
@@ -19,20 +19,20 @@ side_shaped (g.literal_operand (g.number u)) = tt
 
 -- ---- Conditions
 
-abbrev Shapes : (limit : ℕ) → CondTree → ℕ → Type 0
+abbrev Shapes : (limit : ℕ) → QueryCondTree → ℕ → Type 0
 Shapes limit c m = CondShape limit m c
 
 -- what stood in parentheses stands in some or in none
-opened : (limit n : ℕ) (b : Bool) (c : CondTree) → MayOpen limit n → CondShape limit (n + 1) c → Around limit n b (Shapes limit c)
+opened : (limit n : ℕ) (b : Bool) (c : QueryCondTree) → MayOpen limit n → CondShape limit (n + 1) c → Around limit n b (Shapes limit c)
 opened limit n true c m h = (m, h)
 opened limit n false c m h = cond_before limit n c h
 
-bare : (limit n : ℕ) (b : Bool) (c : CondTree) → Around limit n b (Shapes limit c) → CondShape limit n c
+bare : (limit n : ℕ) (b : Bool) (c : QueryCondTree) → Around limit n b (Shapes limit c) → CondShape limit n c
 bare limit n true c h = cond_before limit n c h.1
 bare limit n false c h = h
 
 -- each member of an All that stands in none is one of an Any
-as_any : (limit n : ℕ) (c : CondTree) → MemberShape limit n And c → MemberShape limit n Or c
+as_any : (limit n : ℕ) (c : QueryCondTree) → MemberShape limit n And c → MemberShape limit n Or c
 as_any limit n query.Always h = h
 as_any limit n (query.Exists p) h = h
 as_any limit n (query.Compare l r o) h = h
@@ -41,7 +41,7 @@ as_any limit n (query.All cs) h = bare limit n true (query.All cs) h
 as_any limit n (query.Any cs) h = h
 
 mutual
-  cond_shaped : (limit n : ℕ) (c : g.Cond) → CondFits limit n c → CondShape limit n (cond_tree c)
+  cond_shaped : (limit n : ℕ) (c : g.Cond) → CondFits limit n c → CondShape limit n (derived_cond c)
   cond_shaped limit n (g.cond_of a g.no_or) h = bare limit n (is_enclosed Or (all_tree a)) (all_tree a) (all_shaped limit n a h.0)
   cond_shaped limit n (g.cond_of a (g.or_more b os)) h = (tt, (all_shaped limit n a h.0, (all_shaped limit n b h.1.0, ors_shaped limit n os h.1.1)))
 
@@ -61,7 +61,7 @@ mutual
   atom_shaped limit n (g.negated c) h = (h.0, cond_shaped limit (n + 1) c h.1)
   atom_shaped limit n g.always h = tt
   atom_shaped limit n (g.existing p) h = path_shaped p
-  atom_shaped limit n (g.grouped c) h = opened limit n (is_enclosed And (cond_tree c)) (cond_tree c) h.0 (cond_shaped limit (n + 1) c h.1)
+  atom_shaped limit n (g.grouped c) h = opened limit n (is_enclosed And (derived_cond c)) (derived_cond c) h.0 (cond_shaped limit (n + 1) c h.1)
   atom_shaped limit n (g.compared p r o) h = (path_shaped p, side_shaped o)
   atom_shaped limit n (g.literal_first (g.text x) r p) h = path_shaped p
   atom_shaped limit n (g.literal_first (g.number u) r p) h = path_shaped p
@@ -88,7 +88,7 @@ join_parts limit n [] fs h k = k
 join_parts limit n (e ∷ es) fs h k = (h.0, join_parts limit n es fs h.1 k)
 
 mutual
-  expr_shaped : (limit n : ℕ) (e : g.Expr) → ExprFits limit n e → ExprShape limit n (expr_tree e)
+  expr_shaped : (limit n : ℕ) (e : g.Expr) → ExprFits limit n e → ExprShape limit n (derived_expr e)
   expr_shaped limit n (g.for_expr c cs w e) h = (h.0, (clause_shaped c, clauses_shaped cs), where_shaped limit (n + 1) w h.1, expr_shaped limit (n + 1) e h.2)
   expr_shaped limit n (g.if_expr c a b) h = (h.0, cond_shaped limit (n + 1) c h.1, expr_shaped limit (n + 1) a h.2, expr_shaped limit (n + 1) b h.3)
   expr_shaped limit n (g.elem_expr x t) h = (h.0, tag_shaped limit (n + 1) t h.1)
@@ -97,7 +97,7 @@ mutual
 
   inner_shaped : (limit n : ℕ) (i : g.Inner) → MayOpen limit n → InnerFits limit (n + 1) i → ExprShape limit n (inner_tree i)
   inner_shaped limit n g.closed m h = m
-  inner_shaped limit n (g.listed e g.no_rest) m h = expr_before limit n (expr_tree e) (expr_shaped limit (n + 1) e h.0)
+  inner_shaped limit n (g.listed e g.no_rest) m h = expr_before limit n (derived_expr e) (expr_shaped limit (n + 1) e h.0)
   inner_shaped limit n (g.listed e (g.rest_more f r)) m h = (m, tt, (expr_shaped limit (n + 1) e h.0, (expr_shaped limit (n + 1) f h.1.0, rest_shaped limit (n + 1) r h.1.1)))
 
   rest_shaped : (limit n : ℕ) (r : g.Rest) → RestFits limit n r → PartsShape limit n (exprs_of (rest_tree r))

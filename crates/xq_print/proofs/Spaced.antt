@@ -20,7 +20,7 @@ use Rattle.gcx_model.specs.declared.query.Clause.{Clause}
 use Rattle.gcx_model.specs.declared.query.QOperand.{QOperand}
 use Rattle.gcx_model.specs.declared.query.QOperand.TheVariants as operand
 use Rattle.gcx_model.specs.Query as query
-use Rattle.gcx_model.specs.Query.{CondTree, CondTrees, ExprTree, ExprTrees}
+use Rattle.gcx_model.specs.Query.{QueryCondTree, QueryCondTrees, ExprTree, ExprTrees}
 use Rattle.xq_lex.specs.declared.sign.Sign.{Sign}
 use Rattle.xq_lex.specs.declared.sign.Sign.TheVariants as signs
 use Rattle.xq_lex.specs.declared.token.TokKind.{TokKind}
@@ -354,7 +354,7 @@ unfolding chars
 true_item = record { apart = λ k c. (is_true, refl, (is_sign signs.ParenOpen, refl, (is_sign signs.ParenClose, refl, tt))); opens = λ k c. record { colon = refl; equal = refl } }
 
 mutual
-  cond_item : (c : CondTree) → LexicalCond c → Item (cond_pieces c)
+  cond_item : (c : QueryCondTree) → LexicalCond c → Item (cond_pieces c)
   cond_item query.Always l = true_item
   cond_item (query.Exists path) l =
       headed (word exists_ ∷ mark signs.ParenOpen ∷ []) (path_pieces path ++ (mark signs.ParenClose ∷ [])) exists_head (tailed (path_pieces path) (mark signs.ParenClose ∷ []) (path_item path l) close_tail)
@@ -365,7 +365,7 @@ mutual
   cond_item (query.All members) l = joined_items (joint_pieces And) (members_pieces And members) (joint_link And) (member_items And members l)
   cond_item (query.Any members) l = joined_items (joint_pieces Or) (members_pieces Or members) (joint_link Or) (member_items Or members l)
 
-  member_items : (j : Joint) (cs : CondTrees) → LexicalConds cs → Items (members_pieces j cs)
+  member_items : (j : Joint) (cs : QueryCondTrees) → LexicalConds cs → Items (members_pieces j cs)
   member_items j query.no_cond l = tt
   member_items j (query.more_conds c cs) l = (enclosed_item (is_enclosed j c) (cond_pieces c) (cond_item c l.0), member_items j cs l.1)
 
@@ -380,7 +380,7 @@ clause_items : (cs : List Clause) → LexicalClauses cs → Items (map clause_pi
 clause_items [] l = tt
 clause_items (c ∷ cs) l = (clause_item c l.0, clause_items cs l.1)
 
-filter_tail : (f : Option CondTree) → LexicalFilter f → Tail (filter_pieces f)
+filter_tail : (f : Option QueryCondTree) → LexicalFilter f → Tail (filter_pieces f)
 filter_tail None l = no_tail
 filter_tail (Some c) l = linked (blank ∷ word where_ ∷ blank ∷ []) (cond_pieces c) (word_link where_ is_where) (cond_item c l)
 

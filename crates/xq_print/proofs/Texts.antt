@@ -13,7 +13,7 @@ use Rattle.gcx_model.specs.declared.query.Clause.{Clause}
 use Rattle.gcx_model.specs.declared.query.QOperand.{QOperand}
 use Rattle.gcx_model.specs.declared.query.QOperand.TheVariants as operand
 use Rattle.gcx_model.specs.Query as query
-use Rattle.gcx_model.specs.Query.{CondTree, CondTrees, ExprTree, ExprTrees}
+use Rattle.gcx_model.specs.Query.{QueryCondTree, QueryCondTrees, ExprTree, ExprTrees}
 use Rattle.gcx_model.specs.Written.{start_tag, end_tag}
 use Rattle.xq_parse.specs.Tokens.{for_, in_, where_, return_, if_, then_, else_, not_, exists_}
 use Rattle.xq_lex.specs.declared.sign.Sign.TheVariants as signs
@@ -100,7 +100,7 @@ enclosed_is true ps x e = parens_is ps x e
 enclosed_is false ps x e = e
 
 mutual
-  cond_is : (c : CondTree) → text_of (cond_pieces c) ≡ cond_text c
+  cond_is : (c : QueryCondTree) → text_of (cond_pieces c) ≡ cond_text c
   cond_is query.Always = refl
   cond_is (query.Exists path) =
       beside (word exists_ ∷ mark signs.ParenOpen ∷ []) (path_pieces path ++ (mark signs.ParenClose ∷ [])) (codes "exists(") (path_text path ++ codes ")") refl
@@ -114,7 +114,7 @@ mutual
   cond_is (query.All members) = joined_by (joint_pieces And) (joint_text And) (members_pieces And members) (member_texts And members) (joint_is And) (members_are And members)
   cond_is (query.Any members) = joined_by (joint_pieces Or) (joint_text Or) (members_pieces Or members) (member_texts Or members) (joint_is Or) (members_are Or members)
 
-  members_are : (j : Joint) (cs : CondTrees) → map text_of (members_pieces j cs) ≡ member_texts j cs
+  members_are : (j : Joint) (cs : QueryCondTrees) → map text_of (members_pieces j cs) ≡ member_texts j cs
   members_are j query.no_cond = refl
   members_are j (query.more_conds c cs) = (λ i. enclosed_is (is_enclosed j c) (cond_pieces c) (cond_text c) (cond_is c) i ∷ members_are j cs i)
 
@@ -129,7 +129,7 @@ clauses_are : (cs : List Clause) → map text_of (map clause_pieces cs) ≡ map 
 clauses_are [] = refl
 clauses_are (c ∷ cs) = (λ i. clause_is c i ∷ clauses_are cs i)
 
-filter_is : (f : Option CondTree) → text_of (filter_pieces f) ≡ filter_text f
+filter_is : (f : Option QueryCondTree) → text_of (filter_pieces f) ≡ filter_text f
 filter_is None = refl
 filter_is (Some c) = beside (blank ∷ word where_ ∷ blank ∷ []) (cond_pieces c) (codes " where ") (cond_text c) refl (cond_is c)
 

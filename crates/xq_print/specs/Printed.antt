@@ -12,7 +12,7 @@ use Rattle.gcx_model.specs.declared.query.Clause.{Clause}
 use Rattle.gcx_model.specs.declared.query.QOperand.{QOperand}
 use Rattle.gcx_model.specs.declared.query.QOperand.TheVariants as operand
 use Rattle.gcx_model.specs.Query as query
-use Rattle.gcx_model.specs.Query.{CondTree, CondTrees, ExprTree, ExprTrees}
+use Rattle.gcx_model.specs.Query.{QueryCondTree, QueryCondTrees, ExprTree, ExprTrees}
 use Rattle.gcx_model.specs.Written.{start_tag, end_tag}
 use Rattle.xq_print.specs.declared.cond.Joint.{Joint}
 use Rattle.xq_print.specs.declared.cond.Joint.TheVariants.{And, Or}
@@ -73,7 +73,7 @@ joint_text And = codes " and "
 joint_text Or = codes " or "
 
 -- A member stands in parentheses: an All or Any inside an All, and an Any inside an Any.
-abbrev pub is_enclosed : Joint → CondTree → Bool
+abbrev pub is_enclosed : Joint → QueryCondTree → Bool
 is_enclosed joint query.Always = false
 is_enclosed joint (query.Exists path) = false
 is_enclosed joint (query.Compare left rel right) = false
@@ -87,7 +87,7 @@ enclosed true text = in_parens text
 enclosed false text = text
 
 abbrev mutual
-  pub cond_text : CondTree → List ℕ
+  pub cond_text : QueryCondTree → List ℕ
   cond_text query.Always = codes "true()"
   cond_text (query.Exists path) = codes "exists(" ++ (path_text path ++ codes ")")
   cond_text (query.Compare left rel right) = operand_text left ++ (rel_text rel ++ operand_text right)
@@ -95,7 +95,7 @@ abbrev mutual
   cond_text (query.All members) = joined (joint_text And) (member_texts And members)
   cond_text (query.Any members) = joined (joint_text Or) (member_texts Or members)
 
-  pub member_texts : Joint → CondTrees → List (List ℕ)
+  pub member_texts : Joint → QueryCondTrees → List (List ℕ)
   member_texts joint query.no_cond = []
   member_texts joint (query.more_conds c cs) = enclosed (is_enclosed joint c) (cond_text c) ∷ member_texts joint cs
 
@@ -104,7 +104,7 @@ abbrev mutual
 abbrev pub clause_text : Clause → List ℕ
 clause_text c = codes "$" ++ (c.var ++ (codes " in " ++ path_text c.path))
 
-abbrev pub filter_text : Option CondTree → List ℕ
+abbrev pub filter_text : Option QueryCondTree → List ℕ
 filter_text None = []
 filter_text (Some c) = codes " where " ++ cond_text c
 

@@ -9,7 +9,7 @@ use Rattle.gcx_model.specs.Tree.{Token, Start, Chars, End, Tree, opening, grow_a
 use Rattle.gcx_model.specs.declared.query.QOperand.{QOperand}
 use Rattle.gcx_model.specs.declared.query.QOperand.TheVariants as operand
 use Rattle.gcx_base.specs.declared.rel.Rel.TheVariants.{Eq}
-use Rattle.gcx_model.specs.Query.{ExprTree, ExprTrees, Empty, Elem, Path, For, If, no_expr, more_exprs, CondTree, Exists, Compare}
+use Rattle.gcx_model.specs.Query.{ExprTree, ExprTrees, Empty, Elem, Path, For, If, no_expr, more_exprs, QueryCondTree, Exists, Compare}
 use Rattle.gcx_model.specs.Core as core
 use Rattle.gcx_model.specs.Core.{ItemTree, BodyTree, OffTree, RoleRowTree, RoleKind, VarRowTree}
 
@@ -84,7 +84,7 @@ abbrev pub query_nested : List ExprTree
 query_nested = for_in (codes "x") (from_root (desc (codes "a") ∷ [])) (for_in (codes "y") (from (codes "x") (desc (codes "b") ∷ [])) (empty (codes "h"))) ∷ []
 
 -- for $x in /r/p return if (c) then <y/> else <n/>
-abbrev pub each_p : CondTree → List ExprTree
+abbrev pub each_p : QueryCondTree → List ExprTree
 each_p c = for_in (codes "x") (from_root (child (codes "r") ∷ child (codes "p") ∷ [])) (If c (empty (codes "y")) (empty (codes "n"))) ∷ []
 
 abbrev pub query_exists : List ExprTree

@@ -6,7 +6,7 @@ use Rattle.engine.specs.View.{ActorsView}
 use Rattle.engine.proofs.Acting.{DidNone, DidOne, acts_by, acts_told, acts_untold, did_blocked, did_finished, did_signed, did_wrote, may_act, on_err, some_still}
 use Rattle.engine.proofs.Taking.{Did}
 use Rattle.gcx_model.specs.Demand.{Left, Line, text_of_lines}
-use Rattle.pull_eval.specs.Acting.{Takes}
+use Rattle.pull_eval.specs.Acting.{TakesAction}
 use Rattle.engine.specs.Telling.{GrewPart, TellsFront, TellsAction, acted_lines, lines_to}
 use Rattle.engine.proofs.Telling.{part_none}
 use Rattle.engine.proofs.TellingActs.{part_next, tells_signed, tells_wrote}
@@ -88,7 +88,7 @@ returns-in_ok-tell_acted-in-Wrote-clause-told g c =
     let s = c.args.trace.now.items in
     let w = c.tell_acted.new.trace.items in
     let h : c.args.tracing ≡ true → TellsAction g.C.Conds.stands old s w true = λ wanted plan P k a.
-    let t : Takes (past_at plan P k a.fed) k e.machine.position old.buffer e.buffer u v c.in_ok-acted.acted = (c.in_ok-acted.ensures.acts (past_at plan P k a.fed) k a.beside a.stand).0 in
+    let t : TakesAction (past_at plan P k a.fed) k e.machine.position old.buffer e.buffer u v c.in_ok-acted.acted = (c.in_ok-acted.ensures.acts (past_at plan P k a.fed) k a.beside a.stand).0 in
     let one : (k < all_of plan P) × (acted_lines c.in_ok-acted.acted ++ map Left e.buffer.gone ≡ lines_to plan P k (suc k))
     = elim c.in-Wrote.is as (λ _. (k < all_of plan P) × (acted_lines c.in_ok-acted.acted ++ map Left e.buffer.gone ≡ lines_to plan P k (suc k))) [
       | inl x ↦ tells_wrote plan (g.C.Conds.stands old.machine.conds) old.projector old.machine.position e.machine.position old.buffer e.buffer P k a u v c.in_ok-acted.acted x.0 x.1 t
@@ -106,7 +106,7 @@ returns-in_err-tell_acted-in-Wrote-clause-part g c =
     let s = c.args.trace.now.items in
     let w = c.tell_acted.new.trace.items in
     let h : c.args.tracing ≡ true → TellsFront g.C.Conds.stands old s w = λ wanted plan P k a.
-    let t : Takes (past_at plan P k a.fed) k e.machine.position old.buffer e.buffer u v c.in_ok-acted.acted = (c.in_ok-acted.ensures.acts (past_at plan P k a.fed) k a.beside a.stand).0 in
+    let t : TakesAction (past_at plan P k a.fed) k e.machine.position old.buffer e.buffer u v c.in_ok-acted.acted = (c.in_ok-acted.ensures.acts (past_at plan P k a.fed) k a.beside a.stand).0 in
     let one : (k < all_of plan P) × (acted_lines c.in_ok-acted.acted ++ map Left e.buffer.gone ≡ lines_to plan P k (suc k))
     = elim c.in-Wrote.is as (λ _. (k < all_of plan P) × (acted_lines c.in_ok-acted.acted ++ map Left e.buffer.gone ≡ lines_to plan P k (suc k))) [
       | inl x ↦ tells_wrote plan (g.C.Conds.stands old.machine.conds) old.projector old.machine.position e.machine.position old.buffer e.buffer P k a u v c.in_ok-acted.acted x.0 x.1 t

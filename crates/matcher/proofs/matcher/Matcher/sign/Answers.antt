@@ -5,7 +5,7 @@ use Rattle.gcx_base.specs.declared.memory.Memory.{Memory}
 use Rattle.gcx_base.specs.declared.steps.Step.{Step}
 use Rattle.gcx_model.specs.ItemView.{off_tree}
 use Rattle.matcher.specs.Calls.{KeepsStanding, StandsIn}
-use Rattle.matcher.specs.Matcher.{Stands}
+use Rattle.matcher.specs.Matcher.{MatcherAt}
 use Rattle.matcher.specs.Parts.{NodeMarks}
 use Rattle.matcher.specs.View.{GoTogether, MatcherView, frames_of, matcher_view}
 use Rattle.matcher.specs.declared.signs.Sign.{Sign}
@@ -53,7 +53,7 @@ returns-clause-stands c = λ past text k s of is_open at base.
     let marks = c.self.inside.frames in
     let now = c.note_signed.new.self in
     let m = matcher_view v marks c.self.inside.idle c.self.inside.text c.self.inside.signs.items in
-    let S = subst (λ (z : MatcherView). Stands z past text) (sym c.self.view_is) s in
+    let S = subst (λ (z : MatcherView). MatcherAt z past text) (sym c.self.view_is) s in
     let x : Sign = record { role = c.args.off.now.role.0; level = c.args.level; steps = length c.items.result.now } in
     signs_more m past text S (off_tree c.args.off.now) of k is_open base x refl at (ap (λ (z : List Step). length z) (sym c.items.ensures)) (frames_of v now) c.put_sign.new.signs.items
     (record { count = signed_length v.states marks now c.args.level c.in_ok-note_signed.ensures.ok c.self.invariant.0; each = frames_signed v.states marks now c.args.level c.in_ok-note_signed.ensures.ok })

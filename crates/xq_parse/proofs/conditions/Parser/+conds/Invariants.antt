@@ -1,5 +1,5 @@
 use Rattle.std.proofs.Common.{◌≡◌, ◌≤◌, ◌+◌, ◌-◌, ◌*◌, length, List}
-use Rattle.gcx_model.specs.Query.{CondTree, cond_trees}
+use Rattle.gcx_model.specs.Query.{QueryCondTree, cond_trees}
 use Rattle.xq_parse.specs.declared.marks.Marks.{Marks}
 use Rattle.xq_parse.specs.Machine.{State, ands, ors}
 use Rattle.xq_parse.specs.Reading.{run}
@@ -28,7 +28,7 @@ decreases-negation l = 10 * (200 - l.depth) + 6
 
 abbrev pub invariant-atoms-loop-self : goal.invariant-atoms-loop-self
 invariant-atoms-loop-self l = record {
-  moved : (k : Marks → List CondTree → State) → run 200 (ands l.depth l.initial.self.scope l.initial.self.marks (cond_trees l.initial.conds) k) l.initial.self.cursor.rest.now ≡ run 200 (ands l.depth l.self.scope l.self.marks (cond_trees l.conds) k) l.self.cursor.rest.now;
+  moved : (k : Marks → List QueryCondTree → State) → run 200 (ands l.depth l.initial.self.scope l.initial.self.marks (cond_trees l.initial.conds) k) l.initial.self.cursor.rest.now ≡ run 200 (ands l.depth l.self.scope l.self.marks (cond_trees l.conds) k) l.self.cursor.rest.now;
   scope : l.self.scope ≡ l.initial.self.scope;
   shorter : length l.self.cursor.rest.now ≤ length l.initial.self.cursor.rest.now;
 }
@@ -38,7 +38,7 @@ decreases-atoms-loop-self l = length l.self.cursor.rest.now
 
 abbrev pub invariant-alls-loop-self : goal.invariant-alls-loop-self
 invariant-alls-loop-self l = record {
-  moved : (k : Marks → List CondTree → State) → run 200 (ors l.depth l.initial.self.scope l.initial.self.marks (cond_trees l.initial.conds) k) l.initial.self.cursor.rest.now ≡ run 200 (ors l.depth l.self.scope l.self.marks (cond_trees l.conds) k) l.self.cursor.rest.now;
+  moved : (k : Marks → List QueryCondTree → State) → run 200 (ors l.depth l.initial.self.scope l.initial.self.marks (cond_trees l.initial.conds) k) l.initial.self.cursor.rest.now ≡ run 200 (ors l.depth l.self.scope l.self.marks (cond_trees l.conds) k) l.self.cursor.rest.now;
   scope : l.self.scope ≡ l.initial.self.scope;
   shorter : length l.self.cursor.rest.now ≤ length l.initial.self.cursor.rest.now;
 }

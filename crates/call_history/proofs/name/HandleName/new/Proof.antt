@@ -21,17 +21,17 @@ use denote.Triple.Entry.{on_entry}
 use denote.Triple.Spec.{Meets, triple_of}
 use denote.Triple.Table.{entered}
 use denote.Triple.Walked.{says, ends_at, walked, walk_Meets}
-use Rattle.call_history.specs.declared.name.Name.{Name}
-use Rattle.call_history.specs.contracts.name.Name as T
-use Rattle.call_history.specs.contracts.name.Name.new.Key.{name as #it}
-use Rattle.call_history.specs.contracts.name.Name.new as it
-use Rattle.call_history.proofs.name.Name.new.Statement as stated
-use Rattle.call_history.proofs.name.Name.new.Code as code
+use Rattle.call_history.specs.declared.name.HandleName.{HandleName}
+use Rattle.call_history.specs.contracts.name.HandleName as T
+use Rattle.call_history.specs.contracts.name.HandleName.new.Key.{name as #it}
+use Rattle.call_history.specs.contracts.name.HandleName.new as it
+use Rattle.call_history.proofs.name.HandleName.new.Statement as stated
+use Rattle.call_history.proofs.name.HandleName.new.Code as code
 
 abbrev v : Val
 v = vstruct (vcons (vstruct vnil) vnil)
 
-abbrev r : Name
+abbrev r : HandleName
 r = record { marker = record {}; bytes = [] }
 
 meets : {M : Type 1} {𝓤 : Ura M} (𝓛 : Logic 𝓤) → (at_mem : Memory → SProp 𝓤) (run : Routine → Fun 𝓤) (𝓣 : Tables 𝓤 𝓛.H)

@@ -25,12 +25,12 @@ use denote.Triple.Entry.{on_entry}
 use denote.Triple.Spec.{Meets, triple_of}
 use denote.Triple.Table.{entered}
 use denote.Triple.Walked.{says, Stays, stay_ref, walk_of, AllGo, Goes-ref, Walks, ends_at, walked, walk_Meets}
-use Rattle.call_history.specs.declared.name.Name.{Name}
-use Rattle.call_history.specs.contracts.name.Name as T
-use Rattle.call_history.specs.contracts.name.Name.note.Key.{name as #it}
-use Rattle.call_history.specs.contracts.name.Name.note as it
-use Rattle.call_history.proofs.name.Name.note.Statement as stated
-use Rattle.call_history.proofs.name.Name.note.Code as code
+use Rattle.call_history.specs.declared.name.HandleName.{HandleName}
+use Rattle.call_history.specs.contracts.name.HandleName as T
+use Rattle.call_history.specs.contracts.name.HandleName.note.Key.{name as #it}
+use Rattle.call_history.specs.contracts.name.HandleName.note as it
+use Rattle.call_history.proofs.name.HandleName.note.Statement as stated
+use Rattle.call_history.proofs.name.HandleName.note.Code as code
 use denote.Ref.{Bor}
 use denote.Builtin.{u8}
 use denote.Exit.{yes}
@@ -39,18 +39,18 @@ use denote.Triple.Walked.{stay_none_slice, Goes-none_slice}
 use Rattle.std.proofs.Common.{◌<◌, ◌^◌, length}
 
 abbrev Arg : Type 0
-Arg = MutBor Name × (Bor (List ℕ) × Unit {0})
+Arg = MutBor HandleName × (Bor (List ℕ) × Unit {0})
 
 abbrev stayed : Stays (it.ended).signature.params (it.ended).kept
 stayed = (stay_ref (0 ∷ []) tt (plain (λ _. T.the_row)), (stay_none_slice (1 ∷ []) tt (plain (λ _. u8)) yes, tt))
 
-module _ {M : Type 1} {𝓤 : Ura M} (𝓛 : Logic 𝓤) (at_mem : Memory → SProp 𝓤) (run : Routine → Fun 𝓤) (κ κ' : Lft) (q q' : Share) (b o : ℕ) (γ : GName) (h : Name) (s : Bor (List ℕ)) where
+module _ {M : Type 1} {𝓤 : Ura M} (𝓛 : Logic 𝓤) (at_mem : Memory → SProp 𝓤) (run : Routine → Fun 𝓤) (κ κ' : Lft) (q q' : Share) (b o : ℕ) (γ : GName) (h : HandleName) (s : Bor (List ℕ)) where
   open 𝓛 use {H, A}
 
   abbrev x : Arg
   x = (record { ref_ptr = (b, o); ghost_name = γ; now = h }, (s, tt))
 
-  abbrev h' : Name
+  abbrev h' : HandleName
   h' = record { marker = h.marker; bytes = h.bytes ++ s.now }
 
   abbrev at : List Val × (List Val × Unit {0})
