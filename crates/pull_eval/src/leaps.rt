@@ -36,7 +36,7 @@ impl<'p> Position<'p> {
             for_loop.var.0 for_loop.step.now (items for_loop.body.now) context.0 }
         ensures frame { IfOk result (λ _. self.new ≡ record self.old { turns = self.new.turns }) }
         ensures leaps { IfOk result (LeapsTo self.old self.new buffer.now
-            for_loop.var.0 for_loop.step.now (items for_loop.body.now) context.0 from) }
+            for_loop.entry.var.0 for_loop.entry.step.now (items for_loop.entry.body.now) context.0 from) }
     {
         if !self.may_leap(context, for_loop.body, buffer) {
             return Ok(Leap::Stay);
@@ -75,7 +75,7 @@ impl<'p> Position<'p> {
             for_loop.var.0 for_loop.step.now (items for_loop.body.now) context.0 }
         ensures frame { IfOk result (λ _. self.new ≡ record self.old { turns = self.new.turns }) }
         ensures leaps { IfOk result (LeapsTo self.old self.new buffer.now
-            for_loop.var.0 for_loop.step.now (items for_loop.body.now) context.0 from) }
+            for_loop.entry.var.0 for_loop.entry.step.now (items for_loop.entry.body.now) context.0 from) }
     {
         match guard_of(for_loop.body, for_loop.var) {
             Some(guard) => self.leap_by(alloc, for_loop, context, &guard, from, buffer),
@@ -101,7 +101,7 @@ impl<'p> Position<'p> {
             for_loop.var.0 for_loop.step.now (items for_loop.body.now) context.0 }
         ensures frame { IfOk result (λ _. self.new ≡ record self.old { turns = self.new.turns }) }
         ensures leaps { IfOk result (LeapsTo self.old self.new buffer.now
-            for_loop.var.0 for_loop.step.now (items for_loop.body.now) context.0 from) }
+            for_loop.entry.var.0 for_loop.entry.step.now (items for_loop.entry.body.now) context.0 from) }
     {
         if !is_settled(for_loop.body, for_loop.var, &self.env, buffer) {
             return Ok(Leap::Stay);

@@ -104,7 +104,7 @@ impl<'p> Position<'p> {
         requires beside { (past : Past) × (k : ℕ) × Beside self.old buffer.now past k }
         ensures frame { IfOk result (λ _. self.new ≡ record self.old { turns = self.new.turns }) }
         ensures first { IfOk result (FindsFirst self.old self.new buffer.now
-            for_loop.var.0 from.0 for_loop.step.now (items for_loop.body.now) (items rest.now)) }
+            for_loop.entry.var.0 from.0 for_loop.entry.step.now (items for_loop.entry.body.now) (items rest.now)) }
     {
         let context = place_of(&self.env, from);
         let seen = self.top.seen;
@@ -133,7 +133,7 @@ impl<'p> Position<'p> {
             for_loop.var.0 from.0 for_loop.step.now (items for_loop.body.now) (items rest.now) first }
         ensures begun { IfOk result (λ _. self.new.is_begun ≡ true) }
         ensures moved { IfOk result (λ a. EntersAt self.old self.new buffer.now
-            for_loop.var.0 from.0 for_loop.step.now (items for_loop.body.now) (items rest.now) first a) }
+            for_loop.entry.var.0 from.0 for_loop.entry.step.now (items for_loop.entry.body.now) (items rest.now) first a) }
     {
         let context = place_of(&self.env, from);
         match first {
